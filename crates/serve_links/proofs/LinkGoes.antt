@@ -24,8 +24,9 @@ use Rattle.serve_links.specs.Dialects.{asked_in}
 use Rattle.serve_links.specs.Lines.{first_asked_of, awaits_first, SameLine, KeepsLines, IsNewEnd, HasNewEnd, OpensBy, UsesSome, Learns}
 use Rattle.serve_links.specs.Settled.{SettlesSome}
 use Rattle.serve_links.specs.Talks.{SaidAsk, Talk, first_talk, with_ask, greeted, talk_in, IsOfServer}
-use Rattle.serve_links.specs.Story.{said_asks, AreCalled, TalkAgrees, ConnAgrees, LineAgrees, LineLost, LineCalled, line_of, KeepsOthers, LineGoesFrom, LineGoes, AnEnd, Agrees, AgreesLosing}
+use Rattle.serve_links.specs.Story.{said_asks, AreCalled, TalkAgrees, ConnAgrees, LineAgrees, LineLost, LineCalled, LineState, line_of, KeepsOthers, LineGoesFrom, LineGoes, AnEnd, Agrees, AgreesLosing}
 use Rattle.serve_links.proofs.Talking.{calls_later, one_more, IsPlain, plain_orderly}
+use Rattle.serve_links.proofs.Walked.{walked, of_both}
 use Rattle.serve_links.proofs.Answering.{Answers, answers_some}
 use Rattle.serve_links.proofs.Story.{line_stays}
 
@@ -116,13 +117,35 @@ line_between before after g = record {
   text = g.text;
 }
 
+-- what nobody but it may have touched, one after another
+others_twice : (its : ℕ × ℕ) (h h' h'' : List Event) → KeepsOthers its h h' → KeepsOthers its h' h'' → KeepsOthers its h h''
+others_twice its h h' h'' first then d r (inl was) other = let s = first d r (inl was) other in untouched_twice d h h' h'' s (then d r (inl (s.same_role ∙ was)) other)
+others_twice its h h' h'' first then d r (inr is) other = let s = then d r (inr is) other in untouched_twice d h h' h'' (first d r (inr (sym s.same_role ∙ is)) other) s
+
+-- one after another
+pub line_then :
+    {P Q R : ℕ → List Step → List Event → Link → Type 0} {Is : Step → Type 0} {at : ℕ} {a b c : ServedCore} {h h' h'' : List Event} {x y z : Link} → LineGoesFrom P Q Is at a h x b h' y → LineGoesFrom Q R Is at b h' y c h'' z
+    → LineGoesFrom P R Is at a h x c h'' z
+line_then {P} {Q} {R} {Is} {at} {a} {b} {c} {h} {h'} {h''} {x} {y} {z} g k = record {
+  steps = k.steps ++ g.steps;
+  kinds = of_both Is k.steps g.steps k.kinds g.kinds;
+  own = of_both (IsOfServer at) k.steps g.steps k.own g.own;
+  walks = walked k.steps g.steps a b c g.walks k.walks;
+  agrees = λ past o was.
+      let first = g.agrees past o was in
+      let later = k.agrees (g.steps ++ past) first.0 first.1 in
+      let both = subst (λ l. IsOrderly l × R at l h'' z) (sym (append_assoc k.steps g.steps past)) (later.0, later.1) in
+      (both.0, both.1, others_twice (1, at) h h' h'' first.2 later.2);
+  text = k.text ∙ g.text;
+}
+
 -- ---- a link that has the same
 
 abbrev OfConn : ℕ → List Step → List Event → List ℕ → List SaidAsk → Bool → Option (ℕ × List ℕ × List ℕ) → Type 0
 OfConn at past h text out awaits None = Unit {0}
 OfConn at past h text out awaits (Some e) = TalkAgrees h at text (talk_in past at) e.0 e.1 e.2 out awaits
 
-abbrev OfLine : ℕ → List Step → List Event → List ℕ × Option (ℕ × List ℕ × List ℕ) × List SaidAsk × List SentCall × Bool → Type 0
+abbrev OfLine : ℕ → List Step → List Event → LineState → Type 0
 OfLine at past h s = OfConn at past h s.0 s.2 s.4 s.1 × AreCalled past at s.3
 
 to_line : (at : ℕ) (past : List Step) (h : List Event) (x : Link) → LineAgrees at past h x → OfLine at past h (line_of x)
@@ -145,7 +168,7 @@ same_line at past h x y same a = from_line at past h y (subst (OfLine at past h)
 pub line_keeps :
     {Is : Step → Type 0} {at : ℕ} {core : ServedCore} {h h' : List Event} {x y : Link} → ((d : ℕ) → IsUntouched d h h') → line_of y ≡ line_of x → LineGoes Is at core h x core h' y
 line_keeps {at = at} {h = h} {h' = h'} {x = x} {y = y} still same =
-    line_moves refl (ap (λ (s : List ℕ × Option (ℕ × List ℕ × List ℕ) × List SaidAsk × List SentCall × Bool). s.0) same)
+    line_moves refl (ap (λ (s : LineState). s.0) same)
     (λ past a. (same_line at past h' x y same (line_stays h h' at [] past x (λ conn is. still conn.number) refl a), all_kept (1, at) h h' still))
 
 -- of five parts
@@ -472,6 +495,19 @@ line_closes {at = at} {h = h} {h' = h'} x y r r_is some none closed text waiting
     keeps past a (Some c) e =
         let closes_it = subst (λ o. IfSome o (λ n. Closes n h h')) (r_is ∙ ap (option_map (λ (z : Conn). z.number)) e) some in
         keeps_others c.number (1, at) h h' (a.conn c e).1.is_to (closed_role c.number h h' closes_it) (only_closed c.number h h' closes_it)
+
+-- it has none then, whatever became of it
+pub line_shuts :
+    {Before : ℕ → List Step → List Event → Link → Type 0} {Is : Step → Type 0} {at : ℕ} {a b : ServedCore} {h h' : List Event} {x y z : Link} → LineGoesFrom Before LineAgrees Is at a h x b h' y → z.conn ≡ None
+    → z.text.items ≡ y.text.items → z.waiting.items ≡ y.waiting.items → LineGoesFrom Before LineAgrees Is at a h x b h' z
+line_shuts {at = at} {h' = h'} {z = z} g closed text waiting = record {
+  steps = g.steps;
+  kinds = g.kinds;
+  own = g.own;
+  walks = g.walks;
+  agrees = λ past o was. let r = g.agrees past o was in (r.0, has_none at (g.steps ++ past) h' z closed (subst (λ w. AreCalled (g.steps ++ past) at w) (sym waiting) r.1.waiting), r.2);
+  text = text ∙ g.text;
+}
 
 failed_own : (at : ℕ) (steps : List Step) → AreOf IsFailure steps → AreOf (IsOfServer at) steps × AreOf IsPlain steps
 failed_own at [] kinds = (tt, tt)

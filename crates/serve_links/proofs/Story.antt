@@ -273,6 +273,13 @@ but_all at past x a = record { orderly = a.orderly; clients = a.clients; links =
     mine : (j : ℕ) (link : Link) → slice_get x.links j ≡ Some link → at ≡ j → LineAgrees j past x.history link
     mine j link there e = subst (λ k. LineAgrees k past x.history link) e (a.this link (ap (slice_get x.links) e ∙ there))
 
+-- and where none is there
+pub but_none : {This : ℕ → List Step → List Event → Link → Type 0} (at : ℕ) (past : List Step) (x : AnEnd) → slice_get x.links at ≡ None → AgreesBut This at past x → Agrees past x
+but_none at past x none a = record { orderly = a.orderly; clients = a.clients; links = λ j link there. elim (cases_Bool (nat_eq at j)) [ inl e ↦ absurd (nobody (sym none ∙ ap (slice_get x.links) (eqb-true at j e) ∙ there)) | inr e ↦ a.links j link e there ]; gone = a.gone }
+  where
+    nobody : {link : Link} → None ≡ Some link → ⊥
+    nobody e = cc
+
 pub all_but : (at : ℕ) (past : List Step) (x : AnEnd) → Agrees past x → AgreesBut LineAgrees at past x
 all_but at past x a = record { orderly = a.orderly; clients = a.clients; links = λ j link e there. a.links j link there; this = λ link there. a.links at link there; gone = a.gone }
 

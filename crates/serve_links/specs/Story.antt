@@ -124,7 +124,10 @@ LinesAgree past h links = (at : ℕ) (link : Link) → slice_get links at ≡ So
 
 -- all that a link has to do with its connection and its calls: what names its server's address, the connection's number, what is held of it and what is to be sent, the calls that are out, those that wait, and
 -- whether its server is to tell of its dialects
-abbrev pub line_of : Link → List ℕ × Option (ℕ × List ℕ × List ℕ) × List SaidAsk × List SentCall × Bool
+abbrev pub LineState : Type 0
+LineState = List ℕ × Option (ℕ × List ℕ × List ℕ) × List SaidAsk × List SentCall × Bool
+
+abbrev pub line_of : Link → LineState
 line_of link = (link.text.items, option_map (λ (x : Conn). (x.number, x.held.items, bytes_of x.unsent)) link.conn, said_asks link.calls.sent.items, link.waiting.items, link.awaits_dialect)
 
 -- all connections that were or are of others than this one are as they were

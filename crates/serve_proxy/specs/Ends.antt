@@ -1,44 +1,57 @@
 -- What a proxy's end has on its wire, and how that stays or goes on. Source: mcgate's own.
-use Rattle.std.specs.Prelude.{◌≡◌, ◌≢◌, ℕ, List, ◌++◌, Option, Some, None, map as each}
-use Rattle.std.specs.Option.{option_map}
+use Rattle.std.specs.Prelude.{◌≡◌, ◌≢◌, ℕ, List, [], ◌++◌, Option, Some, None, Result, Ok, Err, false, map as each}
 use Rattle.serve_wire.specs.Events.{Event, role}
 use Rattle.serve_wire.specs.Agreement.{IsUntouched}
-use Rattle.serve_wire.specs.declared.conn.conn.Conn.{Conn}
+use Rattle.core_commands.specs.declared.ticket.Ticket.{Ticket}
 use Rattle.route_json.specs.Configuration.{Configuration}
 use Rattle.core_accepted.specs.declared.served.ServedCore.{ServedCore}
 use Rattle.serve_clients.specs.declared.clients.Clients.{Clients}
 use Rattle.serve_clients.specs.Agrees.{KeepsEnds}
+use Rattle.serve_links.specs.declared.calls.calls.SentCall.{SentCall}
 use Rattle.serve_links.specs.declared.link.Link.{Link}
-use Rattle.serve_links.specs.CoreSteps.{Step, Opened, Closed, Loaded, Does, Walks, AreOf, IsOfTurn, IsFailure}
+use Rattle.serve_links.specs.CoreSteps.{Step, Opened, Closed, Loaded, Does, Walks, AreOf, IsOfTurn, IsFailure, IsSending}
 use Rattle.serve_proxy.specs.declared.sockets.Sockets.{Sockets}
-use Rattle.serve_links.specs.Story.{AnEnd, Agrees, AllGo, LineAgrees, KeepsOthers, texts_of}
+use Rattle.serve_links.specs.Story.{LineState, line_of, LineLost, LineGoes, AnEnd, Agrees, AgreesBut, AgreesCalled, AgreesLosing, AllGoFrom, AllGo, texts_of}
 
--- what a link has to do with the wire: the text of its server's address, and the number of its connection
-abbrev pub line_of : Link → List ℕ × Option ℕ
-line_of link = (link.text.items, option_map (λ (x : Conn). x.number) link.conn)
-
-abbrev pub lines_of : List Link → List (List ℕ × Option ℕ)
+-- what each link has to do with its connection and its calls
+abbrev pub lines_of : List Link → List LineState
 lines_of links = each line_of links
 
 -- of no connection anything has changed
 abbrev pub IsQuiet : List Event → List Event → Type 0
 IsQuiet h h' = (d : ℕ) → IsUntouched d h h'
 
--- nothing happened on any connection, each client has the end that it had, and each link the text and the connection
+-- nothing happened on any connection, each client has the end that it had, and each link the line
 pub record EndsStay (h h' : List Event) (cs cs' : Clients) (ls ls' : List Link) : Type 0 where
   pub quiet : IsQuiet h h'
   pub clients : KeepsEnds cs cs'
   pub links : lines_of ls' ≡ lines_of ls
 
--- whatever a core is, without a call of it the ends go on
-abbrev pub EndsGo : (h h' : List Event) (cs cs' : Clients) (ls ls' : List Link) → Type 0
-EndsGo h h' cs cs' ls ls' =
-    (core : ServedCore) → AllGo IsFailure (record { core = core; history = h; clients = cs; links = ls }) (record { core = core; history = h'; clients = cs'; links = ls' })
+-- whatever a core is, without a call of it the ends go on: where the one held of them and of all calls before, the other holds of them and of all calls after
+abbrev pub EndsGoFrom : (Before After : List Step → AnEnd → Type 0) (h h' : List Event) (cs cs' : Clients) (ls ls' : List Link) → Type 0
+EndsGoFrom Before After h h' cs cs' ls ls' =
+    (core : ServedCore) → AllGoFrom Before After IsSending (record { core = core; history = h; clients = cs; links = ls }) (record { core = core; history = h'; clients = cs'; links = ls' })
 
--- a link's end goes on without a call of a core, and no other's connection is touched
-pub record LineStands (at : ℕ) (h h' : List Event) (old new : Link) : Type 0 where
-  pub agrees : LineAgrees h at old → LineAgrees h' at new × KeepsOthers (1, at) h h'
-  pub text : new.text ≡ old.text
+abbrev pub EndsGo : (h h' : List Event) (cs cs' : Clients) (ls ls' : List Link) → Type 0
+EndsGo = EndsGoFrom Agrees Agrees
+
+-- the ends agree, and the core gave out this call for this server
+abbrev pub AgreesSent : ℕ → SentCall → List Step → AnEnd → Type 0
+AgreesSent at call = AgreesCalled call.ticket.number at call.ticket.ask
+
+abbrev pub AgreesTicket : Ticket → List Step → AnEnd → Type 0
+AgreesTicket ticket = AgreesCalled ticket.number ticket.server ticket.ask
+
+-- of links alone: this call that the core gave out for this server was taken over by its link; or it was taken from there
+abbrev pub LinksTake : ℕ → SentCall → List Link → List Link → Type 0
+LinksTake at call ls ls' = (h : List Event) (cs : Clients) → EndsGoFrom (AgreesSent at call) Agrees h h cs cs ls ls'
+
+abbrev pub LinksGive : ℕ → SentCall → List Link → List Link → Type 0
+LinksGive at call ls ls' = (h : List Event) (cs : Clients) → EndsGoFrom Agrees (AgreesSent at call) h h cs cs ls ls'
+
+-- whatever a core is, without a call of it a link's end goes on
+abbrev pub LineStands : ℕ → List Event → List Event → Link → Link → Type 0
+LineStands at h h' old new = (core : ServedCore) → LineGoes IsSending at core h old core h' new
 
 -- of all but a core the ends are as they were
 abbrev pub Stay : {W : Type 0} → (W → List Event) → Sockets W → Sockets W → Type 0
@@ -56,9 +69,35 @@ end_of history core sockets = record { core = core; history = history sockets.wi
 abbrev pub AllGoOn : {W : Type 0} → (W → List Event) → ServedCore → Sockets W → ServedCore → Sockets W → Type 0
 AllGoOn history core sockets core' sockets' = AllGo IsOfTurn (end_of history core sockets) (end_of history core' sockets')
 
--- nothing is done with the core but that calls fail, and the ends go on with that
+-- nothing is done with the core but that calls fail; others go out, and the ends go on with that
+abbrev pub AllSendFrom : {W : Type 0} → (Before : List Step → AnEnd → Type 0) → (W → List Event) → ServedCore → Sockets W → ServedCore → Sockets W → Type 0
+AllSendFrom Before history core sockets core' sockets' = AllGoFrom Before Agrees IsSending (end_of history core sockets) (end_of history core' sockets')
+
 abbrev pub AllFailOn : {W : Type 0} → (W → List Event) → ServedCore → Sockets W → ServedCore → Sockets W → Type 0
-AllFailOn history core sockets core' sockets' = AllGo IsFailure (end_of history core sockets) (end_of history core' sockets')
+AllFailOn history core sockets core' sockets' = AllSendFrom Agrees history core sockets core' sockets'
+
+-- the link at this place, whose bytes may be lost, is given up: its calls fail, and nothing else is done with the core
+abbrev pub AllGiveUp : {W : Type 0} → ℕ → (W → List Event) → ServedCore → Sockets W → ServedCore → Sockets W → Type 0
+AllGiveUp at history core sockets core' sockets' = AllGoFrom (AgreesBut LineLost at) Agrees IsFailure (end_of history core sockets) (end_of history core' sockets')
+
+-- the core goes on by calls of it alone, and the ends with it, but that what the link at this place holds may be lost
+abbrev pub AllGoBut : {W : Type 0} → ℕ → (W → List Event) → ServedCore → Sockets W → ServedCore → Sockets W → Type 0
+AllGoBut at history core sockets core' sockets' = AllGoFrom Agrees (AgreesBut LineLost at) IsOfTurn (end_of history core sockets) (end_of history core' sockets')
+
+-- or what some link holds
+abbrev pub AllGoLosing : {W : Type 0} → (W → List Event) → ServedCore → Sockets W → ServedCore → Sockets W → Type 0
+AllGoLosing history core sockets core' sockets' = AllGoFrom Agrees AgreesLosing IsOfTurn (end_of history core sockets) (end_of history core' sockets')
+
+-- the ends go on; only where it stopped, as memory was refused, what one link holds may be lost
+abbrev pub AllGoOr : {W A E : Type 0} → Result A E → (W → List Event) → ServedCore → Sockets W → ServedCore → Sockets W → Type 0
+AllGoOr (Ok done) history core sockets core' sockets' = AllGoOn history core sockets core' sockets'
+AllGoOr (Err refused) history core sockets core' sockets' = AllGoLosing history core sockets core' sockets'
+
+-- the ends go on; only where the link at this place is to be given up for a cause, or it stopped, what that link holds may be lost
+abbrev pub AllGoUnless : {W C E : Type 0} → ℕ → Result (Option C) E → (W → List Event) → ServedCore → Sockets W → ServedCore → Sockets W → Type 0
+AllGoUnless at (Ok None) history core sockets core' sockets' = AllGoOn history core sockets core' sockets'
+AllGoUnless at (Ok (Some cause)) history core sockets core' sockets' = AllGoBut at history core sockets core' sockets'
+AllGoUnless at (Err refused) history core sockets core' sockets' = AllGoBut at history core sockets core' sockets'
 
 -- a client was opened under this id in a core that is so now, and all go on from before that
 abbrev pub AllGoOpened : {W : Type 0} → (W → List Event) → (id : ℕ) → ServedCore → Sockets W → ServedCore → Sockets W → Type 0
@@ -72,9 +111,13 @@ AllGoClosed history id sockets sockets' = (before core : ServedCore) → Does (C
 abbrev pub HasNoClients : List Event → Type 0
 HasNoClients h = (conn id : ℕ) → role conn h ≢ Some (0, id)
 
+-- the line of a link to the server whose address this text names, without a connection, and without calls
+abbrev pub down_line : List ℕ → LineState
+down_line text = (text, None, [], [], false)
+
 -- behind the links that were there, which have the lines that they had, come links to these texts, without a connection
 abbrev pub AddsLines : List Link → List Link → Type 0
-AddsLines old new = (texts : List (List ℕ)) × (lines_of new ≡ lines_of old ++ each (λ text. (text, None)) texts)
+AddsLines old new = (texts : List (List ℕ)) × (lines_of new ≡ lines_of old ++ each down_line texts)
 
 -- by calls of this kind it goes on, and where its ends agreed with all calls before, they agree with all calls after. The links that were there are to the servers that they were to, and others may be there
 pub record AllGrow (Is : Step → Type 0) (old new : AnEnd) : Type 0 where
