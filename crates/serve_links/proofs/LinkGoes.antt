@@ -12,7 +12,7 @@ use Rattle.serve_wire.specs.Flow.{ReadsOn, SendsOn}
 use Rattle.serve_wire.specs.Calls.{Closes}
 use Rattle.serve_wire.specs.Agreement.{IsUntouched, TouchesOnly}
 use Rattle.serve_wire.specs.declared.conn.conn.Conn.{Conn}
-use Rattle.serve_wire.proofs.Steps.{equal, new_apart, untouched, only_twice, only_connects, only_closes, address_begins}
+use Rattle.serve_wire.proofs.Steps.{equal, new_apart, untouched, untouched_twice, only_twice, only_connects, only_closes, address_begins}
 use Rattle.core_accepted.specs.declared.served.ServedCore.{ServedCore}
 use Rattle.serve_links.specs.declared.calls.calls.SentCall.{SentCall}
 use Rattle.serve_links.specs.declared.settings.ServerDialect.{ServerDialect}

@@ -142,6 +142,7 @@ impl Link {
     /// A link without a connection, to the server whose address this text names.
     pub fn new(alloc: Global, text: &[u8]) -> Result<Link, AllocError>
         ensures down { IfOk result IsDown }
+        ensures awaits { IfOk result (λ link. link.awaits_dialect ≡ false) }
         ensures text { IfOk result (λ link. link.text.items ≡ text.now) }
     {
         let text = text.to_vec(alloc)?;
@@ -150,6 +151,7 @@ impl Link {
 
     fn of(alloc: Global, text: Vec<u8>) -> Link
         ensures down { IsDown result }
+        ensures awaits { result.awaits_dialect ≡ false }
         ensures text { result.text ≡ text }
     {
         Link {

@@ -5,13 +5,17 @@ use Rattle.std.proofs.lemmas.Bool.{eq-eqb}
 use Rattle.std.proofs.lemmas.Option.{slice_get_read}
 use Rattle.std.specs.Prelude.{slice_get, nat_eq, IfSome, IfOk, IfErr, OnOk, OnErr, map as each}
 use Rattle.std.specs.Option.{option_map}
+use Rattle.mc_types.specs.declared.ask.Ask.{Ask}
+use Rattle.mc_types.specs.declared.call.Outcome.TheVariants.{Failed}
 use Rattle.fresh_runs.specs.Overlap as log
 use Rattle.wire_parts.specs.Sending.{bytes_of}
 use Rattle.serve_wire.specs.Events.{Event, role, taken}
 use Rattle.serve_wire.specs.Agreement.{TouchesOnly, IsUntouched}
 use Rattle.serve_wire.proofs.Steps.{untouched, only_twice}
 use Rattle.core_proxy.specs.declared.fault.CoreFault.{CoreFault}
+use Rattle.core_commands.specs.declared.ticket.Ticket.{Ticket}
 use Rattle.core_proxy.specs.declared.note.Poll.{Poll}
+use Rattle.core_proxy.specs.declared.note.Poll.TheVariants as polls
 use Rattle.core_proxy.specs.Faults.{CanClose, OpenFault, CloseFault}
 use Rattle.core_proxy.specs.CoreState.{Closes as ClosesIn, LeavesLine, client_at, output_by}
 use Rattle.core_proxy.specs.Polls.{Polls, PollFault, Then, Perhaps, BeginsOne, IsPolled}
@@ -25,14 +29,16 @@ use Rattle.serve_clients.specs.Agrees.{said_of, Breaks, StateAgrees, EndAgrees, 
 use Rattle.serve_clients.specs.Lending.{with_client}
 use Rattle.serve_clients.proofs.Agreeing.{state_stays, agree_still}
 use Rattle.serve_links.specs.declared.link.Link.{Link}
-use Rattle.serve_links.specs.CoreSteps.{Step, Opened, NotOpened, Fed, Polled, Stopped, Settled, Gave, Closed, LeftLine, Loaded, Does, Walks, AreOf, GoesBy, IsOfTurn, IsSettlement, IsFailure, Fails}
+use Rattle.serve_links.specs.CoreSteps.{Step, Opened, NotOpened, Fed, Polled, Stopped, Settled, Gave, Closed, LeftLine, Loaded, Linked, Asked, Greeted, Spelled, Does, Walks, AreOf, GoesBy, IsOfTurn, IsFailure, IsSending, Fails}
+use Rattle.serve_links.specs.Talks.{IsOfClients}
 use Rattle.serve_links.specs.Pieces.{FeedsHeld}
-use Rattle.serve_links.specs.Story.{fed_in, gave_in, AgreesWith, TellsNone, HasOrHad, LineAgrees, LinesAgree, OneGoes, AnEnd, AllGo, texts_of}
+use Rattle.serve_links.specs.Story.{fed_in, gave_in, AgreesWith, TellsNone, HasOrHad, LineState, line_of, LineAgrees, LineLost, LineCalled, LinesAgree, OneGoes, LineGoesFrom, LineGoes, AnEnd, Agrees, AgreesBut, AgreesCalled, AgreesLosing, AllGoFrom, AllGo, texts_of}
 use Rattle.serve_links.proofs.Reading.{breaks_now}
-use Rattle.serve_links.proofs.Story.{same_told, had_stays, one_of_all, line_of_all, line_stays, all_still, all_then}
+use Rattle.serve_links.proofs.Talking.{IsPlain, plain_talk, plain_orderly}
+use Rattle.serve_links.proofs.Story.{same_told, had_stays, one_of_all, line_among, line_stays, all_still, from_then, go_between, all_but, but_all}
+use Rattle.serve_links.proofs.LinkGoes.{same_line, losing}
 use Rattle.serve_links.proofs.Walked.{walked, of_both}
-use Rattle.serve_proxy.specs.Ends.{line_of, lines_of, EndsStay, EndsGo, LineStands}
-use Rattle.serve_proxy.proofs.Staying.{line_same}
+use Rattle.serve_proxy.specs.Ends.{lines_of, EndsStay, EndsGoFrom, EndsGo, LineStands}
 use Rattle.serve_proxy.proofs.Lent.{lent_here, lent_others}
 
 -- ---- all ends, one after another
@@ -40,10 +46,10 @@ use Rattle.serve_proxy.proofs.Lent.{lent_here, lent_others}
 pub still : {Is : Step → Type 0} {a : AnEnd} → AllGo Is a a
 still {Is} {a} = all_still a a refl
 
-pub and_then : {Is : Step → Type 0} {a b c : AnEnd} → AllGo Is a b → AllGo Is b c → AllGo Is a c
-and_then {Is} {a} {b} {c} g k = all_then a b c g k
+pub and_then : {P Q R : List Step → AnEnd → Type 0} {Is : Step → Type 0} {a b c : AnEnd} → AllGoFrom P Q Is a b → AllGoFrom Q R Is b c → AllGoFrom P R Is a c
+and_then {P} {Q} {R} {Is} {a} {b} {c} g k = from_then a b c g k
 
-pub core_of : {Is : Step → Type 0} {a b : AnEnd} → AllGo Is a b → GoesBy Is a.core b.core
+pub core_of : {P Q : List Step → AnEnd → Type 0} {Is : Step → Type 0} {a b : AnEnd} → AllGoFrom P Q Is a b → GoesBy Is a.core b.core
 core_of g = record { steps = g.steps; kinds = g.kinds; walks = g.walks }
 
 -- ---- what stays
@@ -59,19 +65,23 @@ get_line [] at = refl
 get_line (link ∷ links) zero = refl
 get_line (link ∷ links) (suc at) = get_line links at
 
-pub texts_by_lines : (links : List Link) → each (λ (p : List ℕ × Option ℕ). p.0) (lines_of links) ≡ texts_of links
+pub texts_by_lines : (links : List Link) → each (λ (p : LineState). p.0) (lines_of links) ≡ texts_of links
 texts_by_lines [] = refl
 texts_by_lines (link ∷ links) = ap (λ l. link.text.items ∷ l) (texts_by_lines links)
 
 same_texts : (ls ls' : List Link) → lines_of ls' ≡ lines_of ls → texts_of ls' ≡ texts_of ls
-same_texts ls ls' same = sym (texts_by_lines ls') ∙ ap (each (λ (p : List ℕ × Option ℕ). p.0)) same ∙ texts_by_lines ls
+same_texts ls ls' same = sym (texts_by_lines ls') ∙ ap (each (λ (p : LineState). p.0)) same ∙ texts_by_lines ls
 
-lines_stay : (h h' : List Event) (ls ls' : List Link) → ((d : ℕ) → IsUntouched d h h') → lines_of ls' ≡ lines_of ls → LinesAgree h ls → LinesAgree h' ls'
-lines_stay h h' ls ls' quiet same was at link there = by (slice_get ls at) refl (get_line ls at ∙ ap (λ l. slice_get l at) (sym same) ∙ sym (get_line ls' at) ∙ ap (option_map line_of) there)
+lines_stay : (h h' : List Event) (past : List Step) (ls ls' : List Link) → ((d : ℕ) → IsUntouched d h h') → lines_of ls' ≡ lines_of ls → LinesAgree past h ls → LinesAgree past h' ls'
+lines_stay h h' past ls ls' quiet same was at link there = by (slice_get ls at) refl (get_line ls at ∙ ap (λ l. slice_get l at) (sym same) ∙ sym (get_line ls' at) ∙ ap (option_map line_of) there)
   where
-    by : (o : Option Link) → slice_get ls at ≡ o → option_map line_of o ≡ Some (line_of link) → LineAgrees h' at link
+    by : (o : Option Link) → slice_get ls at ≡ o → option_map line_of o ≡ Some (line_of link) → LineAgrees at past h' link
     by None e l = absurd (none_some l)
-    by (Some x) e l = line_stays h h' at link (λ conn is. quiet conn.number) (line_same h at x link (sym (same_some l)) (was at x e))
+    by (Some x) e l = line_stays h h' at [] past link (λ conn is. quiet conn.number) refl (same_line at past h x link (sym (same_some l)) (was at x e))
+
+-- steps of which servers are told nothing
+pub lines_told : (h : List Event) (steps past : List Step) (ls : List Link) → AreOf IsPlain steps → LinesAgree past h ls → LinesAgree (steps ++ past) h ls
+lines_told h steps past ls plain was at link there = line_stays h h at steps past link (λ conn is. untouched conn.number h) (plain_talk steps plain past at) (was at link there)
 
 clients_quiet : (h h' : List Event) (input output : ℕ → List ℕ) (cs : Clients) → ((d : ℕ) → IsUntouched d h h') → AllAgree h input output cs → AllAgree h' input output cs
 clients_quiet h h' input output cs quiet was id = by (client_of cs id) (was id)
@@ -103,7 +113,8 @@ stays {Is} {h} {h'} {cs} {cs'} {ls} {ls'} core s =
       walks = refl;
       agree = λ past a. record {
         clients = clients_quiet h h' (fed_in past) (gave_in past) cs' s.quiet (agree_still h (fed_in past) (gave_in past) cs cs' s.clients a.clients);
-        links = lines_stay h h' ls ls' s.quiet s.links a.links;
+        orderly = a.orderly;
+        links = lines_stay h h' past ls ls' s.quiet s.links a.links;
         gone = λ conn id is. had_quiet past [] h h' cs cs' id conn (s.quiet conn) (numbers_kept (client_of cs id) (client_of cs' id) (s.clients id)) is a.gone;
       };
       texts = same_texts ls ls' s.links;
@@ -112,10 +123,14 @@ stays {Is} {h} {h'} {cs} {cs'} {ls} {ls'} core s =
 pub stay_go : {h h' : List Event} {cs cs' : Clients} {ls ls' : List Link} → EndsStay h h' cs cs' ls ls' → EndsGo h h' cs cs' ls ls'
 stay_go s = λ core. stays core s
 
-pub go_then : {h h' h'' : List Event} {cs cs' cs'' : Clients} {ls ls' ls'' : List Link} → EndsGo h h' cs cs' ls ls' → EndsGo h' h'' cs' cs'' ls' ls'' → EndsGo h h'' cs cs'' ls ls''
+pub go_then :
+    {P Q R : List Step → AnEnd → Type 0} {h h' h'' : List Event} {cs cs' cs'' : Clients} {ls ls' ls'' : List Link} → EndsGoFrom P Q h h' cs cs' ls ls' → EndsGoFrom Q R h' h'' cs' cs'' ls' ls''
+    → EndsGoFrom P R h h'' cs cs'' ls ls''
 go_then a b = λ core. and_then (a core) (b core)
 
-pub go_stay : {h h' h'' : List Event} {cs cs' cs'' : Clients} {ls ls' ls'' : List Link} → EndsGo h h' cs cs' ls ls' → EndsStay h' h'' cs' cs'' ls' ls'' → EndsGo h h'' cs cs'' ls ls''
+pub go_stay :
+    {P : List Step → AnEnd → Type 0} {h h' h'' : List Event} {cs cs' cs'' : Clients} {ls ls' ls'' : List Link} → EndsGoFrom P Agrees h h' cs cs' ls ls' → EndsStay h' h'' cs' cs'' ls' ls''
+    → EndsGoFrom P Agrees h h'' cs cs'' ls ls''
 go_stay a s = λ core. and_then (a core) (stays core s)
 
 -- ---- one link among all
@@ -132,9 +147,9 @@ set_others (y ∷ xs) zero (suc k) x other = refl
 set_others (y ∷ xs) (suc i) zero x other = refl
 set_others (y ∷ xs) (suc i) (suc k) x other = set_others xs i k x (λ e. other (ap suc e))
 
-text_set : (links : List Link) (at : ℕ) (x y : Link) → x ≡ get_or links at x → y.text ≡ x.text → texts_of (set links at y) ≡ texts_of links
+text_set : (links : List Link) (at : ℕ) (x y : Link) → x ≡ get_or links at x → y.text.items ≡ x.text.items → texts_of (set links at y) ≡ texts_of links
 text_set [] at x y was same = refl
-text_set (first ∷ links) zero x y was same = ap (λ t. t ∷ texts_of links) (ap (λ t. t.items) same ∙ ap (λ (z : Link). z.text.items) was)
+text_set (first ∷ links) zero x y was same = ap (λ t. t ∷ texts_of links) (same ∙ ap (λ (z : Link). z.text.items) was)
 text_set (first ∷ links) (suc at) x y was same = ap (λ ts. first.text.items ∷ ts) (text_set links at x y was same)
 
 true_false : true ≡ false → ⊥
@@ -143,18 +158,22 @@ true_false e = cc
 pub not_same : (i j : ℕ) → nat_eq i j ≡ false → j ≢ i
 not_same i j other e = true_false (sym (eq-eqb i j (sym e)) ∙ other)
 
--- calls of a core that tell nothing of clients
+-- calls of a core that tell nothing of clients and of servers
 abbrev pub IsSilent : Step → Type 0
 IsSilent (NotOpened fault) = Unit {0}
 IsSilent (Polled client poll) = Unit {0}
 IsSilent (Stopped client fault) = Unit {0}
-IsSilent (Settled number outcome) = Unit {0}
+IsSilent (Settled number outcome) = outcome ≡ Failed
 IsSilent (Closed client) = Unit {0}
 IsSilent (LeftLine client) = Unit {0}
 IsSilent (Opened client) = ⊥
 IsSilent (Fed client piece) = ⊥
 IsSilent (Gave client bytes) = ⊥
 IsSilent (Loaded configuration generation) = ⊥
+IsSilent (Linked at dialect) = ⊥
+IsSilent (Asked at number dialect ask) = ⊥
+IsSilent (Greeted at bytes) = ⊥
+IsSilent (Spelled at number ask answer bytes) = ⊥
 
 pub tells_none : (steps : List Step) → AreOf IsSilent steps → (past : List Step) (j : ℕ) → TellsNone j past steps
 tells_none [] kinds past j = (refl, refl)
@@ -168,6 +187,10 @@ tells_none (Opened client ∷ steps) kinds past j = absurd kinds.0
 tells_none (Fed client piece ∷ steps) kinds past j = absurd kinds.0
 tells_none (Gave client bytes ∷ steps) kinds past j = absurd kinds.0
 tells_none (Loaded configuration generation ∷ steps) kinds past j = absurd kinds.0
+tells_none (Linked at dialect ∷ steps) kinds past j = absurd kinds.0
+tells_none (Asked at number dialect ask ∷ steps) kinds past j = absurd kinds.0
+tells_none (Greeted at bytes ∷ steps) kinds past j = absurd kinds.0
+tells_none (Spelled at number ask answer bytes ∷ steps) kinds past j = absurd kinds.0
 
 pub silent_turn : (steps : List Step) → AreOf IsSilent steps → AreOf IsOfTurn steps
 silent_turn [] kinds = tt
@@ -184,13 +207,37 @@ silent_turn (step ∷ steps) kinds = (of_turn step kinds.0, silent_turn steps ki
     of_turn (Fed client piece) is = tt
     of_turn (Gave client bytes) is = tt
     of_turn (Loaded configuration generation) is = is
+    of_turn (Linked at dialect) is = tt
+    of_turn (Asked at number dialect ask) is = tt
+    of_turn (Greeted at bytes) is = tt
+    of_turn (Spelled at number ask answer bytes) is = tt
+
+pub silent_plain : (steps : List Step) → AreOf IsSilent steps → AreOf IsPlain steps
+silent_plain [] kinds = tt
+silent_plain (step ∷ steps) kinds = (plain step kinds.0, silent_plain steps kinds.1)
+  where
+    plain : (s : Step) → IsSilent s → IsPlain s
+    plain (Settled number outcome) is = is
+    plain (NotOpened fault) is = tt
+    plain (Polled client poll) is = tt
+    plain (Stopped client fault) is = tt
+    plain (Closed client) is = tt
+    plain (LeftLine client) is = tt
+    plain (Opened client) is = tt
+    plain (Fed client piece) is = tt
+    plain (Gave client bytes) is = tt
+    plain (Loaded configuration generation) is = tt
+    plain (Linked at dialect) is = is
+    plain (Asked at number dialect ask) is = is
+    plain (Greeted at bytes) is = is
+    plain (Spelled at number ask answer bytes) is = is
 
 fails_silent : (steps : List Step) → AreOf IsFailure steps → AreOf IsSilent steps
 fails_silent [] kinds = tt
 fails_silent (step ∷ steps) kinds = (silent step kinds.0, fails_silent steps kinds.1)
   where
     silent : (s : Step) → IsFailure s → IsSilent s
-    silent (Settled number outcome) is = tt
+    silent (Settled number outcome) is = is
     silent (NotOpened fault) is = tt
     silent (Polled client poll) is = tt
     silent (Stopped client fault) is = tt
@@ -200,10 +247,76 @@ fails_silent (step ∷ steps) kinds = (silent step kinds.0, fails_silent steps k
     silent (Fed client piece) is = is
     silent (Gave client bytes) is = is
     silent (Loaded configuration generation) is = is
+    silent (Linked at dialect) is = is
+    silent (Asked at number dialect ask) is = is
+    silent (Greeted at bytes) is = is
+    silent (Spelled at number ask answer bytes) is = is
 
--- what fails goes on
-pub failing : {a b : AnEnd} → AllGo IsFailure a b → AllGo IsOfTurn a b
-failing g = record { steps = g.steps; kinds = silent_turn g.steps (fails_silent g.steps g.kinds); walks = g.walks; agree = g.agree; texts = g.texts }
+fails_send : (steps : List Step) → AreOf IsFailure steps → AreOf IsSending steps
+fails_send [] kinds = tt
+fails_send (step ∷ steps) kinds = (sends step kinds.0, fails_send steps kinds.1)
+  where
+    sends : (s : Step) → IsFailure s → IsSending s
+    sends (Settled number outcome) is = is
+    sends (NotOpened fault) is = is
+    sends (Polled client poll) is = is
+    sends (Stopped client fault) is = is
+    sends (Closed client) is = is
+    sends (LeftLine client) is = is
+    sends (Opened client) is = is
+    sends (Fed client piece) is = is
+    sends (Gave client bytes) is = is
+    sends (Loaded configuration generation) is = is
+    sends (Linked at dialect) is = tt
+    sends (Asked at number dialect ask) is = tt
+    sends (Greeted at bytes) is = is
+    sends (Spelled at number ask answer bytes) is = is
+
+sends_turn : (steps : List Step) → AreOf IsSending steps → AreOf IsOfTurn steps
+sends_turn [] kinds = tt
+sends_turn (step ∷ steps) kinds = (of_turn step kinds.0, sends_turn steps kinds.1)
+  where
+    of_turn : (s : Step) → IsSending s → IsOfTurn s
+    of_turn (Settled number outcome) is = tt
+    of_turn (NotOpened fault) is = tt
+    of_turn (Polled client poll) is = tt
+    of_turn (Stopped client fault) is = tt
+    of_turn (Closed client) is = tt
+    of_turn (LeftLine client) is = tt
+    of_turn (Opened client) is = tt
+    of_turn (Fed client piece) is = tt
+    of_turn (Gave client bytes) is = tt
+    of_turn (Loaded configuration generation) is = is
+    of_turn (Linked at dialect) is = tt
+    of_turn (Asked at number dialect ask) is = tt
+    of_turn (Greeted at bytes) is = tt
+    of_turn (Spelled at number ask answer bytes) is = tt
+
+-- what fails and goes out goes on
+pub failing : {P Q : List Step → AnEnd → Type 0} {a b : AnEnd} → AllGoFrom P Q IsSending a b → AllGoFrom P Q IsOfTurn a b
+failing g = record { steps = g.steps; kinds = sends_turn g.steps g.kinds; walks = g.walks; agree = g.agree; texts = g.texts }
+
+-- and what fails alone is among it
+pub sending : {P Q : List Step → AnEnd → Type 0} {a b : AnEnd} → AllGoFrom P Q IsFailure a b → AllGoFrom P Q IsSending a b
+sending g = record { steps = g.steps; kinds = fails_send g.steps g.kinds; walks = g.walks; agree = g.agree; texts = g.texts }
+
+-- where all agree, what one link holds may be said to be lost
+pub may_lose : {P : List Step → AnEnd → Type 0} {Is : Step → Type 0} {a b : AnEnd} → AllGoFrom P Agrees Is a b → AllGoFrom P AgreesLosing Is a b
+may_lose {b = b} g = go_between (λ past was. was) (λ past was. losing 0 past b was) g
+
+pub lost_some : {P : List Step → AnEnd → Type 0} {Is : Step → Type 0} {a b : AnEnd} (at : ℕ) → AllGoFrom P (AgreesBut LineLost at) Is a b → AllGoFrom P AgreesLosing Is a b
+lost_some at g = go_between (λ past was. was) (λ past was. (at, was)) g
+
+pub may_lose_at : {P : List Step → AnEnd → Type 0} {Is : Step → Type 0} {a b : AnEnd} (at : ℕ) → AllGoFrom P Agrees Is a b → AllGoFrom P (AgreesBut LineLost at) Is a b
+may_lose_at {b = b} at g = go_between (λ past was. was) (λ past was. (losing at past b was).1) g
+
+-- a link may be given up whose bytes are all there
+pub gives_up : {Q : List Step → AnEnd → Type 0} {Is : Step → Type 0} {a b : AnEnd} (at : ℕ) → AllGoFrom (AgreesBut LineLost at) Q Is a b → AllGoFrom Agrees Q Is a b
+gives_up {a = a} at g = go_between (λ past was. (losing at past a was).1) (λ past was. was) g
+
+-- what is handed a call goes on without it
+pub without_call : {Q : List Step → AnEnd → Type 0} {Is : Step → Type 0} {a b : AnEnd} (number at : ℕ) (ask : Ask) → AllGoFrom Agrees Q Is a b → AllGoFrom (AgreesCalled number at ask) Q Is a b
+without_call number at ask g = go_between (λ past was. was.0) (λ past was. was) g
 
 pub agree_told : (h : List Event) (input output input' output' : ℕ → List ℕ) (cs : Clients) → ((j : ℕ) → (input' j ≡ input j) × (output' j ≡ output j)) → AllAgree h input output cs → AllAgree h input' output' cs
 agree_told h input output input' output' cs told was id = by (client_of cs id) (was id)
@@ -218,37 +331,41 @@ agree_told h input output input' output' cs told was id = by (client_of cs id) (
           ended = a.ended;
         }
 
--- calls of the core alone, of which clients are told nothing
+-- calls of the core alone, of which nobody is told anything
+calls_agree :
+    {h : List Event} {cs : Clients} {ls : List Link} (a b : ServedCore) (past steps : List Step) → AreOf IsSilent steps → Agrees past (record { core = a; history = h; clients = cs; links = ls })
+    → Agrees (steps ++ past) (record { core = b; history = h; clients = cs; links = ls })
+calls_agree {h} {cs} {ls} a b past steps silent was = record {
+  orderly = plain_orderly steps (silent_plain steps silent) past was.orderly;
+  clients = agree_told h (fed_in past) (gave_in past) (fed_in (steps ++ past)) (gave_in (steps ++ past)) cs (tells_none steps silent past) was.clients;
+  links = lines_told h steps past ls (silent_plain steps silent) was.links;
+  gone = λ conn id is. had_quiet past steps h h cs cs id conn (untouched conn h) refl is was.gone;
+}
+
 calls_go :
     {Is : Step → Type 0} {h : List Event} {cs : Clients} {ls : List Link} (a b : ServedCore) (steps : List Step) → AreOf Is steps → AreOf IsSilent steps → Walks steps a b
     → AllGo Is (record { core = a; history = h; clients = cs; links = ls }) (record { core = b; history = h; clients = cs; links = ls })
-calls_go {Is} {h} {cs} {ls} a b steps kinds silent walks =
-    record { steps = steps; kinds = kinds; walks = walks; agree = λ past was. record { clients = agree_told h (fed_in past) (gave_in past) (fed_in (steps ++ past)) (gave_in (steps ++ past)) cs (tells_none steps silent past) was.clients; links = was.links; gone = λ conn id is. had_quiet past steps h h cs cs id conn (untouched conn h) refl is was.gone }; texts = refl }
+calls_go {Is} {h} {cs} {ls} a b steps kinds silent walks = record { steps = steps; kinds = kinds; walks = walks; agree = λ past was. calls_agree a b past steps silent was; texts = refl }
 
-pub fails_go : {h : List Event} {cs : Clients} {ls : List Link} {a b : ServedCore} → Fails a b → AllGo IsFailure (record { core = a; history = h; clients = cs; links = ls }) (record { core = b; history = h; clients = cs; links = ls })
-fails_go {a = a} {b = b} f = calls_go a b f.steps f.kinds (fails_silent f.steps f.kinds) f.walks
+pub fails_go : {h : List Event} {cs : Clients} {ls : List Link} {a b : ServedCore} → Fails a b → AllGo IsSending (record { core = a; history = h; clients = cs; links = ls }) (record { core = b; history = h; clients = cs; links = ls })
+fails_go {a = a} {b = b} f = calls_go a b f.steps (fails_send f.steps f.kinds) (fails_silent f.steps f.kinds) f.walks
 
 pub quietly_go : {h : List Event} {cs : Clients} {ls : List Link} {a b : ServedCore} → GoesBy IsSilent a b → AllGo IsOfTurn (record { core = a; history = h; clients = cs; links = ls }) (record { core = b; history = h; clients = cs; links = ls })
 quietly_go {a = a} {b = b} f = calls_go a b f.steps (silent_turn f.steps f.kinds) f.kinds f.walks
 
-settlements_silent : (steps : List Step) → AreOf IsSettlement steps → AreOf IsSilent steps
-settlements_silent [] kinds = tt
-settlements_silent (step ∷ steps) kinds = (silent step kinds.0, settlements_silent steps kinds.1)
-  where
-    silent : (s : Step) → IsSettlement s → IsSilent s
-    silent (Settled number outcome) is = tt
-    silent (NotOpened fault) is = tt
-    silent (Polled client poll) is = tt
-    silent (Stopped client fault) is = tt
-    silent (Closed client) is = tt
-    silent (LeftLine client) is = tt
-    silent (Opened client) is = is
-    silent (Fed client piece) is = is
-    silent (Gave client bytes) is = is
-    silent (Loaded configuration generation) is = is
-
-pub settles_go : {h : List Event} {cs : Clients} {ls : List Link} {a b : ServedCore} → GoesBy IsSettlement a b → AllGo IsOfTurn (record { core = a; history = h; clients = cs; links = ls }) (record { core = b; history = h; clients = cs; links = ls })
-settles_go f = quietly_go (record { steps = f.steps; kinds = settlements_silent f.steps f.kinds; walks = f.walks })
+-- the core gave out a call
+pub called_go :
+    {h : List Event} {cs : Clients} {ls : List Link} (client : ℕ) (ticket : Ticket) (a b : ServedCore) → Does (Polled client (polls.Call ticket)) a b
+    → AllGoFrom Agrees (AgreesCalled ticket.number ticket.server ticket.ask) IsOfTurn (record { core = a; history = h; clients = cs; links = ls }) (record { core = b; history = h; clients = cs; links = ls })
+called_go {h} {cs} {ls} client ticket a b does =
+    let step : Step = Polled client (polls.Call ticket) in
+    record {
+      steps = step ∷ [];
+      kinds = (tt, tt);
+      walks = (a, refl, does);
+      agree = λ past was. (calls_agree a b past (step ∷ []) (tt, tt) was, record { client = client; ticket = ticket; number_is = refl; server_is = refl; ask_is = refl; later = []; earlier = past; was = refl });
+      texts = refl;
+    }
 
 pub nothing : {a : ServedCore} → GoesBy IsSilent a a
 nothing = record { steps = []; kinds = tt; walks = refl }
@@ -258,9 +375,9 @@ pub same_core : {Is : Step → Type 0} {h : List Event} {cs : Clients} {ls : Lis
 same_core {a = a} {b = b} same = calls_go a b [] tt tt same
 
 pub go_from :
-    {Is : Step → Type 0} {h : List Event} {cs : Clients} {ls : List Link} {a x : ServedCore} {b : AnEnd} → x ≡ a → AllGo Is (record { core = x; history = h; clients = cs; links = ls }) b
-    → AllGo Is (record { core = a; history = h; clients = cs; links = ls }) b
-go_from {Is} {h} {cs} {ls} {a} {x} {b} same g = subst (λ y. AllGo Is (record { core = y; history = h; clients = cs; links = ls }) b) same g
+    {P Q : List Step → AnEnd → Type 0} {Is : Step → Type 0} {h : List Event} {cs : Clients} {ls : List Link} {a x : ServedCore} {b : AnEnd} → x ≡ a
+    → AllGoFrom P Q Is (record { core = x; history = h; clients = cs; links = ls }) b → AllGoFrom P Q Is (record { core = a; history = h; clients = cs; links = ls }) b
+go_from {P} {Q} {Is} {h} {cs} {ls} {a} {x} {b} same g = subst (λ y. AllGoFrom P Q Is (record { core = y; history = h; clients = cs; links = ls }) b) same g
 
 by_one : (step : Step) (a b : ServedCore) → IsSilent step → Does step a b → GoesBy IsSilent a b
 by_one step a b is does = record { steps = step ∷ []; kinds = (is, tt); walks = (a, refl, does) }
@@ -283,19 +400,70 @@ by_close client (Err fault) a b ok err fresh = record { steps = []; kinds = tt; 
 pub by_not_opened : (fault : CoreFault) (a b : ServedCore) → OpenFault a.core fault b.core → LogsGoBy a (λ entries. entries ≡ []) b → GoesBy IsSilent a b
 by_not_opened fault a b err fresh = by_one (NotOpened fault) a b tt (err, fresh)
 
--- one link's end goes on, while calls fail
-pub line_fails :
-    {h h' : List Event} {cs : Clients} {a b : ServedCore} (links : List Link) (at : ℕ) (x y : Link) → at < length links → x ≡ get_or links at x → Fails a b → LineStands at h h' x y
-    → AllGo IsFailure (record { core = a; history = h; clients = cs; links = links }) (record { core = b; history = h'; clients = cs; links = set links at y })
-line_fails {h} {h'} {cs} {a} {b} links at x y within was f s =
-    line_of_all at (record { core = a; history = h; clients = cs; links = links }) (record { core = b; history = h'; clients = cs; links = set links at y })
-    x y (slice_get_read links (length links) at x refl within was) (set_here links at y within) (λ j other. set_others links at j y (not_same at j other)) (text_set links at x y was s.text) (λ j. refl)
-    (record { steps = f.steps; kinds = f.kinds; walks = f.walks; agrees = s.agrees; text = s.text; others = λ past j. tells_none f.steps (fails_silent f.steps f.kinds) past j })
+-- what is done at one link is done among all
+pub line_lends :
+    {Before After : ℕ → List Step → List Event → Link → Type 0} {Is : Step → Type 0} {h h' : List Event} {cs : Clients} {a b : ServedCore} (links : List Link) (at : ℕ) (x y : Link) → at < length links → x ≡ get_or links at x
+    → LineGoesFrom Before After Is at a h x b h' y
+    → AllGoFrom (AgreesBut Before at) (AgreesBut After at) Is (record { core = a; history = h; clients = cs; links = links }) (record { core = b; history = h'; clients = cs; links = set links at y })
+line_lends {h = h} {h' = h'} {cs = cs} {a = a} {b = b} links at x y within was g =
+    line_among at (record { core = a; history = h; clients = cs; links = links }) (record { core = b; history = h'; clients = cs; links = set links at y })
+    x y (slice_get_read links (length links) at x refl within was) (set_here links at y within) (λ j other. set_others links at j y (not_same at j other)) (text_set links at x y was g.text) (λ j. refl) g
 
--- or alone
+-- it agrees before and after
+pub line_goes_on :
+    {Is : Step → Type 0} {h h' : List Event} {cs : Clients} {a b : ServedCore} (links : List Link) (at : ℕ) (x y : Link) → at < length links → x ≡ get_or links at x → LineGoes Is at a h x b h' y
+    → AllGo Is (record { core = a; history = h; clients = cs; links = links }) (record { core = b; history = h'; clients = cs; links = set links at y })
+line_goes_on {h = h} {h' = h'} {cs = cs} {a = a} {b = b} links at x y within was g =
+    go_between (λ past was. all_but at past (record { core = a; history = h; clients = cs; links = links }) was) (λ past was. but_all at past (record { core = b; history = h'; clients = cs; links = set links at y }) was) (line_lends links at x y within was g)
+
+-- or what it holds may be lost
+pub line_goes_but :
+    {Is : Step → Type 0} {h h' : List Event} {cs : Clients} {a b : ServedCore} (links : List Link) (at : ℕ) (x y : Link) → at < length links → x ≡ get_or links at x → LineGoesFrom LineAgrees LineLost Is at a h x b h' y
+    → AllGoFrom Agrees (AgreesBut LineLost at) Is (record { core = a; history = h; clients = cs; links = links }) (record { core = b; history = h'; clients = cs; links = set links at y })
+line_goes_but {h = h} {h' = h'} {cs = cs} {a = a} {b = b} links at x y within was g =
+    go_between (λ past was. all_but at past (record { core = a; history = h; clients = cs; links = links }) was) (λ past was. was) (line_lends links at x y within was g)
+
+-- and was lost before, perhaps
+pub line_given_up :
+    {Is : Step → Type 0} {h h' : List Event} {cs : Clients} {a b : ServedCore} (links : List Link) (at : ℕ) (x y : Link) → at < length links → x ≡ get_or links at x → LineGoesFrom LineLost LineAgrees Is at a h x b h' y
+    → AllGoFrom (AgreesBut LineLost at) Agrees Is (record { core = a; history = h; clients = cs; links = links }) (record { core = b; history = h'; clients = cs; links = set links at y })
+line_given_up {h = h} {h' = h'} {cs = cs} {a = a} {b = b} links at x y within was g =
+    go_between (λ past was. was) (λ past was. but_all at past (record { core = b; history = h'; clients = cs; links = set links at y }) was) (line_lends links at x y within was g)
+
+-- it took over a call
+pub line_took :
+    {Is : Step → Type 0} {h h' : List Event} {cs : Clients} {a b : ServedCore} (links : List Link) (at : ℕ) (x y : Link) (number : ℕ) (ask : Ask) → at < length links → x ≡ get_or links at x
+    → LineGoesFrom (LineCalled number ask) LineAgrees Is at a h x b h' y
+    → AllGoFrom (AgreesCalled number at ask) Agrees Is (record { core = a; history = h; clients = cs; links = links }) (record { core = b; history = h'; clients = cs; links = set links at y })
+line_took {h = h} {h' = h'} {cs = cs} {a = a} {b = b} links at x y number ask within was g =
+    go_between (λ past was. with_call past was) (λ past was. but_all at past (record { core = b; history = h'; clients = cs; links = set links at y }) was) (line_lends links at x y within was g)
+  where
+    with_call :
+        (past : List Step) → AgreesCalled number at ask past (record { core = a; history = h; clients = cs; links = links }) → AgreesBut (LineCalled number ask) at past (record { core = a; history = h; clients = cs; links = links })
+    with_call past was =
+        record { orderly = was.0.orderly; clients = was.0.clients; links = λ j link other there. was.0.links j link there; this = λ link there. (was.0.links at link there, was.1); gone = was.0.gone }
+
+-- one that waited was taken from it
+pub line_gave :
+    {Is : Step → Type 0} {h h' : List Event} {cs : Clients} {a b : ServedCore} (links : List Link) (at : ℕ) (x y : Link) (number : ℕ) (ask : Ask) → at < length links → x ≡ get_or links at x
+    → LineGoesFrom LineAgrees (LineCalled number ask) Is at a h x b h' y
+    → AllGoFrom Agrees (AgreesCalled number at ask) Is (record { core = a; history = h; clients = cs; links = links }) (record { core = b; history = h'; clients = cs; links = set links at y })
+line_gave {h = h} {h' = h'} {cs = cs} {a = a} {b = b} links at x y number ask within was g =
+    go_between (λ past was. all_but at past (record { core = a; history = h; clients = cs; links = links }) was) (λ past was. with_call past was) (line_lends links at x y within was g)
+  where
+    with_call :
+        (past : List Step) → AgreesBut (LineCalled number ask) at past (record { core = b; history = h'; clients = cs; links = set links at y })
+        → AgreesCalled number at ask past (record { core = b; history = h'; clients = cs; links = set links at y })
+    with_call past was = (
+      but_all at past (record { core = b; history = h'; clients = cs; links = set links at y })
+      (record { orderly = was.orderly; clients = was.clients; links = was.links; this = λ link there. (was.this link there).0; gone = was.gone }),
+      (was.this y (set_here links at y within)).1,
+    )
+
+-- without a core
 pub line_goes :
     {h h' : List Event} {cs : Clients} (links : List Link) (at : ℕ) (x y : Link) → at < length links → x ≡ get_or links at x → LineStands at h h' x y → EndsGo h h' cs cs links (set links at y)
-line_goes links at x y within was s = λ core. line_fails links at x y within was (record { steps = []; kinds = tt; walks = refl }) s
+line_goes links at x y within was s = λ core. line_goes_on links at x y within was (s core)
 
 -- ---- one client
 
@@ -310,7 +478,7 @@ same_agrees h x y same = λ input output id was. subst (of_said h input output i
 pub one_touched :
     {Is : Step → Type 0} {id : ℕ} {a b : ServedCore} {h h' : List Event} {x y : Client} → b ≡ a → GoesOnAgreeing h h' x y → y.conn.number ≡ x.conn.number → TouchesOnly x.conn.number h h' → OneGoes Is id a h x b h' y
 one_touched {Is} {id} {a} {b} {h} {h'} {x} {y} same goes number only =
-    record { steps = []; kinds = tt; walks = same; agrees = λ past was. goes (fed_in past) (gave_in past) id was; number = number; only = only; others = λ past j other. (refl, refl) }
+    record { steps = []; kinds = tt; own = tt; walks = same; agrees = λ past was. goes (fed_in past) (gave_in past) id was; number = number; only = only; others = λ past j other. (refl, refl) }
 
 pub number_said : (x y : Client) → said_of y ≡ said_of x → y.conn.number ≡ x.conn.number
 number_said x y same = ap (λ (s : ℕ × List ℕ × List ℕ × Bool × Bool). s.0) same
@@ -331,6 +499,7 @@ one_then {Is} {id} {a} {b} {c} {h} {h'} {h''} {x} {y} {z} g k =
     record {
       steps = k.steps ++ g.steps;
       kinds = of_both Is k.steps g.steps k.kinds g.kinds;
+      own = of_both IsOfClients k.steps g.steps k.own g.own;
       walks = walked k.steps g.steps a b c g.walks k.walks;
       agrees = λ past was.
           subst (λ l. AgreesWith l h'' id z) (sym (append_assoc k.steps g.steps past)) (k.agrees (g.steps ++ past) (g.agrees past was));
@@ -389,6 +558,7 @@ one_fed {id} {a} {b} {h} x y (inl fed) =
     record {
       steps = Fed id piece ∷ [];
       kinds = (tt, tt);
+      own = (tt, tt);
       walks = (a, refl, fed.0);
       agrees = λ past was.
           subst (of_said h (fed_in (Fed id piece ∷ past)) (gave_in past) id) (sym said)
@@ -408,6 +578,7 @@ gave_one {id} {a} {b} {h} x y bytes does number goes =
     record {
       steps = Gave id bytes ∷ [];
       kinds = (tt, tt);
+      own = (tt, tt);
       walks = (a, refl, does);
       agrees = goes;
       number = number;

@@ -1,10 +1,11 @@
 -- Links that come behind those that are there, and ends that begin.
-use Rattle.std.proofs.Common.{◌≡◌, ◌⊎◌, inl, inr, ℕ, zero, suc, List, [], ◌∷◌, ◌++◌, Option, Some, None, refl, sym, ap, ◌∙◌, subst, append_assoc, append-nil}
+use Rattle.std.proofs.Common.{◌≡◌, ◌⊎◌, inl, inr, ℕ, zero, suc, Bool, false, List, [], ◌∷◌, ◌++◌, Option, Some, None, refl, sym, ap, ◌∙◌, subst, append_assoc, append-nil}
 use Rattle.std.specs.Prelude.{slice_get, IfSome, map as each}
 use Rattle.std.specs.Option.{option_map, option_flatten}
 use Rattle.route_json.specs.Configuration.{Configuration}
 use Rattle.core_accepted.specs.declared.served.ServedCore.{ServedCore}
 use Rattle.core_accepted.specs.Loading.{IsLoaded}
+use Rattle.wire_parts.specs.Sending.{bytes_of}
 use Rattle.serve_wire.specs.Events.{Event}
 use Rattle.serve_wire.proofs.Steps.{untouched}
 use Rattle.serve_wire.specs.declared.conn.conn.Conn.{Conn}
@@ -12,31 +13,36 @@ use Rattle.serve_clients.specs.declared.clients.Client.{Client}
 use Rattle.serve_clients.specs.declared.clients.Clients.{Clients}
 use Rattle.serve_clients.specs.Agrees.{EndAgrees}
 use Rattle.serve_clients.specs.Marks.{client_of}
+use Rattle.serve_links.specs.declared.calls.calls.SentCall.{SentCall}
 use Rattle.serve_links.specs.declared.link.Link.{Link}
+use Rattle.serve_links.specs.Links.{IsDown}
 use Rattle.serve_links.specs.CoreSteps.{Step, Loaded}
-use Rattle.serve_links.specs.Story.{fed_in, gave_in, LineAgrees, LinesAgree, AnEnd, Agrees, AllGo, texts_of}
+use Rattle.serve_links.specs.Story.{fed_in, gave_in, said_asks, AreCalled, LineState, line_of, LineAgrees, LinesAgree, AnEnd, Agrees, AllGo, texts_of}
 use Rattle.serve_links.proofs.Walked.{walked, of_both}
-use Rattle.serve_proxy.specs.Ends.{line_of, lines_of, AddsLines, AllGrow, IsLoadOf, HasNoClients}
-use Rattle.serve_proxy.proofs.Going.{agree_told, had_quiet, get_line, texts_by_lines}
-use Rattle.serve_proxy.proofs.Staying.{line_same, closed_agrees}
+use Rattle.serve_proxy.specs.Ends.{lines_of, down_line, AddsLines, AllGrow, IsLoadOf, HasNoClients}
+use Rattle.serve_proxy.proofs.Going.{agree_told, had_quiet, lines_told, get_line, texts_by_lines}
+use Rattle.serve_links.proofs.LinkGoes.{same_line, has_none}
 
 -- ---- lines that are added
 
--- what a link to this text has to do with the wire, without a connection
-abbrev down_line : List ℕ → List ℕ × Option ℕ
-down_line text = (text, None)
-
 pub adds_none : (old new : List Link) → new ≡ old → AddsLines old new
 adds_none old new same = ([], ap lines_of same ∙ sym (append-nil (lines_of old)))
+
+-- the line of a link that is down
+down_of : (link : Link) → IsDown link → link.awaits_dialect ≡ false → line_of link ≡ down_line link.text.items
+down_of link down off =
+    ap (λ (o : Option Conn). let s : LineState = (link.text.items, option_map (λ (x : Conn). (x.number, x.held.items, bytes_of x.unsent)) o, said_asks link.calls.sent.items, link.waiting.items, link.awaits_dialect) in s) down.closed
+    ∙ ap (λ (l : List SentCall). let s : LineState = (link.text.items, None, said_asks l, link.waiting.items, link.awaits_dialect) in s) down.sent
+    ∙ ap (λ (l : List SentCall). let s : LineState = (link.text.items, None, [], l, link.awaits_dialect) in s) down.waiting
+    ∙ ap (λ (b : Bool). let s : LineState = (link.text.items, None, [], [], b) in s) off
 
 lines_more : (links : List Link) (link : Link) → lines_of (links ++ link ∷ []) ≡ lines_of links ++ line_of link ∷ []
 lines_more [] link = refl
 lines_more (x ∷ links) link = ap (λ l. line_of x ∷ l) (lines_more links link)
 
 -- one without a connection
-pub adds_one : (old new : List Link) (link : Link) → new ≡ old ++ link ∷ [] → link.conn ≡ None → AddsLines old new
-adds_one old new link more down =
-    (link.text.items ∷ [], ap lines_of more ∙ lines_more old link ∙ ap (λ (o : Option Conn). lines_of old ++ (link.text.items, option_map (λ (z : Conn). z.number) o) ∷ []) down)
+pub adds_one : (old new : List Link) (link : Link) → new ≡ old ++ link ∷ [] → IsDown link → link.awaits_dialect ≡ false → AddsLines old new
+adds_one old new link more down off = (link.text.items ∷ [], ap lines_of more ∙ lines_more old link ∙ ap (λ (s : LineState). lines_of old ++ s ∷ []) (down_of link down off))
 
 down_both : (xs ys : List (List ℕ)) → each down_line (xs ++ ys) ≡ each down_line xs ++ each down_line ys
 down_both [] ys = refl
@@ -60,34 +66,34 @@ in_both [] ys at z is = inr (at, is)
 in_both (x ∷ xs) ys zero z is = inl is
 in_both (x ∷ xs) ys (suc at) z is = in_both xs ys at z is
 
-is_down : (texts : List (List ℕ)) (k : ℕ) (line : List ℕ × Option ℕ) → slice_get (each down_line texts) k ≡ Some line → line.1 ≡ None
+is_down : (texts : List (List ℕ)) (k : ℕ) (line : LineState) → slice_get (each down_line texts) k ≡ Some line → (line.1 ≡ None) × (line.3 ≡ [])
 is_down [] k line is = absurd (none_some is)
-is_down (text ∷ texts) zero line is = ap (λ (p : List ℕ × Option ℕ). p.1) (sym (same_some is))
+is_down (text ∷ texts) zero line is = (ap (λ (p : LineState). p.1) (sym (same_some is)), ap (λ (p : LineState). p.3) (sym (same_some is)))
 is_down (text ∷ texts) (suc k) line is = is_down texts k line is
 
-no_number : (o : Option Conn) → option_map (λ (z : Conn). z.number) o ≡ None → o ≡ None
-no_number None is = refl
-no_number (Some conn) is = absurd (none_some (sym is))
+no_conn : (o : Option Conn) → option_map (λ (x : Conn). let e : ℕ × List ℕ × List ℕ = (x.number, x.held.items, bytes_of x.unsent) in e) o ≡ None → o ≡ None
+no_conn None is = refl
+no_conn (Some conn) is = absurd (none_some (sym is))
 
-pub lines_grow : (h : List Event) (ls ls' : List Link) → AddsLines ls ls' → LinesAgree h ls → LinesAgree h ls'
-lines_grow h ls ls' adds was at link there = by (in_both (lines_of ls) (each down_line adds.0) at (line_of link) (ap (λ l. slice_get l at) (sym adds.1) ∙ sym (get_line ls' at) ∙ ap (option_map line_of) there))
+pub lines_grow : (h : List Event) (past : List Step) (ls ls' : List Link) → AddsLines ls ls' → LinesAgree past h ls → LinesAgree past h ls'
+lines_grow h past ls ls' adds was at link there = by (in_both (lines_of ls) (each down_line adds.0) at (line_of link) (ap (λ l. slice_get l at) (sym adds.1) ∙ sym (get_line ls' at) ∙ ap (option_map line_of) there))
   where
-    of_old : (o : Option Link) → slice_get ls at ≡ o → option_map line_of o ≡ Some (line_of link) → LineAgrees h at link
+    of_old : (o : Option Link) → slice_get ls at ≡ o → option_map line_of o ≡ Some (line_of link) → LineAgrees at past h link
     of_old None e l = absurd (none_some l)
-    of_old (Some x) e l = line_same h at x link (sym (same_some l)) (was at x e)
+    of_old (Some x) e l = same_line at past h x link (sym (same_some l)) (was at x e)
 
-    by : (slice_get (lines_of ls) at ≡ Some (line_of link)) ⊎ ((k : ℕ) × (slice_get (each down_line adds.0) k ≡ Some (line_of link))) → LineAgrees h at link
+    by : (slice_get (lines_of ls) at ≡ Some (line_of link)) ⊎ ((k : ℕ) × (slice_get (each down_line adds.0) k ≡ Some (line_of link))) → LineAgrees at past h link
     by (inl old) = of_old (slice_get ls at) refl (get_line ls at ∙ old)
-    by (inr new) = closed_agrees h at link (no_number link.conn (is_down adds.0 new.0 (line_of link) new.1))
+    by (inr new) = let down = is_down adds.0 new.0 (line_of link) new.1 in has_none at past h link (no_conn link.conn down.0) (subst (λ w. AreCalled past at w) (sym down.1) tt)
 
-texts_both : (lines : List (List ℕ × Option ℕ)) (texts : List (List ℕ)) → each (λ (p : List ℕ × Option ℕ). p.0) (lines ++ each down_line texts) ≡ each (λ (p : List ℕ × Option ℕ). p.0) lines ++ texts
+texts_both : (lines : List LineState) (texts : List (List ℕ)) → each (λ (p : LineState). p.0) (lines ++ each down_line texts) ≡ each (λ (p : LineState). p.0) lines ++ texts
 texts_both [] [] = refl
 texts_both [] (text ∷ texts) = ap (λ l. text ∷ l) (texts_both [] texts)
 texts_both (line ∷ lines) texts = ap (λ l. line.0 ∷ l) (texts_both lines texts)
 
 texts_grow : (ls ls' : List Link) (adds : AddsLines ls ls') → texts_of ls' ≡ texts_of ls ++ adds.0
 texts_grow ls ls' adds =
-    sym (texts_by_lines ls') ∙ ap (each (λ (p : List ℕ × Option ℕ). p.0)) adds.1 ∙ texts_both (lines_of ls) adds.0 ∙ ap (λ l. l ++ adds.0) (texts_by_lines ls)
+    sym (texts_by_lines ls') ∙ ap (each (λ (p : LineState). p.0)) adds.1 ∙ texts_both (lines_of ls) adds.0 ∙ ap (λ l. l ++ adds.0) (texts_by_lines ls)
 
 -- ---- all ends
 
@@ -111,7 +117,7 @@ pub links_grow :
     {Is : Step → Type 0} {h : List Event} {cs : Clients} {ls ls' : List Link} (core : ServedCore) → AddsLines ls ls'
     → AllGrow Is (record { core = core; history = h; clients = cs; links = ls }) (record { core = core; history = h; clients = cs; links = ls' })
 links_grow {h = h} {ls = ls} {ls' = ls'} core adds =
-    record { steps = []; kinds = tt; walks = refl; agree = λ past was. record { clients = was.clients; links = lines_grow h ls ls' adds was.links; gone = was.gone }; texts = (adds.0, texts_grow ls ls' adds) }
+    record { steps = []; kinds = tt; walks = refl; agree = λ past was. record { orderly = was.orderly; clients = was.clients; links = lines_grow h past ls ls' adds was.links; gone = was.gone }; texts = (adds.0, texts_grow ls ls' adds) }
 
 -- a configuration was loaded, which tells nothing of clients
 pub load_grows :
@@ -122,20 +128,20 @@ load_grows {h} {cs} {ls} configuration generation a b loaded =
       steps = Loaded configuration generation ∷ [];
       kinds = ((generation, refl), tt);
       walks = (a, refl, loaded);
-      agree = λ past was. record { clients = agree_told h (fed_in past) (gave_in past) (fed_in (Loaded configuration generation ∷ past)) (gave_in (Loaded configuration generation ∷ past)) cs (λ j. (refl, refl)) was.clients; links = was.links; gone = λ conn id is. had_quiet past (Loaded configuration generation ∷ []) h h cs cs id conn (untouched conn h) refl is was.gone };
+      agree = λ past was. record { orderly = (tt, was.orderly); clients = agree_told h (fed_in past) (gave_in past) (fed_in (Loaded configuration generation ∷ past)) (gave_in (Loaded configuration generation ∷ past)) cs (λ j. (refl, refl)) was.clients; links = lines_told h (Loaded configuration generation ∷ []) past ls (tt, tt) was.links; gone = λ conn id is. had_quiet past (Loaded configuration generation ∷ []) h h cs cs id conn (untouched conn h) refl is was.gone };
       texts = ([], sym (append-nil (texts_of ls)));
     }
 
 -- it was, or it is as it was
 pub same_grows :
     {Is : Step → Type 0} {h : List Event} {cs : Clients} {ls : List Link} (a b : ServedCore) → b ≡ a → AllGrow Is (record { core = a; history = h; clients = cs; links = ls }) (record { core = b; history = h; clients = cs; links = ls })
-same_grows {Is} {h} {cs} {ls} a b same = record { steps = []; kinds = tt; walks = same; agree = λ past was. record { clients = was.clients; links = was.links; gone = was.gone }; texts = ([], sym (append-nil (texts_of ls))) }
+same_grows {Is} {h} {cs} {ls} a b same = record { steps = []; kinds = tt; walks = same; agree = λ past was. record { orderly = was.orderly; clients = was.clients; links = was.links; gone = was.gone }; texts = ([], sym (append-nil (texts_of ls))) }
 
 -- ---- an end that begins
 
 -- no client is there, and no link has a connection
 pub new_agrees : (h : List Event) (core : ServedCore) (cs : Clients) (ls : List Link) → cs.all.items ≡ [] → AddsLines [] ls → HasNoClients h → Agrees [] (record { core = core; history = h; clients = cs; links = ls })
-new_agrees h core cs ls none adds new = record { clients = λ id. subst (λ o. IfSome o (EndAgrees h (fed_in []) (gave_in []) id)) (sym (nobody id)) tt; links = lines_grow h [] ls adds (λ at link there. absurd (none_some there)); gone = λ conn id is. absurd (new conn id is) }
+new_agrees h core cs ls none adds new = record { orderly = tt; clients = λ id. subst (λ o. IfSome o (EndAgrees h (fed_in []) (gave_in []) id)) (sym (nobody id)) tt; links = lines_grow h [] [] ls adds (λ at link there. absurd (none_some there)); gone = λ conn id is. absurd (new conn id is) }
   where
     nobody : (id : ℕ) → client_of cs id ≡ None
     nobody id = ap (λ (xs : List (Option Client)). option_flatten (slice_get xs id)) none

@@ -21,14 +21,15 @@ use Rattle.serve_clients.specs.Agrees.{said_of, Breaks, StateAgrees, EndAgrees, 
 use Rattle.serve_clients.proofs.Agreeing.{its, keeps_none, state_stays, state_breaks}
 use Rattle.serve_clients.proofs.Marked.{kept}
 use Rattle.serve_links.specs.declared.link.Link.{Link}
-use Rattle.serve_links.specs.CoreSteps.{Step, Opened, Gave, Closed, Does, GoesBy, IsOfTurn}
+use Rattle.serve_links.specs.CoreSteps.{Step, Opened, Gave, Closed, Does, AreOf, GoesBy, IsOfTurn}
 use Rattle.serve_links.specs.Story.{fed_in, gave_in, IsGone, IsUnused, HasOrHad, LinesAgree, OneGoes, Agrees, AllGo}
 use Rattle.serve_links.proofs.Reading.{breaks_now}
+use Rattle.serve_links.proofs.Talking.{IsPlain, plain_talk, plain_orderly}
 use Rattle.serve_links.proofs.Story.{TellsSame, same_told, gone_stays, end_gone, had_stays, line_stays}
 use Rattle.serve_links.proofs.Walked.{walked, of_both}
 use Rattle.serve_proxy.specs.Ends.{EndsStay, EndsGo}
 use Rattle.serve_proxy.proofs.Staying.{quiet}
-use Rattle.serve_proxy.proofs.Going.{IsSilent, tells_none, silent_turn, agree_told, had_quiet, gave_one, gave_state, more_given, one_touched, same_agrees, same_client}
+use Rattle.serve_proxy.proofs.Going.{IsSilent, tells_none, silent_turn, silent_plain, lines_told, agree_told, had_quiet, gave_one, gave_state, more_given, one_touched, same_agrees, same_client}
 
 -- ---- what happened on no connection
 
@@ -65,8 +66,10 @@ if_moved h h' input output input' output' id None same fed gave was = tt
 if_moved h h' input output input' output' id (Some x) same fed gave was = end_moved h h' input output input' output' id x (same x.conn.number (its h input output id x was)) fed gave was
 
 -- what touches a new connection alone leaves all links as they were
-lines_new : (c : ℕ) (h h' : List Event) (ls : List Link) → role c h ≡ None → TouchesOnly c h h' → LinesAgree h ls → LinesAgree h' ls
-lines_new c h h' ls none only was at link there = line_stays h h' at link (λ conn is. only conn.number (new_apart c conn.number h (1, at) (was at link there conn is).0 none)) (was at link there)
+lines_new :
+    (c : ℕ) (h h' : List Event) (steps past : List Step) (ls : List Link) → role c h ≡ None → TouchesOnly c h h' → AreOf IsPlain steps → LinesAgree past h ls → LinesAgree (steps ++ past) h' ls
+lines_new c h h' steps past ls none only plain was at link there =
+    line_stays h h' at steps past link (λ conn is. only conn.number (new_apart c conn.number h (1, at) ((was at link there).conn conn is).is_to none)) (plain_talk steps plain past at) (was at link there)
 
 -- and all clients, as one was turned away
 pub new_touched : {h h' : List Event} {cs : Clients} {ls : List Link} (c : ℕ) → role c h ≡ None → role c h' ≡ role c h → TouchesOnly c h h' → EndsGo h h' cs cs ls ls
@@ -76,7 +79,8 @@ new_touched {h} {h'} {cs} {ls} c none same only = λ core. record {
   walks = refl;
   agree = λ past was. record {
     clients = λ j. if_moved h h' (fed_in past) (gave_in past) (fed_in past) (gave_in past) j (client_of cs j) (λ d of_d. only d (new_apart c d h (0, j) of_d none)) refl refl (was.clients j);
-    links = lines_new c h h' ls none only was.links;
+    orderly = was.orderly;
+    links = lines_new c h h' [] past ls none only tt was.links;
     gone = λ conn id is. had_quiet past [] h h' cs cs id conn (only conn (new_apart c conn h' (0, id) is (same ∙ none))) refl is was.gone;
   };
   texts = refl;
@@ -99,7 +103,8 @@ opened_go {h} {h'} {cs} {cs'} {ls} id c b last none only unused others begun q b
   walks = walked q.steps (Opened id ∷ []) before b last (before, refl, does) q.walks;
   agree = λ past was. subst (λ l. Agrees l (record { core = last; history = h'; clients = cs'; links = ls })) (sym (append_assoc q.steps (Opened id ∷ []) past)) (record {
     clients = agree_told h' (fed_in (Opened id ∷ past)) (gave_in (Opened id ∷ past)) (fed_in (q.steps ++ Opened id ∷ past)) (gave_in (q.steps ++ Opened id ∷ past)) cs' (tells_none q.steps q.kinds (Opened id ∷ past)) (mid past was.clients);
-    links = lines_new c h h' ls none only was.links;
+    orderly = plain_orderly q.steps (silent_plain q.steps q.kinds) (Opened id ∷ past) (tt, was.orderly);
+    links = lines_told h' q.steps (Opened id ∷ past) ls (silent_plain q.steps q.kinds) (lines_new c h h' (Opened id ∷ []) past ls none only (tt, tt) was.links);
     gone = gone past was;
   });
   texts = refl;
@@ -222,7 +227,9 @@ gone_go {h} {h'} {cs} {cs'} {ls} id r is gone some none before core does = recor
   walks = (before, refl, does);
   agree = λ past was. record {
     clients = λ j. clients past was.clients j (cases_eq j id);
-    links = λ at link there. line_stays h h' at link (λ conn c. touched past was.clients conn.number (1, at) (was.links at link there conn c).0 (λ e. one_zero (ap (λ (p : ℕ × ℕ). p.0) e))) (was.links at link there);
+    orderly = (tt, was.orderly);
+    links = λ at link there.
+        line_stays h h' at (Closed id ∷ []) past link (λ conn c. touched past was.clients conn.number (1, at) ((was.links at link there).conn conn c).is_to (λ e. one_zero (ap (λ (p : ℕ × ℕ). p.0) e))) refl (was.links at link there);
     gone = gone_of past was;
   };
   texts = refl;
