@@ -91,7 +91,7 @@ clients_quiet h h' input output cs quiet was id = by (client_of cs id) (was id)
     by (Some x) a = state_stays h h' input output id x.conn.number x.conn.held.items (bytes_of x.conn.unsent) x.is_broken x.is_ended (quiet x.conn.number) a
 
 -- the numbers of ends that are as they were
-numbers_kept : (o o' : Option Client) → option_map said_of o' ≡ option_map said_of o → option_map (λ (x : Client). x.conn.number) o' ≡ option_map (λ (x : Client). x.conn.number) o
+pub numbers_kept : (o o' : Option Client) → option_map said_of o' ≡ option_map said_of o → option_map (λ (x : Client). x.conn.number) o' ≡ option_map (λ (x : Client). x.conn.number) o
 numbers_kept None None e = refl
 numbers_kept (Some x) None e = absurd (none_some e)
 numbers_kept None (Some y) e = absurd (none_some (sym e))
