@@ -1,5 +1,5 @@
 -- How an end begins, a turn and a load as what may be done to it, and what its core stays.
-use Rattle.std.proofs.Common.{◌≡◌, ℕ, List, [], ◌∷◌, Result, Ok, Err, refl, sym, ap, subst, append-nil}
+use Rattle.std.proofs.Common.{◌≡◌, ℕ, List, [], ◌∷◌, Result, Ok, Err, refl, sym, ap, subst, append-nil, Option, Some, None, ◌++◌}
 use Rattle.std.specs.Prelude.{IfOk}
 use Rattle.route_json.specs.Servers.{Addresses}
 use Rattle.route_json.specs.Configuration.{Configuration}
@@ -7,12 +7,13 @@ use Rattle.route_tree.specs.Route.{Route}
 use Rattle.core_commands.specs.declared.sharing.Sharing.{Sharing}
 use Rattle.core_accepted.specs.declared.served.ServedCore.{ServedCore}
 use Rattle.serve_links.specs.declared.settings.Settings.{Settings}
+use Rattle.serve_wire.specs.Events.{Event}
 use Rattle.serve_wire.specs.declared.sockets.sockets.Sockets.{Sockets}
 use Rattle.serve_links.specs.CoreSteps.{Step, Opened, NotOpened, Fed, Polled, Stopped, Settled, Gave, Closed, LeftLine, Loaded, Walks, AreOf, IsOfTurn}
 use Rattle.serve_links.specs.Story.{AnEnd, Agrees, AllGo, texts_of}
 use Rattle.serve_links.proofs.Walked.{walks_keep}
 use Rattle.serve_proxy.specs.declared.proxy.ProxyEnd.{ProxyEnd}
-use Rattle.serve_proxy.specs.Ends.{Stay, AllGrow, IsLoadOf}
+use Rattle.serve_proxy.specs.Ends.{Stay, AllGrow, IsLoadOf, HasNoClients}
 use Rattle.serve_proxy.proofs.Going.{and_then, stays, same_core}
 use Rattle.serve_proxy.proofs.Growing.{grows}
 use Rattle.serve_proxy.proofs.LogWalks.{walks_are_fresh}
@@ -50,6 +51,13 @@ of_turn (LeftLine client) is = tt
 each_of_turn : (steps : List Step) → AreOf IsOfTurn steps → AreOf IsServed steps
 each_of_turn [] kinds = tt
 each_of_turn (step ∷ steps) kinds = (of_turn step kinds.0, each_of_turn steps kinds.1)
+
+-- nothing has happened
+pub no_clients : (h : List Event) → h ≡ [] → HasNoClients h
+no_clients h none = subst HasNoClients (sym none) (λ conn id is. none_some is)
+  where
+    none_some : {p : ℕ × ℕ} → ◌≡◌ {A = Option (ℕ × ℕ)} None (Some p) → ⊥
+    none_some e = cc
 
 -- its servers were copied
 pub servers_on :

@@ -2,8 +2,9 @@
 
 ghost use Rattle.std.specs.Prelude.{◌≡◌, IfOk, false, []};
 ghost use Rattle.serve_links.specs.Story.{Agrees, texts_of};
+ghost use Rattle.serve_proxy.specs.Ends.{HasNoClients};
 ghost use Rattle.mcgate.specs.Judging.{Judges, JudgesText};
-ghost use Rattle.mcgate.specs.Serves.{Begins, HasServers, BeginsServing, HasServed, StaysFresh, proxy_of};
+ghost use Rattle.mcgate.specs.Serves.{Begins, HasServers, BeginsServing, HasServed, StaysFresh, history_of, proxy_of};
 
 use crate::lines::Lines;
 use crate::serving::{Proxy, Serving, resolve, tell_if_unknown};
@@ -110,7 +111,7 @@ fn end_over(
     settings: Settings,
 ) -> Result<Proxy, AllocError>
     ensures core { IfOk result (λ end. Begins servable settings end.core.value) }
-    ensures ends { IfOk result (λ end. Agrees [] (proxy_of end)) }
+    ensures ends { IfOk result (λ end. HasNoClients (history_of wire) → Agrees [] (proxy_of end)) }
     ensures texts { IfOk result (λ end. texts_of end.sockets.links.all.items ≡ servers.now) }
 {
     let mut settings = settings;
@@ -128,7 +129,9 @@ fn end_over(
 }
 
 // A wire that listens there.
-fn listen_at<R: Net + Clock + AllocGlobal>(rt: &R, listen: &str) -> io::Result<Sockets> {
+fn listen_at<R: Net + Clock + AllocGlobal>(rt: &R, listen: &str) -> io::Result<Sockets>
+    ensures { IfOk result (λ wire. history_of wire ≡ []) }
+{
     Sockets::listen(rt, resolve(rt, listen)?)
 }
 
@@ -138,12 +141,28 @@ fn look_up<R: Net + Eprint>(
     lines: &mut Lines,
     wire: &mut Sockets,
     servers: &Servers,
-) -> io::Result<()> {
+) -> io::Result<()>
+    ensures { history_of wire.new ≡ history_of wire.old }
+{
     for at in 0..servers.len() {
-        if let Some(text) = text_at(servers, at) {
-            let found = wire.resolve(rt, text.as_bytes());
-            tell_if_unknown(rt, lines, text, found)?;
-        }
+        look_up_at(rt, lines, wire, servers, at)?;
+    }
+    Ok(())
+}
+
+// The same of this one of them.
+fn look_up_at<R: Net + Eprint>(
+    rt: &R,
+    lines: &mut Lines,
+    wire: &mut Sockets,
+    servers: &Servers,
+    at: usize,
+) -> io::Result<()>
+    ensures { history_of wire.new ≡ history_of wire.old }
+{
+    if let Some(text) = text_at(servers, at) {
+        let found = wire.resolve(rt, text.as_bytes());
+        tell_if_unknown(rt, lines, text, found)?;
     }
     Ok(())
 }
@@ -172,7 +191,9 @@ fn listen<R: Net + Clock + AllocGlobal + Eprint>(
     lines: &mut Lines,
     listen: &str,
     servers: &Servers,
-) -> io::Result<Sockets> {
+) -> io::Result<Sockets>
+    ensures { IfOk result (λ wire. history_of wire ≡ []) }
+{
     match listen_at(rt, listen) {
         Ok(mut wire) => {
             look_up(rt, lines, &mut wire, servers)?;

@@ -23,7 +23,7 @@ use Rattle.serve_links.specs.CoreSteps.{Step, Opened, NotOpened, Fed, Polled, St
 use Rattle.serve_links.specs.Dialects.{asked_in}
 use Rattle.serve_links.specs.Lines.{first_asked_of, awaits_first, SameLine, KeepsLines, IsNewEnd, HasNewEnd, OpensBy, UsesSome, Learns}
 use Rattle.serve_links.specs.Settled.{SettlesSome}
-use Rattle.serve_links.specs.Talks.{SaidAsk, Talk, first_talk, with_ask, greeted, talk_in, IsOfServer}
+use Rattle.serve_links.specs.Talks.{SaidAsk, Talk, first_talk, with_ask, greeted, talk_in, IsOrderly, IsOfServer}
 use Rattle.serve_links.specs.Story.{said_asks, AreCalled, TalkAgrees, ConnAgrees, LineAgrees, LineLost, LineCalled, LineState, line_of, KeepsOthers, LineGoesFrom, LineGoes, AnEnd, Agrees, AgreesLosing}
 use Rattle.serve_links.proofs.Talking.{calls_later, one_more, IsPlain, plain_orderly}
 use Rattle.serve_links.proofs.Walked.{walked, of_both}
@@ -119,8 +119,8 @@ line_between before after g = record {
 
 -- what nobody but it may have touched, one after another
 others_twice : (its : ℕ × ℕ) (h h' h'' : List Event) → KeepsOthers its h h' → KeepsOthers its h' h'' → KeepsOthers its h h''
-others_twice its h h' h'' first then d r (inl was) other = let s = first d r (inl was) other in untouched_twice d h h' h'' s (then d r (inl (s.same_role ∙ was)) other)
-others_twice its h h' h'' first then d r (inr is) other = let s = then d r (inr is) other in untouched_twice d h h' h'' (first d r (inr (sym s.same_role ∙ is)) other) s
+others_twice its h h' h'' first later d r (inl was) other = let s = first d r (inl was) other in untouched_twice d h h' h'' s (later d r (inl (s.same_role ∙ was)) other)
+others_twice its h h' h'' first later d r (inr is) other = let s = later d r (inr is) other in untouched_twice d h h' h'' (first d r (inr (sym s.same_role ∙ is)) other) s
 
 -- one after another
 pub line_then :
