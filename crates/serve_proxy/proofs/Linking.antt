@@ -1,7 +1,7 @@
 -- What is done at one link, by what its own functions say, and how that goes on among all.
 use Rattle.std.proofs.Common.{◌≡◌, ℕ, ◌<◌, zero, suc, Bool, false, List, [], ◌∷◌, ◌++◌, length, get_or, Option, Some, None, Result, Ok, Err, refl, sym, ap, ◌∙◌, subst, arith}
 use Rattle.std.proofs.Math.ListN.{set}
-use Rattle.std.specs.Prelude.{MatchOption, slice_get}
+use Rattle.std.specs.Prelude.{MatchOption, IfOk, slice_get}
 use Rattle.std.specs.Option.{option_map}
 use Rattle.mc_types.specs.declared.ask.Ask.{Ask}
 use Rattle.wire_parts.specs.Sending.{bytes_of}
@@ -10,6 +10,12 @@ use Rattle.serve_wire.specs.Events.{Event}
 use Rattle.serve_wire.specs.Ends.{HoldsAnew}
 use Rattle.serve_wire.specs.declared.conn.conn.Conn.{Conn}
 use Rattle.serve_wire.proofs.Steps.{untouched}
+use Rattle.core_commands.specs.declared.ticket.Ticket.{Ticket}
+use Rattle.core_proxy.specs.declared.fault.CoreFault.{CoreFault}
+use Rattle.core_proxy.specs.declared.note.Poll.{Poll}
+use Rattle.core_proxy.specs.declared.note.Poll.TheVariants as polls
+use Rattle.core_proxy.specs.Polls.{Polls, Then, Perhaps, BeginsOne, IsPolled}
+use Rattle.core_accepted.specs.Logs.{LogsGoBy}
 use Rattle.core_accepted.specs.declared.served.ServedCore.{ServedCore}
 use Rattle.serve_clients.specs.declared.clients.Clients.{Clients}
 use Rattle.serve_clients.specs.Marks.{client_of}
@@ -17,7 +23,7 @@ use Rattle.serve_clients.specs.Agrees.{KeepsEnds}
 use Rattle.serve_clients.proofs.Agreeing.{agree_still}
 use Rattle.serve_links.specs.declared.calls.calls.SentCall.{SentCall}
 use Rattle.serve_links.specs.declared.link.Link.{Link}
-use Rattle.serve_links.specs.CoreSteps.{Step, IsOfTurn}
+use Rattle.serve_links.specs.CoreSteps.{Step, Polled, Does, IsOfTurn}
 use Rattle.serve_links.specs.Dialects.{asked_in}
 use Rattle.serve_links.specs.Settled.{SettlesSome, SettlesFront}
 use Rattle.serve_links.specs.Talks.{SaidAsk}
@@ -94,6 +100,13 @@ pub given :
 given links at x y None within was is did = line_lent links at x y was (line_waiting x y is did)
 given links at x y (Some call) within was is did = λ h cs core. line_gave links at x y call.ticket.number call.ticket.ask within was (line_takes x y call is did)
 
+-- the core gave one out
+pub polled_call :
+    (client : ℕ) (ticket : Ticket) (r : Result Poll CoreFault) (a b : ServedCore) → r ≡ Ok (polls.Call ticket) → IfOk r (λ poll. Polls a.core client poll b.core) → IfOk r (λ poll. LogsGoBy a (Then (Perhaps (BeginsOne client)) (IsPolled client poll)) b)
+    → Does (Polled client (polls.Call ticket)) a b
+polled_call client ticket r a b is ok fresh =
+    (subst (λ (q : Result Poll CoreFault). IfOk q (λ poll. Polls a.core client poll b.core)) is ok, subst (λ (q : Result Poll CoreFault). IfOk q (λ poll. LogsGoBy a (Then (Perhaps (BeginsOne client)) (IsPolled client poll)) b)) is fresh)
+
 -- the same call, for a server of the same number
 pub called_at :
     {Q : List Step → AnEnd → Type 0} {Is : Step → Type 0} {a b : AnEnd} (number : ℕ) (ask : Ask) {at at' : ℕ} → at ≡ at' → AllGoFrom (AgreesCalled number at ask) Q Is a b → AllGoFrom (AgreesCalled number at' ask) Q Is a b
@@ -126,15 +139,15 @@ settled_some {core = core} {core' = core'} x y c d sent was off is text waiting 
 
 -- by what there is to say of the cause
 pub unless_cause :
-    {W C E : Type 0} (history : W → List Event) (at : ℕ) (core : ServedCore) (s : Sockets W) (core' : ServedCore) (s' : Sockets W) (cause : Option C) → (cause ≡ None → AllGoOn history core s core' s') → AllGoBut at history core s core' s'
+    {W C : Type 0} (E : Type 0) (history : W → List Event) (at : ℕ) (core : ServedCore) (s : Sockets W) (core' : ServedCore) (s' : Sockets W) (cause : Option C) → (cause ≡ None → AllGoOn history core s core' s') → AllGoBut at history core s core' s'
     → AllGoUnless {E = E} at (Ok cause) history core s core' s'
-unless_cause history at core s core' s' None kept lost = kept refl
-unless_cause history at core s core' s' (Some cause) kept lost = lost
+unless_cause E history at core s core' s' None kept lost = kept refl
+unless_cause E history at core s core' s' (Some cause) kept lost = lost
 
 -- all is there whatever the cause
 pub unless_all :
-    {W C E : Type 0} (history : W → List Event) (at : ℕ) (core : ServedCore) (s : Sockets W) (core' : ServedCore) (s' : Sockets W) (cause : Option C) → AllGoOn history core s core' s' → AllGoUnless {E = E} at (Ok cause) history core s core' s'
-unless_all history at core s core' s' cause kept = unless_cause history at core s core' s' cause (λ none. kept) (may_lose_at at kept)
+    {W C : Type 0} (E : Type 0) (history : W → List Event) (at : ℕ) (core : ServedCore) (s : Sockets W) (core' : ServedCore) (s' : Sockets W) (cause : Option C) → AllGoOn history core s core' s' → AllGoUnless {E = E} at (Ok cause) history core s core' s'
+unless_all E history at core s core' s' cause kept = unless_cause E history at core s core' s' cause (λ none. kept) (may_lose_at at kept)
 
 -- and before
 pub unless_after :

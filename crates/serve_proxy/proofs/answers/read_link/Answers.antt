@@ -18,7 +18,7 @@ pub returns-in-Some-Full : goal.returns-in-Some-Full
 returns-in-Some-Full g c = record { ends = may_lose_at c.args.at (failing (c.read_link_once.ensures.ends c.args.core.now)) }
 
 pub returns-in-Some-Nothing : goal.returns-in-Some-Nothing
-returns-in-Some-Nothing g c = record { ends = unless_all g.W.Wire.history c.args.at c.args.core.now c.args.sockets.now _ _ c.read_in_vain.result (and_then (failing (c.read_link_once.ensures.ends c.args.core.now)) (stays c.args.core.now c.read_in_vain.ensures.ends)) }
+returns-in-Some-Nothing g c = record { ends = unless_all _ g.W.Wire.history c.args.at c.args.core.now c.args.sockets.now _ _ c.read_in_vain.result (and_then (failing (c.read_link_once.ensures.ends c.args.core.now)) (stays c.args.core.now c.read_in_vain.ensures.ends)) }
 
 pub returns-in-Some-Bytes : goal.returns-in-Some-Bytes
 returns-in-Some-Bytes g c = record { ends = unless_after g.W.Wire.history c.args.at c.args.core.now c.args.sockets.now _ _ _ _ c.learn_and_settle.result (failing (c.read_link_once.ensures.ends c.args.core.now)) c.learn_and_settle.ensures.ends }
