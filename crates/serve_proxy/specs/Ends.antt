@@ -11,7 +11,7 @@ use Rattle.serve_links.specs.declared.calls.calls.SentCall.{SentCall}
 use Rattle.serve_links.specs.declared.link.Link.{Link}
 use Rattle.serve_links.specs.CoreSteps.{Step, Opened, Closed, Loaded, Does, Walks, AreOf, IsOfTurn, IsFailure, IsSending}
 use Rattle.serve_proxy.specs.declared.sockets.Sockets.{Sockets}
-use Rattle.serve_links.specs.Story.{LineState, line_of, LineLost, LineGoes, AnEnd, Agrees, AgreesBut, AgreesCalled, AgreesLosing, AllGoFrom, AllGo, texts_of}
+use Rattle.serve_links.specs.Story.{LineState, line_of, LineAgrees, LineLost, LineCalled, LineGoesFrom, LineGoes, AnEnd, Agrees, AgreesBut, AgreesCalled, AgreesLosing, AllGoFrom, AllGo, texts_of}
 
 -- what each link has to do with its connection and its calls
 abbrev pub lines_of : List Link → List LineState
@@ -52,6 +52,17 @@ LinksGive at call ls ls' = (h : List Event) (cs : Clients) → EndsGoFrom Agrees
 -- whatever a core is, without a call of it a link's end goes on
 abbrev pub LineStands : ℕ → List Event → List Event → Link → Link → Type 0
 LineStands at h h' old new = (core : ServedCore) → LineGoes IsSending at core h old core h' new
+
+-- wherever it stands, a link takes over this call, which the core gave out for its server
+abbrev pub LineTakes : SentCall → Link → Link → Type 0
+LineTakes call old new = (at : ℕ) (h : List Event) (core : ServedCore) → LineGoesFrom (LineCalled call.ticket.number call.ticket.ask) LineAgrees IsSending at core h old core h new
+
+-- wherever it stands, a link's end goes on by calls of the core; or so that what it holds may be lost
+abbrev pub LineGoesOn : ServedCore → Link → ServedCore → Link → Type 0
+LineGoesOn core old core' new = (at : ℕ) (h : List Event) → LineGoes IsOfTurn at core h old core' h new
+
+abbrev pub LineGoesLosing : ServedCore → Link → ServedCore → Link → Type 0
+LineGoesLosing core old core' new = (at : ℕ) (h : List Event) → LineGoesFrom LineAgrees LineLost IsOfTurn at core h old core' h new
 
 -- of all but a core the ends are as they were
 abbrev pub Stay : {W : Type 0} → (W → List Event) → Sockets W → Sockets W → Type 0

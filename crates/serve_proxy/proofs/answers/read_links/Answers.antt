@@ -6,10 +6,10 @@ pub loop-at-init : goal.loop-at-init
 loop-at-init g c = still
 
 pub loop-at-preserved : goal.loop-at-preserved
-loop-at-preserved g c = and_then (and_then c.loop-at.invariant (stays c.loop-at.core (stay_links _ _ _ _ c.end_ready.ensures.lines))) c.serve_link.ensures.ends
+loop-at-preserved g c = and_then (and_then c.loop-at.invariant (stays c.loop-at.core (stay_links _ _ _ _ c.end_ready.ensures.lines))) c.in_ok-serve_link.ensures.ends
 
 pub returns-in_err-serve_link : goal.returns-in_err-serve_link
-returns-in_err-serve_link g c = record { ends = and_then (and_then c.loop-at.invariant (stays c.loop-at.core (stay_links _ _ _ _ c.end_ready.ensures.lines))) c.serve_link.ensures.ends }
+returns-in_err-serve_link g c = record { ends = and_then (and_then c.loop-at.invariant (stays c.loop-at.core (stay_links _ _ _ _ c.end_ready.ensures.lines))) c.in_err-serve_link.ensures.ends }
 
 pub returns : goal.returns
 returns g c = record { ends = c.loop-at.invariant }

@@ -9,10 +9,10 @@ pub loop-at-init : goal.loop-at-init
 loop-at-init g c = still
 
 pub loop-at-preserved : goal.loop-at-preserved
-loop-at-preserved g c = and_then c.loop-at.invariant c.fail_if_late.ensures.ends
+loop-at-preserved g c = and_then c.loop-at.invariant c.in_ok-fail_if_late.ensures.ends
 
 pub returns-in_err-fail_if_late : goal.returns-in_err-fail_if_late
-returns-in_err-fail_if_late g c = record { ends = and_then c.loop-at.invariant c.fail_if_late.ensures.ends }
+returns-in_err-fail_if_late g c = record { ends = and_then c.loop-at.invariant c.in_err-fail_if_late.ensures.ends }
 
 pub returns : goal.returns
 returns g c = record { ends = and_then c.loop-at.invariant (stays c.loop-at.core (stay_links _ _ _ _ c.note_limits.ensures.lines)) }
