@@ -4,7 +4,7 @@ use Rattle.std.proofs.Math.ListN.{set}
 use Rattle.std.specs.Prelude.{IfSome}
 use Rattle.std.specs.Option.{option_map}
 use Rattle.serve_wire.specs.Events.{Event, role, connects}
-use Rattle.serve_wire.specs.Agreement.{TouchesOnly, AddressAgrees}
+use Rattle.serve_wire.specs.Agreement.{IsUntouched, TouchesOnly, AddressAgrees}
 use Rattle.serve_wire.specs.Calls.{Closes}
 use Rattle.serve_wire.specs.Flow.{ReadsOn, SendsOn}
 use Rattle.serve_wire.proofs.Steps.{equal, unequal, new_apart, untouched, untouched_twice, only_closes, only_connects, only_twice, address_begins}

@@ -1,6 +1,6 @@
 //! Clients are served: what came of them goes to the core, their commands begin and go on, and their replies are shown.
 
-ghost use Rattle.std.specs.Prelude.{List};
+ghost use Rattle.std.specs.Prelude.{◌≡◌, List};
 ghost use Rattle.serve_wire.specs.Events.{Event};
 ghost use Rattle.serve_wire.specs.Agreement.{TouchesOnly};
 ghost use Rattle.serve_clients.specs.Agrees.{GoesOnAgreeing};
