@@ -2,13 +2,14 @@ use Rattle.std.proofs.Common.{Some, refl, sym, ap}
 use Rattle.wire_parts.specs.Sending.{bytes_of}
 use Rattle.serve_links.proofs.Reading.{came}
 use Rattle.serve_proxy.proofs.Staying.{line_read, line_stands}
+use Rattle.serve_proxy.proofs.Linking.{line_same}
 use Rattle.serve_proxy.proofs.answers.read_line.Goals as goal
 
 pub returns-in_default : goal.returns-in_default
 returns-in_default g c = record { stands = λ at. line_stands at _ c.args.link.now c.args.link.now refl }
 
 pub returns-then-not-conn : goal.returns-then-not-conn
-returns-then-not-conn g c = record { stands = λ at. line_stands at _ c.args.link.now c.args.link.now refl }
+returns-then-not-conn g c = record { stands = λ at. line_stands at _ c.args.link.now (record c.args.link.now { conn = Some c.in-Some.conn.now }) (line_same c.args.link.now (record c.args.link.now { conn = Some c.in-Some.conn.now }) c.in-Some.conn.now c.in-Some.conn.now (sym c.in-Some.ensures.value) refl refl refl refl refl) }
 
 pub returns-in_err-read_once : goal.returns-in_err-read_once
 returns-in_err-read_once g c = record { stands = λ at. line_read at _ _ c.args.link.now (record c.args.link.now { conn = Some c.read_once.new.self }) c.in-Some.conn.now c.read_once.new.self (sym c.in-Some.ensures.value) refl c.read_once.ensures.rest.0 (ap bytes_of c.read_once.ensures.unsent) (came c.read_once.result _ _ _ _ _ _ c.read_once.ensures.ok c.read_once.ensures.err) }

@@ -8,25 +8,24 @@ use Rattle.serve_proxy.proofs.answers.settle_all.Goals as goal
 pub returns-in_default : goal.returns-in_default
 returns-in_default c = record { kept = λ none at h. line_keeps (λ d. untouched d h) refl; lost = λ at h. line_may_lose (line_keeps (λ d. untouched d h) refl); ends = λ j. refl }
 
-pub returns-in_err-answers : goal.returns-in_err-answers
-returns-in_err-answers c =
+pub returns-in_err-answers-clause-lost : goal.returns-in_err-answers-clause-lost
+returns-in_err-answers-clause-lost c =
     let x = c.args.link.now in
     let k = c.in-Some.conn.now in
     let d = c.settle_held.new.conn in
-    record {
-      kept = tt;
-      lost = λ at h. settled_some x (record x { calls = c.settle_held.new.calls; conn = Some d }) k d c.settle_held.new.calls.sent.items (sym c.in-Some.ensures.value) c.requires refl refl refl refl refl c.settle_held.ensures.rest c.settle_held.ensures.front;
-      ends = c.settle_held.ensures.ends;
-    }
+    λ at h. settled_some x (record x { calls = c.settle_held.new.calls; conn = Some d }) k d c.settle_held.new.calls.sent.items (sym c.in-Some.ensures.value) c.requires refl refl refl refl refl c.settle_held.ensures.rest c.settle_held.ensures.front
 
-pub returns-then-not-is_kept : goal.returns-then-not-is_kept
-returns-then-not-is_kept c =
+pub returns-in_err-answers-clause-ends : goal.returns-in_err-answers-clause-ends
+returns-in_err-answers-clause-ends c = c.settle_held.ensures.ends
+
+pub returns-then-not-answers : goal.returns-then-not-answers
+returns-then-not-answers c =
     let x = c.args.link.now in
     let k = c.in-Some.conn.now in
     let d = c.settle_held.new.conn in
     record {
       kept = λ none. absurd (let no = none in cc no);
-      lost = λ at h. settled_some x c.has_read.new.self k d c.settle_held.new.calls.sent.items (sym c.in-Some.ensures.value) c.requires (ap (λ (z : Link). z.conn) c.has_read.ensures) (ap (λ (z : Link). z.text.items) c.has_read.ensures) (ap (λ (z : Link). z.waiting.items) c.has_read.ensures) (ap (λ (z : Link). z.awaits_dialect) c.has_read.ensures) (ap (λ (z : Link). z.calls.sent.items) c.has_read.ensures) c.settle_held.ensures.rest c.settle_held.ensures.front;
+      lost = λ at h. settled_some x c.has_read-has_failed.new.self k d c.settle_held.new.calls.sent.items (sym c.in-Some.ensures.value) c.requires (ap (λ (z : Link). z.conn) c.has_read-has_failed.ensures) (ap (λ (z : Link). z.text.items) c.has_read-has_failed.ensures) (ap (λ (z : Link). z.waiting.items) c.has_read-has_failed.ensures) (ap (λ (z : Link). z.awaits_dialect) c.has_read-has_failed.ensures) (ap (λ (z : Link). z.calls.sent.items) c.has_read-has_failed.ensures) c.settle_held.ensures.rest c.settle_held.ensures.front;
       ends = c.settle_held.ensures.ends;
     }
 
@@ -36,7 +35,7 @@ returns c =
     let k = c.in-Some.conn.now in
     let d = c.settle_held.new.conn in
     record {
-      kept = λ none. λ at h. settled x c.has_read.new.self k d c.settle_held.new.calls.sent.items (sym c.in-Some.ensures.value) c.requires (ap (λ (z : Link). z.conn) c.has_read.ensures) (ap (λ (z : Link). z.text.items) c.has_read.ensures) (ap (λ (z : Link). z.waiting.items) c.has_read.ensures) (ap (λ (z : Link). z.awaits_dialect) c.has_read.ensures) (ap (λ (z : Link). z.calls.sent.items) c.has_read.ensures) c.settle_held.ensures.rest (c.in_ok-answers.ensures.settled c.if-not-is_kept.false);
-      lost = λ at h. settled_some x c.has_read.new.self k d c.settle_held.new.calls.sent.items (sym c.in-Some.ensures.value) c.requires (ap (λ (z : Link). z.conn) c.has_read.ensures) (ap (λ (z : Link). z.text.items) c.has_read.ensures) (ap (λ (z : Link). z.waiting.items) c.has_read.ensures) (ap (λ (z : Link). z.awaits_dialect) c.has_read.ensures) (ap (λ (z : Link). z.calls.sent.items) c.has_read.ensures) c.settle_held.ensures.rest c.settle_held.ensures.front;
+      kept = λ none. λ at h. settled x c.has_read-has_failed.new.self k d c.settle_held.new.calls.sent.items (sym c.in-Some.ensures.value) c.requires (ap (λ (z : Link). z.conn) c.has_read-has_failed.ensures) (ap (λ (z : Link). z.text.items) c.has_read-has_failed.ensures) (ap (λ (z : Link). z.waiting.items) c.has_read-has_failed.ensures) (ap (λ (z : Link). z.awaits_dialect) c.has_read-has_failed.ensures) (ap (λ (z : Link). z.calls.sent.items) c.has_read-has_failed.ensures) c.settle_held.ensures.rest (c.in_ok-answers.ensures.settled c.if-not-answers.false);
+      lost = λ at h. settled_some x c.has_read-has_failed.new.self k d c.settle_held.new.calls.sent.items (sym c.in-Some.ensures.value) c.requires (ap (λ (z : Link). z.conn) c.has_read-has_failed.ensures) (ap (λ (z : Link). z.text.items) c.has_read-has_failed.ensures) (ap (λ (z : Link). z.waiting.items) c.has_read-has_failed.ensures) (ap (λ (z : Link). z.awaits_dialect) c.has_read-has_failed.ensures) (ap (λ (z : Link). z.calls.sent.items) c.has_read-has_failed.ensures) c.settle_held.ensures.rest c.settle_held.ensures.front;
       ends = c.settle_held.ensures.ends;
     }

@@ -1,4 +1,4 @@
-use Rattle.std.proofs.Common.{◌≡◌, false, true, None, ap, ◌∙◌}
+use Rattle.std.proofs.Common.{◌≡◌, ◌<◌, false, true, None, sym, ap, subst}
 use Rattle.serve_links.specs.declared.link.Link.{Link}
 use Rattle.serve_links.specs.Links.{IsDown}
 use Rattle.serve_links.proofs.Failing.{on_ok, at_set}
@@ -16,7 +16,7 @@ false_true e = cc
 pub returns-in-None-clause-ends : goal.returns-in-None-clause-ends
 returns-in-None-clause-ends g c =
     let x = end_of g.W.Wire.history c.args.core.now c.args.sockets.now in
-    go_between (λ past was. but_none c.args.at past x (nowhere c.args.sockets.now.links.all.items c.args.at (λ within. false_true (c.in-None.ensures.variant.1 within))) was) (λ past was. was) (still {a = x})
+    go_between (λ past was. but_none c.args.at past x (nowhere c.args.sockets.now.links.all.items c.args.at (λ within. false_true (c.in-None.ensures.variant.1 (subst (λ n. c.args.at < n) (sym c.args.sockets.now.links.all.ok.0) within)))) was) (λ past was. was) (still {a = x})
 
 pub returns-in-Some : goal.returns-in-Some
 returns-in-Some g c =
