@@ -460,7 +460,7 @@ line_gave {h = h} {h' = h'} {cs = cs} {a = a} {b = b} links at x y number ask wi
         → AgreesCalled number at ask past (record { core = b; history = h'; clients = cs; links = set links at y })
     with_call past was = (
       but_all at past (record { core = b; history = h'; clients = cs; links = set links at y })
-      (record { orderly = was.orderly; clients = was.clients; links = was.links; this = λ link there. (was.this link there).0; gone = was.gone }),
+          (record { orderly = was.orderly; clients = was.clients; links = was.links; this = λ link there. (was.this link there).0; gone = was.gone }),
       (was.this y (set_here links at y within)).1,
     )
 

@@ -1,4 +1,4 @@
-use Rattle.std.proofs.Common.{None, Some, refl, sym, ap}
+use Rattle.std.proofs.Common.{Some, refl, sym, ap}
 use Rattle.serve_wire.proofs.Steps.{untouched}
 use Rattle.serve_links.specs.declared.link.Link.{Link}
 use Rattle.serve_links.proofs.LinkGoes.{line_keeps}

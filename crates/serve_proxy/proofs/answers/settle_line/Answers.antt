@@ -1,4 +1,4 @@
-use Rattle.std.proofs.Common.{None, Some, refl, ap}
+use Rattle.std.proofs.Common.{refl, ap}
 use Rattle.std.proofs.lemmas.Result.{IfOk-weaker}
 use Rattle.serve_wire.proofs.Steps.{untouched}
 use Rattle.serve_links.specs.Story.{line_of}

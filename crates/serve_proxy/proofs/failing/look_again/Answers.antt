@@ -1,4 +1,4 @@
-use Rattle.serve_proxy.proofs.Going.{and_then, may_lose, stays}
+use Rattle.serve_proxy.proofs.Going.{may_lose, stays}
 use Rattle.serve_proxy.proofs.Staying.{stay_links}
 use Rattle.serve_proxy.proofs.Linking.{then_or, or_err}
 use Rattle.serve_proxy.proofs.failing.look_again.Goals as goal

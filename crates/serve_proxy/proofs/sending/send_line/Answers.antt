@@ -1,5 +1,4 @@
 use Rattle.std.proofs.Common.{Some, refl, sym, ap}
-use Rattle.serve_wire.specs.declared.conn.conn.Conn.{Conn}
 use Rattle.serve_proxy.proofs.Staying.{line_sent, line_stands}
 use Rattle.serve_proxy.proofs.sending.send_line.Goals as goal
 
