@@ -24,7 +24,7 @@ use Rattle.serve_clients.specs.Agrees.{KeepsEnds}
 use Rattle.serve_clients.proofs.Agreeing.{agree_still}
 use Rattle.serve_links.specs.declared.calls.calls.SentCall.{SentCall}
 use Rattle.serve_links.specs.declared.link.Link.{Link}
-use Rattle.serve_links.specs.CoreSteps.{Step, Polled, Does, IsOfTurn}
+use Rattle.serve_links.specs.CoreSteps.{Step, Polled, Does, IsOfTurn, GoesOn}
 use Rattle.serve_links.specs.Dialects.{asked_in}
 use Rattle.serve_links.specs.Settled.{SettlesSome, SettlesFront}
 use Rattle.serve_links.specs.Talks.{SaidAsk}
@@ -32,7 +32,7 @@ use Rattle.serve_links.specs.Story.{LineState, line_of, said_asks, LineAgrees, L
 use Rattle.serve_links.proofs.LinkGoes.{as_lost, line_between, line_settles, line_loses, line_asks, line_waits, line_takes}
 use Rattle.serve_proxy.specs.Ends.{lines_of, LinksTake, LinksGive, LineTakes, AllGoOn, AllGoBut, AllGoLosing, AllGoOr, AllGoUnless}
 use Rattle.serve_proxy.specs.declared.sockets.Sockets.{Sockets}
-use Rattle.serve_proxy.proofs.Going.{and_then, may_lose_at, line_took, line_gave, had_quiet, numbers_kept}
+use Rattle.serve_proxy.proofs.Going.{and_then, core_of, may_lose, may_lose_at, line_took, line_gave, had_quiet, numbers_kept}
 use Rattle.serve_proxy.proofs.Staying.{line_lent}
 
 -- ---- lines
@@ -209,3 +209,24 @@ pub nowhere : (links : List Link) (at : ℕ) → (at < length links → ⊥) →
 nowhere [] at none = refl
 nowhere (link ∷ links) zero none = absurd (none (omega arith))
 nowhere (link ∷ links) (suc at) none = nowhere links at (λ within. none (omega arith))
+
+-- whatever came of what was done
+pub or_any :
+    {W A E : Type 0} (history : W → List Event) (core : ServedCore) (s : Sockets W) (core' : ServedCore) (s' : Sockets W) (r : Result A E) → AllGoOn history core s core' s' → AllGoOr r history core s core' s'
+or_any history core s core' s' (Ok done) did = did
+or_any history core s core' s' (Err refused) did = may_lose did
+
+pub then_or :
+    {W A E : Type 0} (history : W → List Event) (core : ServedCore) (s : Sockets W) (mid : ServedCore) (m : Sockets W) (core' : ServedCore) (s' : Sockets W) (r : Result A E)
+    → AllGoOn history core s mid m → AllGoOr r history mid m core' s' → AllGoOr r history core s core' s'
+then_or history core s mid m core' s' (Ok done) g k = and_then g k
+then_or history core s mid m core' s' (Err refused) g k = and_then g k
+
+pub or_core :
+    {W A E : Type 0} (history : W → List Event) (core : ServedCore) (s : Sockets W) (core' : ServedCore) (s' : Sockets W) (r : Result A E) → AllGoOr r history core s core' s' → GoesOn core core'
+or_core history core s core' s' (Ok done) did = core_of did
+or_core history core s core' s' (Err refused) did = core_of did
+
+pub or_from :
+    {W A E : Type 0} (history : W → List Event) (core x : ServedCore) (s : Sockets W) (core' : ServedCore) (s' : Sockets W) (r : Result A E) → x ≡ core → AllGoOr r history x s core' s' → AllGoOr r history core s core' s'
+or_from history core x s core' s' r same did = subst (λ y. AllGoOr r history y s core' s') same did

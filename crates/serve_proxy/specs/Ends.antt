@@ -130,13 +130,16 @@ down_line text = (text, None, [], [], false)
 abbrev pub AddsLines : List Link → List Link → Type 0
 AddsLines old new = (texts : List (List ℕ)) × (lines_of new ≡ lines_of old ++ each down_line texts)
 
--- by calls of this kind it goes on, and where its ends agreed with all calls before, they agree with all calls after. The links that were there are to the servers that they were to, and others may be there
-pub record AllGrow (Is : Step → Type 0) (old new : AnEnd) : Type 0 where
+-- by calls of this kind it goes on: where the one held of it and of all calls before, the other holds of it and of all calls after. The links that were there are to the servers that they were to, and others may be there
+pub record AllGrowFrom (Before After : List Step → AnEnd → Type 0) (Is : Step → Type 0) (old new : AnEnd) : Type 0 where
   pub steps : List Step
   pub kinds : AreOf Is steps
   pub walks : Walks steps old.core new.core
-  pub agree : (past : List Step) → Agrees past old → Agrees (steps ++ past) new
+  pub agree : (past : List Step) → Before past old → After (steps ++ past) new
   pub texts : (more : List (List ℕ)) × (texts_of new.links ≡ texts_of old.links ++ more)
+
+abbrev pub AllGrow : (Step → Type 0) → AnEnd → AnEnd → Type 0
+AllGrow = AllGrowFrom Agrees Agrees
 
 -- this configuration was loaded
 abbrev pub IsLoadOf : Configuration → Step → Type 0
