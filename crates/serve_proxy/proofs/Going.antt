@@ -36,7 +36,7 @@ use Rattle.serve_links.specs.Story.{fed_in, gave_in, AgreesWith, TellsNone, HasO
 use Rattle.serve_links.proofs.Reading.{breaks_now}
 use Rattle.serve_links.proofs.Talking.{IsPlain, plain_talk, plain_orderly}
 use Rattle.serve_links.proofs.Story.{same_told, had_stays, one_of_all, line_among, line_stays, all_still, from_then, go_between, all_but, but_all}
-use Rattle.serve_links.proofs.LinkGoes.{same_line, losing}
+use Rattle.serve_links.proofs.LinkGoes.{same_line, as_lost, losing}
 use Rattle.serve_links.proofs.Walked.{walked, of_both}
 use Rattle.serve_proxy.specs.Ends.{lines_of, EndsStay, EndsGoFrom, EndsGo, LineStands}
 use Rattle.serve_proxy.proofs.Lent.{lent_here, lent_others}
@@ -91,7 +91,7 @@ clients_quiet h h' input output cs quiet was id = by (client_of cs id) (was id)
     by (Some x) a = state_stays h h' input output id x.conn.number x.conn.held.items (bytes_of x.conn.unsent) x.is_broken x.is_ended (quiet x.conn.number) a
 
 -- the numbers of ends that are as they were
-numbers_kept : (o o' : Option Client) → option_map said_of o' ≡ option_map said_of o → option_map (λ (x : Client). x.conn.number) o' ≡ option_map (λ (x : Client). x.conn.number) o
+pub numbers_kept : (o o' : Option Client) → option_map said_of o' ≡ option_map said_of o → option_map (λ (x : Client). x.conn.number) o' ≡ option_map (λ (x : Client). x.conn.number) o
 numbers_kept None None e = refl
 numbers_kept (Some x) None e = absurd (none_some e)
 numbers_kept None (Some y) e = absurd (none_some (sym e))
@@ -307,12 +307,16 @@ may_lose {b = b} g = go_between (λ past was. was) (λ past was. losing 0 past b
 pub lost_some : {P : List Step → AnEnd → Type 0} {Is : Step → Type 0} {a b : AnEnd} (at : ℕ) → AllGoFrom P (AgreesBut LineLost at) Is a b → AllGoFrom P AgreesLosing Is a b
 lost_some at g = go_between (λ past was. was) (λ past was. (at, was)) g
 
+losing_at : (at : ℕ) (past : List Step) (x : AnEnd) → Agrees past x → AgreesBut LineLost at past x
+losing_at at past x a =
+    record { orderly = a.orderly; clients = a.clients; links = λ j link other there. a.links j link there; this = λ link there. as_lost at past x.history link (a.links at link there); gone = a.gone }
+
 pub may_lose_at : {P : List Step → AnEnd → Type 0} {Is : Step → Type 0} {a b : AnEnd} (at : ℕ) → AllGoFrom P Agrees Is a b → AllGoFrom P (AgreesBut LineLost at) Is a b
-may_lose_at {b = b} at g = go_between (λ past was. was) (λ past was. (losing at past b was).1) g
+may_lose_at {b = b} at g = go_between (λ past was. was) (λ past was. losing_at at past b was) g
 
 -- a link may be given up whose bytes are all there
 pub gives_up : {Q : List Step → AnEnd → Type 0} {Is : Step → Type 0} {a b : AnEnd} (at : ℕ) → AllGoFrom (AgreesBut LineLost at) Q Is a b → AllGoFrom Agrees Q Is a b
-gives_up {a = a} at g = go_between (λ past was. (losing at past a was).1) (λ past was. was) g
+gives_up {a = a} at g = go_between (λ past was. losing_at at past a was) (λ past was. was) g
 
 -- what is handed a call goes on without it
 pub without_call : {Q : List Step → AnEnd → Type 0} {Is : Step → Type 0} {a b : AnEnd} (number at : ℕ) (ask : Ask) → AllGoFrom Agrees Q Is a b → AllGoFrom (AgreesCalled number at ask) Q Is a b
@@ -456,7 +460,7 @@ line_gave {h = h} {h' = h'} {cs = cs} {a = a} {b = b} links at x y number ask wi
         → AgreesCalled number at ask past (record { core = b; history = h'; clients = cs; links = set links at y })
     with_call past was = (
       but_all at past (record { core = b; history = h'; clients = cs; links = set links at y })
-      (record { orderly = was.orderly; clients = was.clients; links = was.links; this = λ link there. (was.this link there).0; gone = was.gone }),
+          (record { orderly = was.orderly; clients = was.clients; links = was.links; this = λ link there. (was.this link there).0; gone = was.gone }),
       (was.this y (set_here links at y within)).1,
     )
 

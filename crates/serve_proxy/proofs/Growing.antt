@@ -17,9 +17,9 @@ use Rattle.serve_links.specs.declared.calls.calls.SentCall.{SentCall}
 use Rattle.serve_links.specs.declared.link.Link.{Link}
 use Rattle.serve_links.specs.Links.{IsDown}
 use Rattle.serve_links.specs.CoreSteps.{Step, Loaded}
-use Rattle.serve_links.specs.Story.{fed_in, gave_in, said_asks, AreCalled, LineState, line_of, LineAgrees, LinesAgree, AnEnd, Agrees, AllGo, texts_of}
+use Rattle.serve_links.specs.Story.{fed_in, gave_in, said_asks, AreCalled, LineState, line_of, LineAgrees, LinesAgree, AnEnd, Agrees, AllGoFrom, texts_of}
 use Rattle.serve_links.proofs.Walked.{walked, of_both}
-use Rattle.serve_proxy.specs.Ends.{lines_of, down_line, AddsLines, AllGrow, IsLoadOf, HasNoClients}
+use Rattle.serve_proxy.specs.Ends.{lines_of, down_line, AddsLines, AllGrowFrom, AllGrow, IsLoadOf, HasNoClients}
 use Rattle.serve_proxy.proofs.Going.{agree_told, had_quiet, lines_told, get_line, texts_by_lines}
 use Rattle.serve_links.proofs.LinkGoes.{same_line, has_none}
 
@@ -98,17 +98,17 @@ texts_grow ls ls' adds =
 -- ---- all ends
 
 -- without more links
-pub grows : {Is : Step → Type 0} {a b : AnEnd} → AllGo Is a b → AllGrow Is a b
-grows {Is} {a} {b} g = record { steps = g.steps; kinds = g.kinds; walks = g.walks; agree = g.agree; texts = ([], g.texts ∙ sym (append-nil (texts_of a.links))) }
+pub grows : {P Q : List Step → AnEnd → Type 0} {Is : Step → Type 0} {a b : AnEnd} → AllGoFrom P Q Is a b → AllGrowFrom P Q Is a b
+grows {a = a} g = record { steps = g.steps; kinds = g.kinds; walks = g.walks; agree = g.agree; texts = ([], g.texts ∙ sym (append-nil (texts_of a.links))) }
 
 -- one after another
-pub then_grows : {Is : Step → Type 0} {a b c : AnEnd} → AllGrow Is a b → AllGrow Is b c → AllGrow Is a c
-then_grows {Is} {a} {b} {c} g k =
+pub then_grows : {P Q R : List Step → AnEnd → Type 0} {Is : Step → Type 0} {a b c : AnEnd} → AllGrowFrom P Q Is a b → AllGrowFrom Q R Is b c → AllGrowFrom P R Is a c
+then_grows {P} {Q} {R} {Is} {a} {b} {c} g k =
     record {
       steps = k.steps ++ g.steps;
       kinds = of_both Is k.steps g.steps k.kinds g.kinds;
       walks = walked k.steps g.steps a.core b.core c.core g.walks k.walks;
-      agree = λ past was. subst (λ l. Agrees l c) (sym (append_assoc k.steps g.steps past)) (k.agree (g.steps ++ past) (g.agree past was));
+      agree = λ past was. subst (λ l. R l c) (sym (append_assoc k.steps g.steps past)) (k.agree (g.steps ++ past) (g.agree past was));
       texts = (g.texts.0 ++ k.texts.0, k.texts.1 ∙ ap (λ l. l ++ k.texts.0) g.texts.1 ∙ append_assoc (texts_of a.links) g.texts.0 k.texts.0);
     }
 

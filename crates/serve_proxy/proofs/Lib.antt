@@ -6,3 +6,4 @@ pub mod Going
 pub mod Lent
 pub mod Told
 pub mod Growing
+pub mod Linking

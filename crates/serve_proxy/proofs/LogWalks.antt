@@ -195,8 +195,8 @@ module _ (opening : ℕ → List ℕ → Option Item) (past : List (Entry dialec
   step_goes (Closed client) does = goes_by _ (one_own (Resets client) (λ past l. l)) does.2
   step_goes (LeftLine client) does = goes_by _ none_own does.1
   step_goes (Loaded configuration generation) does = let t = does.goes opening past led in ([], refl, λ past l. l, t.after, holds past t.after)
-  step_goes (Linked at dialect) does = by_none opening past old new led Holds holds does
-  step_goes (Asked at number dialect ask) does = by_none opening past old new led Holds holds does
+  step_goes (Linked at _) does = by_none opening past old new led Holds holds does
+  step_goes (Asked at number _ ask) does = by_none opening past old new led Holds holds does
   step_goes (Greeted at bytes) does = by_none opening past old new led Holds holds does
   step_goes (Spelled at number ask answer bytes) does = by_none opening past old new led Holds holds does.0
 

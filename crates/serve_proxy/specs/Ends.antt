@@ -11,7 +11,7 @@ use Rattle.serve_links.specs.declared.calls.calls.SentCall.{SentCall}
 use Rattle.serve_links.specs.declared.link.Link.{Link}
 use Rattle.serve_links.specs.CoreSteps.{Step, Opened, Closed, Loaded, Does, Walks, AreOf, IsOfTurn, IsFailure, IsSending}
 use Rattle.serve_proxy.specs.declared.sockets.Sockets.{Sockets}
-use Rattle.serve_links.specs.Story.{LineState, line_of, LineLost, LineGoes, AnEnd, Agrees, AgreesBut, AgreesCalled, AgreesLosing, AllGoFrom, AllGo, texts_of}
+use Rattle.serve_links.specs.Story.{LineState, line_of, LineAgrees, LineLost, LineCalled, LineGoesFrom, LineGoes, AnEnd, Agrees, AgreesBut, AgreesCalled, AgreesLosing, AllGoFrom, AllGo, texts_of}
 
 -- what each link has to do with its connection and its calls
 abbrev pub lines_of : List Link → List LineState
@@ -52,6 +52,17 @@ LinksGive at call ls ls' = (h : List Event) (cs : Clients) → EndsGoFrom Agrees
 -- whatever a core is, without a call of it a link's end goes on
 abbrev pub LineStands : ℕ → List Event → List Event → Link → Link → Type 0
 LineStands at h h' old new = (core : ServedCore) → LineGoes IsSending at core h old core h' new
+
+-- wherever it stands, a link takes over this call, which the core gave out for its server
+abbrev pub LineTakes : SentCall → Link → Link → Type 0
+LineTakes call old new = (at : ℕ) (h : List Event) (core : ServedCore) → LineGoesFrom (LineCalled call.ticket.number call.ticket.ask) LineAgrees IsSending at core h old core h new
+
+-- wherever it stands, a link's end goes on by calls of the core; or so that what it holds may be lost
+abbrev pub LineGoesOn : ServedCore → Link → ServedCore → Link → Type 0
+LineGoesOn core old core' new = (at : ℕ) (h : List Event) → LineGoes IsOfTurn at core h old core' h new
+
+abbrev pub LineGoesLosing : ServedCore → Link → ServedCore → Link → Type 0
+LineGoesLosing core old core' new = (at : ℕ) (h : List Event) → LineGoesFrom LineAgrees LineLost IsOfTurn at core h old core' h new
 
 -- of all but a core the ends are as they were
 abbrev pub Stay : {W : Type 0} → (W → List Event) → Sockets W → Sockets W → Type 0
@@ -119,13 +130,16 @@ down_line text = (text, None, [], [], false)
 abbrev pub AddsLines : List Link → List Link → Type 0
 AddsLines old new = (texts : List (List ℕ)) × (lines_of new ≡ lines_of old ++ each down_line texts)
 
--- by calls of this kind it goes on, and where its ends agreed with all calls before, they agree with all calls after. The links that were there are to the servers that they were to, and others may be there
-pub record AllGrow (Is : Step → Type 0) (old new : AnEnd) : Type 0 where
+-- by calls of this kind it goes on: where the one held of it and of all calls before, the other holds of it and of all calls after. The links that were there are to the servers that they were to, and others may be there
+pub record AllGrowFrom (Before After : List Step → AnEnd → Type 0) (Is : Step → Type 0) (old new : AnEnd) : Type 0 where
   pub steps : List Step
   pub kinds : AreOf Is steps
   pub walks : Walks steps old.core new.core
-  pub agree : (past : List Step) → Agrees past old → Agrees (steps ++ past) new
+  pub agree : (past : List Step) → Before past old → After (steps ++ past) new
   pub texts : (more : List (List ℕ)) × (texts_of new.links ≡ texts_of old.links ++ more)
+
+abbrev pub AllGrow : (Step → Type 0) → AnEnd → AnEnd → Type 0
+AllGrow = AllGrowFrom Agrees Agrees
 
 -- this configuration was loaded
 abbrev pub IsLoadOf : Configuration → Step → Type 0

@@ -72,8 +72,8 @@ module _ (opening : ℕ → List ℕ → Option Item) where
   StepGoes (Closed client) past old led new Holds = GoesOnSaying (λ entries. entries ≡ log.Resets client ∷ []) past new Holds
   StepGoes (LeftLine client) past old led new Holds = GoesOnSaying (λ entries. entries ≡ []) past new Holds
   StepGoes (Loaded configuration generation) past old led new Holds = GoesOnSaying (λ entries. entries ≡ []) past new Holds
-  StepGoes (Linked at dialect) past old led new Holds = StaysOn past old new Holds
-  StepGoes (Asked at number dialect ask) past old led new Holds = StaysOn past old new Holds
+  StepGoes (Linked at _) past old led new Holds = StaysOn past old new Holds
+  StepGoes (Asked at number _ ask) past old led new Holds = StaysOn past old new Holds
   StepGoes (Greeted at bytes) past old led new Holds = StaysOn past old new Holds
   StepGoes (Spelled at number ask answer bytes) past old led new Holds = StaysOn past old new Holds
 

@@ -1,9 +1,9 @@
 //! Links are read, and whole answers settle the calls that are out.
 
-ghost use Rattle.std.specs.Prelude.{◌≡◌, ℕ};
-ghost use Rattle.serve_links.specs.CoreSteps.{GoesBy, IsSettlement};
-ghost use Rattle.serve_proxy.specs.Ends.{line_of, LineStands, Stay, GoAlone, AllGoOn};
+ghost use Rattle.std.specs.Prelude.{◌≡◌, ℕ, false, None, IfOk};
 ghost use Rattle.serve_clients.specs.Agrees.{KeepsEnds};
+ghost use Rattle.serve_links.specs.Story.{line_of};
+ghost use Rattle.serve_proxy.specs.Ends.{LineStands, LineGoesOn, LineGoesLosing, Stay, GoAlone, AllGoOr, AllGoUnless};
 
 use crate::failing::fail_link;
 use crate::sockets::Sockets;
@@ -17,7 +17,7 @@ use std::io;
 
 /// Links that are ready are read.
 pub fn read_links<W: Wire>(core: &mut ServedCore, sockets: &mut Sockets<W>) -> io::Result<()>
-    ensures ends { AllGoOn W.history core.old sockets.old core.new sockets.new }
+    ensures ends { AllGoOr result W.history core.old sockets.old core.new sockets.new }
 {
     let links = sockets.work.take(&mut sockets.links.ready);
     for at in links.as_slice() {
@@ -34,12 +34,12 @@ pub fn serve_link<W: Wire>(
     sockets: &mut Sockets<W>,
     at: usize,
 ) -> io::Result<()>
-    ensures ends { AllGoOn W.history core.old sockets.old core.new sockets.new }
+    ensures ends { AllGoOr result W.history core.old sockets.old core.new sockets.new }
 {
-    if let Some(cause) = read_link(core, sockets, at)? {
-        return Ok(fail_link(core, sockets, at, cause)?);
+    match read_link(core, sockets, at)? {
+        Some(cause) => Ok(fail_link(core, sockets, at, cause)?),
+        None => Ok(sockets.links.mark_rest(at)?),
     }
-    Ok(sockets.links.mark_rest(at)?)
 }
 
 // One read, and all whole answers are settled. Why the link fails by that, if it does.
@@ -48,7 +48,7 @@ fn read_link<W: Wire>(
     sockets: &mut Sockets<W>,
     at: usize,
 ) -> io::Result<Option<Cause>>
-    ensures ends { AllGoOn W.history core.old sockets.old core.new sockets.new }
+    ensures ends { AllGoUnless at result W.history core.old sockets.old core.new sockets.new }
 {
     match sockets.read_link_once(at)? {
         None => Ok(None),
@@ -66,31 +66,7 @@ fn learn_and_settle<W: Wire>(
     sockets: &mut Sockets<W>,
     at: usize,
 ) -> io::Result<Option<Cause>>
-    ensures ends { AllGoOn W.history core.old sockets.old core.new sockets.new }
-{
-    let Some(link) = sockets.links.all.get_mut(at) else {
-        return Ok(None);
-    };
-    if !link.awaits_dialect {
-        return settle_all(core, sockets, at, false);
-    }
-    if !link.learn() {
-        return Ok(Some(Cause::Foreign));
-    }
-    if link.awaits_dialect {
-        return Ok(sockets.read_in_vain(at));
-    }
-    settle_all(core, sockets, at, true)
-}
-
-// All whole answers are settled, after another whole answer or not. Why the link fails by that, if it does.
-fn settle_all<W: Wire>(
-    core: &mut ServedCore,
-    sockets: &mut Sockets<W>,
-    at: usize,
-    has_answered: bool,
-) -> io::Result<Option<Cause>>
-    ensures ends { AllGoOn W.history core.old sockets.old core.new sockets.new }
+    ensures ends { AllGoUnless at result W.history core.old sockets.old core.new sockets.new }
 {
     let polls = sockets.links.settings.polls;
     let Some(link) = sockets.links.all.get_mut(at) else {
@@ -101,7 +77,6 @@ fn settle_all<W: Wire>(
         core,
         &mut sockets.clients,
         &mut sockets.is_freed,
-        has_answered,
         polls,
     )?)
 }
@@ -112,11 +87,36 @@ fn settle_line(
     core: &mut ServedCore,
     clients: &mut Clients,
     is_freed: &mut bool,
+    polls: Option<u32>,
+) -> Result<Option<Cause>, AllocError>
+    ensures kept { IfOk result (λ cause. cause ≡ None → LineGoesOn core.old link.old core.new link.new) }
+    ensures lost { LineGoesLosing core.old link.old core.new link.new }
+    ensures ends { KeepsEnds clients.old clients.new }
+{
+    if !link.awaits_dialect {
+        return settle_all(link, core, clients, is_freed, false, polls);
+    }
+    if !link.learn() {
+        return Ok(Some(Cause::Foreign));
+    }
+    if link.awaits_dialect {
+        return Ok(vain(link.has_read(false, polls)));
+    }
+    settle_all(link, core, clients, is_freed, true, polls)
+}
+
+// All whole answers are settled, after another whole answer or not. Why the link fails by that, if it does.
+fn settle_all(
+    link: &mut Link,
+    core: &mut ServedCore,
+    clients: &mut Clients,
+    is_freed: &mut bool,
     has_answered: bool,
     polls: Option<u32>,
 ) -> Result<Option<Cause>, AllocError>
-    ensures core { GoesBy IsSettlement core.old core.new }
-    ensures line { line_of link.new ≡ line_of link.old }
+    requires { link.old.awaits_dialect ≡ false }
+    ensures kept { IfOk result (λ cause. cause ≡ None → LineGoesOn core.old link.old core.new link.new) }
+    ensures lost { LineGoesLosing core.old link.old core.new link.new }
     ensures ends { KeepsEnds clients.old clients.new }
 {
     let Some(conn) = link.conn.as_mut() else {

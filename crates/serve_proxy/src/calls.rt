@@ -1,6 +1,6 @@
 //! A call that the core makes goes to its server's link: it is written there, waits there, or has failed.
 
-ghost use Rattle.serve_proxy.specs.Ends.{AllFailOn};
+ghost use Rattle.serve_proxy.specs.Ends.{AgreesTicket, AgreesSent, AllSendFrom, AllFailOn};
 
 use crate::failing::look_at_idle;
 use crate::sockets::Sockets;
@@ -20,7 +20,7 @@ pub fn send_call<W: Wire, N: Net>(
     id: usize,
     ticket: Ticket,
 ) -> Result<(), AllocError>
-    ensures ends { AllFailOn W.history core.old sockets.old core.new sockets.new }
+    ensures ends { AllSendFrom (AgreesTicket ticket) W.history core.old sockets.old core.new sockets.new }
 {
     look_at_idle(core, sockets, ticket.server.number() as usize)?;
     send_looked(net, core, sockets, id, ticket)
@@ -34,7 +34,7 @@ fn send_looked<W: Wire, N: Net>(
     id: usize,
     ticket: Ticket,
 ) -> Result<(), AllocError>
-    ensures ends { AllFailOn W.history core.old sockets.old core.new sockets.new }
+    ensures ends { AllSendFrom (AgreesTicket ticket) W.history core.old sockets.old core.new sockets.new }
 {
     let at = ticket.server.number() as usize;
     let time = sockets.time;
@@ -61,7 +61,7 @@ fn let_wait<W: Wire>(
     at: usize,
     call: SentCall,
 ) -> Result<(), AllocError>
-    ensures ends { AllFailOn W.history core.old sockets.old core.new sockets.new }
+    ensures ends { AllSendFrom (AgreesSent at call) W.history core.old sockets.old core.new sockets.new }
 {
     let client = call.client;
     match sockets.links.let_wait(at, call) {
@@ -80,7 +80,7 @@ fn begin_call<W: Wire>(
     at: usize,
     call: SentCall,
 ) -> Result<(), AllocError>
-    ensures ends { AllFailOn W.history core.old sockets.old core.new sockets.new }
+    ensures ends { AllSendFrom (AgreesSent at call) W.history core.old sockets.old core.new sockets.new }
 {
     match sockets.links.write_call(at, call) {
         Ok(()) => Ok(()),
@@ -127,9 +127,21 @@ fn begin_next<W: Wire>(
 ) -> Result<bool, AllocError>
     ensures ends { AllFailOn W.history core.old sockets.old core.new sockets.new }
 {
-    let Some(call) = sockets.links.next_waiting(at) else {
-        return Ok(false);
-    };
+    match sockets.links.next_waiting(at) {
+        None => Ok(false),
+        Some(call) => begin_waited(core, sockets, at, call),
+    }
+}
+
+// The call that waited is written to its server's link, or has failed. It tells `true`.
+fn begin_waited<W: Wire>(
+    core: &mut ServedCore,
+    sockets: &mut Sockets<W>,
+    at: usize,
+    call: SentCall,
+) -> Result<bool, AllocError>
+    ensures ends { AllSendFrom (AgreesSent at call) W.history core.old sockets.old core.new sockets.new }
+{
     sockets.clients.end_waiting(call.client)?;
     begin_call(core, sockets, at, call)?;
     Ok(true)

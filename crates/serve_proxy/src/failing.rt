@@ -2,7 +2,7 @@
 
 ghost use Rattle.std.specs.Prelude.{OnOk};
 ghost use Rattle.serve_links.specs.Links.{IsDownAt, IsClosedAt};
-ghost use Rattle.serve_proxy.specs.Ends.{GoAlone, AllFailOn, AllGoOn};
+ghost use Rattle.serve_proxy.specs.Ends.{GoAlone, AllFailOn, AllGiveUp, AllGoOr};
 
 use crate::answers::{read_line, serve_link};
 use crate::sockets::{Sockets, close_if_any};
@@ -23,18 +23,20 @@ pub fn fail_link<W: Wire>(
     at: usize,
     cause: Cause,
 ) -> Result<(), AllocError>
-    ensures ends { AllFailOn W.history core.old sockets.old core.new sockets.new }
+    ensures ends { AllGiveUp at W.history core.old sockets.old core.new sockets.new }
     ensures down { OnOk result (IsDownAt at sockets.new.links.all.items) }
     ensures closed { IsClosedAt at sockets.new.links.all.items }
 {
-    let Some(link) = sockets.links.all.get_mut(at) else {
-        return Ok(());
-    };
-    let closed = link.close(cause, sockets.time, &sockets.links.settings);
-    close_if_any(&mut sockets.wire, closed);
-    sockets.links.has_news = true;
-    sockets.is_freed = true;
-    fail_all(link, core, &mut sockets.clients)
+    match sockets.links.all.get_mut(at) {
+        None => Ok(()),
+        Some(link) => {
+            let closed = link.close(cause, sockets.time, &sockets.links.settings);
+            close_if_any(&mut sockets.wire, closed);
+            sockets.links.has_news = true;
+            sockets.is_freed = true;
+            fail_all(link, core, &mut sockets.clients)
+        }
+    }
 }
 
 /// What came over the link's connection while no call was out is no answer, and a connection that has ended takes no call: the link fails by
@@ -55,7 +57,7 @@ pub fn look_at_idle<W: Wire>(
 /// Links that have taken too long fail, if one may have. What has come over them is read and settled before: the system was asked for it
 /// after the clock was looked at, and had nothing.
 pub fn fail_late<W: Wire>(core: &mut ServedCore, sockets: &mut Sockets<W>) -> io::Result<()>
-    ensures ends { AllGoOn W.history core.old sockets.old core.new sockets.new }
+    ensures ends { AllGoOr result W.history core.old sockets.old core.new sockets.new }
 {
     if !sockets.links.may_be_late(sockets.time) {
         return Ok(());
@@ -72,7 +74,7 @@ fn fail_if_late<W: Wire>(
     sockets: &mut Sockets<W>,
     at: usize,
 ) -> io::Result<()>
-    ensures ends { AllGoOn W.history core.old sockets.old core.new sockets.new }
+    ensures ends { AllGoOr result W.history core.old sockets.old core.new sockets.new }
 {
     read_late(core, sockets, at)?;
     match sockets.lateness(at) {
@@ -83,7 +85,7 @@ fn fail_if_late<W: Wire>(
 
 // What has come over a link that is late is read, until it is late no longer or nothing more is there.
 fn read_late<W: Wire>(core: &mut ServedCore, sockets: &mut Sockets<W>, at: usize) -> io::Result<()>
-    ensures ends { AllGoOn W.history core.old sockets.old core.new sockets.new }
+    ensures ends { AllGoOr result W.history core.old sockets.old core.new sockets.new }
 {
     for _ in 0..LATE_READS {
         if sockets.lateness(at).is_none() {
@@ -99,7 +101,7 @@ fn read_late<W: Wire>(core: &mut ServedCore, sockets: &mut Sockets<W>, at: usize
 
 // The system is asked whether the link's connection stands, or for what has come over it, though it told of nothing.
 fn look_again<W: Wire>(core: &mut ServedCore, sockets: &mut Sockets<W>, at: usize) -> io::Result<()>
-    ensures ends { AllGoOn W.history core.old sockets.old core.new sockets.new }
+    ensures ends { AllGoOr result W.history core.old sockets.old core.new sockets.new }
 {
     if sockets.links.look_again(&sockets.wire, at)? {
         return Ok(());

@@ -1,11 +1,11 @@
 //! The links to the servers, by their numbers: which of them are to be read and written, when they are late, and what there is to tell
 //! of them. Nothing here knows the core.
 
-ghost use Rattle.std.specs.Prelude.{◌≡◌, ◌↔◌, [], ◌∷◌, ◌++◌, drop, length, IsTrue, IfOk, OnOk};
+ghost use Rattle.std.specs.Prelude.{◌≡◌, ◌↔◌, [], ◌∷◌, ◌++◌, drop, length, IsTrue, IfOk, IfErr, OnOk, MatchOption};
 ghost use Rattle.serve_clients.specs.declared.clients.Clients.{Clients};
 ghost use Rattle.serve_links.specs.Links.{calls_out};
-ghost use Rattle.serve_links.specs.Story.{texts_of};
-ghost use Rattle.serve_proxy.specs.Ends.{line_of, lines_of, LineStands, EndsGo, AddsLines};
+ghost use Rattle.serve_links.specs.Story.{line_of, texts_of};
+ghost use Rattle.serve_proxy.specs.Ends.{lines_of, LinksTake, LinksGive, LineStands, LineTakes, EndsGo, AddsLines};
 
 use crate::clock::earlier;
 use crate::texts::text_at;
@@ -58,7 +58,8 @@ fn begin<W: Wire, N: Net>(
 
 // The call is written to the link, or given back.
 fn write_to(link: &mut Link, call: SentCall) -> Result<(), SentCall>
-    ensures line { line_of link.new ≡ line_of link.old }
+    ensures ok { OnOk result (LineTakes call link.old link.new) }
+    ensures err { IfErr result (λ given. (given ≡ call) × (line_of link.new ≡ line_of link.old)) }
 {
     match link.conn.as_mut() {
         Some(conn) => link.calls.begin(call, &mut conn.unsent),
@@ -325,7 +326,8 @@ impl Links {
 
     /// The call waits until its server takes more, or is given back.
     pub fn let_wait(&mut self, at: usize, call: SentCall) -> Result<(), SentCall>
-        ensures lines { lines_of self.new.all.items ≡ lines_of self.old.all.items }
+        ensures ok { OnOk result (LinksTake at call self.old.all.items self.new.all.items) }
+        ensures err { IfErr result (λ given. (given ≡ call) × (lines_of self.new.all.items ≡ lines_of self.old.all.items)) }
     {
         match self.all.get_mut(at) {
             Some(link) => link.let_wait(call),
@@ -343,14 +345,15 @@ impl Links {
 
     /// Of the calls that wait for it the first that may go out.
     pub fn next_waiting(&mut self, at: usize) -> Option<SentCall>
-        ensures lines { lines_of self.new.all.items ≡ lines_of self.old.all.items }
+        ensures call { MatchOption result (lines_of self.new.all.items ≡ lines_of self.old.all.items) (λ call. LinksGive at call self.old.all.items self.new.all.items) }
     {
         self.all.get_mut(at)?.next_waiting()
     }
 
     /// The call is written to the link, or given back.
     pub fn write_call(&mut self, at: usize, call: SentCall) -> Result<(), SentCall>
-        ensures lines { lines_of self.new.all.items ≡ lines_of self.old.all.items }
+        ensures ok { OnOk result (LinksTake at call self.old.all.items self.new.all.items) }
+        ensures err { IfErr result (λ given. (given ≡ call) × (lines_of self.new.all.items ≡ lines_of self.old.all.items)) }
     {
         match self.all.get_mut(at) {
             Some(link) => write_to(link, call),

@@ -6,7 +6,7 @@ ghost use Rattle.core_accepted.specs.Loading.{IsLoaded};
 ghost use Rattle.serve_links.specs.CoreSteps.{GoesOn, Fails};
 ghost use Rattle.serve_links.specs.Links.{IsDownAt, IsClosedAt};
 ghost use Rattle.serve_links.specs.Story.{Agrees, texts_of};
-ghost use Rattle.serve_proxy.specs.Ends.{Stay, end_of, AllGoOn, AllFailOn, AllLoad, HasNoClients};
+ghost use Rattle.serve_proxy.specs.Ends.{Stay, end_of, AllGoOn, AllGoOr, AllFailOn, AllLoad, HasNoClients};
 ghost use Rattle.serve_proxy.specs.LogsGoOn.{LogsAreFresh};
 ghost use Rattle.serve_proxy.specs.Stillness.{IsStill};
 ghost use Rattle.serve_proxy.specs.Beginning.{BeginsFresh, BeginsUnchecked, LoadStops};
@@ -50,7 +50,7 @@ fn run_turn<W: Wire, R: Net + Clock>(
     sockets: &mut Sockets<W>,
     limit: Option<Duration>,
 ) -> io::Result<()>
-    ensures ends { AllGoOn W.history core.old sockets.old core.new sockets.new }
+    ensures ends { AllGoOr result W.history core.old sockets.old core.new sockets.new }
 {
     // Something is waited for, and what is ready is noted.
     sockets.wait(rt, limit)?;
@@ -205,7 +205,7 @@ impl<W: Wire> ProxyEnd<W> {
     /// One turn: a wait until something is ready or late, and then all that is ready is done.
     pub fn turn<R: Net + Clock>(&mut self, rt: &R) -> io::Result<()>
         ensures core { GoesOn self.old.core.value self.new.core.value }
-        ensures ends { AllGoOn W.history self.old.core.value self.old.sockets self.new.core.value self.new.sockets }
+        ensures ends { AllGoOr result W.history self.old.core.value self.old.sockets self.new.core.value self.new.sockets }
     {
         let limit = self.sockets.wait_limit(rt)?;
         run_turn(rt, self.core.as_mut(), &mut self.sockets, limit)
@@ -214,7 +214,7 @@ impl<W: Wire> ProxyEnd<W> {
     /// The same, but it waits this long at most, so that several ends can be turned in one thread.
     pub fn turn_within<R: Net + Clock>(&mut self, rt: &R, most: Duration) -> io::Result<()>
         ensures core { GoesOn self.old.core.value self.new.core.value }
-        ensures ends { AllGoOn W.history self.old.core.value self.old.sockets self.new.core.value self.new.sockets }
+        ensures ends { AllGoOr result W.history self.old.core.value self.old.sockets self.new.core.value self.new.sockets }
     {
         let limit = self.sockets.wait_limit(rt)?;
         let limit = Some(at_most(limit, most));

@@ -1,18 +1,17 @@
-use Rattle.serve_proxy.proofs.Going.{still, and_then, stays}
-use Rattle.serve_proxy.proofs.Staying.{line_lent, learnt_line, stay_links}
+use Rattle.serve_proxy.proofs.Going.{still, and_then, stays, line_goes_on, line_goes_but}
+use Rattle.serve_proxy.proofs.Staying.{stay_clients}
+use Rattle.serve_proxy.proofs.Linking.{unless_cause, but_clients, unless_err}
 use Rattle.serve_proxy.proofs.answers.learn_and_settle.Goals as goal
 
 pub returns-in_default : goal.returns-in_default
 returns-in_default g c = record { ends = still }
 
-pub returns-then-not-awaits_dialect : goal.returns-then-not-awaits_dialect
-returns-then-not-awaits_dialect g c = record { ends = c.settle_all.ensures.ends }
-
-pub returns-then-not-learn : goal.returns-then-not-learn
-returns-then-not-learn g c = record { ends = stays c.args.core.now (stay_links _ _ _ _ (line_lent c.args.sockets.now.links.all.items c.args.at c.in-Some.link.now c.learn.new.self c.in-Some.ensures.value (learnt_line _ c.in-Some.link.now c.learn.new.self c.learn.ensures))) }
-
-pub returns-then-awaits_dialect : goal.returns-then-awaits_dialect
-returns-then-awaits_dialect g c = record { ends = and_then (stays c.args.core.now (stay_links _ _ _ _ (line_lent c.args.sockets.now.links.all.items c.args.at c.in-Some.link.now c.learn.new.self c.in-Some.ensures.value (learnt_line _ c.in-Some.link.now c.learn.new.self c.learn.ensures)))) (stays c.args.core.now c.read_in_vain.ensures.ends) }
+pub returns-in_err-settle_line : goal.returns-in_err-settle_line
+returns-in_err-settle_line g c = record { ends = unless_err g.W.Wire.history c.args.at c.args.core.now c.args.sockets.now _ _ c.from_residual.result c.from_residual.ensures.0 (but_clients c.args.at c.args.sockets.now.clients c.settle_line.new.clients (line_goes_but c.args.sockets.now.links.all.items c.args.at c.in-Some.link.now c.settle_line.new.link c.in-Some.ensures.item.3.0 c.in-Some.ensures.value (c.settle_line.ensures.lost c.args.at (g.W.Wire.history c.args.sockets.now.wire))) c.settle_line.ensures.ends) }
 
 pub returns : goal.returns
-returns g c = record { ends = and_then (stays c.args.core.now (stay_links _ _ _ _ (line_lent c.args.sockets.now.links.all.items c.args.at c.in-Some.link.now c.learn.new.self c.in-Some.ensures.value (learnt_line _ c.in-Some.link.now c.learn.new.self c.learn.ensures)))) c.settle_all-2.ensures.ends }
+returns g c = record {
+  ends = unless_cause g.W.Wire.history c.args.at c.args.core.now c.args.sockets.now c.settle_line.new.core _ c.in_ok-settle_line.field-0
+      (λ none. and_then (line_goes_on c.args.sockets.now.links.all.items c.args.at c.in-Some.link.now c.settle_line.new.link c.in-Some.ensures.item.3.0 c.in-Some.ensures.value (c.in_ok-settle_line.ensures.kept none c.args.at (g.W.Wire.history c.args.sockets.now.wire))) (stays c.settle_line.new.core (stay_clients _ _ _ _ c.settle_line.ensures.ends)))
+      (but_clients c.args.at c.args.sockets.now.clients c.settle_line.new.clients (line_goes_but c.args.sockets.now.links.all.items c.args.at c.in-Some.link.now c.settle_line.new.link c.in-Some.ensures.item.3.0 c.in-Some.ensures.value (c.settle_line.ensures.lost c.args.at (g.W.Wire.history c.args.sockets.now.wire))) c.settle_line.ensures.ends);
+}

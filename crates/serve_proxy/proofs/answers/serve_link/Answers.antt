@@ -1,18 +1,25 @@
-use Rattle.serve_proxy.proofs.Going.{and_then, failing, stays}
+use Rattle.serve_proxy.proofs.Going.{and_then, failing, sending, lost_some, may_lose, stays}
 use Rattle.serve_proxy.proofs.Staying.{stay_links}
+use Rattle.serve_proxy.proofs.Linking.{or_err, unless_some, unless_none}
 use Rattle.serve_proxy.proofs.answers.serve_link.Goals as goal
 
 pub returns-in_err-cause : goal.returns-in_err-cause
-returns-in_err-cause g c = record { ends = c.read_link.ensures.ends }
+returns-in_err-cause g c = record { ends = or_err g.W.Wire.history c.args.core.now c.args.sockets.now _ _ c.from_residual.result c.from_residual.ensures.0 (lost_some c.args.at c.in_err-cause.ensures.ends) }
 
-pub returns-in_err-fail_link : goal.returns-in_err-fail_link
-returns-in_err-fail_link g c = record { ends = and_then c.read_link.ensures.ends (failing c.fail_link.ensures.ends) }
+pub returns-in_err-fail_link-in-Some : goal.returns-in_err-fail_link-in-Some
+returns-in_err-fail_link-in-Some g c = record {
+  ends = or_err g.W.Wire.history c.args.core.now c.args.sockets.now _ _ c.from_residual-in_err-fail_link-in-Some.result c.from_residual-in_err-fail_link-in-Some.ensures.0
+      (may_lose (and_then (unless_some g.W.Wire.history c.args.at c.args.core.now c.args.sockets.now _ _ _ _ c.in-Some.is c.in_ok-cause.ensures.ends) (failing (sending c.fail_link.ensures.ends))));
+}
 
-pub returns-in-Some : goal.returns-in-Some
-returns-in-Some g c = record { ends = and_then c.read_link.ensures.ends (failing c.fail_link.ensures.ends) }
+pub returns-in_ok-fail_link-in-Some : goal.returns-in_ok-fail_link-in-Some
+returns-in_ok-fail_link-in-Some g c = record { ends = and_then (unless_some g.W.Wire.history c.args.at c.args.core.now c.args.sockets.now _ _ _ _ c.in-Some.is c.in_ok-cause.ensures.ends) (failing (sending c.fail_link.ensures.ends)) }
 
-pub returns-in_err-mark_rest : goal.returns-in_err-mark_rest
-returns-in_err-mark_rest g c = record { ends = and_then c.read_link.ensures.ends (stays c.read_link.new.core (stay_links _ _ _ _ c.mark_rest.ensures.lines)) }
+pub returns-in_err-mark_rest-in-None : goal.returns-in_err-mark_rest-in-None
+returns-in_err-mark_rest-in-None g c = record {
+  ends = or_err g.W.Wire.history c.args.core.now c.args.sockets.now _ _ c.from_residual-in_err-mark_rest-in-None.result c.from_residual-in_err-mark_rest-in-None.ensures.0
+      (may_lose (and_then (unless_none g.W.Wire.history c.args.at c.args.core.now c.args.sockets.now _ _ _ c.in-None.is c.in_ok-cause.ensures.ends) (stays c.read_link.new.core (stay_links _ _ _ _ c.mark_rest.ensures.lines))));
+}
 
-pub returns : goal.returns
-returns g c = record { ends = and_then c.read_link.ensures.ends (stays c.read_link.new.core (stay_links _ _ _ _ c.mark_rest.ensures.lines)) }
+pub returns-in_ok-mark_rest-in-None : goal.returns-in_ok-mark_rest-in-None
+returns-in_ok-mark_rest-in-None g c = record { ends = and_then (unless_none g.W.Wire.history c.args.at c.args.core.now c.args.sockets.now _ _ _ c.in-None.is c.in_ok-cause.ensures.ends) (stays c.read_link.new.core (stay_links _ _ _ _ c.mark_rest.ensures.lines)) }

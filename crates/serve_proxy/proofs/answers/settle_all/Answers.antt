@@ -1,12 +1,41 @@
-use Rattle.serve_proxy.proofs.Going.{still, and_then, settles_go, stays}
-use Rattle.serve_proxy.proofs.Staying.{line_lent, stay_then, stay_clients, stay_links}
+use Rattle.std.proofs.Common.{Some, refl, sym, ap}
+use Rattle.serve_wire.proofs.Steps.{untouched}
+use Rattle.serve_links.specs.declared.link.Link.{Link}
+use Rattle.serve_links.proofs.LinkGoes.{line_keeps}
+use Rattle.serve_proxy.proofs.Linking.{line_may_lose, settled, settled_some}
 use Rattle.serve_proxy.proofs.answers.settle_all.Goals as goal
 
 pub returns-in_default : goal.returns-in_default
-returns-in_default g c = record { ends = still }
+returns-in_default c = record { kept = λ none at h. line_keeps (λ d. untouched d h) refl; lost = λ at h. line_may_lose (line_keeps (λ d. untouched d h) refl); ends = λ j. refl }
 
-pub returns-in_err-settle_line : goal.returns-in_err-settle_line
-returns-in_err-settle_line g c = record { ends = and_then (settles_go c.settle_line.ensures.core) (stays c.settle_line.new.core (stay_then (stay_links _ _ _ _ (line_lent c.args.sockets.now.links.all.items c.args.at c.in-Some.link.now c.settle_line.new.link c.in-Some.ensures.value c.settle_line.ensures.line)) (stay_clients _ _ _ _ c.settle_line.ensures.ends))) }
+pub returns-in_err-answers-clause-lost : goal.returns-in_err-answers-clause-lost
+returns-in_err-answers-clause-lost c =
+    let x = c.args.link.now in
+    let k = c.in-Some.conn.now in
+    let d = c.settle_held.new.conn in
+    λ at h. settled_some x (record x { calls = c.settle_held.new.calls; conn = Some d }) k d c.settle_held.new.calls.sent.items (sym c.in-Some.ensures.value) c.requires refl refl refl refl refl c.settle_held.ensures.rest c.settle_held.ensures.front
+
+pub returns-in_err-answers-clause-ends : goal.returns-in_err-answers-clause-ends
+returns-in_err-answers-clause-ends c = c.settle_held.ensures.ends
+
+pub returns-then-not-answers : goal.returns-then-not-answers
+returns-then-not-answers c =
+    let x = c.args.link.now in
+    let k = c.in-Some.conn.now in
+    let d = c.settle_held.new.conn in
+    record {
+      kept = λ none. absurd (let no = none in cc no);
+      lost = λ at h. settled_some x c.has_read-has_failed.new.self k d c.settle_held.new.calls.sent.items (sym c.in-Some.ensures.value) c.requires (ap (λ (z : Link). z.conn) c.has_read-has_failed.ensures) (ap (λ (z : Link). z.text.items) c.has_read-has_failed.ensures) (ap (λ (z : Link). z.waiting.items) c.has_read-has_failed.ensures) (ap (λ (z : Link). z.awaits_dialect) c.has_read-has_failed.ensures) (ap (λ (z : Link). z.calls.sent.items) c.has_read-has_failed.ensures) c.settle_held.ensures.rest c.settle_held.ensures.front;
+      ends = c.settle_held.ensures.ends;
+    }
 
 pub returns : goal.returns
-returns g c = record { ends = and_then (settles_go c.settle_line.ensures.core) (stays c.settle_line.new.core (stay_then (stay_links _ _ _ _ (line_lent c.args.sockets.now.links.all.items c.args.at c.in-Some.link.now c.settle_line.new.link c.in-Some.ensures.value c.settle_line.ensures.line)) (stay_clients _ _ _ _ c.settle_line.ensures.ends))) }
+returns c =
+    let x = c.args.link.now in
+    let k = c.in-Some.conn.now in
+    let d = c.settle_held.new.conn in
+    record {
+      kept = λ none. λ at h. settled x c.has_read-has_failed.new.self k d c.settle_held.new.calls.sent.items (sym c.in-Some.ensures.value) c.requires (ap (λ (z : Link). z.conn) c.has_read-has_failed.ensures) (ap (λ (z : Link). z.text.items) c.has_read-has_failed.ensures) (ap (λ (z : Link). z.waiting.items) c.has_read-has_failed.ensures) (ap (λ (z : Link). z.awaits_dialect) c.has_read-has_failed.ensures) (ap (λ (z : Link). z.calls.sent.items) c.has_read-has_failed.ensures) c.settle_held.ensures.rest (c.in_ok-answers.ensures.settled c.if-not-answers.false);
+      lost = λ at h. settled_some x c.has_read-has_failed.new.self k d c.settle_held.new.calls.sent.items (sym c.in-Some.ensures.value) c.requires (ap (λ (z : Link). z.conn) c.has_read-has_failed.ensures) (ap (λ (z : Link). z.text.items) c.has_read-has_failed.ensures) (ap (λ (z : Link). z.waiting.items) c.has_read-has_failed.ensures) (ap (λ (z : Link). z.awaits_dialect) c.has_read-has_failed.ensures) (ap (λ (z : Link). z.calls.sent.items) c.has_read-has_failed.ensures) c.settle_held.ensures.rest c.settle_held.ensures.front;
+      ends = c.settle_held.ensures.ends;
+    }

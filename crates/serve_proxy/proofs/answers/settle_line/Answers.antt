@@ -1,14 +1,31 @@
-use Rattle.std.proofs.Common.{Some, ap, ◌∙◌}
-use Rattle.std.specs.Option.{option_map}
-use Rattle.serve_wire.specs.declared.conn.conn.Conn.{Conn}
-use Rattle.serve_proxy.specs.Ends.{line_of}
+use Rattle.std.proofs.Common.{refl, ap}
+use Rattle.std.proofs.lemmas.Result.{IfOk-weaker}
+use Rattle.serve_wire.proofs.Steps.{untouched}
+use Rattle.serve_links.specs.Story.{line_of}
+use Rattle.serve_links.proofs.LinkGoes.{line_then, line_learns, line_keeps}
+use Rattle.serve_proxy.proofs.Linking.{line_may_lose}
 use Rattle.serve_proxy.proofs.answers.settle_line.Goals as goal
 
-pub returns-in_err-answers : goal.returns-in_err-answers
-returns-in_err-answers c = record { core = c.settle_held.ensures.core; line = ap (λ n. (c.args.link.now.text.items, Some n)) (ap (λ (z : Conn). z.number) c.settle_held.ensures.rest) ∙ ap (λ o. (c.args.link.now.text.items, option_map (λ (z : Conn). z.number) o)) c.in-Some.ensures.value; ends = c.settle_held.ensures.ends }
+pub returns-then-not-link : goal.returns-then-not-link
+returns-then-not-link c = record { kept = c.settle_all.ensures.kept; lost = c.settle_all.ensures.lost; ends = c.settle_all.ensures.ends }
 
-pub returns-then-not-is_kept : goal.returns-then-not-is_kept
-returns-then-not-is_kept c = record { core = c.settle_held.ensures.core; line = ap line_of c.has_read.ensures ∙ ap (λ n. (c.args.link.now.text.items, Some n)) (ap (λ (z : Conn). z.number) c.settle_held.ensures.rest) ∙ ap (λ o. (c.args.link.now.text.items, option_map (λ (z : Conn). z.number) o)) c.in-Some.ensures.value; ends = c.settle_held.ensures.ends }
+pub returns-then-not-learn : goal.returns-then-not-learn
+returns-then-not-learn c = record {
+  kept = λ none. absurd (let no = none in cc no);
+  lost = λ at h. line_may_lose (line_learns c.args.link.now c.learn.new.self c.learn.result c.if-not-link.false c.learn.ensures);
+  ends = λ j. refl;
+}
+
+pub returns-then-link : goal.returns-then-link
+returns-then-link c = record {
+  kept = λ none at h. line_then (line_learns c.args.link.now c.learn.new.self c.learn.result c.if-not-link.false c.learn.ensures) (line_keeps (λ d. untouched d h) (ap line_of c.has_read.ensures));
+  lost = λ at h. line_may_lose (line_then (line_learns c.args.link.now c.learn.new.self c.learn.result c.if-not-link.false c.learn.ensures) (line_keeps (λ d. untouched d h) (ap line_of c.has_read.ensures)));
+  ends = λ j. refl;
+}
 
 pub returns : goal.returns
-returns c = record { core = c.settle_held.ensures.core; line = ap line_of c.has_read.ensures ∙ ap (λ n. (c.args.link.now.text.items, Some n)) (ap (λ (z : Conn). z.number) c.settle_held.ensures.rest) ∙ ap (λ o. (c.args.link.now.text.items, option_map (λ (z : Conn). z.number) o)) c.in-Some.ensures.value; ends = c.settle_held.ensures.ends }
+returns c = record {
+  kept = IfOk-weaker c.settle_all-2.result _ _ (λ cause goes none at h. line_then (line_learns c.args.link.now c.learn.new.self c.learn.result c.if-not-link.false c.learn.ensures) (goes none at h)) c.settle_all-2.ensures.kept;
+  lost = λ at h. line_then (line_learns c.args.link.now c.learn.new.self c.learn.result c.if-not-link.false c.learn.ensures) (c.settle_all-2.ensures.lost at h);
+  ends = c.settle_all-2.ensures.ends;
+}

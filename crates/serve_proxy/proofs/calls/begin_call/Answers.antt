@@ -1,9 +1,9 @@
-use Rattle.serve_proxy.proofs.Going.{and_then, stays}
+use Rattle.serve_proxy.proofs.Going.{and_then, stays, without_call}
 use Rattle.serve_proxy.proofs.Staying.{stay_links}
 use Rattle.serve_proxy.proofs.calls.begin_call.Goals as goal
 
 pub returns-in-Ok : goal.returns-in-Ok
-returns-in-Ok g c = record { ends = stays c.args.core.now (stay_links _ _ _ _ c.write_call.ensures.lines) }
+returns-in-Ok g c = record { ends = c.in-Ok.ensures.ok (g.W.Wire.history c.args.sockets.now.wire) c.args.sockets.now.clients c.args.core.now }
 
 pub returns-in-Err : goal.returns-in-Err
-returns-in-Err g c = record { ends = and_then (stays c.args.core.now (stay_links _ _ _ _ c.write_call.ensures.lines)) c.refuse_call.ensures.ends }
+returns-in-Err g c = record { ends = without_call c.args.call.ticket.number c.args.at c.args.call.ticket.ask (and_then (stays c.args.core.now (stay_links _ _ _ _ c.in-Err.ensures.err.1)) c.refuse_call.ensures.ends) }

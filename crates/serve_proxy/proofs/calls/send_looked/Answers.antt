@@ -1,15 +1,17 @@
-use Rattle.serve_proxy.proofs.Going.{and_then, stays}
+use Rattle.serve_links.proofs.Story.{still_called}
+use Rattle.serve_proxy.proofs.Going.{and_then, stays, without_call}
 use Rattle.serve_proxy.proofs.Staying.{stay_links}
+use Rattle.serve_proxy.proofs.Linking.{called_at}
 use Rattle.serve_proxy.proofs.calls.send_looked.Goals as goal
 
 pub returns-then-not-is_open : goal.returns-then-not-is_open
-returns-then-not-is_open g c = record { ends = and_then (c.is_open.ensures.ends c.args.sockets.now.clients c.args.core.now) c.refuse_call.ensures.ends }
+returns-then-not-is_open g c = record { ends = without_call c.args.ticket.number c.args.ticket.server c.args.ticket.ask (and_then (c.is_open.ensures.ends c.args.sockets.now.clients c.args.core.now) c.refuse_call.ensures.ends) }
 
 pub returns-then-is_full : goal.returns-then-is_full
-returns-then-is_full g c = record { ends = and_then (c.is_open.ensures.ends c.args.sockets.now.clients c.args.core.now) c.let_wait.ensures.ends }
+returns-then-is_full g c = record { ends = and_then (still_called c.args.ticket.number c.args.ticket.server c.args.ticket.ask (c.is_open.ensures.ends c.args.sockets.now.clients c.args.core.now)) (called_at c.args.ticket.number c.args.ticket.ask c.number-at.ensures c.let_wait.ensures.ends) }
 
 pub returns-in_err-begin_call : goal.returns-in_err-begin_call
-returns-in_err-begin_call g c = record { ends = and_then (c.is_open.ensures.ends c.args.sockets.now.clients c.args.core.now) c.begin_call.ensures.ends }
+returns-in_err-begin_call g c = record { ends = and_then (still_called c.args.ticket.number c.args.ticket.server c.args.ticket.ask (c.is_open.ensures.ends c.args.sockets.now.clients c.args.core.now)) (called_at c.args.ticket.number c.args.ticket.ask c.number-at.ensures c.begin_call.ensures.ends) }
 
 pub returns : goal.returns
-returns g c = record { ends = and_then (and_then (c.is_open.ensures.ends c.args.sockets.now.clients c.args.core.now) c.begin_call.ensures.ends) (stays c.begin_call.new.core (stay_links _ _ _ _ c.mark_output.ensures.lines)) }
+returns g c = record { ends = and_then (and_then (still_called c.args.ticket.number c.args.ticket.server c.args.ticket.ask (c.is_open.ensures.ends c.args.sockets.now.clients c.args.core.now)) (called_at c.args.ticket.number c.args.ticket.ask c.number-at.ensures c.begin_call.ensures.ends)) (stays c.begin_call.new.core (stay_links _ _ _ _ c.mark_output.ensures.lines)) }

@@ -1,4 +1,4 @@
-use Rattle.serve_proxy.proofs.Going.{and_then, stays}
+use Rattle.serve_proxy.proofs.Going.{and_then, sending, gives_up, stays}
 use Rattle.serve_proxy.proofs.Staying.{stay_links}
 use Rattle.serve_proxy.proofs.sending.send_link.Goals as goal
 
@@ -9,7 +9,7 @@ pub loop-preserved : goal.loop-preserved
 loop-preserved g c = and_then (and_then c.loop.invariant (c.send_unsent.ensures.ends c.loop.core)) c.begin_waiting.ensures.ends
 
 pub returns-then-not-send_unsent : goal.returns-then-not-send_unsent
-returns-then-not-send_unsent g c = record { ends = and_then (and_then c.loop.invariant (c.send_unsent.ensures.ends c.loop.core)) c.fail_link.ensures.ends }
+returns-then-not-send_unsent g c = record { ends = and_then (and_then c.loop.invariant (c.send_unsent.ensures.ends c.loop.core)) (sending (gives_up c.args.at c.fail_link.ensures.ends)) }
 
 pub returns-in_err-begin_waiting : goal.returns-in_err-begin_waiting
 returns-in_err-begin_waiting g c = record { ends = and_then (and_then c.loop.invariant (c.send_unsent.ensures.ends c.loop.core)) c.begin_waiting.ensures.ends }

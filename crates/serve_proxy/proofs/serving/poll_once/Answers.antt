@@ -1,11 +1,14 @@
-use Rattle.serve_proxy.proofs.Going.{and_then, failing, stays, quietly_go, by_poll}
+use Rattle.std.proofs.Common.{Ok, ap, ◌∙◌}
+use Rattle.serve_links.proofs.Story.{still_called}
+use Rattle.serve_proxy.proofs.Going.{and_then, failing, stays, quietly_go, by_poll, called_go}
+use Rattle.serve_proxy.proofs.Linking.{polled_call}
 use Rattle.serve_proxy.proofs.serving.poll_once.Goals as goal
 
 pub returns-in_err-send_call-in-Ok-Call : goal.returns-in_err-send_call-in-Ok-Call
-returns-in_err-send_call-in-Ok-Call g c = record { ends = and_then (and_then ((quietly_go (by_poll c.args.id c.poll.result c.args.core.now c.poll.new.self c.poll.ensures.ok c.poll.ensures.err c.poll.ensures.fresh c.poll.ensures.stops))) (stays c.poll.new.self c.note_called.ensures.ends)) (failing c.send_call.ensures.ends) }
+returns-in_err-send_call-in-Ok-Call g c = record { ends = and_then (and_then (called_go c.args.id c.in-Ok-Call.ticket c.args.core.now c.poll.new.self (polled_call c.args.id c.in-Ok-Call.ticket c.poll.result c.args.core.now c.poll.new.self (c.in-Ok-Call.is ∙ ap (λ p. Ok p) c.in-Ok-Call.field-0-is) c.poll.ensures.ok c.poll.ensures.fresh)) (still_called c.in-Ok-Call.ticket.number c.in-Ok-Call.ticket.server c.in-Ok-Call.ticket.ask (stays c.poll.new.self c.note_called.ensures.ends))) (failing c.send_call.ensures.ends) }
 
 pub returns-in_ok-send_call-in-Ok-Call : goal.returns-in_ok-send_call-in-Ok-Call
-returns-in_ok-send_call-in-Ok-Call g c = record { ends = and_then (and_then ((quietly_go (by_poll c.args.id c.poll.result c.args.core.now c.poll.new.self c.poll.ensures.ok c.poll.ensures.err c.poll.ensures.fresh c.poll.ensures.stops))) (stays c.poll.new.self c.note_called.ensures.ends)) (failing c.send_call.ensures.ends) }
+returns-in_ok-send_call-in-Ok-Call g c = record { ends = and_then (and_then (called_go c.args.id c.in-Ok-Call.ticket c.args.core.now c.poll.new.self (polled_call c.args.id c.in-Ok-Call.ticket c.poll.result c.args.core.now c.poll.new.self (c.in-Ok-Call.is ∙ ap (λ p. Ok p) c.in-Ok-Call.field-0-is) c.poll.ensures.ok c.poll.ensures.fresh)) (still_called c.in-Ok-Call.ticket.number c.in-Ok-Call.ticket.server c.in-Ok-Call.ticket.ask (stays c.poll.new.self c.note_called.ensures.ends))) (failing c.send_call.ensures.ends) }
 
 pub returns-in-Ok-Did : goal.returns-in-Ok-Did
 returns-in-Ok-Did g c = record { ends = and_then ((quietly_go (by_poll c.args.id c.poll.result c.args.core.now c.poll.new.self c.poll.ensures.ok c.poll.ensures.err c.poll.ensures.fresh c.poll.ensures.stops))) (stays c.poll.new.self c.note_went_on.ensures.ends) }
@@ -32,4 +35,4 @@ pub returns-in-Err-NoMemory : goal.returns-in-Err-NoMemory
 returns-in-Err-NoMemory g c = record { ends = and_then ((quietly_go (by_poll c.args.id c.poll.result c.args.core.now c.poll.new.self c.poll.ensures.ok c.poll.ensures.err c.poll.ensures.fresh c.poll.ensures.stops))) (failing (c.end_client.ensures.ends c.poll.new.self)) }
 
 pub returns-in-Err : goal.returns-in-Err
-returns-in-Err g c = record { ends = and_then ((quietly_go (by_poll c.args.id c.poll.result c.args.core.now c.poll.new.self c.poll.ensures.ok c.poll.ensures.err c.poll.ensures.fresh c.poll.ensures.stops))) (failing (c.end_client-2.ensures.ends c.poll.new.self)) }
+returns-in-Err g c = record { ends = and_then ((quietly_go (by_poll c.args.id c.poll.result c.args.core.now c.poll.new.self c.poll.ensures.ok c.poll.ensures.err c.poll.ensures.fresh c.poll.ensures.stops))) (failing (c.end_client-in-Err.ensures.ends c.poll.new.self)) }

@@ -1,4 +1,4 @@
-use Rattle.std.proofs.Common.{◌++◌, drop, length, refl}
+use Rattle.std.proofs.Common.{ℕ, ◌++◌, drop, length, refl, ap, ◌∙◌}
 use Rattle.serve_links.specs.Story.{texts_of}
 use Rattle.serve_proxy.proofs.Growing.{adds_none, adds_twice}
 use Rattle.serve_proxy.proofs.LinkTexts.{text_added, text_there}
@@ -6,7 +6,7 @@ use Rattle.serve_proxy.proofs.links.Links.add.Goals.{in-Some+in_ok-add_one, in_d
 use Rattle.serve_proxy.proofs.links.Links.add.Goals as goal
 
 pub loop-at-init : goal.loop-at-init
-loop-at-init c = record { texts = refl; adds = adds_none _ _ refl }
+loop-at-init c = record { texts = ap (λ (n : ℕ). texts_of c.args.self.now.all.items ++ drop n c.args.servers.now) (c.len-at.ensures ∙ c.args.self.now.all.ok.0); adds = adds_none _ _ refl }
 
 pub loop-at-preserved : goal.loop-at-preserved
 loop-at-preserved c =
@@ -22,8 +22,8 @@ loop-at-preserved c =
       | in_default w ↦ absurd (text_there servers c.loop-at.at (rw c.len-at-end.ensures.len at c.loop-at-test.true) (w.in_default.ensures.none refl))
     ]
 
-pub returns-in_err-add_one : goal.returns-in_err-add_one
-returns-in_err-add_one c = record { adds = adds_twice c.args.self.now.all.items c.loop-at.self.all.items c.add_one.new.self.all.items c.loop-at.invariant.adds c.add_one.ensures.adds }
+pub returns-in_err-add_one-clause-adds : goal.returns-in_err-add_one-clause-adds
+returns-in_err-add_one-clause-adds c = adds_twice c.args.self.now.all.items c.loop-at.self.all.items c.add_one.new.self.all.items c.loop-at.invariant.adds c.add_one.ensures.adds
 
 pub returns-clause-adds : goal.returns-clause-adds
 returns-clause-adds c = c.loop-at.invariant.adds

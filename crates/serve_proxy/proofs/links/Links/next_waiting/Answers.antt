@@ -1,7 +1,5 @@
-use Rattle.std.proofs.Common.{ap}
-use Rattle.serve_proxy.specs.Ends.{line_of}
-use Rattle.serve_proxy.proofs.Staying.{line_lent}
+use Rattle.serve_proxy.proofs.Linking.{given}
 use Rattle.serve_proxy.proofs.links.Links.next_waiting.Goals as goal
 
 pub returns : goal.returns
-returns c = record { lines = line_lent c.args.self.now.all.items c.args.at c.in_ok-get_mut.field-0.now c.next_waiting.new.self c.in_ok-get_mut.ensures.value (ap line_of c.next_waiting.ensures.rest) }
+returns c = record { call = given c.args.self.now.all.items c.args.at c.in_ok-get_mut.field-0.now c.next_waiting.new.self c.next_waiting.result c.in_ok-get_mut.ensures.item.3.0 c.in_ok-get_mut.ensures.value c.next_waiting.ensures.rest c.next_waiting.ensures.waiting }

@@ -1,5 +1,5 @@
 use Rattle.std.proofs.Common.{ap}
-use Rattle.serve_proxy.specs.Ends.{line_of}
+use Rattle.serve_links.specs.Story.{line_of}
 use Rattle.serve_proxy.proofs.Staying.{line_lent, stay_links}
 use Rattle.serve_proxy.proofs.sockets.Sockets.read_in_vain.Goals as goal
 

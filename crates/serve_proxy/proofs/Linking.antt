@@ -1,0 +1,232 @@
+-- What is done at one link, by what its own functions say, and how that goes on among all.
+use Rattle.std.proofs.Common.{◌≡◌, ℕ, ◌<◌, zero, suc, Bool, true, false, List, [], ◌∷◌, ◌++◌, length, get_or, Option, Some, None, Result, Ok, Err, refl, sym, ap, ◌∙◌, subst, arith}
+use Rattle.std.proofs.Math.ListN.{set}
+use Rattle.std.specs.Prelude.{MatchOption, IfOk, slice_get}
+use Rattle.std.specs.Option.{option_map}
+use Rattle.std.specs.Result.{IsErr}
+use Rattle.mc_types.specs.declared.ask.Ask.{Ask}
+use Rattle.wire_parts.specs.Sending.{bytes_of}
+use Rattle.wire_stream.specs.Spelling.{spelling_of}
+use Rattle.serve_wire.specs.Events.{Event}
+use Rattle.serve_wire.specs.Ends.{HoldsAnew}
+use Rattle.serve_wire.specs.declared.conn.conn.Conn.{Conn}
+use Rattle.serve_wire.proofs.Steps.{untouched}
+use Rattle.core_commands.specs.declared.ticket.Ticket.{Ticket}
+use Rattle.core_proxy.specs.declared.fault.CoreFault.{CoreFault}
+use Rattle.core_proxy.specs.declared.note.Poll.{Poll}
+use Rattle.core_proxy.specs.declared.note.Poll.TheVariants as polls
+use Rattle.core_proxy.specs.Polls.{Polls, Then, Perhaps, BeginsOne, IsPolled}
+use Rattle.core_accepted.specs.Logs.{LogsGoBy}
+use Rattle.core_accepted.specs.declared.served.ServedCore.{ServedCore}
+use Rattle.serve_clients.specs.declared.clients.Clients.{Clients}
+use Rattle.serve_clients.specs.Marks.{client_of}
+use Rattle.serve_clients.specs.Agrees.{KeepsEnds}
+use Rattle.serve_clients.proofs.Agreeing.{agree_still}
+use Rattle.serve_links.specs.declared.calls.calls.SentCall.{SentCall}
+use Rattle.serve_links.specs.declared.link.Link.{Link}
+use Rattle.serve_links.specs.CoreSteps.{Step, Polled, Does, IsOfTurn, GoesOn}
+use Rattle.serve_links.specs.Dialects.{asked_in}
+use Rattle.serve_links.specs.Settled.{SettlesSome, SettlesFront}
+use Rattle.serve_links.specs.Talks.{SaidAsk}
+use Rattle.serve_links.specs.Story.{LineState, line_of, said_asks, LineAgrees, LineLost, LineGoesFrom, LineGoes, AnEnd, AgreesBut, AgreesCalled, AllGoFrom, fed_in, gave_in}
+use Rattle.serve_links.proofs.LinkGoes.{as_lost, line_between, line_settles, line_loses, line_asks, line_waits, line_takes}
+use Rattle.serve_proxy.specs.Ends.{lines_of, LinksTake, LinksGive, LineTakes, AllGoOn, AllGoBut, AllGoLosing, AllGoOr, AllGoUnless}
+use Rattle.serve_proxy.specs.declared.sockets.Sockets.{Sockets}
+use Rattle.serve_proxy.proofs.Going.{and_then, core_of, may_lose, may_lose_at, line_took, line_gave, had_quiet, numbers_kept}
+use Rattle.serve_proxy.proofs.Staying.{line_lent}
+
+-- ---- lines
+
+abbrev conn_state : Conn → ℕ × List ℕ × List ℕ
+conn_state c = (c.number, c.held.items, bytes_of c.unsent)
+
+same_state : (c d : Conn) → d.number ≡ c.number → d.held.items ≡ c.held.items → bytes_of d.unsent ≡ bytes_of c.unsent → conn_state d ≡ conn_state c
+same_state c d number held unsent =
+    ap (λ (n : ℕ). let s : ℕ × List ℕ × List ℕ = (n, d.held.items, bytes_of d.unsent) in s) number ∙ ap (λ (l : List ℕ). let s : ℕ × List ℕ × List ℕ = (c.number, l, bytes_of d.unsent) in s) held
+    ∙ ap (λ (l : List ℕ). let s : ℕ × List ℕ × List ℕ = (c.number, c.held.items, l) in s) unsent
+
+line_parts :
+    {t t' : List ℕ} {o o' : Option (ℕ × List ℕ × List ℕ)} {a a' : List SaidAsk} (w : List SentCall) (b : Bool) → t' ≡ t → o' ≡ o → a' ≡ a → ◌≡◌ {A = LineState} (t', o', a', w, b) (t, o, a, w, b)
+line_parts {t} {t'} {o} {o'} {a} {a'} w b p q r =
+    ap (λ (x : List ℕ). let s : LineState = (x, o', a', w, b) in s) p ∙ ap (λ (x : Option (ℕ × List ℕ × List ℕ)). let s : LineState = (t, x, a', w, b) in s) q ∙ ap (λ (x : List SaidAsk). let s : LineState = (t, o, x, w, b) in s) r
+
+-- a link whose end and calls are others, with the same in them
+pub line_same :
+    (x y : Link) (c d : Conn) → x.conn ≡ Some c → y ≡ record x { calls = y.calls; conn = Some d } → d.number ≡ c.number → d.held.items ≡ c.held.items → bytes_of d.unsent ≡ bytes_of c.unsent → y.calls.sent.items ≡ x.calls.sent.items
+    → line_of y ≡ line_of x
+line_same x y c d was is number held unsent sent =
+    ap line_of is
+    ∙ line_parts x.waiting.items x.awaits_dialect refl (ap (λ (s : ℕ × List ℕ × List ℕ). Some s) (same_state c d number held unsent) ∙ sym (ap (option_map {U = ℕ × List ℕ × List ℕ} conn_state) was)) (ap said_asks sent)
+
+-- so has one that has the same calls in others
+pub line_calls : (x y : Link) → y ≡ record x { calls = y.calls } → y.calls.sent.items ≡ x.calls.sent.items → line_of y ≡ line_of x
+line_calls x y is sent = ap line_of is ∙ line_parts x.waiting.items x.awaits_dialect refl refl (ap said_asks sent)
+
+-- and one for which as many calls wait
+pub line_waiting : (x y : Link) → y ≡ record x { waiting = y.waiting } → y.waiting.items ≡ x.waiting.items → line_of y ≡ line_of x
+line_waiting x y is waiting =
+    ap line_of is ∙ ap (λ (w : List SentCall). let s : LineState = (x.text.items, option_map {U = ℕ × List ℕ × List ℕ} conn_state x.conn, said_asks x.calls.sent.items, w, x.awaits_dialect) in s) waiting
+
+-- ---- calls that are handed over
+
+-- it is asked
+pub asked :
+    (x y : Link) (c d : Conn) (call : SentCall) → x.conn ≡ Some c → y ≡ record x { calls = y.calls; conn = Some d } → d ≡ record c { unsent = d.unsent }
+    → (y.calls.sent.items ≡ x.calls.sent.items ++ call ∷ []) × (bytes_of d.unsent ≡ bytes_of c.unsent ++ spelling_of (asked_in call.dialect call.ticket.ask)) → LineTakes call x y
+asked x y c d call was is same did = λ at h core. line_asks x y c d call was is same did.0 did.1
+
+-- it is given back
+pub not_asked :
+    (x y : Link) (c d : Conn) (call given : SentCall) → x.conn ≡ Some c → y ≡ record x { calls = y.calls; conn = Some d } → d ≡ record c { unsent = d.unsent }
+    → (given ≡ call) × (y.calls.sent.items ≡ x.calls.sent.items) × (bytes_of d.unsent ≡ bytes_of c.unsent) → (given ≡ call) × (line_of y ≡ line_of x)
+not_asked x y c d call given was is same did = (did.0, line_same x y c d was is (ap (λ (z : Conn). z.number) same) (ap (λ (z : Conn). z.held.items) same) did.2 did.1)
+
+-- it waits
+pub waits : (x y : Link) (call : SentCall) → y ≡ record x { waiting = y.waiting } → y.waiting.items ≡ x.waiting.items ++ call ∷ [] → LineTakes call x y
+waits x y call is more = λ at h core. line_waits x y call is more
+
+-- so do all links
+pub taken : (links : List Link) (at : ℕ) (x y : Link) (call : SentCall) → at < length links → x ≡ get_or links at x → LineTakes call x y → LinksTake at call links (set links at y)
+taken links at x y call within was takes = λ h cs core. line_took links at x y call.ticket.number call.ticket.ask within was (takes at h core)
+
+pub not_taken :
+    (links : List Link) (at : ℕ) (x y : Link) (call given : SentCall) → x ≡ get_or links at x → (given ≡ call) × (line_of y ≡ line_of x) → (given ≡ call) × (lines_of (set links at y) ≡ lines_of links)
+not_taken links at x y call given was did = (did.0, line_lent links at x y was did.1)
+
+-- of those that wait the first is taken, if it may go out
+pub given :
+    (links : List Link) (at : ℕ) (x y : Link) (r : Option SentCall) → at < length links → x ≡ get_or links at x → y ≡ record x { waiting = y.waiting }
+    → MatchOption r (y.waiting.items ≡ x.waiting.items) (λ call. x.waiting.items ≡ call ∷ y.waiting.items)
+    → MatchOption r (lines_of (set links at y) ≡ lines_of links) (λ call. LinksGive at call links (set links at y))
+given links at x y None within was is did = line_lent links at x y was (line_waiting x y is did)
+given links at x y (Some call) within was is did = λ h cs core. line_gave links at x y call.ticket.number call.ticket.ask within was (line_takes x y call is did)
+
+-- the core gave one out
+pub polled_call :
+    (client : ℕ) (ticket : Ticket) (r : Result Poll CoreFault) (a b : ServedCore) → r ≡ Ok (polls.Call ticket) → IfOk r (λ poll. Polls a.core client poll b.core) → IfOk r (λ poll. LogsGoBy a (Then (Perhaps (BeginsOne client)) (IsPolled client poll)) b)
+    → Does (Polled client (polls.Call ticket)) a b
+polled_call client ticket r a b is ok fresh =
+    (subst (λ (q : Result Poll CoreFault). IfOk q (λ poll. Polls a.core client poll b.core)) is ok, subst (λ (q : Result Poll CoreFault). IfOk q (λ poll. LogsGoBy a (Then (Perhaps (BeginsOne client)) (IsPolled client poll)) b)) is fresh)
+
+-- the same call, for a server of the same number
+pub called_at :
+    {Q : List Step → AnEnd → Type 0} {Is : Step → Type 0} {a b : AnEnd} (number : ℕ) (ask : Ask) {at at' : ℕ} → at ≡ at' → AllGoFrom (AgreesCalled number at ask) Q Is a b → AllGoFrom (AgreesCalled number at' ask) Q Is a b
+called_at {Q} {Is} {a} {b} number ask same g = subst (λ n. AllGoFrom (AgreesCalled number n ask) Q Is a b) same g
+
+-- ---- answers
+
+-- what agrees may be said to be lost
+pub line_may_lose :
+    {P : ℕ → List Step → List Event → Link → Type 0} {Is : Step → Type 0} {at : ℕ} {a b : ServedCore} {h h' : List Event} {x y : Link} → LineGoesFrom P LineAgrees Is at a h x b h' y → LineGoesFrom P LineLost Is at a h x b h' y
+line_may_lose {at = at} {h' = h'} {y = y} g = line_between (λ past was. was) (λ past was. as_lost at past h' y was) g
+
+-- answers settled calls, and what is left is held
+pub settled :
+    {at : ℕ} {core core' : ServedCore} {h : List Event} (x y : Link) (c d : Conn) (sent : List SentCall) → x.conn ≡ Some c → x.awaits_dialect ≡ false → y.conn ≡ Some d → y.text.items ≡ x.text.items → y.waiting.items ≡ x.waiting.items
+    → y.awaits_dialect ≡ x.awaits_dialect → y.calls.sent.items ≡ sent → HoldsAnew c d → SettlesSome x.calls.sent.items c.held.items core sent d.held.items core' → LineGoes IsOfTurn at core h x core' h y
+settled {core = core} {core' = core'} x y c d sent was off is text waiting awaits same holds s =
+    line_settles x y c d was is off text waiting awaits (ap (λ (z : Conn). z.number) holds) (ap (λ (z : Conn). bytes_of z.unsent) holds)
+    (subst (λ (l : List SentCall). SettlesSome x.calls.sent.items c.held.items core l d.held.items core') (sym same) s)
+
+-- or may be lost
+pub settled_some :
+    {at : ℕ} {core core' : ServedCore} {h : List Event} (x y : Link) (c d : Conn) (sent : List SentCall) → x.conn ≡ Some c → x.awaits_dialect ≡ false → y.conn ≡ Some d → y.text.items ≡ x.text.items → y.waiting.items ≡ x.waiting.items
+    → y.awaits_dialect ≡ x.awaits_dialect → y.calls.sent.items ≡ sent → HoldsAnew c d → SettlesFront x.calls.sent.items c.held.items core sent core' → LineGoesFrom LineAgrees LineLost IsOfTurn at core h x core' h y
+settled_some {core = core} {core' = core'} x y c d sent was off is text waiting awaits same holds s =
+    line_loses x y c d s.0 was is off text waiting awaits (ap (λ (z : Conn). z.number) holds) (ap (λ (z : Conn). bytes_of z.unsent) holds)
+    (subst (λ (l : List SentCall). SettlesSome x.calls.sent.items c.held.items core l s.0 core') (sym same) s.1)
+
+-- ---- what came of a read
+
+-- by what there is to say of the cause
+pub unless_cause :
+    {W C : Type 0} (history : W → List Event) (at : ℕ) (core : ServedCore) (s : Sockets W) (core' : ServedCore) (s' : Sockets W) (cause : Option C) → (cause ≡ None → AllGoOn history core s core' s') → AllGoBut at history core s core' s'
+    → AllGoUnless {E = Unit {0}} at (Ok cause) history core s core' s'
+unless_cause history at core s core' s' None kept lost = kept refl
+unless_cause history at core s core' s' (Some cause) kept lost = lost
+
+-- all is there whatever the cause
+pub unless_all :
+    {W C : Type 0} (history : W → List Event) (at : ℕ) (core : ServedCore) (s : Sockets W) (core' : ServedCore) (s' : Sockets W) (cause : Option C) → AllGoOn history core s core' s' → AllGoUnless {E = Unit {0}} at (Ok cause) history core s core' s'
+unless_all history at core s core' s' cause kept = unless_cause history at core s core' s' cause (λ none. kept) (may_lose_at at kept)
+
+false_true : false ≡ true → ⊥
+false_true e = cc
+
+-- or it stopped
+pub unless_err :
+    {W C E : Type 0} (history : W → List Event) (at : ℕ) (core : ServedCore) (s : Sockets W) (core' : ServedCore) (s' : Sockets W) (r : Result (Option C) E) → IsErr r → AllGoBut at history core s core' s' → AllGoUnless at r history core s core' s'
+unless_err history at core s core' s' (Ok cause) is lost = absurd (false_true is)
+unless_err history at core s core' s' (Err refused) is lost = lost
+
+pub or_err :
+    {W A E : Type 0} (history : W → List Event) (core : ServedCore) (s : Sockets W) (core' : ServedCore) (s' : Sockets W) (r : Result A E) → IsErr r → AllGoLosing history core s core' s' → AllGoOr r history core s core' s'
+or_err history core s core' s' (Ok done) is lost = absurd (false_true is)
+or_err history core s core' s' (Err refused) is lost = lost
+
+-- where there is a cause, and where there is none
+pub unless_some :
+    {W C : Type 0} (history : W → List Event) (at : ℕ) (core : ServedCore) (s : Sockets W) (core' : ServedCore) (s' : Sockets W) (v : Option C) (cause : C) → v ≡ Some cause → AllGoUnless {E = Unit {0}} at (Ok v) history core s core' s'
+    → AllGoBut at history core s core' s'
+unless_some history at core s core' s' v cause is did = subst (λ o. AllGoUnless {E = Unit {0}} at (Ok o) history core s core' s') is did
+
+pub unless_none :
+    {W C : Type 0} (history : W → List Event) (at : ℕ) (core : ServedCore) (s : Sockets W) (core' : ServedCore) (s' : Sockets W) (v : Option C) → v ≡ None → AllGoUnless {E = Unit {0}} at (Ok v) history core s core' s' → AllGoOn history core s core' s'
+unless_none history at core s core' s' v is did = subst (λ o. AllGoUnless {E = Unit {0}} at (Ok o) history core s core' s') is did
+
+-- and before
+pub unless_after :
+    {W C E : Type 0} (history : W → List Event) (at : ℕ) (core : ServedCore) (s : Sockets W) (m : ServedCore) (sm : Sockets W) (core' : ServedCore) (s' : Sockets W) (r : Result (Option C) E) → AllGoOn history core s m sm
+    → AllGoUnless at r history m sm core' s' → AllGoUnless at r history core s core' s'
+unless_after history at core s m sm core' s' (Ok None) first later = and_then first later
+unless_after history at core s m sm core' s' (Ok (Some cause)) first later = and_then first later
+unless_after history at core s m sm core' s' (Err refused) first later = and_then first later
+
+pub then_or :
+    {W A E : Type 0} (history : W → List Event) (core : ServedCore) (s : Sockets W) (m : ServedCore) (sm : Sockets W) (core' : ServedCore) (s' : Sockets W) (r : Result A E) → AllGoOn history core s m sm
+    → AllGoOr r history m sm core' s' → AllGoOr r history core s core' s'
+then_or history core s m sm core' s' (Ok done) first later = and_then first later
+then_or history core s m sm core' s' (Err refused) first later = and_then first later
+
+-- clients have the ends that they had, while what one link holds may be lost
+pub but_clients :
+    {P : List Step → AnEnd → Type 0} {Is : Step → Type 0} {a : AnEnd} {core : ServedCore} {h : List Event} {ls : List Link} (at : ℕ) (cs cs' : Clients)
+    → AllGoFrom P (AgreesBut LineLost at) Is a (record { core = core; history = h; clients = cs; links = ls }) → KeepsEnds cs cs'
+    → AllGoFrom P (AgreesBut LineLost at) Is a (record { core = core; history = h; clients = cs'; links = ls })
+but_clients {core = core} {h = h} {ls = ls} at cs cs' g keeps = record { steps = g.steps; kinds = g.kinds; walks = g.walks; agree = λ past was. kept (g.steps ++ past) (g.agree past was); texts = g.texts }
+  where
+    kept : (past : List Step) → AgreesBut LineLost at past (record { core = core; history = h; clients = cs; links = ls }) → AgreesBut LineLost at past (record { core = core; history = h; clients = cs'; links = ls })
+    kept past was = record {
+      orderly = was.orderly;
+      clients = agree_still h (fed_in past) (gave_in past) cs cs' keeps was.clients;
+      links = was.links;
+      this = was.this;
+      gone = λ conn id is. had_quiet past [] h h cs cs' id conn (untouched conn h) (numbers_kept (client_of cs id) (client_of cs' id) (keeps id)) is was.gone;
+    }
+
+-- no link stands there
+pub nowhere : (links : List Link) (at : ℕ) → (at < length links → ⊥) → slice_get links at ≡ None
+nowhere [] at none = refl
+nowhere (link ∷ links) zero none = absurd (none (omega arith))
+nowhere (link ∷ links) (suc at) none = nowhere links at (λ within. none (omega arith))
+
+-- whatever came of what was done
+pub or_any :
+    {W A E : Type 0} (history : W → List Event) (core : ServedCore) (s : Sockets W) (core' : ServedCore) (s' : Sockets W) (r : Result A E) → AllGoOn history core s core' s' → AllGoOr r history core s core' s'
+or_any history core s core' s' (Ok done) did = did
+or_any history core s core' s' (Err refused) did = may_lose did
+
+pub then_or :
+    {W A E : Type 0} (history : W → List Event) (core : ServedCore) (s : Sockets W) (mid : ServedCore) (m : Sockets W) (core' : ServedCore) (s' : Sockets W) (r : Result A E)
+    → AllGoOn history core s mid m → AllGoOr r history mid m core' s' → AllGoOr r history core s core' s'
+then_or history core s mid m core' s' (Ok done) g k = and_then g k
+then_or history core s mid m core' s' (Err refused) g k = and_then g k
+
+pub or_core :
+    {W A E : Type 0} (history : W → List Event) (core : ServedCore) (s : Sockets W) (core' : ServedCore) (s' : Sockets W) (r : Result A E) → AllGoOr r history core s core' s' → GoesOn core core'
+or_core history core s core' s' (Ok done) did = core_of did
+or_core history core s core' s' (Err refused) did = core_of did
+
+pub or_from :
+    {W A E : Type 0} (history : W → List Event) (core x : ServedCore) (s : Sockets W) (core' : ServedCore) (s' : Sockets W) (r : Result A E) → x ≡ core → AllGoOr r history x s core' s' → AllGoOr r history core s core' s'
+or_from history core x s core' s' r same did = subst (λ y. AllGoOr r history y s core' s') same did
