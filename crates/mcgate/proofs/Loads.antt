@@ -1,6 +1,7 @@
 -- How an end begins, a turn and a load as what may be done to it, and what its core stays.
-use Rattle.std.proofs.Common.{◌≡◌, ℕ, List, [], ◌∷◌, Result, Ok, Err, refl, sym, ap, subst, append-nil, Option, Some, None, ◌++◌}
+use Rattle.std.proofs.Common.{◌≡◌, ℕ, true, false, List, [], ◌∷◌, Result, Ok, Err, refl, sym, ap, subst, append-nil, Option, Some, None, ◌++◌}
 use Rattle.std.specs.Prelude.{IfOk}
+use Rattle.std.specs.Result.{IsErr}
 use Rattle.route_json.specs.Servers.{Addresses}
 use Rattle.route_json.specs.Configuration.{Configuration}
 use Rattle.route_tree.specs.Route.{Route}
@@ -9,11 +10,12 @@ use Rattle.core_accepted.specs.declared.served.ServedCore.{ServedCore}
 use Rattle.serve_links.specs.declared.settings.Settings.{Settings}
 use Rattle.serve_wire.specs.Events.{Event}
 use Rattle.serve_wire.specs.declared.sockets.sockets.Sockets.{Sockets}
-use Rattle.serve_links.specs.CoreSteps.{Step, Opened, NotOpened, Fed, Polled, Stopped, Settled, Gave, Closed, LeftLine, Loaded, Walks, AreOf, IsOfTurn}
-use Rattle.serve_links.specs.Story.{AnEnd, Agrees, AllGo, texts_of}
+use Rattle.serve_links.specs.CoreSteps.{Step, Opened, NotOpened, Fed, Polled, Stopped, Settled, Gave, Closed, LeftLine, Loaded, Linked, Asked, Greeted, Spelled, Walks, AreOf, IsOfTurn}
+use Rattle.serve_links.specs.Story.{AnEnd, Agrees, AgreesLosing, AllGoFrom, texts_of}
+use Rattle.serve_links.proofs.LinkGoes.{losing}
 use Rattle.serve_links.proofs.Walked.{walks_keep}
 use Rattle.serve_proxy.specs.declared.proxy.ProxyEnd.{ProxyEnd}
-use Rattle.serve_proxy.specs.Ends.{Stay, AllGrow, IsLoadOf, HasNoClients}
+use Rattle.serve_proxy.specs.Ends.{Stay, AllGrowFrom, AllGrow, IsLoadOf, HasNoClients}
 use Rattle.serve_proxy.proofs.Going.{and_then, stays, same_core}
 use Rattle.serve_proxy.proofs.Growing.{grows}
 use Rattle.serve_proxy.proofs.LogWalks.{walks_are_fresh}
@@ -26,7 +28,7 @@ use Rattle.mcgate.specs.declared.serve.Servable.{Servable}
 use Rattle.mcgate.specs.declared.serve.Servable.TheVariants as servables
 use Rattle.mcgate.specs.Sharing.{sharing_for}
 use Rattle.mcgate.specs.declared.serving.Serving.{Serving}
-use Rattle.mcgate.specs.Serves.{HasTree, HasServers, BeginsBy, Begins, BeginsServing, SaysAfter, IsServed, history_of, proxy_of, Serves, GoFreshly, HasServed, StaysFresh}
+use Rattle.mcgate.specs.Serves.{HasTree, HasServers, BeginsBy, Begins, BeginsServing, SaysAfter, IsServed, history_of, proxy_of, Serves, AgreesTo, ServesTo, GoFreshly, HasServed, StaysFresh}
 
 -- an end that began by these settings but for its sharing, which is that of its tree
 pub begins_on :
@@ -47,6 +49,10 @@ of_turn (Settled number outcome) is = tt
 of_turn (Gave client bytes) is = tt
 of_turn (Closed client) is = tt
 of_turn (LeftLine client) is = tt
+of_turn (Linked at dialect) is = tt
+of_turn (Asked at number dialect ask) is = tt
+of_turn (Greeted at bytes) is = tt
+of_turn (Spelled at number ask answer bytes) is = tt
 
 each_of_turn : (steps : List Step) → AreOf IsOfTurn steps → AreOf IsServed steps
 each_of_turn [] kinds = tt
@@ -74,8 +80,20 @@ begins_serving servable settings servers end (Ok serving) is begins agrees texts
 begins_serving servable settings servers end (Err fault) is begins agrees texts has = tt
 
 -- a turn
-pub turned : {a b : AnEnd} → AllGo IsOfTurn a b → AllGrow IsServed a b
+pub turned : {P Q : List Step → AnEnd → Type 0} {a b : AnEnd} → AllGoFrom P Q IsOfTurn a b → AllGrowFrom P Q IsServed a b
 turned g = grows (record { steps = g.steps; kinds = each_of_turn g.steps g.kinds; walks = g.walks; agree = g.agree; texts = g.texts })
+
+-- what came of it
+false_true : false ≡ true → ⊥
+false_true e = cc
+
+pub to_err : {A E : Type 0} (r : Result A E) (old new : ProxyEnd Sockets) → IsErr r → AllGrowFrom Agrees AgreesLosing IsServed (proxy_of old) (proxy_of new) → ServesTo r old new
+to_err (Ok done) old new is g = absurd (false_true is)
+to_err (Err fault) old new is g = g
+
+pub to_any : {A E : Type 0} (r : Result A E) (old new : ProxyEnd Sockets) → Serves old new → ServesTo r old new
+to_any (Ok done) old new g = g
+to_any (Err fault) old new g = record { steps = g.steps; kinds = g.kinds; walks = g.walks; agree = λ past was. losing 0 (g.steps ++ past) (proxy_of new) (g.agree past was); texts = g.texts }
 
 -- nothing is done with the core, nor on any connection
 pub stood : {Is : Step → Type 0} (old new : ProxyEnd Sockets) → new.core ≡ old.core → Stay history_of old.sockets new.sockets → AllGrow Is (proxy_of old) (proxy_of new)
@@ -84,8 +102,8 @@ stood old new core ends = grows (and_then (stays old.core.value ends) (same_core
 pub same_end : (old new : ProxyEnd Sockets) → new ≡ old → Serves old new
 same_end old new same = subst (λ x. Serves old x) (sym same) (stood old old refl (stay_still (history_of old.sockets.wire) old.sockets.clients old.sockets.links.all.items))
 
-pub from_end : (old mid new : ProxyEnd Sockets) → mid ≡ old → Serves mid new → Serves old new
-from_end old mid new same g = subst (λ x. Serves x new) same g
+pub from_end : {A E : Type 0} (r : Result A E) (old mid new : ProxyEnd Sockets) → mid ≡ old → ServesTo r mid new → ServesTo r old new
+from_end r old mid new same g = subst (λ x. ServesTo r x new) same g
 
 -- a load of what a text says
 pub loaded : (servers : Addresses) (text : List ℕ) (configuration : Configuration) {a b : AnEnd} → SaysAfter servers text configuration → AllGrow (IsLoadOf configuration) a b → AllGrow IsServed a b
@@ -101,12 +119,13 @@ has_freshly (servables.Accepted accepted) settings steps a b begins walks fresh 
 has_freshly (servables.Unchecked configuration) settings steps a b begins walks fresh = tt
 
 pub has_served :
-    (servable : Servable) (settings : Settings) (first last : ProxyEnd Sockets) → BeginsServing servable settings first → Serves first last → LogsAreFresh last.core.value → HasServed servable settings last
-has_served servable settings first last begins g fresh = record {
+    {A E : Type 0} (servable : Servable) (settings : Settings) (ended : Result A E) (first last : ProxyEnd Sockets) → BeginsServing servable settings first → ServesTo ended first last → LogsAreFresh last.core.value
+    → HasServed servable settings ended last
+has_served servable settings ended first last begins g fresh = record {
   first = first;
   begins = begins;
   serves = g;
-  agrees = subst (λ l. Agrees l (proxy_of last)) (append-nil g.steps) (g.agree [] begins.agrees);
+  agrees = subst (λ l. AgreesTo ended l (proxy_of last)) (append-nil g.steps) (g.agree [] begins.agrees);
   fresh = has_freshly servable (record settings { sharing = sharing_for begins.core.0 }) g.steps first.core.value last.core.value begins.core.2 g.walks fresh;
 }
 
@@ -114,6 +133,6 @@ by_kind : (servable : Servable) (settings : Settings) (a b : ServedCore) → Beg
 by_kind (servables.Accepted accepted) settings a b begins kept fresh = let is = kept (first_of begins.config any_begun, begins.word, refl) in (is, fresh is)
 by_kind (servables.Unchecked configuration) settings a b begins kept fresh = tt
 
-pub stays_fresh : (servable : Servable) (settings : Settings) (end : ProxyEnd Sockets) → HasServed servable settings end → LogsAreFresh end.core.value → StaysFresh servable end.core.value
-stays_fresh servable settings end served fresh =
+pub stays_fresh : {A E : Type 0} (servable : Servable) (settings : Settings) (ended : Result A E) (end : ProxyEnd Sockets) → HasServed servable settings ended end → LogsAreFresh end.core.value → StaysFresh servable end.core.value
+stays_fresh servable settings ended end served fresh =
     by_kind servable (record settings { sharing = sharing_for served.begins.core.0 }) served.first.core.value end.core.value served.begins.core.2 (walks_keep served.serves.steps served.first.core.value end.core.value served.serves.walks).0 fresh

@@ -249,7 +249,7 @@ pub fn serve_to_end<R: Files + Input + Net + Clock + AllocGlobal + Print + Eprin
     text: String,
     lines: Lines,
 ) -> io::Result<(Serving, Result<u8, Stop>)>
-    ensures served { IfOk result (λ ended. HasServed servable job.now.settings ended.0.end) }
+    ensures served { IfOk result (λ ended. HasServed servable job.now.settings ended.1 ended.0.end) }
     ensures fresh { IfOk result (λ ended. StaysFresh servable ended.0.end.core.value) }
 {
     let mut serving = start(rt, job, servable, text, lines)?;

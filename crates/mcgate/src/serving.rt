@@ -1,11 +1,9 @@
 //! A proxy that runs: its turns, what is told of its servers, and the configurations that are loaded meanwhile.
 
 ghost use Rattle.std.specs.Prelude.{◌≡◌, IfOk, string_bytes};
-ghost use Rattle.serve_links.specs.CoreSteps.{IsOfTurn};
-ghost use Rattle.serve_links.specs.Story.{AllGo};
-ghost use Rattle.serve_proxy.specs.Ends.{Stay, AllGrow, IsLoadOf};
+ghost use Rattle.serve_proxy.specs.Ends.{Stay, AllGoOr, AllGrow, IsLoadOf};
 ghost use Rattle.serve_proxy.specs.LogsGoOn.{LogsAreFresh};
-ghost use Rattle.mcgate.specs.Serves.{SaysAfter, history_of, proxy_of, Serves, MayLoad, MayLoadText};
+ghost use Rattle.mcgate.specs.Serves.{SaysAfter, history_of, proxy_of, Serves, ServesTo, MayLoad, MayLoadText};
 
 use crate::lines::Lines;
 use crate::special::is_special;
@@ -171,7 +169,7 @@ impl Serving {
         rt: &R,
         job: &ServeJob<'_>,
     ) -> Result<u8, Stop>
-        ensures ends { Serves self.old.end self.new.end }
+        ensures ends { ServesTo result self.old.end self.new.end }
     {
         self.tell_start(rt, job)?;
         self.run(rt, job)
@@ -203,7 +201,7 @@ impl Serving {
         rt: &R,
         job: &ServeJob<'_>,
     ) -> Result<u8, Stop>
-        ensures ends { Serves self.old.end self.new.end }
+        ensures ends { ServesTo result self.old.end self.new.end }
     {
         for _ in 0..job.turns.map_or(u64::MAX, u64::from) {
             self.turn(rt, job)?;
@@ -221,7 +219,7 @@ impl Serving {
 
     // One turn, which doesn't wait longer than until the file is to be read again.
     fn turn<R: Net + Clock>(&mut self, rt: &R, job: &ServeJob<'_>) -> io::Result<()>
-        ensures ends { AllGo IsOfTurn (proxy_of self.old.end) (proxy_of self.new.end) }
+        ensures ends { AllGoOr result history_of self.old.end.core.value self.old.end.sockets self.new.end.core.value self.new.end.sockets }
     {
         self.turns = self.turns.saturating_add(1);
         let Some(reload_ms) = job.reload_ms else {
