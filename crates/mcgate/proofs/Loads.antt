@@ -115,7 +115,7 @@ loaded servers text configuration says g = record { steps = g.steps; kinds = eac
 
 -- an end that agreed with nothing at first agrees with all that was done since, and where the gate accepted, each log goes on by that freshly
 has_freshly : (servable : Servable) (settings : Settings) (steps : List Step) (a b : ServedCore) → BeginsBy servable settings a → Walks steps a b → LogsAreFresh b → GoFreshly servable steps a b
-has_freshly (servables.Accepted accepted) settings steps a b begins walks fresh = walks_are_fresh steps a b walks fresh ((walks_keep steps a b walks).0 (accepted, begins.word))
+has_freshly (servables.Accepted accepted) settings steps a b begins walks fresh = walks_are_fresh steps a b walks fresh ((walks_keep steps a b walks).0 (first_of begins.config any_begun, begins.word, refl))
 has_freshly (servables.Unchecked configuration) settings steps a b begins walks fresh = tt
 
 pub has_served :
