@@ -216,12 +216,6 @@ pub or_any :
 or_any history core s core' s' (Ok done) did = did
 or_any history core s core' s' (Err refused) did = may_lose did
 
-pub then_or :
-    {W A E : Type 0} (history : W → List Event) (core : ServedCore) (s : Sockets W) (mid : ServedCore) (m : Sockets W) (core' : ServedCore) (s' : Sockets W) (r : Result A E)
-    → AllGoOn history core s mid m → AllGoOr r history mid m core' s' → AllGoOr r history core s core' s'
-then_or history core s mid m core' s' (Ok done) g k = and_then g k
-then_or history core s mid m core' s' (Err refused) g k = and_then g k
-
 pub or_core :
     {W A E : Type 0} (history : W → List Event) (core : ServedCore) (s : Sockets W) (core' : ServedCore) (s' : Sockets W) (r : Result A E) → AllGoOr r history core s core' s' → GoesOn core core'
 or_core history core s core' s' (Ok done) did = core_of did

@@ -1,9 +1,6 @@
 use Rattle.serve_proxy.proofs.Going.{and_then}
 use Rattle.serve_proxy.proofs.serving.serve_all.Goals as goal
 
-pub returns-then-in_rounds : goal.returns-then-in_rounds
-returns-then-in_rounds g c = record { ends = c.serve_round.ensures.ends }
-
 pub returns-in_err-serve_busy : goal.returns-in_err-serve_busy
 returns-in_err-serve_busy g c = record { ends = c.serve_busy.ensures.ends }
 

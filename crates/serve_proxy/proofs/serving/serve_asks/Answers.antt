@@ -1,8 +1,5 @@
-use Rattle.serve_proxy.proofs.Going.{still, and_then, failing}
+use Rattle.serve_proxy.proofs.Going.{and_then, failing}
 use Rattle.serve_proxy.proofs.serving.serve_asks.Goals as goal
-
-pub returns-then-in_rounds : goal.returns-then-in_rounds
-returns-then-in_rounds g c = record { ends = still }
 
 pub returns-in_err-serve_ready : goal.returns-in_err-serve_ready
 returns-in_err-serve_ready g c = record { ends = c.serve_ready.ensures.ends }
