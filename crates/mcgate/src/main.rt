@@ -199,7 +199,7 @@ fn run_loopback<R: Files + Input + AllocGlobal + Net + Clock + Eprint, W: Write>
 }
 
 /// Serves a configuration. Where it can't listen there, a line of detail says why.
-fn serve<R: Files + Input + AllocGlobal + Net + Clock + Print + Eprint>(
+fn serve_job<R: Files + Input + AllocGlobal + Net + Clock + Print + Eprint>(
     rt: &R,
     job: ServeJob<'_>,
     servable: Servable,
@@ -249,7 +249,7 @@ fn run_serve<R: Files + Input + AllocGlobal + Net + Clock + Print + Eprint, W: W
             if job.check {
                 return look_up_only(rt, job, &servable, &mut lines, details);
             }
-            serve(rt, job, servable, text, lines, details)
+            serve_job(rt, job, servable, text, lines, details)
         }
     }
 }

@@ -391,7 +391,12 @@ impl Serving {
     }
 
     // Looks up this one of them.
-    fn resolve_at<R: Net + Eprint>(&mut self, rt: &R, servers: &Servers, at: usize) -> io::Result<()>
+    fn resolve_at<R: Net + Eprint>(
+        &mut self,
+        rt: &R,
+        servers: &Servers,
+        at: usize,
+    ) -> io::Result<()>
         ensures core { self.new.end.core ≡ self.old.end.core }
         ensures ends { Stay history_of self.old.end.sockets self.new.end.sockets }
     {

@@ -137,6 +137,12 @@ pub same_grows :
     {Is : Step → Type 0} {h : List Event} {cs : Clients} {ls : List Link} (a b : ServedCore) → b ≡ a → AllGrow Is (record { core = a; history = h; clients = cs; links = ls }) (record { core = b; history = h; clients = cs; links = ls })
 same_grows {Is} {h} {cs} {ls} a b same = record { steps = []; kinds = tt; walks = same; agree = λ past was. record { orderly = was.orderly; clients = was.clients; links = was.links; gone = was.gone }; texts = ([], sym (append-nil (texts_of ls))) }
 
+-- from a core that is the same
+pub grow_from :
+    {Is : Step → Type 0} {h : List Event} {cs : Clients} {ls : List Link} {a x : ServedCore} {b : AnEnd} → x ≡ a → AllGrow Is (record { core = x; history = h; clients = cs; links = ls }) b
+    → AllGrow Is (record { core = a; history = h; clients = cs; links = ls }) b
+grow_from {Is} {h} {cs} {ls} {a} {x} {b} same g = subst (λ y. AllGrow Is (record { core = y; history = h; clients = cs; links = ls }) b) same g
+
 -- ---- an end that begins
 
 -- no client is there, and no link has a connection

@@ -10,6 +10,6 @@ returns-in_err-limit g c =
 pub returns : goal.returns
 returns g c =
     let e =
-        then_or g.W.Wire.history c.args.self.now.core.value c.args.self.now.sockets c.args.self.now.core.value c.wait_limit.new.self c.run_turn.new.core c.run_turn.new.sockets c.run_turn.result (stays c.args.self.now.core.value c.wait_limit.ensures.ends)
-        (or_from g.W.Wire.history c.args.self.now.core.value _ c.wait_limit.new.self c.run_turn.new.core c.run_turn.new.sockets c.run_turn.result c.as_mut.ensures.value c.run_turn.ensures.ends) in
+    then_or g.W.Wire.history c.args.self.now.core.value c.args.self.now.sockets c.args.self.now.core.value c.wait_limit.new.self c.run_turn.new.core c.run_turn.new.sockets c.run_turn.result (stays c.args.self.now.core.value c.wait_limit.ensures.ends)
+    (or_from g.W.Wire.history c.args.self.now.core.value _ c.wait_limit.new.self c.run_turn.new.core c.run_turn.new.sockets c.run_turn.result c.as_mut.ensures.value c.run_turn.ensures.ends) in
     record { core = or_core g.W.Wire.history c.args.self.now.core.value c.args.self.now.sockets c.run_turn.new.core c.run_turn.new.sockets c.run_turn.result e; ends = e }
