@@ -10,13 +10,13 @@ pub returns-in_err-turn : goal.returns-in_err-turn
 returns-in_err-turn g c = record { ends = to_err c.from_residual.result _ _ c.from_residual.ensures.0 (then_grows c.loop.invariant (turned c.in_err-turn.ensures.ends)) }
 
 pub returns-in_err-look_if_due : goal.returns-in_err-look_if_due
-returns-in_err-look_if_due g c = record { ends = to_any c.from_residual.result _ _ (then_grows (then_grows (then_grows c.loop.invariant (turned c.in_ok-turn.ensures.ends)) (stood c.turn.new.self.end c.tell_news.new.self.end c.tell_news.ensures.core c.tell_news.ensures.ends)) c.look_if_due.ensures.ends) }
+returns-in_err-look_if_due g c = record { ends = to_any c.from_residual-in_err-look_if_due.result _ _ (then_grows (then_grows (then_grows c.loop.invariant (turned c.in_ok-turn.ensures.ends)) (stood c.turn.new.self.end c.tell_news.new.self.end c.tell_news.ensures.core c.tell_news.ensures.ends)) c.look_if_due.ensures.ends) }
 
 pub loop-preserved : goal.loop-preserved
 loop-preserved g c = then_grows (then_grows (then_grows c.loop.invariant (turned c.in_ok-turn.ensures.ends)) (stood c.turn.new.self.end c.tell_news.new.self.end c.tell_news.ensures.core c.tell_news.ensures.ends)) c.look_if_due.ensures.ends
 
 pub returns-in_err-end_turns : goal.returns-in_err-end_turns
-returns-in_err-end_turns g c = record { ends = to_any c.from_residual.result _ _ (then_grows c.loop.invariant (turned c.end_turns.ensures.ends)) }
+returns-in_err-end_turns g c = record { ends = to_any c.from_residual-in_err-end_turns.result _ _ (then_grows c.loop.invariant (turned c.end_turns.ensures.ends)) }
 
 pub returns : goal.returns
 returns g c = record { ends = then_grows c.loop.invariant (turned c.end_turns.ensures.ends) }
