@@ -1,5 +1,5 @@
 -- The asks of a message, one after another.
-use Rattle.std.proofs.Common.{◌≡◌, ℕ, ℤ, ◌+◌, ◌<◌, ◌≤◌, Bool, true, false, List, [], ◌∷◌, ◌++◌, length, drop, Option, Some, inl, inr, refl, sym, ap, ◌∙◌, subst, arith, slice_get, ◌||◌, nat_eq}
+use Rattle.std.proofs.Common.{◌≡◌, ℕ, ℤ, ◌+◌, ◌<◌, ◌≤◌, ◌⊎◌, Bool, true, false, List, [], ◌∷◌, ◌++◌, length, drop, Option, Some, Result, Ok, Err, OnOk, OnErr, inl, inr, refl, sym, ap, ◌∙◌, subst, arith, slice_get, ◌||◌, nat_eq}
 use Rattle.std.proofs.lemmas.Bool.{eq-eqb, cases_eq}
 use Rattle.mc_types.specs.declared.ask.Ask.{Ask}
 use Rattle.mc_types.specs.declared.answer.Answer.{Answer}
@@ -120,6 +120,11 @@ stops_at moment place request i ask c d front at stops =
 pub way_came : (place : Place) (count : ℕ) (more : List ℕ) → IsOnWay (spot_at place count) → IsOnWay (spot_at (extended place more) count)
 way_came place count more (inl zero) = inl zero
 way_came place count more (inr way) = inr (way.0, extended way.1 more, reader_is.goes_on place way.0 way.1 more way.2, way.3)
+
+-- nor where memory was refused for it
+pub way_fed : {A E : Type 0} (r : Result A E) (old new : Place) (count : ℕ) (more : List ℕ) → IsOnWay (spot_at old count) → OnOk r (new ≡ extended old more) → OnErr r (new ≡ old) → IsOnWay (spot_at new count)
+way_fed (Ok a) old new count more way ok err = subst (λ (p : Place). IsOnWay (spot_at p count)) (sym ok) (way_came old count more way)
+way_fed (Err e) old new count more way ok err = subst (λ (p : Place). IsOnWay (spot_at p count)) (sym err) way
 
 -- nothing is left to serve
 pub served_by : (most : ℕ) (held unsent : List ℕ) (spot : Spot) → (held ≡ []) ⊎ (most ≤ length unsent) ⊎ (spot.place ≡ Closed) → IsAnswered most spot.place unsent → IsServed most held unsent spot

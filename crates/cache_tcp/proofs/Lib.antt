@@ -5,5 +5,6 @@ pub mod Whole
 pub mod Keys
 pub mod Fronts
 pub mod Exits
+pub mod Oldest
 pub mod Determined
 pub mod ServedAlike

@@ -1,5 +1,6 @@
 -- Steps after others, and steps of a stream to which more came.
-use Rattle.std.proofs.Common.{◌≡◌, ℕ, ℤ, Bool, true, false, List, [], ◌∷◌, ◌++◌, inl, inr, refl, sym, ap, ◌∙◌, subst, append_assoc, append-nil}
+use Rattle.std.proofs.Common.{◌≡◌, ℕ, zero, suc, ℤ, ◌<◌, Bool, true, false, List, [], ◌∷◌, ◌++◌, length, take, drop, inl, inr, refl, sym, ap, ◌∙◌, subst, arith, append_assoc, append-nil}
+use Rattle.std.proofs.lemmas.List.{take-append-drop}
 use Rattle.wire_parts.specs.Stream.{Place, extended}
 use Rattle.wire_stream.proofs.ReaderLaws.{reader_is}
 use Rattle.cache_server.specs.Contents.{Contents}
@@ -107,3 +108,10 @@ stops_in moment h u p c h1 u1 q d e a b =
 pub stops_between : (moment : ℤ) (h u : List ℕ) (p : Spot) (c : Contents) (h1 u1 : List ℕ) (q : Spot) (d : Contents) → Serves moment h u p c h1 u1 q d → StopsIn moment h p c d
 stops_between moment h u p c h1 u1 q d a =
     record { fed = a.fed; rest = h1; stages = a.stages; spot = q; left = d; held_is = a.held_is; runs = a.runs; stops = inl refl }
+
+-- the first bytes of those that are held came
+pub comes_at : (held held' : List ℕ) (count : ℕ) (from to : Spot) → 0 < count → 0 < length held → held' ≡ drop count held → to ≡ spot_at (extended from.place (take count held)) from.count → Comes held from held' to
+comes_at held held' zero from to some left is spot = absurd (omega (arith, some))
+comes_at [] held' (suc n) from to some left is spot = absurd (omega (arith, left))
+comes_at (x ∷ xs) held' (suc n) from to some left is spot =
+    record { fed = take (suc n) (x ∷ xs); held_is = sym (ap (λ (l : List ℕ). take (suc n) (x ∷ xs) ++ l) is ∙ take-append-drop (suc n) (x ∷ xs)); spot_is = spot }

@@ -3,4 +3,4 @@ pub mod Laws
 pub mod Steps
 pub mod Alike
 pub mod Serving
-pub mod Room
+pub mod Oldest

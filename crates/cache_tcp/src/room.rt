@@ -1,7 +1,7 @@
 //! How much memory items and what is to be sent take, and which items go for it.
 
-ghost use Rattle.std.specs.Prelude.{◌≡◌, ◌+◌, ◌≤◌, ◌⊎◌, []};
-ghost use Rattle.cache_tcp.specs.Room.{LosesOldest};
+ghost use Rattle.std.specs.Prelude.{◌≡◌, ◌+◌, ◌≤◌, ◌⊎◌, false, []};
+ghost use Rattle.cache_tcp.specs.Oldest.{LosesOldest};
 
 use crate::clock::Moment;
 use crate::connection::Cache;
@@ -115,12 +115,22 @@ impl Room {
         }
     }
 
+    // Whether all takes more than it is to.
+    fn is_over(&self) -> bool
+        ensures { result ≡ false → self.now.items + self.now.unsent ≤ self.now.most }
+    {
+        match self.items.checked_add(self.unsent) {
+            Some(all) => all > self.most,
+            None => true,
+        }
+    }
+
     /// Items are lost, the least recently used first, until all takes no more than it is to, or no item is left.
     pub fn fit(&mut self, cache: &mut Cache)
         ensures within { (self.new.items + self.new.unsent ≤ self.new.most) ⊎ (self.new.sizes.entries ≡ []) }
         ensures oldest { LosesOldest self.old.sizes.entries cache.old self.new.sizes.entries cache.new }
     {
-        while self.items.saturating_add(self.unsent) > self.most {
+        while self.is_over() {
             let Some((key, size)) = self.sizes.pop_lru() else {
                 return;
             };
