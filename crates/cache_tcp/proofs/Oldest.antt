@@ -1,7 +1,7 @@
 -- The least recently used items are lost, one after another.
 use Rattle.std.proofs.Common.{◌≡◌, ℕ, ◌-◌, ◌<◌, ◌≤◌, suc, List, [], ◌∷◌, ◌++◌, length, take, drop, Option, Some, None, slice_get, get_or, refl, sym, ap, ap₂, ◌∙◌, subst, arith, append_assoc, append-nil, if◌then◌else◌}
 use Rattle.std.specs.Map.{keys_of}
-use Rattle.std.proofs.lemmas.List.{take-append-drop, drop_all}
+use Rattle.std.proofs.lemmas.List.{take-append-drop, drop_all, length-take-le}
 use Rattle.std.proofs.lemmas.Option.{slice_get_within, slice_get-get_or}
 use Rattle.std.proofs.Math.Seq.{drop-cons}
 use Rattle.mc_types.specs.Items.{Item}
@@ -43,3 +43,24 @@ none_left (e ∷ es) rest h is =
   where
     none_is_some : (a : Key × ℕ) → None ≡ Some a → ⊥
     none_is_some a e = cc
+
+-- nor is any taken from none
+pub none_taken : (es rest : List (Key × ℕ)) → None ≡ slice_get es (length es - 1) → rest ≡ take (length es - 1) es → rest ≡ es
+none_taken [] rest h is = is
+none_taken (e ∷ es) rest h is =
+    let within : length (e ∷ es) - 1 < length (e ∷ es) = omega arith in
+    absurd (none_is_some (get_or (e ∷ es) (length (e ∷ es) - 1) e) (h ∙ slice_get-get_or (e ∷ es) (length (e ∷ es) - 1) e within))
+  where
+    none_is_some : (a : Key × ℕ) → None ≡ Some a → ⊥
+    none_is_some a e = cc
+
+pub loses_still : (sizes front rest : List (Key × ℕ)) (c d : Contents) → LosesOldest sizes c front d → None ≡ slice_get front (length front - 1) → rest ≡ take (length front - 1) front → LosesOldest sizes c rest d
+loses_still sizes front rest c d l h is = subst (λ (es : List (Key × ℕ)). LosesOldest sizes c es d) (sym (none_taken front rest h is)) l
+
+-- fewer are left
+pub fewer_left : (front rest : List (Key × ℕ)) (e : Key × ℕ) → Some e ≡ slice_get front (length front - 1) → rest ≡ take (length front - 1) front → length rest < length front
+fewer_left front rest e h is =
+    let within = slice_get_within front (length front - 1) e (sym h) in
+    let le : length front - 1 ≤ length front = omega arith in
+    let len : length rest ≡ length front - 1 = ap (λ (es : List (Key × ℕ)). length es) is ∙ length-take-le (length front - 1) front le in
+    omega (arith, within, len)

@@ -115,3 +115,15 @@ comes_at held held' zero from to some left is spot = absurd (omega (arith, some)
 comes_at [] held' (suc n) from to some left is spot = absurd (omega (arith, left))
 comes_at (x ∷ xs) held' (suc n) from to some left is spot =
     record { fed = take (suc n) (x ∷ xs); held_is = sym (ap (λ (l : List ℕ). take (suc n) (x ∷ xs) ++ l) is ∙ take-append-drop (suc n) (x ∷ xs)); spot_is = spot }
+
+-- steps were made, with the same held
+pub serves_still : (moment : ℤ) (h u : List ℕ) (p : Spot) (c : Contents) (h1 u1 : List ℕ) (q : Spot) (d : Contents) (h2 u2 : List ℕ) (r : Spot) (e : Contents)
+    → Serves moment h u p c h1 u1 q d → h2 ≡ h1 → RunsOn moment q d u1 r e u2 → Serves moment h u p c h2 u2 r e
+serves_still moment h u p c h1 u1 q d h2 u2 r e a same b =
+    subst (λ (l : List ℕ). Serves moment h u p c l u2 r e) (sym same) (serves_on moment h u p c h1 u1 q d u2 r e a b)
+
+-- more came, with the same unsent
+pub comes_still : (moment : ℤ) (h u : List ℕ) (p : Spot) (c : Contents) (h1 u1 : List ℕ) (q : Spot) (d : Contents) (h2 u2 : List ℕ) (r : Spot)
+    → Serves moment h u p c h1 u1 q d → u2 ≡ u1 → Comes h1 q h2 r → Serves moment h u p c h2 u2 r d
+comes_still moment h u p c h1 u1 q d h2 u2 r a same b =
+    subst (λ (l : List ℕ). Serves moment h u p c h2 l r d) (sym same) (comes_on moment h u p c h1 u1 q d h2 r a b)

@@ -223,11 +223,15 @@ impl<S: Read + Write + Drop> CacheClient<S> {
         }
     }
 
-    // One read, and what is whole is answered, up to a backlog. `false` where the client has to be dropped.
+    // Where it leaves no backlog: one read, and what is whole is answered, up to a backlog. `false` where the client has to be dropped.
     fn take_in(&mut self, cache: &mut Cache, moment: Moment) -> bool
         ensures within { IsWithin self.old.conn.limits.unsent (bytes_of self.old.conn.unsent) → IsWithin self.old.conn.limits.unsent (bytes_of self.new.conn.unsent) }
+        ensures waits { self.old.conn.limits.unsent ≤ length (bytes_of self.old.conn.unsent) → Waits self.old.conn.held.items self.old.served cache.old self.new.conn.held.items self.new.served cache.new }
         ensures limits { self.new.conn.limits ≡ self.old.conn.limits }
     {
+        if self.conn.has_backlog() {
+            return true;
+        }
         if !self.read() {
             return false;
         }
@@ -270,7 +274,7 @@ impl<S: Read + Write + Drop> CacheClient<S> {
         ensures waits { self.old.conn.limits.unsent ≤ length (bytes_of self.old.conn.unsent) → Waits self.old.conn.held.items self.old.served cache.old self.new.conn.held.items self.new.served cache.new }
         ensures limits { self.new.conn.limits ≡ self.old.conn.limits }
     {
-        if !self.conn.has_backlog() && !self.take_in(cache, moment) {
+        if !self.take_in(cache, moment) {
             return AfterTurn::Done;
         }
         match self.send() {

@@ -188,9 +188,7 @@ pub fn serve(
     while out.len() < most {
         match stream.front() {
             Front::Nothing => return Ok(next),
-            Front::Passing(read) => {
-                pass_front(stream, read, out)?;
-            }
+            Front::Passing(read) => pass_front(stream, read, out)?,
             Front::Keys(request) => {
                 match serve_request(alloc, stream, &request, next, cache, moment, uses, out, most)? {
                     None => next = 0,

@@ -1,4 +1,4 @@
-use Rattle.std.proofs.Common.{ℕ, ◌<◌, List, length, take, sym, ap, ◌∙◌, subst}
+use Rattle.std.proofs.Common.{◌≡◌, ℕ, ◌<◌, List, length, take, sym, subst}
 use Rattle.wire_parts.specs.Stream.{extended}
 use Rattle.cache_tcp.specs.Steps.{spot_at}
 use Rattle.cache_tcp.proofs.Runs.{comes_at}
@@ -11,4 +11,4 @@ returns-clause-ok g c =
     let from = c.args.self.now.served in
     let some = c.piece_len-count.ensures.some (subst (λ (l : List ℕ). 0 < length l) (sym c.as_slice.ensures) c.requires) in
     comes_at held c.use_held.new.self.held.items count from c.feed.new.self some c.requires c.use_held.ensures.held
-    (c.in_ok-feed.ensures.ok ∙ ap (λ (l : List ℕ). spot_at (extended from.place (take count l)) from.count) c.as_slice-2.ensures)
+    (subst (λ (l : List ℕ). c.feed.new.self ≡ spot_at (extended from.place (take count l)) from.count) c.as_slice-2.ensures c.in_ok-feed.ensures.ok)

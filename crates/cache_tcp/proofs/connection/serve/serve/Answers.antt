@@ -10,11 +10,11 @@ use Rattle.cache_tcp.proofs.connection.serve.serve.Goals as goal
 pub returns-in-Nothing-clause-all : goal.returns-in-Nothing-clause-all
 returns-in-Nothing-clause-all c = inr (more_stuck c.loop-alloc.stream c.in-Nothing.ensures)
 
-pub loop-alloc-smaller-in_ok-pass_front-in-Passing : goal.loop-alloc-smaller-in_ok-pass_front-in-Passing
-loop-alloc-smaller-in_ok-pass_front-in-Passing c = pass_shorter c.loop-alloc.stream c.pass_front.new.stream (bytes_of c.loop-alloc.out) (bytes_of c.pass_front.new.out) c.in_ok-pass_front-in-Passing.ensures.ok
+pub loop-alloc-smaller-in-Continue-1 : goal.loop-alloc-smaller-in-Continue-1
+loop-alloc-smaller-in-Continue-1 c = pass_shorter c.loop-alloc.stream c.pass_front.new.stream (bytes_of c.loop-alloc.out) (bytes_of c.pass_front.new.out) c.in_ok-pass_front-in-Passing.ensures.ok
 
-pub loop-alloc-preserved-in_ok-pass_front-in-Passing : goal.loop-alloc-preserved-in_ok-pass_front-in-Passing
-loop-alloc-preserved-in_ok-pass_front-in-Passing c =
+pub loop-alloc-preserved-in-Continue-1 : goal.loop-alloc-preserved-in-Continue-1
+loop-alloc-preserved-in-Continue-1 c =
     let l = c.loop-alloc in
     let p = c.pass_front.new.stream in
     let u = bytes_of l.out in
