@@ -24,18 +24,22 @@ step_still : (moment : ℤ) (from to : Spot) (c d : Contents) (text more : List 
 step_still moment from to c d text [] s = s
 step_still moment from to c d text (b ∷ bs) (inl s) =
     let a = s.1 in
-    inl (s.0, record {
-      said = a.said;
-      next = extended a.next (b ∷ bs);
-      reads = reader_is.goes_on from.place a.said a.next (b ∷ bs) a.reads;
-      ask = a.ask;
-      at = a.at;
-      reply = a.reply;
-      answered = a.answered;
-      ended_is = a.ended_is;
-      text_is = a.text_is;
-      place_is = ap (λ (p : Place). extended p (b ∷ bs)) a.place_is ∙ by_extended s.0 from.place a.next (b ∷ bs);
-    }, s.2)
+    inl (
+      s.0,
+      record {
+        said = a.said;
+        next = extended a.next (b ∷ bs);
+        reads = reader_is.goes_on from.place a.said a.next (b ∷ bs) a.reads;
+        ask = a.ask;
+        at = a.at;
+        reply = a.reply;
+        answered = a.answered;
+        ended_is = a.ended_is;
+        text_is = a.text_is;
+        place_is = ap (λ (p : Place). extended p (b ∷ bs)) a.place_is ∙ by_extended s.0 from.place a.next (b ∷ bs);
+      },
+      s.2,
+    )
 step_still moment from to c d text (b ∷ bs) (inr s) =
     let a = s.3 in
     inr (s.0, s.1, s.2, record { said = a.said; reads = reader_is.goes_on from.place a.said to.place (b ∷ bs) a.reads; asks = a.asks; text_is = a.text_is })

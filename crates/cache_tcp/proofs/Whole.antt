@@ -1,5 +1,5 @@
 -- Steps serve the messages that they pass, each whole.
-use Rattle.std.proofs.Common.{◌≡◌, ℕ, ℤ, ◌+◌, Bool, true, false, List, [], ◌∷◌, ◌++◌, length, Some, inl, inr, refl, sym, ap, ◌∙◌, subst, arith, append_assoc, append-nil, length-append, slice_get}
+use Rattle.std.proofs.Common.{◌≡◌, ℕ, ℤ, ◌+◌, ◌⊎◌, Bool, true, false, List, [], ◌∷◌, ◌++◌, length, Some, inl, inr, refl, sym, ap, ◌∙◌, subst, arith, append_assoc, append-nil, length-append, slice_get}
 use Rattle.mc_types.specs.declared.ask.Ask.{Ask}
 use Rattle.mc_types.specs.declared.answer.Answer.{Answer}
 use Rattle.fresh_runs.specs.Stream.{Done, written, written_from, NoneEnds, LastEnds, IsWhole}
@@ -76,17 +76,21 @@ begun_more moment place place' first c d count text more b a =
   where
     at : (said : Said) → a.said ≡ said → slice_get (asks_in said) (length b.replies) ≡ Some a.ask
     at said same = subst (λ (s : Said). slice_get (asks_in s) (length b.replies) ≡ Some a.ask) same (subst (λ n. slice_get (asks_in a.said) n ≡ Some a.ask) (sym b.count_is) a.at)
+
     ends : (said : Said) → a.said ≡ said → ends_at said (0 + length b.replies) a.reply ≡ false
     ends said same = let n = b.count_is in let zero : count ≡ 0 + length b.replies = omega (arith, n) in sym (a.ended_is ∙ ap (λ (s : Said). ends_at s count a.reply) same ∙ ap (λ k. ends_at said k a.reply) zero)
+
     shown : (said : Said) → a.said ≡ said → more ≡ shown_of said (0 + length b.replies) a.reply
     shown said same = let n = b.count_is in let zero : count ≡ 0 + length b.replies = omega (arith, n) in a.text_is ∙ ap (λ (s : Said). shown_of s count a.reply) same ∙ ap (λ k. shown_of said k a.reply) zero
+
     answers : (said : Said) (next : Place) → ReadsNext place said next → a.said ≡ said
         → AnswersEach moment (asks_in said) first (b.replies ++ a.reply ∷ []) d × NoneEnds memcached_text said 0 (b.replies ++ a.reply ∷ []) × (text ++ more ≡ written_from memcached_text said 0 (b.replies ++ a.reply ∷ []))
     answers said next reads same =
-        let before = b.some said next reads in
-        (answers_more moment (asks_in said) first c d b.replies a.ask a.reply before.0 (at said same) a.answered,
-         none_more said 0 b.replies a.reply before.1 (ends said same),
-         ap (λ (l : List ℕ). l ++ more) before.2 ∙ ap (λ (l : List ℕ). written_from memcached_text said 0 b.replies ++ l) (shown said same) ∙ sym (written_more said 0 b.replies a.reply))
+        let before = b.some said next reads in (
+          answers_more moment (asks_in said) first c d b.replies a.ask a.reply before.0 (at said same) a.answered,
+          none_more said 0 b.replies a.reply before.1 (ends said same),
+          ap (λ (l : List ℕ). l ++ more) before.2 ∙ ap (λ (l : List ℕ). written_from memcached_text said 0 b.replies ++ l) (shown said same) ∙ sym (written_more said 0 b.replies a.reply),
+        )
 
 -- the reply that ends it
 begun_last : (moment : ℤ) (place place' : Place) (first c d : Contents) (count : ℕ) (text more : List ℕ) → Begun moment place first count c text → AnswersNext moment place count c more true place' d → ServesTo moment place first (text ++ more) place' d

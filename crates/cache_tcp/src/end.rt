@@ -231,7 +231,10 @@ impl<R: Net + Clock + AllocGlobal> CacheEnd<R> {
             return;
         }
         let socket = stream.as_raw_fd();
-        let mut client = CacheClient::new(self.alloc, Conn::new(self.alloc, stream, client_limits()));
+        let mut client = CacheClient::new(
+            self.alloc,
+            Conn::new(self.alloc, stream, client_limits()),
+        );
         if self.room.is_some() {
             client.uses.begin();
         }

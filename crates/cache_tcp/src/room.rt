@@ -131,11 +131,11 @@ impl Room {
         ensures oldest { LosesOldest self.old.sizes.entries cache.old self.new.sizes.entries cache.new }
     {
         while self.is_over() {
-            let Some((key, size)) = self.sizes.pop_lru() else {
+            let Some(last) = self.sizes.pop_lru() else {
                 return;
             };
-            self.items = self.items.saturating_sub(size);
-            cache.lose(&key);
+            self.items = self.items.saturating_sub(last.1);
+            cache.lose(&last.0);
         }
     }
 

@@ -275,7 +275,12 @@ fn told(alloc: Global, client: &mut Client, verb: &str, text: &str) -> Result<St
     }
 }
 
-fn event(alloc: Global, client: &mut Client, cache: &mut Cache, text: &str) -> Result<String, Fail> {
+fn event(
+    alloc: Global,
+    client: &mut Client,
+    cache: &mut Cache,
+    text: &str,
+) -> Result<String, Fail> {
     let (verb, text) = halves(text, " ");
     match verb {
         "gives" => give(alloc, client, text)?,
@@ -337,7 +342,7 @@ fn example(alloc: Global, text: &str) -> Result<(), Fail> {
 
 #[test]
 fn what_slow_clients_are_sent(rt: HostRuntime) -> Result<(), Fail> {
-    for text in texts().split("\n\n").take(3) {
+    for text in texts().split("\n\n") {
         example(rt.alloc(), text)?;
     }
     Ok(())

@@ -149,11 +149,7 @@ fn serve_request(
 }
 
 // A message at the front that asks no server is answered.
-fn pass_front(
-    stream: &mut ClientStream,
-    read: Read,
-    out: &mut SendBuffer,
-) -> Result<(), AllocError>
+fn pass_front(stream: &mut ClientStream, read: Read, out: &mut SendBuffer) -> Result<(), AllocError>
     requires read { IsReadAt stream.old read }
     requires asks { AsksNone stream.old read }
     ensures ok { OnOk result (PassesOn stream.old (bytes_of out.old) stream.new (bytes_of out.new)) }
@@ -190,7 +186,9 @@ pub fn serve(
             Front::Nothing => return Ok(next),
             Front::Passing(read) => pass_front(stream, read, out)?,
             Front::Keys(request) => {
-                match serve_request(alloc, stream, &request, next, cache, moment, uses, out, most)? {
+                match serve_request(
+                    alloc, stream, &request, next, cache, moment, uses, out, most,
+                )? {
                     None => next = 0,
                     Some(index) => return Ok(index),
                 }

@@ -90,7 +90,16 @@ impl Served {
         ensures within { IsWithin most (bytes_of out.old) → IsWithin most (bytes_of out.new) }
     {
         let now = Moment { seconds: moment };
-        match serve(self.alloc, &mut self.stream, self.answered, cache, now, uses, out, most) {
+        match serve(
+            self.alloc,
+            &mut self.stream,
+            self.answered,
+            cache,
+            now,
+            uses,
+            out,
+            most,
+        ) {
             Ok(answered) => {
                 self.answered = answered;
                 Ok(())

@@ -36,7 +36,7 @@ loop-self-preserved g c =
     let d = c.feed_piece.new.self in
     let limits = c.loop-self.invariant.limits in
     let served = serves_still m s.conn.held.items (bytes_of s.conn.unsent) s.served c.args.cache.now a.conn.held.items (bytes_of a.conn.unsent) a.served c.loop-self.cache b.conn.held.items (bytes_of b.conn.unsent) b.served c.serve_stream.new.cache
-        c.loop-self.invariant.serves (ap (λ x. x.items) c.serve_stream.ensures.held) c.in_ok-serve_stream.ensures.ok in
+    c.loop-self.invariant.serves (ap (λ x. x.items) c.serve_stream.ensures.held) c.in_ok-serve_stream.ensures.ok in
     record {
       serves = comes_still m s.conn.held.items (bytes_of s.conn.unsent) s.served c.args.cache.now b.conn.held.items (bytes_of b.conn.unsent) b.served c.serve_stream.new.cache d.conn.held.items (bytes_of d.conn.unsent) d.served
           served (ap (λ x. bytes_of x) c.feed_piece.ensures.unsent) c.in_ok-feed_piece.ensures.ok;
