@@ -14,8 +14,7 @@ use std::test::Fail;
 // A name, how many bytes are a backlog, and what happens. `hold K N` holds N bytes of data under a key of one letter, which differ from those of
 // other keys. Of a client, 0 or 1, `gives` says what is to be read of it, with `(9 x)` for 9 times x; `takes` how many bytes more it takes; and
 // `turn` what becomes of it after a turn, or `runs` after all turns in which something was left to do. Then come what is to be sent to it
-// (`unsent`), how many bytes that is (`length`), and what it took and wasn't looked at yet: a text (`taken`), or how many values of a key, one
-// right after the other (`values`), or replies of such a value and END (`replies`).
+// (`unsent`), how many bytes that is (`length`), and what it took and wasn't looked at yet (`taken`).
 fn texts() -> &'static str {
     r"A get goes on where it stopped, and each item is shown as it is when its turn comes.
 20
@@ -55,9 +54,13 @@ What came before the end is answered, and nothing after it.
 0 turn => waits
 0 takes 100
 0 runs => done
-0 taken => END|END|
+0 taken => END|END|"
+}
 
-Gets of 1 MiB by a client that takes nothing, while another is answered; then it takes all.
+// The same with items of 1 MiB. `values K N` and `replies K N` let the client take as many bytes as the value of a key is shown by, without END or with
+// it, N times, and say how often these were its bytes.
+fn large() -> &'static str {
+    r"Gets of 1 MiB by a client that takes nothing, while another is answered; then it takes all.
 1048576
 hold b 1048576
 0 gives (32 get b|)
@@ -69,12 +72,10 @@ hold b 1048576
 1 taken => END|
 0 turn => waits
 0 length => 1048602
-0 takes 1000000
+0 replies b 32 => 32
+0 length => 0
+0 takes 100
 0 runs => waits
-0 length => 1097204
-0 takes 100000000
-0 runs => waits
-0 replies b => 32
 0 taken => nothing
 
 One get of many keys of 1 MiB.
@@ -88,10 +89,10 @@ hold c 1048576
 1 gives get a|
 1 runs => waits
 1 taken => END|
-0 takes 100000000
+0 values c 1 => 1
+0 values b 30 => 30
+0 takes 100
 0 runs => waits
-0 values c => 1
-0 values b => 30
 0 taken => END|"
 }
 
@@ -228,23 +229,33 @@ fn value_of(alloc: Global, name: &str, end: &str) -> Result<Vec<u8>, AllocError>
     Ok(text)
 }
 
-// How often these bytes stand at the front of others, one right after the other, and what stands behind them.
-fn counted<'a>(bytes: &'a [u8], part: &[u8]) -> (usize, &'a [u8]) {
-    let mut rest = bytes;
-    for count in 0..bytes.len() {
-        match rest.strip_prefix(part) {
-            Some(behind) => rest = behind,
-            None => return (count, rest),
+// The client takes as many bytes as these, so often: how often it took these.
+fn taken_often(client: &mut Client, cache: &mut Cache, part: &[u8], times: u32) -> u32 {
+    let mut count: u32 = 0;
+    for _ in 0..times {
+        client.conn.stream.room = part.len();
+        client.conn.writable = true;
+        run(client, cache);
+        if client.conn.stream.taken.as_slice() == part {
+            count = count.saturating_add(1);
         }
+        client.conn.stream.taken.clear();
     }
-    (bytes.len(), rest)
+    count
 }
 
-fn count(alloc: Global, client: &mut Client, part: &[u8]) -> Result<String, AllocError> {
-    let (count, rest) = counted(client.conn.stream.taken.as_slice(), part);
-    let rest = rest.to_vec(alloc)?;
-    client.conn.stream.taken = rest;
-    count.to_string(alloc)
+// A key and how often it is shown.
+fn often(
+    alloc: Global,
+    client: &mut Client,
+    cache: &mut Cache,
+    text: &str,
+    end: &str,
+) -> Result<String, Fail> {
+    let (name, times) = halves(text, " ");
+    let part = value_of(alloc, name, end)?;
+    let count = taken_often(client, cache, part.as_slice(), number(times)?);
+    Ok(count.to_string(alloc)?)
 }
 
 fn shown(alloc: Global, bytes: &[u8]) -> Result<String, AllocError> {
@@ -261,17 +272,11 @@ fn taken(alloc: Global, client: &mut Client) -> Result<String, AllocError> {
 }
 
 // What was sent to a client, or is to be.
-fn told(alloc: Global, client: &mut Client, verb: &str, text: &str) -> Result<String, AllocError> {
+fn told(alloc: Global, client: &mut Client, verb: &str) -> Result<String, AllocError> {
     match verb {
         "unsent" => shown(alloc, client.conn.unsent.to_vec(alloc)?.as_slice()),
         "length" => client.conn.unsent.len().to_string(alloc),
-        "taken" => taken(alloc, client),
-        "values" => count(alloc, client, value_of(alloc, text, "\r\n")?.as_slice()),
-        _ => count(
-            alloc,
-            client,
-            value_of(alloc, text, "\r\nEND\r\n")?.as_slice(),
-        ),
+        _ => taken(alloc, client),
     }
 }
 
@@ -287,7 +292,9 @@ fn event(
         "takes" => take(client, text)?,
         "turn" => return Ok(word(turn(client, cache)).to_string(alloc)?),
         "runs" => return Ok(word(run(client, cache)).to_string(alloc)?),
-        _ => return Ok(told(alloc, client, verb, text)?),
+        "values" => return often(alloc, client, cache, text, "\r\n"),
+        "replies" => return often(alloc, client, cache, text, "\r\nEND\r\n"),
+        _ => return Ok(told(alloc, client, verb)?),
     }
     Ok(String::new(alloc))
 }
@@ -343,6 +350,14 @@ fn example(alloc: Global, text: &str) -> Result<(), Fail> {
 #[test]
 fn what_slow_clients_are_sent(rt: HostRuntime) -> Result<(), Fail> {
     for text in texts().split("\n\n") {
+        example(rt.alloc(), text)?;
+    }
+    Ok(())
+}
+
+#[test]
+fn what_slow_clients_are_sent_of_large_items(rt: HostRuntime) -> Result<(), Fail> {
+    for text in large().split("\n\n") {
         example(rt.alloc(), text)?;
     }
     Ok(())
