@@ -1,53 +1,72 @@
 -- The asks of a message, one after another.
-use Rattle.std.proofs.Common.{◌≡◌, ℕ, ℤ, ◌+◌, ◌<◌, Bool, true, false, List, [], ◌∷◌, ◌++◌, length, drop, Option, Some, inl, inr, refl, sym, ap, ◌∙◌, subst, arith, append_assoc, append-nil, length-append, slice_get, ◌||◌, nat_eq}
+use Rattle.std.proofs.Common.{◌≡◌, ℕ, ℤ, ◌+◌, ◌<◌, ◌≤◌, ◌⊎◌, Bool, true, false, List, [], ◌∷◌, ◌++◌, length, drop, Option, Some, Result, Ok, Err, OnOk, OnErr, inl, inr, refl, sym, ap, ◌∙◌, subst, arith, slice_get, ◌||◌, nat_eq}
 use Rattle.std.proofs.lemmas.Bool.{eq-eqb, cases_eq}
 use Rattle.mc_types.specs.declared.ask.Ask.{Ask}
 use Rattle.mc_types.specs.declared.answer.Answer.{Answer}
-use Rattle.fresh_runs.specs.Stream.{Done, written, written_from, NoneEnds, LastEnds, IsWhole}
 use Rattle.wire_parts.specs.declared.skip.Skip.TheVariants.{Nothing}
+use Rattle.wire_parts.specs.Stream.{Place, Stands, Closed, extended}
 use Rattle.wire_stream.specs.declared.requests.request.Request.{Request}
 use Rattle.wire_stream.specs.Message.{Message, message_in, used_of}
 use Rattle.wire_stream.specs.Asks.{asks_of, quiet_of}
-use Rattle.wire_parts.specs.Stream.{Place, Stands}
 use Rattle.wire_stream.specs.Stream.{after_message}
 use Rattle.wire_stream.specs.Held.{held_at}
 use Rattle.wire_stream.specs.Replies.{is_failure, is_last, shown_text}
-use Rattle.wire_stream.specs.TextProtocol.{Said, Whole, memcached_text, ReadsNext, shown_by, shown_of, ends_at}
-use Rattle.wire_stream.specs.declared.connection.connection.Connection.{Connection}
+use Rattle.wire_stream.specs.TextProtocol.{Said, Whole, ReadsNext, asks_in, shown_by, shown_of, ends_at}
 use Rattle.wire_stream.specs.Fronts.{IsFront}
-use Rattle.wire_stream.specs.Steps.{output_of, GoesTo, place_after, Shows}
-use Rattle.wire_stream.proofs.Fronts.{reads_front}
-use Rattle.wire_stream.proofs.Shorter.{next_len}
 use Rattle.wire_stream.proofs.ConnectionRequests.{request_after}
+use Rattle.wire_stream.proofs.Fronts.{reads_front}
+use Rattle.wire_stream.proofs.ReaderLaws.{reader_is}
 use Rattle.cache_server.specs.Contents.{Contents}
-use Rattle.cache_tcp.specs.ConnectionServing.{AnswersAsk, AnswersEach, BreaksOff}
-use Rattle.cache_tcp.specs.Steps.{message_at, IsOnWay, IsAskAt, ServesAsk, ServesKey, StopsAtKey, HasBegun, ServesFront}
-use Rattle.cache_tcp.proofs.ConnectionJoined.{serves_one}
+use Rattle.cache_tcp.specs.ConnectionServing.{AnswersAsk}
+use Rattle.cache_tcp.specs.Serving.{IsServed}
+use Rattle.cache_tcp.specs.Steps.{message_at, Spot, spot_at, IsOnWay, IsAnswered, IsAskAt, IsKeyAt, StopsAtAsk, StopsNext, place_by, ShowsNext, ServesNext}
 
--- one ask was answered and shown
-pub serves_ask : (moment : ℤ) (old new : Connection) (request : Request) (i : ℕ) (ask : Ask) (contents contents' : Contents) (reply : Answer) (used : ℕ) (quiet last ended : Bool)
-    → used ≡ used_of request → IsAskAt old request i ask → AnswersAsk moment ask contents reply contents' → quiet ≡ quiet_of (message_at old request) → last ≡ is_last (asks_of (message_at old request)) i
-    → Shows old used quiet last ask reply ended new → ServesAsk moment old request i ask contents ended new contents'
-serves_ask moment old new request i ask contents contents' reply used quiet last ended used_is at answered quiet_is last_is told =
-    let shows : Shows old (used_of request) quiet last ask reply ended new = subst (λ (n : ℕ). Shows old n quiet last ask reply ended new) used_is told in
-    let m : Message = message_at old request in
-    let place : Place = place_after ended old (drop (used_of request) (held_at old.stream)) in
-    let text : shown_text quiet last ask reply ≡ shown_of (Whole m) i reply =
+-- the reply was written, and the message is done or not
+pub shows_next : (place place' : Place) (request : Request) (i : ℕ) (ask : Ask) (reply : Answer) (unsent unsent' : List ℕ) (used : ℕ) (quiet last ended : Bool)
+    → used ≡ used_of request → IsAskAt place request i ask → quiet ≡ quiet_of (message_at place request) → last ≡ is_last (asks_of (message_at place request)) i → unsent' ≡ unsent ++ shown_text quiet last ask reply
+    → ended ≡ (is_failure reply || last) → ((held : List ℕ) → place ≡ Stands Nothing held → place' ≡ place_by ended place (Stands Nothing (drop used held)))
+    → ShowsNext place request i ask reply unsent ended place' unsent'
+shows_next place place' request i ask reply unsent unsent' used quiet last ended used_is at quiet_is last_is text ends goes =
+    let m : Message = message_at place request in
+    let shown : shown_text quiet last ask reply ≡ shown_of (Whole m) i reply =
     ap (λ (q : Bool). shown_text q last ask reply) quiet_is ∙ ap (λ (l : Bool). shown_text (quiet_of m) l ask reply) last_is ∙ ap (λ (o : Option Ask). shown_by (quiet_of m) (asks_of m) i o reply) (sym at.at) in
     record {
-      reply = reply;
-      answered = answered;
-      ended_is = shows.ended_is ∙ ap (λ (l : Bool). is_failure reply || l) last_is;
-      goes = subst (λ (l : List ℕ). GoesTo old place l new) text (shows.goes (held_at old.stream) at.front.stands);
+      ended_is = ends ∙ ap (λ (l : Bool). is_failure reply || l) last_is;
+      place_is = goes (held_at place) at.front.stands ∙ ap (λ n. place_by ended place (Stands Nothing (drop n (held_at place)))) used_is;
+      unsent_is = text ∙ ap (λ (l : List ℕ). unsent ++ l) shown;
     }
+
+-- the cache answered, and the reply was shown
+pub serves_next : (moment : ℤ) (place place' : Place) (request : Request) (i : ℕ) (ask : Ask) (c d : Contents) (reply : Answer) (unsent unsent' : List ℕ) (ended : Bool)
+    → IsAskAt place request i ask → AnswersAsk moment ask c reply d → ShowsNext place request i ask reply unsent ended place' unsent' → ServesNext moment place i c unsent ended place' d unsent'
+serves_next moment place place' request i ask c d reply unsent unsent' ended at answered shows =
+    let m : Message = message_at place request in
+    let rest : List ℕ = drop (used_of request) (held_at place) in
+    record {
+      text = shown_of (Whole m) i reply;
+      answers = record {
+        said = Whole m;
+        next = after_message m rest;
+        reads = reads_front place request at.front;
+        ask = ask;
+        at = at.at;
+        reply = reply;
+        answered = answered;
+        ended_is = shows.ended_is;
+        text_is = refl;
+        place_is = shows.place_is ∙ ap (λ (p : Place). place_by ended place p) (sym (request_after (held_at place) request rest i ask at.at));
+      };
+      unsent_is = shows.unsent_is;
+    }
+
+-- the asks of a request at the front are those of the next message
+pub asks_same : (place : Place) (request : Request) (said : Said) (next : Place) → IsFront place request → ReadsNext place said next → asks_in said ≡ asks_of (message_at place request)
+asks_same place request said next front reads =
+    ap asks_in (reader_is.one_message place said (Whole (message_at place request)) next (after_message (message_at place request) (drop (used_of request) (held_at place))) reads (reads_front place request front)).0
 
 right_false : (a b : Bool) → (a || b) ≡ false → b ≡ false
 right_false true b e = absurd (cc)
 right_false false b e = e
-
-stays_after : (ended : Bool) (x : Connection) (rest : List ℕ) → ended ≡ false → place_after ended x rest ≡ x.stream
-stays_after true x rest e = absurd (cc)
-stays_after false x rest e = refl
 
 not_last : (reply : Answer) (i n : ℕ) (last : Bool) → last ≡ nat_eq (i + 1) n → (is_failure reply || last) ≡ false → i < n → i + 1 < n
 not_last reply i n last is none lt =
@@ -57,159 +76,58 @@ not_last reply i n last is none lt =
     true_is_not_false : true ≡ false → ⊥
     true_is_not_false e = cc
 
--- where the message isn't done, the next ask is next
-way_on : (moment : ℤ) (x y : Connection) (request : Request) (i : ℕ) (ask : Ask) (contents contents' : Contents) (ended : Bool) → IsOnWay x request i → ServesAsk moment x request i ask contents ended y contents' → ended ≡ false → IsOnWay y request (i + 1)
-way_on moment x y request i ask contents contents' ended way served e =
-    let stays : y.stream ≡ x.stream = served.goes.place_is ∙ stays_after ended x (drop (used_of request) (held_at x.stream)) e in
-    record {
-      front = subst (λ (p : Place). IsFront p request) (sym stays) way.front;
-      there = subst (λ (p : Place). i + 1 < length (asks_of (message_in (held_at p) request))) (sym stays)
-          (not_last served.reply i (length (asks_of (message_at x request))) (is_last (asks_of (message_at x request)) i) refl (sym served.ended_is ∙ e) way.there);
-    }
+stays_by : (ended : Bool) (place next : Place) → ended ≡ false → place_by ended place next ≡ place
+stays_by true place next e = absurd (cc)
+stays_by false place next e = refl
 
--- the ask was served
-pub serves_key : (moment : ℤ) (x z y : Connection) (request : Request) (i : ℕ) (ask : Ask) (contents contents' : Contents) (ended : Bool) → z ≡ x → IsOnWay x request i → slice_get (asks_of (message_at x request)) i ≡ Some ask
-    → ServesAsk moment z request i ask contents ended y contents' → ServesKey moment x request i contents ended y contents'
-serves_key moment x z y request i ask contents contents' ended same way at told =
-    let served : ServesAsk moment x request i ask contents ended y contents' = subst (λ (w : Connection). ServesAsk moment w request i ask contents ended y contents') same told in
-    record { ask = ask; at = record { front = way.front; at = at; there = way.there }; served = served; way = way_on moment x y request i ask contents contents' ended way served }
+-- where the message isn't done, the stream stands where it stood
+pub stays_at : (moment : ℤ) (place place' : Place) (i : ℕ) (c d : Contents) (u v : List ℕ) (ended : Bool) → ServesNext moment place i c u ended place' d v → ended ≡ false → place' ≡ place
+stays_at moment place place' i c d u v ended s e = s.answers.place_is ∙ stays_by ended place s.answers.next e
 
-answers_more : (moment : ℤ) (asks : List Ask) (c d e : Contents) (replies : List Answer) (ask : Ask) (reply : Answer) → AnswersEach moment asks c replies d → slice_get asks (length replies) ≡ Some ask → AnswersAsk moment ask d reply e → AnswersEach moment asks c (replies ++ reply ∷ []) e
-answers_more moment [] c d e [] ask reply each at one = absurd (cc)
-answers_more moment [] c d e (r ∷ replies) ask reply each at one = absurd each
-answers_more moment (a ∷ asks) c d e [] ask reply each at one =
-    let same : a ≡ ask = some_is a ask at in
-    (e, subst (λ (x : Contents). AnswersAsk moment a x reply e) (sym each) (subst (λ (x : Ask). AnswersAsk moment x d reply e) (sym same) one), refl)
+-- and its next ask is next
+pub way_on : (moment : ℤ) (place place' : Place) (request : Request) (i : ℕ) (c d : Contents) (u v : List ℕ) (ended : Bool) → IsKeyAt place request i → ServesNext moment place i c u ended place' d v → ended ≡ false → IsKeyAt place' request (i + 1)
+way_on moment place place' request i c d u v ended way s e =
+    let a = s.answers in
+    let same : asks_in a.said ≡ asks_of (message_at place request) = asks_same place request a.said a.next way.front a.reads in
+    let none : ends_at a.said i a.reply ≡ false = sym a.ended_is ∙ e in
+    let there : i < length (asks_in a.said) = subst (λ (l : List Ask). i < length l) (sym same) way.there in
+    let next : i + 1 < length (asks_of (message_at place request)) = subst (λ (l : List Ask). i + 1 < length l) same (not_last a.reply i (length (asks_in a.said)) (is_last (asks_in a.said) i) refl none there) in
+    subst (λ (p : Place). IsKeyAt p request (i + 1)) (sym (stays_at moment place place' i c d u v ended s e)) (record { front = way.front; there = next })
+
+-- an ask of a request at the front is on the way
+pub key_on_way : (place : Place) (request : Request) (i : ℕ) → IsKeyAt place request i → IsOnWay (spot_at place i)
+key_on_way place request i way = inr (Whole (message_at place request), after_message (message_at place request) (drop (used_of request) (held_at place)), reads_front place request way.front, way.there)
+
+-- the next ask of a request at the front
+pub way_key : (place : Place) (request : Request) (i : ℕ) → IsFront place request → (asks_of (message_at place request) ≡ [] → ⊥) → IsOnWay (spot_at place i) → IsKeyAt place request i
+way_key place request i front some (inl zero) = record { front = front; there = subst (λ n. n < length (asks_of (message_at place request))) (sym zero) (some_first (asks_of (message_at place request)) some) }
   where
-    some_is : (a b : Ask) → Some a ≡ Some b → a ≡ b
-    some_is a b e = cc
-answers_more moment (a ∷ asks) c d e (r ∷ replies) ask reply each at one = (each.0, each.1, answers_more moment asks each.0 d e replies ask reply each.2 at one)
+    some_first : (asks : List Ask) → (asks ≡ [] → ⊥) → 0 < length asks
+    some_first [] some = absurd (some refl)
+    some_first (ask ∷ asks) some = omega arith
+way_key place request i front some (inr way) = record { front = front; there = subst (λ (l : List Ask). i < length l) (asks_same place request way.0 way.1 front way.2) way.3 }
 
-written_more : (m : Said) (i : ℕ) (rs : List Answer) (r : Answer) → written_from memcached_text m i (rs ++ r ∷ []) ≡ written_from memcached_text m i rs ++ shown_of m (i + length rs) r
-written_more m i [] r = append-nil (shown_of m i r) ∙ ap (λ n. shown_of m n r) (omega arith)
-written_more m i (x ∷ rs) r =
-    let at : i + 1 + length rs ≡ i + length (x ∷ rs) = omega arith in
-    ap (λ (l : List ℕ). shown_of m i x ++ l) (written_more m (i + 1) rs r ∙ ap (λ n. written_from memcached_text m (i + 1) rs ++ shown_of m n r) at)
-    ∙ sym (append_assoc (shown_of m i x) (written_from memcached_text m (i + 1) rs) (shown_of m (i + length (x ∷ rs)) r))
+-- memory was refused before the ask
+pub stops_before : (moment : ℤ) (place : Place) (i : ℕ) (c : Contents) → StopsNext moment place i c c
+stops_before moment place i c = inl refl
 
-none_more : (m : Said) (i : ℕ) (rs : List Answer) (r : Answer) → NoneEnds memcached_text m i rs → ends_at m (i + length rs) r ≡ false → NoneEnds memcached_text m i (rs ++ r ∷ [])
-none_more m i [] r h e = let at : i + 0 ≡ i = omega arith in (subst (λ n. ends_at m n r ≡ false) at e, tt)
-none_more m i (x ∷ rs) r h e = let at : i + length (x ∷ rs) ≡ i + 1 + length rs = omega arith in (h.0, none_more m (i + 1) rs r h.1 (subst (λ n. ends_at m n r ≡ false) at e))
+-- or at it
+pub stops_at : (moment : ℤ) (place : Place) (request : Request) (i : ℕ) (ask : Ask) (c d : Contents) → IsFront place request → slice_get (asks_of (message_at place request)) i ≡ Some ask → StopsAtAsk moment ask c d → StopsNext moment place i c d
+stops_at moment place request i ask c d front at stops =
+    inr (Whole (message_at place request), after_message (message_at place request) (drop (used_of request) (held_at place)), reads_front place request front, (ask, at, stops))
 
-last_more : (m : Said) (i : ℕ) (rs : List Answer) (r : Answer) → NoneEnds memcached_text m i rs → ends_at m (i + length rs) r ≡ true → LastEnds memcached_text m i (rs ++ r ∷ [])
-last_more m i [] r h e = let at : i + 0 ≡ i = omega arith in subst (λ n. ends_at m n r ≡ true) at e
-last_more m i (x ∷ []) r h e = let at : i + length (x ∷ []) ≡ i + 1 + 0 = omega arith in (h.0, last_more m (i + 1) [] r h.1 (subst (λ n. ends_at m n r ≡ true) at e))
-last_more m i (x ∷ y ∷ rs) r h e = let at : i + length (x ∷ y ∷ rs) ≡ i + 1 + length (y ∷ rs) = omega arith in (h.0, last_more m (i + 1) (y ∷ rs) r h.1 (subst (λ n. ends_at m n r ≡ true) at e))
+-- what came leaves the ask that is next where it is
+pub way_came : (place : Place) (count : ℕ) (more : List ℕ) → IsOnWay (spot_at place count) → IsOnWay (spot_at (extended place more) count)
+way_came place count more (inl zero) = inl zero
+way_came place count more (inr way) = inr (way.0, extended way.1 more, reader_is.goes_on place way.0 way.1 more way.2, way.3)
 
-whole_by : (m : Said) (rs : List Answer) (r : Answer) → LastEnds memcached_text m 0 (rs ++ r ∷ []) → IsWhole memcached_text m (rs ++ r ∷ [])
-whole_by m [] r h = h
-whole_by m (x ∷ rs) r h = h
+-- nor where memory was refused for it
+pub way_fed : {A E : Type 0} (r : Result A E) (old new : Place) (count : ℕ) (more : List ℕ) → IsOnWay (spot_at old count) → OnOk r (new ≡ extended old more) → OnErr r (new ≡ old) → IsOnWay (spot_at new count)
+way_fed (Ok a) old new count more way ok err = subst (λ (p : Place). IsOnWay (spot_at p count)) (sym ok) (way_came old count more way)
+way_fed (Err e) old new count more way ok err = subst (λ (p : Place). IsOnWay (spot_at p count)) (sym err) way
 
-written_is : (m : Said) (rs : List Answer) (r : Answer) → written memcached_text m (rs ++ r ∷ []) ≡ written_from memcached_text m 0 (rs ++ r ∷ [])
-written_is m [] r = refl
-written_is m (x ∷ rs) r = refl
-
--- nothing was asked yet
-pub begins_nothing : (moment : ℤ) (x : Connection) (request : Request) (contents : Contents) → HasBegun moment x request contents 0 x contents
-begins_nothing moment x request contents = record { replies = []; count = refl; answered = refl; none = tt; output_is = sym (append-nil (output_of x)); stays = refl }
-
--- One more ask after those before it: its reply is the next, and its text stands after theirs.
-record Adds (moment : ℤ) (old : Connection) (request : Request) (contents : Contents) (i : ℕ) (ended : Bool) (new : Connection) (contents' : Contents) : Type 0 where
-  replies : List Answer
-  reply : Answer
-  count : length replies ≡ i
-  answered : AnswersEach moment (asks_of (message_at old request)) contents (replies ++ reply ∷ []) contents'
-  none : NoneEnds memcached_text (Whole (message_at old request)) 0 replies
-  ended_is : ended ≡ ends_at (Whole (message_at old request)) (0 + length replies) reply
-  output_is : output_of new ≡ output_of old ++ written_from memcached_text (Whole (message_at old request)) 0 (replies ++ reply ∷ [])
-  place_is : new.stream ≡ place_after ended old (drop (used_of request) (held_at old.stream))
-
-place_same : (ended : Bool) (x y : Connection) (used : ℕ) → x.stream ≡ y.stream → place_after ended x (drop used (held_at x.stream)) ≡ place_after ended y (drop used (held_at y.stream))
-place_same true x y used e = ap (λ (p : Place). Stands Nothing (drop used (held_at p))) e
-place_same false x y used e = e
-
-adds : (moment : ℤ) (old x y : Connection) (request : Request) (i : ℕ) (c d e : Contents) (ended : Bool) → HasBegun moment old request c i x d → ServesKey moment x request i d ended y e → Adds moment old request c i ended y e
-adds moment old x y request i c d e ended b k =
-    let m : Message = message_at old request in
-    let same : message_at x request ≡ m = ap (λ (p : Place). message_in (held_at p) request) b.stays in
-    let count : i ≡ 0 + length b.replies = let n = b.count in omega (arith, n) in
-    let at : slice_get (asks_of m) (length b.replies) ≡ Some k.ask = subst (λ (n : Message). slice_get (asks_of n) (length b.replies) ≡ Some k.ask) same (subst (λ n. slice_get (asks_of (message_at x request)) n ≡ Some k.ask) (sym b.count) k.at.at) in
-    let text : shown_of (Whole (message_at x request)) i k.served.reply ≡ shown_of (Whole m) (0 + length b.replies) k.served.reply = ap (λ (n : Message). shown_of (Whole n) i k.served.reply) same ∙ ap (λ n. shown_of (Whole m) n k.served.reply) count in
-    record {
-      replies = b.replies;
-      reply = k.served.reply;
-      count = b.count;
-      answered = answers_more moment (asks_of m) c d e b.replies k.ask k.served.reply b.answered at k.served.answered;
-      none = b.none;
-      ended_is = k.served.ended_is ∙ ap (λ (n : Message). ends_at (Whole n) i k.served.reply) same ∙ ap (λ n. ends_at (Whole m) n k.served.reply) count;
-      output_is = k.served.goes.output_is ∙ ap (λ (l : List ℕ). l ++ shown_of (Whole (message_at x request)) i k.served.reply) b.output_is
-          ∙ append_assoc (output_of old) (written_from memcached_text (Whole m) 0 b.replies) (shown_of (Whole (message_at x request)) i k.served.reply)
-          ∙ ap (λ (l : List ℕ). output_of old ++ (written_from memcached_text (Whole m) 0 b.replies ++ l)) text
-          ∙ ap (λ (l : List ℕ). output_of old ++ l) (sym (written_more (Whole m) 0 b.replies k.served.reply));
-      place_is = k.served.goes.place_is ∙ place_same ended x old (used_of request) b.stays;
-    }
-
--- the message isn't done with it
-pub begins_more : (moment : ℤ) (old x y : Connection) (request : Request) (i : ℕ) (c d e : Contents) (ended : Bool) → HasBegun moment old request c i x d → ServesKey moment x request i d ended y e → ended ≡ false → HasBegun moment old request c (i + 1) y e
-begins_more moment old x y request i c d e ended b k goes =
-    let a = adds moment old x y request i c d e ended b k in
-    let n = a.count in
-    record {
-      replies = a.replies ++ a.reply ∷ [];
-      count = length-append a.replies (a.reply ∷ []) ∙ omega (arith, n);
-      answered = a.answered;
-      none = none_more (Whole (message_at old request)) 0 a.replies a.reply a.none (sym a.ended_is ∙ goes);
-      output_is = a.output_is;
-      stays = a.place_is ∙ stays_after ended old (drop (used_of request) (held_at old.stream)) goes;
-    }
-
-ended_after : (ended : Bool) (x : Connection) (rest : List ℕ) → ended ≡ true → place_after ended x rest ≡ Stands Nothing rest
-ended_after true x rest e = refl
-ended_after false x rest e = absurd (cc)
-
--- the message is done with it
-pub begins_last : (moment : ℤ) (old x y : Connection) (request : Request) (i : ℕ) (c d e : Contents) (ended : Bool) → IsFront old.stream request → HasBegun moment old request c i x d → ServesKey moment x request i d ended y e → ended ≡ true → ServesFront moment old c y e
-begins_last moment old x y request i c d e ended front b k ends =
-    let a = adds moment old x y request i c d e ended b k in
-    let m : Message = message_at old request in
-    let rest : List ℕ = drop (used_of request) (held_at old.stream) in
-    let same : message_at x request ≡ m = ap (λ (p : Place). message_in (held_at p) request) b.stays in
-    let at : slice_get (asks_of m) i ≡ Some k.ask = subst (λ (n : Message). slice_get (asks_of n) i ≡ Some k.ask) same k.at.at in
-    let place : y.stream ≡ Stands Nothing rest = a.place_is ∙ ended_after ended old rest ends in
-    let next : after_message m rest ≡ y.stream = request_after (held_at old.stream) request rest i k.ask at ∙ sym place in
-    let done : Done memcached_text = record { message = Whole m; replies = a.replies ++ a.reply ∷ [] } in
-    let reads : ReadsNext old.stream (Whole m) y.stream = subst (ReadsNext old.stream (Whole m)) next (reads_front old.stream request front) in
-    record {
-      goes = record {
-        text = written memcached_text (Whole m) (a.replies ++ a.reply ∷ []);
-        serves = serves_one moment old.stream y.stream c e done reads
-            (whole_by (Whole m) a.replies a.reply (last_more (Whole m) 0 a.replies a.reply a.none (sym a.ended_is ∙ ends))) a.answered;
-        output_is = a.output_is ∙ ap (λ (l : List ℕ). output_of old ++ l) (sym (written_is (Whole m) a.replies a.reply));
-      };
-      shorter = next_len old.stream (Whole m) y.stream reads;
-    }
-
--- running out of memory at the next ask breaks the message off
-pub begins_stops : (moment : ℤ) (old x : Connection) (request : Request) (i : ℕ) (c d e : Contents) → IsFront old.stream request → HasBegun moment old request c i x d → StopsAtKey moment x request i d e → BreaksOff moment old.stream c e
-begins_stops moment old x request i c d e front b stops =
-    let m : Message = message_at old request in
-    let next : Place = after_message m (drop (used_of request) (held_at old.stream)) in
-    let same : message_at x request ≡ m = ap (λ (p : Place). message_in (held_at p) request) b.stays in
-    let reads = reads_front old.stream request front in
-    elim stops [
-      | inl none ↦ record { said = Whole m; next = next; reads = reads; answers = b.replies; left = d; answered = b.answered; new_is = inl none }
-      | inr key ↦ elim key.2 [
-        | inl one ↦
-            let at : slice_get (asks_of m) (length b.replies) ≡ Some key.0 = subst (λ (n : Message). slice_get (asks_of n) (length b.replies) ≡ Some key.0) same (subst (λ n. slice_get (asks_of (message_at x request)) n ≡ Some key.0) (sym b.count) key.1) in
-            record {
-              said = Whole m;
-              next = next;
-              reads = reads;
-              answers = b.replies ++ one.0 ∷ [];
-              left = e;
-              answered = answers_more moment (asks_of m) c d e b.replies key.0 one.0 b.answered at one.1;
-              new_is = inl refl;
-            }
-        | inr gone ↦ record { said = Whole m; next = next; reads = reads; answers = b.replies; left = d; answered = b.answered; new_is = inr gone }
-      ]
-    ]
+-- nothing is left to serve
+pub served_by : (most : ℕ) (held unsent : List ℕ) (spot : Spot) → (held ≡ []) ⊎ (most ≤ length unsent) ⊎ (spot.place ≡ Closed) → IsAnswered most spot.place unsent → IsServed most held unsent spot
+served_by most held unsent spot why (inl backlog) = inl backlog
+served_by most held unsent spot (inl none) (inr stuck) = inr (stuck, inl none)
+served_by most held unsent spot (inr why) (inr stuck) = elim why [ inl backlog ↦ inl backlog | inr closed ↦ inr (stuck, inr closed) ]

@@ -1,8 +1,10 @@
 pub mod ConnectionJoined
 pub mod Closing
+pub mod Runs
+pub mod Whole
 pub mod Keys
 pub mod Fronts
 pub mod Exits
+pub mod Oldest
 pub mod Determined
 pub mod ServedAlike
-mod Joined

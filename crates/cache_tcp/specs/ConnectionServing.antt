@@ -72,21 +72,3 @@ pub record ServesTo (moment : ℤ) (place : Place) (old : Contents) (text : List
 pub record Feeds (moment : ℤ) (place : Place) (bytes : List ℕ) (old : Contents) (text : List ℕ) (next : Place) (new : Contents) : Type 0 where
   pub serves : ServesTo moment (extended place bytes) old text next new
   pub stuck : IsStuck memcached_text next
-
--- The message at this place was broken off: the first of its asks were answered, and then what has expired may be gone.
-pub record BreaksOff (moment : ℤ) (place : Place) (old : Contents) (new : Contents) : Type 0 where
-  pub said : Said
-  pub next : Place
-  pub reads : ReadsNext place said next
-  pub answers : List Answer
-  pub left : Contents
-  pub answered : AnswersEach moment (asks_in said) old answers left
-  pub new_is : (new ≡ left) ⊎ (new ≡ at_moment (nat_abs moment) left)
-
--- Some messages were served, and the one after them wasn't, or was broken off.
-pub record Stops (moment : ℤ) (place : Place) (old : Contents) (new : Contents) : Type 0 where
-  pub text : List ℕ
-  pub next : Place
-  pub left : Contents
-  pub serves : ServesTo moment place old text next left
-  pub new_is : (new ≡ left) ⊎ BreaksOff moment next left new

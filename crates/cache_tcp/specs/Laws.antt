@@ -1,6 +1,7 @@
 -- What the serving of a connection gives. Source: mcgate's own.
 use Rattle.std.specs.Prelude.{◌≡◌, ◌≢◌, ℕ, ℤ, ◌↔◌, List, [], ◌∷◌, ◌++◌, Some}
 use Rattle.mc_types.specs.declared.answer.Answer.{Answer}
+use Rattle.fresh_runs.specs.Protocol.{IsStuck}
 use Rattle.fresh_runs.specs.Stream.{Done}
 use Rattle.wire_parts.specs.declared.proxy_command.ProxyCommand.TheVariants.{Quit}
 use Rattle.wire_stream.specs.Both.{own_by}
@@ -8,7 +9,8 @@ use Rattle.wire_parts.specs.Message.{Served, Refusal}
 use Rattle.wire_parts.specs.Stream.{Place, Closed}
 use Rattle.wire_stream.specs.TextProtocol.{Said, Whole, LongLine, ReadsNext, memcached_text}
 use Rattle.cache_server.specs.Contents.{Contents}
-use Rattle.cache_tcp.specs.ConnectionServing.{out_of_memory, Feeds}
+use Rattle.cache_tcp.specs.ConnectionServing.{out_of_memory, ServesTo, Feeds}
+use Rattle.cache_tcp.specs.Steps.{Spot, Stage, at_front, Runs, text_of}
 
 -- what comes in two pieces at one moment is served as in one
 abbrev pub PiecesAreOne : Type 0
@@ -50,3 +52,16 @@ FeedIsDetermined =
     (a : Feeds moment place bytes old s p c) (b : Feeds moment place bytes old t q d)
     → AllHadMemory a.serves.done → AllHadMemory b.serves.done
     → (s ≡ t) × (p ≡ q) × (c ≡ d)
+
+-- steps from the front of one message to that of another serve all messages between, each whole
+abbrev pub StepsAreMessages : Type 0
+StepsAreMessages =
+    (moment : ℤ) (place next : Place) (old new : Contents) (stages : List Stage)
+    → Runs moment (at_front place) old stages (at_front next) new → ServesTo moment place old (text_of stages) next new
+
+-- what is answered in two goes, with nothing changed between, is answered as in one: the messages are served whole, and the texts of both, joined, are that of all
+abbrev pub GoesOnAsAtOnce : Type 0
+GoesOnAsAtOnce =
+    (moment : ℤ) (place next : Place) (stop : Spot) (old between new : Contents) (s t : List Stage)
+    → Runs moment (at_front place) old s stop between → Runs moment stop between t (at_front next) new
+    → ServesTo moment place old (text_of s ++ text_of t) next new

@@ -3,3 +3,4 @@ pub mod Laws
 pub mod Steps
 pub mod Alike
 pub mod Serving
+pub mod Oldest

@@ -1,44 +1,43 @@
 -- What a client that is served is sent, without its socket. Source: mcgate's own.
 use Rattle.std.specs.Prelude.{◌≡◌, ℕ, ℤ, ◌≤◌, ◌⊎◌, List, [], ◌++◌, length}
-use Rattle.wire_parts.specs.Stream.{Place, Closed, extended}
+use Rattle.fresh_runs.specs.Protocol.{IsStuck}
+use Rattle.wire_parts.specs.Stream.{Place, Closed}
+use Rattle.wire_stream.specs.TextProtocol.{memcached_text}
 use Rattle.cache_server.specs.Contents.{Contents}
-use Rattle.cache_tcp.specs.ConnectionServing.{Feeds, Stops}
+use Rattle.cache_tcp.specs.Steps.{Spot, Stage, came, Runs, text_of, StopsNext}
 
--- the first bytes of those that are held were fed to the connection, and the text that they gave stands after what is to be sent
-pub record Serves (moment : ℤ) (held unsent : List ℕ) (place : Place) (old : Contents) (held' unsent' : List ℕ) (place' : Place) (new : Contents) : Type 0 where
+-- the first bytes of those that are held came to the stream, steps were made, and their text stands after what is to be sent
+pub record Serves (moment : ℤ) (held unsent : List ℕ) (from : Spot) (old : Contents) (held' unsent' : List ℕ) (to : Spot) (new : Contents) : Type 0 where
   pub fed : List ℕ
-  pub text : List ℕ
+  pub stages : List Stage
   pub held_is : held ≡ fed ++ held'
-  pub feeds : Feeds moment place fed old text place' new
-  pub unsent_is : unsent' ≡ unsent ++ text
+  pub runs : Runs moment (came from fed) old stages to new
+  pub unsent_is : unsent' ≡ unsent ++ text_of stages
 
--- nothing was fed
-pub record Stays (held unsent : List ℕ) (place : Place) (old : Contents) (held' unsent' : List ℕ) (place' : Place) (new : Contents) : Type 0 where
-  pub held_is : held' ≡ held
-  pub unsent_is : unsent' ≡ unsent
-  pub place_is : place' ≡ place
-  pub cache_is : new ≡ old
+-- the first bytes of those that are held came to the stream
+pub record Comes (held : List ℕ) (from : Spot) (held' : List ℕ) (to : Spot) : Type 0 where
+  pub fed : List ℕ
+  pub held_is : held ≡ fed ++ held'
+  pub spot_is : to ≡ came from fed
 
-abbrev pub ServesOn : ℤ → List ℕ → List ℕ → Place → Contents → List ℕ → List ℕ → Place → Contents → Type 0
-ServesOn moment held unsent place old held' unsent' place' new =
-    Stays held unsent place old held' unsent' place' new ⊎ Serves moment held unsent place old held' unsent' place' new
-
--- memory was refused while the first bytes of those that are held were fed, or after that
-pub record StopsIn (moment : ℤ) (held : List ℕ) (place : Place) (old new : Contents) : Type 0 where
+-- memory was refused at a step, or between two, after others were made
+pub record StopsIn (moment : ℤ) (held : List ℕ) (from : Spot) (old new : Contents) : Type 0 where
   pub fed : List ℕ
   pub rest : List ℕ
+  pub stages : List Stage
+  pub spot : Spot
+  pub left : Contents
   pub held_is : held ≡ fed ++ rest
-  pub stops : Stops moment (extended place fed) old new
+  pub runs : Runs moment (came from fed) old stages spot left
+  pub stops : StopsNext moment spot.place spot.count left new
 
--- the same, after bytes that were served
-pub record StopsOn (moment : ℤ) (held unsent : List ℕ) (place : Place) (old new : Contents) : Type 0 where
-  pub held_then : List ℕ
-  pub unsent_then : List ℕ
-  pub place_then : Place
-  pub between : Contents
-  pub served : ServesOn moment held unsent place old held_then unsent_then place_then between
-  pub stops : StopsIn moment held_then place_then between new
+-- so much is to be sent that it is a backlog, or no whole message is there: not in what is held either, unless the stream has ended
+abbrev pub IsServed : ℕ → List ℕ → List ℕ → Spot → Type 0
+IsServed backlog held unsent spot =
+    (backlog ≤ length unsent) ⊎ (IsStuck memcached_text spot.place × ((held ≡ []) ⊎ (spot.place ≡ Closed)))
 
--- nothing more is to be served: all that is held was fed, or so much is to be sent that it is a backlog, or the stream has ended
-abbrev pub IsServed : ℕ → List ℕ → List ℕ → Place → Type 0
-IsServed backlog held unsent place = (held ≡ []) ⊎ (backlog ≤ length unsent) ⊎ (place ≡ Closed)
+-- nothing is read or served: what is held, where the stream stands and what the cache holds stay
+pub record Waits (held : List ℕ) (from : Spot) (old : Contents) (held' : List ℕ) (to : Spot) (new : Contents) : Type 0 where
+  pub held_is : held' ≡ held
+  pub spot_is : to ≡ from
+  pub cache_is : new ≡ old

@@ -1,79 +1,178 @@
--- How far a connection was served, within a message and between messages. Source: mcgate's own.
-use Rattle.std.specs.Prelude.{◌≡◌, ℕ, ℤ, nat_abs, ◌+◌, ◌<◌, Bool, false, ◌⊎◌, List, ◌++◌, length, drop, Some, slice_get}
+-- How far a client was served: message by message, and within a message ask by ask. Source: mcgate's own.
+use Rattle.std.specs.Prelude.{◌≡◌, ℕ, ℤ, nat_abs, ◌+◌, ◌<◌, ◌≤◌, Bool, true, false, ◌⊎◌, List, [], ◌∷◌, ◌++◌, length, drop, Option, Some, None, slice_get}
 use Rattle.mc_types.specs.declared.ask.Ask.{Ask}
 use Rattle.mc_types.specs.declared.answer.Answer.{Answer}
 use Rattle.fresh_runs.specs.Protocol.{IsStuck}
-use Rattle.fresh_runs.specs.Stream.{written_from, NoneEnds}
+use Rattle.wire_parts.specs.declared.skip.Skip.TheVariants.{Nothing}
+use Rattle.wire_parts.specs.Stream.{Place, Stands, extended}
 use Rattle.wire_stream.specs.declared.requests.request.Request.{Request}
 use Rattle.wire_stream.specs.Message.{Message, message_in, used_of}
 use Rattle.wire_stream.specs.Asks.{asks_of}
 use Rattle.wire_stream.specs.Held.{held_at}
-use Rattle.wire_stream.specs.TextProtocol.{Whole, memcached_text, shown_of, ends_at}
-use Rattle.wire_stream.specs.declared.connection.connection.Connection.{Connection}
+use Rattle.wire_stream.specs.TextProtocol.{Said, Whole, memcached_text, ReadsNext, asks_in, passed_text, shown_of, ends_at}
 use Rattle.wire_stream.specs.Fronts.{IsFront}
-use Rattle.wire_stream.specs.Steps.{output_of, held_len, place_after, GoesTo}
 use Rattle.cache_server.specs.Contents.{Contents, at_moment}
-use Rattle.cache_tcp.specs.ConnectionServing.{AnswersAsk, AnswersEach, ServesTo}
+use Rattle.cache_tcp.specs.ConnectionServing.{AnswersAsk}
 
--- the message that a request is
-abbrev pub message_at : Connection → Request → Message
-message_at x request = message_in (held_at x.stream) request
+-- where the serving of a client stands: its stream, and how many asks of the message at the front were answered
+pub record Spot : Type 0 where
+  pub place : Place
+  pub count : ℕ
 
--- the request stands at the connection's front, and its i-th ask is next
-pub record IsOnWay (x : Connection) (request : Request) (i : ℕ) : Type 0 where
-  pub front : IsFront x.stream request
-  pub there : i < length (asks_of (message_at x request))
+abbrev pub spot_at : Place → ℕ → Spot
+spot_at place count = record { place = place; count = count }
 
--- the i-th ask of the request at the front
-pub record IsAskAt (x : Connection) (request : Request) (i : ℕ) (ask : Ask) : Type 0 where
-  pub front : IsFront x.stream request
-  pub at : slice_get (asks_of (message_at x request)) i ≡ Some ask
-  pub there : i < length (asks_of (message_at x request))
+-- no ask of the message at the front was answered
+abbrev pub at_front : Place → Spot
+at_front place = spot_at place 0
 
--- the i-th ask of the message at the front was answered, and the reply shown
-pub record ServesAsk (moment : ℤ) (old : Connection) (request : Request) (i : ℕ) (ask : Ask) (contents : Contents) (ended : Bool) (new : Connection) (contents' : Contents) : Type 0 where
+-- these bytes came, if there are some
+abbrev pub came : Spot → List ℕ → Spot
+came spot [] = spot
+came spot (byte ∷ bytes) = spot_at (extended spot.place (byte ∷ bytes)) spot.count
+
+-- asks were answered of no message but the one at the front, and another of it is next
+abbrev pub IsOnWay : Spot → Type 0
+IsOnWay spot = (spot.count ≡ 0) ⊎ ((said : Said) × (next : Place) × ReadsNext spot.place said next × (spot.count < length (asks_in said)))
+
+-- where the stream stands after a reply: the message is done with it, or not
+abbrev pub place_by : Bool → Place → Place → Place
+place_by true place next = next
+place_by false place next = place
+
+-- how many asks of the message at the front were answered then
+abbrev pub count_by : Bool → ℕ → ℕ
+count_by true count = 0
+count_by false count = count + 1
+
+-- the next ask of the message at the front is answered, and this text is shown for it
+pub record AnswersNext (moment : ℤ) (place : Place) (count : ℕ) (old : Contents) (text : List ℕ) (ended : Bool) (place' : Place) (new : Contents) : Type 0 where
+  pub said : Said
+  pub next : Place
+  pub reads : ReadsNext place said next
+  pub ask : Ask
+  pub at : slice_get (asks_in said) count ≡ Some ask
   pub reply : Answer
-  pub answered : AnswersAsk moment ask contents reply contents'
-  pub ended_is : ended ≡ ends_at (Whole (message_at old request)) i reply
-  pub goes : GoesTo old (place_after ended old (drop (used_of request) (held_at old.stream))) (shown_of (Whole (message_at old request)) i reply) new
+  pub answered : AnswersAsk moment ask old reply new
+  pub ended_is : ended ≡ ends_at said count reply
+  pub text_is : text ≡ shown_of said count reply
+  pub place_is : place' ≡ place_by ended place next
+
+-- the message at the front asks no server, and is answered by this text
+pub record PassesNext (place : Place) (text : List ℕ) (place' : Place) : Type 0 where
+  pub said : Said
+  pub reads : ReadsNext place said place'
+  pub asks : asks_in said ≡ []
+  pub text_is : text ≡ passed_text said
+
+-- a step answers the next ask
+abbrev pub Asks : ℤ → Spot → Contents → List ℕ → Spot → Contents → Type 0
+Asks moment from old text to new =
+    (ended : Bool) × AnswersNext moment from.place from.count old text ended to.place new × (to.count ≡ count_by ended from.count)
+
+-- a step answers a message that asks no server
+abbrev pub Passes : Spot → Contents → List ℕ → Spot → Contents → Type 0
+Passes from old text to new = (from.count ≡ 0) × (to.count ≡ 0) × (old ≡ new) × PassesNext from.place text to.place
+
+abbrev pub Step : ℤ → Spot → Contents → List ℕ → Spot → Contents → Type 0
+Step moment from old text to new = Asks moment from old text to new ⊎ Passes from old text to new
+
+-- what a step gave, and where it led
+pub record Stage : Type 0 where
+  pub text : List ℕ
+  pub spot : Spot
+  pub contents : Contents
+
+-- these steps lead from one spot to the other, each with what the cache holds then
+abbrev pub Runs : ℤ → Spot → Contents → List Stage → Spot → Contents → Type 0
+Runs moment from old [] to new = (from ≡ to) × (old ≡ new)
+Runs moment from old (stage ∷ stages) to new =
+    Step moment from old stage.text stage.spot stage.contents × Runs moment stage.spot stage.contents stages to new
+
+-- what steps gave
+abbrev pub text_of : List Stage → List ℕ
+text_of [] = []
+text_of (stage ∷ stages) = stage.text ++ text_of stages
+
+-- steps were made, and their text stands after what is to be sent
+pub record RunsOn (moment : ℤ) (from : Spot) (old : Contents) (unsent : List ℕ) (to : Spot) (new : Contents) (unsent' : List ℕ) : Type 0 where
+  pub stages : List Stage
+  pub runs : Runs moment from old stages to new
+  pub unsent_is : unsent' ≡ unsent ++ text_of stages
 
 -- running out of memory at an ask: what has expired is gone, or else it was answered, and the reply not shown
 abbrev pub StopsAtAsk : ℤ → Ask → Contents → Contents → Type 0
 StopsAtAsk moment ask old new = ((reply : Answer) × AnswersAsk moment ask old reply new) ⊎ (new ≡ at_moment (nat_abs moment) old)
 
--- the i-th ask was served
-pub record ServesKey (moment : ℤ) (old : Connection) (request : Request) (i : ℕ) (contents : Contents) (ended : Bool) (new : Connection) (contents' : Contents) : Type 0 where
-  pub ask : Ask
-  pub at : IsAskAt old request i ask
-  pub served : ServesAsk moment old request i ask contents ended new contents'
-  pub way : ended ≡ false → IsOnWay new request (i + 1)
+-- running out of memory at the next step, or before it
+abbrev pub StopsNext : ℤ → Place → ℕ → Contents → Contents → Type 0
+StopsNext moment place count old new =
+    (new ≡ old) ⊎ ((said : Said) × (next : Place) × ReadsNext place said next × ((ask : Ask) × (slice_get (asks_in said) count ≡ Some ask) × StopsAtAsk moment ask old new))
 
--- running out of memory at the i-th ask, or before it
-abbrev pub StopsAtKey : ℤ → Connection → Request → ℕ → Contents → Contents → Type 0
-StopsAtKey moment x request i old new =
-    (new ≡ old) ⊎ ((ask : Ask) × (slice_get (asks_of (message_at x request)) i ≡ Some ask) × StopsAtAsk moment ask old new)
+-- steps were made, and memory was refused at the next one
+pub record Stops (moment : ℤ) (from : Spot) (old new : Contents) : Type 0 where
+  pub stages : List Stage
+  pub spot : Spot
+  pub left : Contents
+  pub runs : Runs moment from old stages spot left
+  pub stops : StopsNext moment spot.place spot.count left new
 
--- the first i asks of the message at the front were answered and shown, and none of the replies ended it
-pub record HasBegun (moment : ℤ) (old : Connection) (request : Request) (contents : Contents) (i : ℕ) (new : Connection) (contents' : Contents) : Type 0 where
-  pub replies : List Answer
-  pub count : length replies ≡ i
-  pub answered : AnswersEach moment (asks_of (message_at old request)) contents replies contents'
-  pub none : NoneEnds memcached_text (Whole (message_at old request)) 0 replies
-  pub output_is : output_of new ≡ output_of old ++ written_from memcached_text (Whole (message_at old request)) 0 replies
-  pub stays : new.stream ≡ old.stream
+-- what is shown for one ask, or for one message that asks no server
+abbrev pub IsOneText : List ℕ → Type 0
+IsOneText text = ((said : Said) × (count : ℕ) × (reply : Answer) × (text ≡ shown_of said count reply)) ⊎ ((said : Said) × (text ≡ passed_text said))
 
--- messages were served, and their text shown
-pub record GoesOn (moment : ℤ) (old : Connection) (contents : Contents) (new : Connection) (contents' : Contents) : Type 0 where
+-- So many bytes at most are to be sent, and after them what is left of the one text that passes that.
+pub record IsWithin (most : ℕ) (unsent : List ℕ) : Type 0 where
+  pub front : List ℕ
+  pub last : List ℕ
+  pub gone : List ℕ
+  pub unsent_is : unsent ≡ front ++ last
+  pub front_len : length front ≤ most
+  pub one : IsOneText (gone ++ last)
+
+-- so much is to be sent that it is a backlog, or no whole message is there
+abbrev pub IsAnswered : ℕ → Place → List ℕ → Type 0
+IsAnswered most place unsent = (most ≤ length unsent) ⊎ IsStuck memcached_text place
+
+-- the next ask was answered, and its text stands after what is to be sent
+pub record ServesNext (moment : ℤ) (place : Place) (count : ℕ) (old : Contents) (unsent : List ℕ) (ended : Bool) (place' : Place) (new : Contents) (unsent' : List ℕ) : Type 0 where
   pub text : List ℕ
-  pub serves : ServesTo moment old.stream contents text new.stream contents'
-  pub output_is : output_of new ≡ output_of old ++ text
+  pub answers : AnswersNext moment place count old text ended place' new
+  pub unsent_is : unsent' ≡ unsent ++ text
 
--- the message at the front was served: fewer bytes are held
-pub record ServesFront (moment : ℤ) (old : Connection) (contents : Contents) (new : Connection) (contents' : Contents) : Type 0 where
-  pub goes : GoesOn moment old contents new contents'
-  pub shorter : held_len new < held_len old
+-- a message that asks no server was answered, and its text stands after what is to be sent
+pub record PassesOn (place : Place) (unsent : List ℕ) (place' : Place) (unsent' : List ℕ) : Type 0 where
+  pub text : List ℕ
+  pub passes : PassesNext place text place'
+  pub unsent_is : unsent' ≡ unsent ++ text
 
--- all that was complete was served
-pub record ServesAll (moment : ℤ) (old : Connection) (contents : Contents) (new : Connection) (contents' : Contents) : Type 0 where
-  pub goes : GoesOn moment old contents new contents'
-  pub stuck : IsStuck memcached_text new.stream
+-- the message that a request is
+abbrev pub message_at : Place → Request → Message
+message_at place request = message_in (held_at place) request
+
+-- the i-th ask of the request at the front
+pub record IsAskAt (place : Place) (request : Request) (i : ℕ) (ask : Ask) : Type 0 where
+  pub front : IsFront place request
+  pub at : slice_get (asks_of (message_at place request)) i ≡ Some ask
+  pub there : i < length (asks_of (message_at place request))
+
+-- the request stands at the front, and its i-th ask is next
+pub record IsKeyAt (place : Place) (request : Request) (i : ℕ) : Type 0 where
+  pub front : IsFront place request
+  pub there : i < length (asks_of (message_at place request))
+
+-- where the asks of a request that were answered end: all were, or this one is next
+abbrev pub count_of : Option ℕ → ℕ
+count_of None = 0
+count_of (Some i) = i
+
+-- the request was done, or it stands where it stood, and so much is to be sent that it is a backlog
+abbrev pub HasStopped : ℕ → Option ℕ → Place → Place → List ℕ → Type 0
+HasStopped most None old new unsent = length (held_at new) < length (held_at old)
+HasStopped most (Some i) old new unsent = (most ≤ length unsent) × IsOnWay (spot_at new i)
+
+-- the reply to the i-th ask of the request at the front was shown: whether the request is done with it
+pub record ShowsNext (place : Place) (request : Request) (i : ℕ) (ask : Ask) (reply : Answer) (unsent : List ℕ) (ended : Bool) (place' : Place) (unsent' : List ℕ) : Type 0 where
+  pub ended_is : ended ≡ ends_at (Whole (message_at place request)) i reply
+  pub place_is : place' ≡ place_by ended place (Stands Nothing (drop (used_of request) (held_at place)))
+  pub unsent_is : unsent' ≡ unsent ++ shown_of (Whole (message_at place request)) i reply

@@ -1,19 +1,20 @@
 //! One client: what it sent is served, and what that gives is to be sent to it.
 
-ghost use Rattle.std.specs.Prelude.{◌≡◌, true, false, [], ◌<◌, ◌≤◌, length, IfOk, OnOk, OnErr};
+ghost use Rattle.std.specs.Prelude.{◌≡◌, true, false, [], ◌<◌, ◌≤◌, length, OnOk, OnErr};
 ghost use Rattle.wire_parts.specs.declared.skip.Skip.TheVariants.{Nothing};
-ghost use Rattle.wire_parts.specs.Stream.{Stands, extended};
-ghost use Rattle.cache_tcp.specs.ConnectionServing.{Feeds, Stops};
 ghost use Rattle.wire_parts.specs.Sending.{bytes_of};
-ghost use Rattle.cache_tcp.specs.Serving.{Serves, ServesOn, StopsIn, StopsOn, IsServed};
+ghost use Rattle.wire_parts.specs.Stream.{Stands};
+ghost use Rattle.cache_tcp.specs.Steps.{RunsOn, Stops, IsAnswered, IsWithin, at_front};
+ghost use Rattle.cache_tcp.specs.Serving.{Comes, Serves, StopsIn, IsServed, Waits};
 
 use crate::clock::Moment;
-use crate::connection::laws::pieces_are_one;
+use crate::connection::uses::Uses;
 use crate::connection::{Cache, Served};
 use memchr::memchr;
 use serve_clients::socket::{Conn, Got, Ready, Sent};
 use std::alloc::{AllocError, Global};
 use std::io::{Read, Write};
+use wire_parts::to_send::SendBuffer;
 
 // The room of one read, in bytes.
 const READ_ROOM: usize = 16_384;
@@ -37,8 +38,12 @@ pub enum AfterTurn {
 pub struct CacheClient<S: Drop> {
     pub conn: Conn<S>,
     pub served: Served,
+    /// The keys that it asked for.
+    pub uses: Uses,
     // It sends no more, and all that it sent was read.
     ended: bool,
+    // It was served up to a backlog, so that something of its stream may be left to serve.
+    stopped: bool,
     /// Whether it stands in the list of those that are served in the next turn.
     pub listed: bool,
     alloc: Global,
@@ -55,31 +60,35 @@ fn piece_len(bytes: &[u8]) -> usize
     }
 }
 
-fn feed_at(
+// What is complete of this stream is served, up to a backlog of so many bytes.
+fn serve_at(
     served: &mut Served,
     cache: &mut Cache,
     moment: Moment,
-    bytes: &[u8],
-) -> Result<Vec<u8>, AllocError>
-    ensures ok { IfOk result (λ text. Feeds moment.seconds served.old bytes.now cache.old text.items served.new cache.new) }
-    ensures stops { OnErr result (Stops moment.seconds (extended served.old bytes.now) cache.old cache.new) }
+    uses: &mut Uses,
+    out: &mut SendBuffer,
+    most: usize,
+) -> Result<(), AllocError>
+    ensures ok { OnOk result (RunsOn moment.seconds served.old cache.old (bytes_of out.old) served.new cache.new (bytes_of out.new)) }
+    ensures all { OnOk result (IsAnswered most served.new.place (bytes_of out.new)) }
+    ensures stops { OnErr result (Stops moment.seconds served.old cache.old cache.new) }
+    ensures within { IsWithin most (bytes_of out.old) → IsWithin most (bytes_of out.new) }
 {
-    served.feed(cache, moment.seconds, bytes)
+    served.serve(cache, moment.seconds, uses, out, most)
 }
-
-// A drop that is a call keeps the proof of a caller short.
-fn drop_text(_text: Vec<u8>) {}
 
 impl<S: Read + Write + Drop> CacheClient<S> {
     /// A client that has said nothing yet. It takes no memory.
     pub fn new(alloc: Global, conn: Conn<S>) -> CacheClient<S>
         ensures conn { result.conn ≡ conn }
-        ensures served { result.served ≡ Stands Nothing [] }
+        ensures served { result.served ≡ at_front (Stands Nothing []) }
     {
         CacheClient {
             conn,
             served: Served::new(alloc),
+            uses: Uses::new(alloc),
             ended: false,
+            stopped: false,
             listed: false,
             alloc,
         }
@@ -100,56 +109,79 @@ impl<S: Read + Write + Drop> CacheClient<S> {
         ready.reads || drains
     }
 
-    // The first line that is held, or all where no line ends there: it is fed, and what that gives is to be sent. So one line is
-    // the most that is served after a backlog.
-    fn serve_piece(&mut self, cache: &mut Cache, moment: Moment) -> Result<(), AllocError>
-        requires { 0 < length self.old.conn.held.items }
-        ensures ok { OnOk result (Serves moment.seconds self.old.conn.held.items (bytes_of self.old.conn.unsent) self.old.served cache.old self.new.conn.held.items (bytes_of self.new.conn.unsent) self.new.served cache.new) }
-        ensures err { OnErr result (StopsIn moment.seconds self.old.conn.held.items self.old.served cache.old cache.new) }
-        ensures shorter { OnOk result (length self.new.conn.held.items < length self.old.conn.held.items) }
+    // What is complete of the stream is served, up to a backlog.
+    fn serve_stream(&mut self, cache: &mut Cache, moment: Moment) -> Result<(), AllocError>
+        ensures ok { OnOk result (RunsOn moment.seconds self.old.served cache.old (bytes_of self.old.conn.unsent) self.new.served cache.new (bytes_of self.new.conn.unsent)) }
+        ensures all { OnOk result (IsAnswered self.old.conn.limits.unsent self.new.served.place (bytes_of self.new.conn.unsent)) }
+        ensures err { OnErr result (Stops moment.seconds self.old.served cache.old cache.new) }
+        ensures within { IsWithin self.old.conn.limits.unsent (bytes_of self.old.conn.unsent) → IsWithin self.old.conn.limits.unsent (bytes_of self.new.conn.unsent) }
+        ensures held { self.new.conn.held ≡ self.old.conn.held }
         ensures limits { self.new.conn.limits ≡ self.old.conn.limits }
     {
-        let count = piece_len(self.conn.held.as_slice());
-        let text = feed_at(
+        let most = self.conn.limits.unsent;
+        serve_at(
             &mut self.served,
             cache,
             moment,
-            &self.conn.held.as_slice()[..count],
-        )?;
-        self.conn.use_held(count);
-        let added = self.conn.unsent.text.extend_from_slice(text.as_slice());
-        drop_text(text);
-        added
+            &mut self.uses,
+            &mut self.conn.unsent,
+            most,
+        )
     }
 
-    // Whether a piece is to be served.
-    fn may_serve(&self) -> bool
+    // Whether what is held is to come to the stream, which has no whole message.
+    fn may_feed(&self) -> bool
         ensures left { result ≡ true → 0 < length self.now.conn.held.items }
-        ensures done { result ≡ false → IsServed self.now.conn.limits.unsent self.now.conn.held.items (bytes_of self.now.conn.unsent) self.now.served }
+        ensures done { result ≡ false → IsAnswered self.now.conn.limits.unsent self.now.served.place (bytes_of self.now.conn.unsent) → IsServed self.now.conn.limits.unsent self.now.conn.held.items (bytes_of self.now.conn.unsent) self.now.served }
     {
         !self.conn.held.is_empty() && !self.conn.has_backlog() && !self.served.is_closed()
     }
 
-    /// All that is held is served at this moment, piece by piece, up to a backlog or the end of the stream: it is fed in order, none left
-    /// out, and what that gives goes after what is to be sent.
+    // The first line that is held comes to the stream, or all where no line ends there.
+    fn feed_piece(&mut self) -> Result<(), AllocError>
+        requires { 0 < length self.old.conn.held.items }
+        ensures ok { OnOk result (Comes self.old.conn.held.items self.old.served self.new.conn.held.items self.new.served) }
+        ensures err { OnErr result (self.new ≡ self.old) }
+        ensures shorter { OnOk result (length self.new.conn.held.items < length self.old.conn.held.items) }
+        ensures unsent { self.new.conn.unsent ≡ self.old.conn.unsent }
+        ensures limits { self.new.conn.limits ≡ self.old.conn.limits }
+    {
+        let count = piece_len(self.conn.held.as_slice());
+        self.served.feed(&self.conn.held.as_slice()[..count])?;
+        self.conn.use_held(count);
+        Ok(())
+    }
+
+    /// All that is held is served at this moment, piece by piece, up to a backlog or the end of the stream: it comes to the stream in order,
+    /// none left out, each ask of it is answered in order, and what that gives goes after what is to be sent. What is served goes on where it
+    /// stopped at the backlog before, be it between two asks of one message.
     ///
     /// The only error is running out of memory, which may break off a message; then the client is to be closed.
     ///
     /// Source: mcgate's own.
     pub fn serve(&mut self, cache: &mut Cache, moment: Moment) -> Result<(), AllocError>
-        ensures ok { OnOk result (ServesOn moment.seconds self.old.conn.held.items (bytes_of self.old.conn.unsent) self.old.served cache.old self.new.conn.held.items (bytes_of self.new.conn.unsent) self.new.served cache.new) }
+        ensures ok { OnOk result (Serves moment.seconds self.old.conn.held.items (bytes_of self.old.conn.unsent) self.old.served cache.old self.new.conn.held.items (bytes_of self.new.conn.unsent) self.new.served cache.new) }
         ensures all { OnOk result (IsServed self.old.conn.limits.unsent self.new.conn.held.items (bytes_of self.new.conn.unsent) self.new.served) }
-        ensures err { OnErr result (StopsOn moment.seconds self.old.conn.held.items (bytes_of self.old.conn.unsent) self.old.served cache.old cache.new) }
+        ensures err { OnErr result (StopsIn moment.seconds self.old.conn.held.items self.old.served cache.old cache.new) }
+        ensures within { IsWithin self.old.conn.limits.unsent (bytes_of self.old.conn.unsent) → IsWithin self.old.conn.limits.unsent (bytes_of self.new.conn.unsent) }
         ensures limits { self.new.conn.limits ≡ self.old.conn.limits }
     {
-        pieces_are_one();
-        while self.may_serve() {
-            self.serve_piece(cache, moment)?;
+        loop {
+            self.serve_stream(cache, moment)?;
+            if !self.may_feed() {
+                return Ok(());
+            }
+            self.feed_piece()?;
         }
-        Ok(())
     }
 
-    fn send(&mut self) -> Sent {
+    // One write, where it takes something.
+    fn send(&mut self) -> Sent
+        ensures unsent { IsWithin self.old.conn.limits.unsent (bytes_of self.old.conn.unsent) → IsWithin self.old.conn.limits.unsent (bytes_of self.new.conn.unsent) }
+        ensures held { self.new.conn.held.items ≡ self.old.conn.held.items }
+        ensures served { self.new.served ≡ self.old.served }
+        ensures limits { self.new.conn.limits ≡ self.old.conn.limits }
+    {
         if !self.conn.writable {
             return Sent::Nothing;
         }
@@ -158,9 +190,22 @@ impl<S: Read + Write + Drop> CacheClient<S> {
         sent
     }
 
-    // One read, where there may be something to read and its replies would have room. `false` where the client has to be dropped.
-    fn read(&mut self) -> bool {
-        if self.ended || !self.conn.readable || self.conn.has_backlog() {
+    // Whether something of what it sent is left to serve, or may be.
+    fn has_left(&self) -> bool {
+        !self.served.is_closed() && (self.stopped || !self.conn.held.is_empty())
+    }
+
+    // Whether there may be something to read.
+    fn may_read(&self) -> bool {
+        self.conn.readable && !self.ended
+    }
+
+    // One read, where there may be something to read and nothing is left to serve. `false` where the client has to be dropped.
+    fn read(&mut self) -> bool
+        ensures unsent { self.new.conn.unsent ≡ self.old.conn.unsent }
+        ensures limits { self.new.conn.limits ≡ self.old.conn.limits }
+    {
+        if !self.may_read() || self.has_left() {
             return true;
         }
         let got = self.conn.read_once(READ_ROOM);
@@ -178,9 +223,21 @@ impl<S: Read + Write + Drop> CacheClient<S> {
         }
     }
 
-    // Whether there may be something to read.
-    fn may_read(&self) -> bool {
-        self.conn.readable && !self.ended
+    // Where it leaves no backlog: one read, and what is whole is answered, up to a backlog. `false` where the client has to be dropped.
+    fn take_in(&mut self, cache: &mut Cache, moment: Moment) -> bool
+        ensures within { IsWithin self.old.conn.limits.unsent (bytes_of self.old.conn.unsent) → IsWithin self.old.conn.limits.unsent (bytes_of self.new.conn.unsent) }
+        ensures waits { self.old.conn.limits.unsent ≤ length (bytes_of self.old.conn.unsent) → Waits self.old.conn.held.items self.old.served cache.old self.new.conn.held.items self.new.served cache.new }
+        ensures limits { self.new.conn.limits ≡ self.old.conn.limits }
+    {
+        if self.conn.has_backlog() {
+            return true;
+        }
+        if !self.read() {
+            return false;
+        }
+        let served = self.serve(cache, moment);
+        self.stopped = self.conn.has_backlog();
+        served.is_ok()
     }
 
     // Whether nothing of what it sent is left to serve, or can come.
@@ -188,7 +245,7 @@ impl<S: Read + Write + Drop> CacheClient<S> {
         if self.served.is_closed() {
             !self.may_read()
         } else {
-            self.ended && self.conn.held.is_empty()
+            self.ended && !self.has_left()
         }
     }
 
@@ -200,18 +257,24 @@ impl<S: Read + Write + Drop> CacheClient<S> {
         if !sent && self.conn.writable {
             return AfterTurn::More;
         }
-        if !self.conn.has_backlog() && (self.may_read() || self.may_serve()) {
+        if !self.conn.has_backlog() && (self.may_read() || self.has_left()) {
             return AfterTurn::More;
         }
         AfterTurn::Waits
     }
 
-    /// The client's part of a turn: one read, all that is whole is answered at this moment, one write.
-    pub fn turn(&mut self, cache: &mut Cache, moment: Moment) -> AfterTurn {
-        if !self.read() {
-            return AfterTurn::Done;
-        }
-        if self.serve(cache, moment).is_err() {
+    /// The client's part of a turn: one read, what is whole is answered at this moment, up to a backlog, and one write.
+    ///
+    /// A client that leaves a backlog untaken is neither read nor served. So at most a backlog is to be sent, and after it the one reply that
+    /// passes it.
+    ///
+    /// Source: mcgate's own.
+    pub fn turn(&mut self, cache: &mut Cache, moment: Moment) -> AfterTurn
+        ensures within { IsWithin self.old.conn.limits.unsent (bytes_of self.old.conn.unsent) → IsWithin self.new.conn.limits.unsent (bytes_of self.new.conn.unsent) }
+        ensures waits { self.old.conn.limits.unsent ≤ length (bytes_of self.old.conn.unsent) → Waits self.old.conn.held.items self.old.served cache.old self.new.conn.held.items self.new.served cache.new }
+        ensures limits { self.new.conn.limits ≡ self.old.conn.limits }
+    {
+        if !self.take_in(cache, moment) {
             return AfterTurn::Done;
         }
         match self.send() {

@@ -5,6 +5,7 @@ mod moment;
 mod reply;
 mod serve;
 pub mod served;
+pub mod uses;
 
 pub use cache_server::Cache;
 pub use served::Served;

@@ -3,11 +3,12 @@
 use crate::client::{AfterTurn, CacheClient};
 use crate::clock::{Moment, SetClock};
 use crate::connection::Cache;
+use crate::room::Room;
 use crate::settings::{Settings, client_limits};
 use mio::{Events, Poll, Token};
 use serve_clients::socket::{Conn, Ready, watch};
 use slab::Slab;
-use std::alloc::Global;
+use std::alloc::{AllocError, Global};
 use std::io::{ErrorKind, Write};
 use std::net::{Net, OpenListener, OpenStream, SocketAddr, TcpListener};
 use std::os::fd::AsRawFd;
@@ -56,6 +57,8 @@ pub struct CacheEnd<R: Net> {
     serving: Vec<usize>,
     clock: SetClock,
     cache: Cache,
+    // What is counted where memory is bounded.
+    room: Option<Room>,
 }
 
 fn make_ready<S: OpenStream>(stream: &S) -> io::Result<()> {
@@ -70,11 +73,53 @@ fn turn_away<S: OpenStream + Write + Drop>(mut stream: S) {
     }
 }
 
+// What the client asked for in its turn is looked up.
+fn look_at_uses<S: Drop>(
+    room: &mut Room,
+    cache: &mut Cache,
+    client: &mut CacheClient<S>,
+    moment: Moment,
+) -> Result<(), AllocError> {
+    let Some(keys) = client.uses.take() else {
+        return Err(AllocError);
+    };
+    for key in &keys {
+        room.look_at(cache, moment, key)?;
+    }
+    Ok(())
+}
+
+// What the client's turn changed is counted, where so many bytes were to be sent to it before, and items are lost where all takes too much.
+fn count<S: Drop>(
+    room: &mut Room,
+    cache: &mut Cache,
+    client: &mut CacheClient<S>,
+    before: usize,
+    moment: Moment,
+) {
+    room.change_unsent(before, client.conn.unsent.len());
+    if look_at_uses(room, cache, client, moment).is_err() {
+        room.give_up(cache);
+    }
+    room.fit(cache);
+}
+
 impl<R: Net + Clock + AllocGlobal> CacheEnd<R> {
     /// An empty server that listens on an address, `HOST:PORT`; with port 0 the system picks one.
     ///
     /// The errors are the system's, among them those of an address that is none or is taken, and running out of memory.
     pub fn listen(rt: &R, address: &str, settings: Settings) -> io::Result<CacheEnd<R>> {
+        Self::listen_within(rt, address, settings, None)
+    }
+
+    /// The same, where items and what is to be sent to clients take so many bytes at most, and what one turn of a client adds. Items are
+    /// lost first, the least recently used before others. Where half of all is to be sent, the client is closed to which most is.
+    pub fn listen_within(
+        rt: &R,
+        address: &str,
+        settings: Settings,
+        memory: Option<usize>,
+    ) -> io::Result<CacheEnd<R>> {
         let alloc = rt.alloc();
         let listener = TcpListener::bind(rt, address)?;
         listener.set_nonblocking(true)?;
@@ -92,6 +137,10 @@ impl<R: Net + Clock + AllocGlobal> CacheEnd<R> {
             serving: Vec::new(alloc),
             clock: SetClock::new(rt)?,
             cache: Cache::new(alloc, settings.capacity)?,
+            room: match memory {
+                Some(most) => Some(Room::new(alloc, settings.capacity, most)?),
+                None => None,
+            },
         })
     }
 
@@ -105,6 +154,16 @@ impl<R: Net + Clock + AllocGlobal> CacheEnd<R> {
         self.clients.len()
     }
 
+    // The client is closed.
+    fn remove(&mut self, id: usize) {
+        let Some(client) = self.clients.try_remove(id) else {
+            return;
+        };
+        if let Some(room) = &mut self.room {
+            room.change_unsent(client.conn.unsent.len(), 0);
+        }
+    }
+
     // The client is served in the next turn. One for which that can't be noted is closed, or it would wait forever.
     fn list(&mut self, id: usize) {
         let Some(client) = self.clients.get_mut(id) else {
@@ -115,7 +174,7 @@ impl<R: Net + Clock + AllocGlobal> CacheEnd<R> {
         }
         client.listed = true;
         if self.ready.push(id).is_err() {
-            let _ = self.clients.try_remove(id);
+            self.remove(id);
         }
     }
 
@@ -172,12 +231,18 @@ impl<R: Net + Clock + AllocGlobal> CacheEnd<R> {
             return;
         }
         let socket = stream.as_raw_fd();
-        let client = CacheClient::new(self.alloc, Conn::new(self.alloc, stream, client_limits()));
+        let mut client = CacheClient::new(
+            self.alloc,
+            Conn::new(self.alloc, stream, client_limits()),
+        );
+        if self.room.is_some() {
+            client.uses.begin();
+        }
         let Ok(id) = self.clients.insert(client) else {
             return;
         };
         if watch(self.poll.registry(), socket, id).is_err() {
-            let _ = self.clients.try_remove(id);
+            self.remove(id);
             return;
         }
         self.list(id);
@@ -203,18 +268,55 @@ impl<R: Net + Clock + AllocGlobal> CacheEnd<R> {
         }
     }
 
-    fn serve_client(&mut self, id: usize, moment: Moment) {
-        let Some(client) = self.clients.get_mut(id) else {
-            return;
-        };
-        client.listed = false;
-        match client.turn(&mut self.cache, moment) {
-            AfterTurn::More => self.list(id),
-            AfterTurn::Waits => {}
-            AfterTurn::Done => {
-                let _ = self.clients.try_remove(id);
+    // The client to which most is to be sent, if something is to any.
+    fn greatest(&self) -> Option<usize> {
+        let mut greatest = None;
+        let mut most = 0;
+        for (id, client) in self.clients.iter() {
+            let len = client.conn.unsent.len();
+            if len > most {
+                most = len;
+                greatest = Some(id);
             }
         }
+        greatest
+    }
+
+    // Where too much is to be sent, the client is closed to which most is.
+    fn shed(&mut self) {
+        let is_half = match &self.room {
+            Some(room) => room.is_unsent_half(),
+            None => false,
+        };
+        if !is_half {
+            return;
+        }
+        if let Some(id) = self.greatest() {
+            self.remove(id);
+        }
+    }
+
+    // The client's turn.
+    fn turn_client(&mut self, id: usize, moment: Moment) -> AfterTurn {
+        let Some(client) = self.clients.get_mut(id) else {
+            return AfterTurn::Waits;
+        };
+        client.listed = false;
+        let before = client.conn.unsent.len();
+        let after = client.turn(&mut self.cache, moment);
+        if let Some(room) = &mut self.room {
+            count(room, &mut self.cache, client, before, moment);
+        }
+        after
+    }
+
+    fn serve_client(&mut self, id: usize, moment: Moment) {
+        match self.turn_client(id, moment) {
+            AfterTurn::More => self.list(id),
+            AfterTurn::Waits => {}
+            AfterTurn::Done => self.remove(id),
+        }
+        self.shed();
     }
 
     fn serve_ready(&mut self, moment: Moment) {

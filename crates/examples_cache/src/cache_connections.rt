@@ -1,9 +1,11 @@
 //! Tests: what one connection is answered, in any pieces.
 
 use crate::reading::{halves, number, same, text_of, wire};
+use cache_tcp::connection::uses::Uses;
 use cache_tcp::connection::{Cache, Served};
 use std::alloc::{AllocError, Global};
 use std::test::Fail;
+use wire_parts::to_send::SendBuffer;
 
 // A name, and pieces of one connection with what is answered to each. `at 9` says the moment, which is 0 otherwise; `closed`
 // stands after the answer where the connection has ended, and `nothing` for no answer; `(9 x)` are 9 letters x.
@@ -125,6 +127,21 @@ fn written_out(alloc: Global, text: &str) -> Result<String, Fail> {
     Ok(format!(in alloc; "{front}{many}{back}")?)
 }
 
+// What a piece is answered, all at once.
+fn given(
+    alloc: Global,
+    served: &mut Served,
+    cache: &mut Cache,
+    moment: u32,
+    piece: &[u8],
+) -> Result<Vec<u8>, AllocError> {
+    let mut out = SendBuffer::new(alloc);
+    let mut uses = Uses::new(alloc);
+    served.feed(piece)?;
+    served.serve(cache, i64::from(moment), &mut uses, &mut out, usize::MAX)?;
+    out.to_vec(alloc)
+}
+
 fn feed(
     alloc: Global,
     served: &mut Served,
@@ -133,7 +150,7 @@ fn feed(
     piece: &str,
 ) -> Result<String, AllocError> {
     let bytes = wire(alloc, piece)?;
-    let given = served.feed(cache, i64::from(moment), bytes.as_str().as_bytes())?;
+    let given = given(alloc, served, cache, moment, bytes.as_str().as_bytes())?;
     text_of(alloc, given.as_slice())
 }
 
@@ -200,9 +217,9 @@ fn each(alloc: Global, texts: &str) -> Result<(), Fail> {
 fn joined(alloc: Global, front: &[u8], back: &[u8]) -> Result<Vec<u8>, AllocError> {
     let mut cache = Cache::new(alloc, 16)?;
     let mut served = Served::new(alloc);
-    let mut given = served.feed(&mut cache, 0, front)?;
-    given.extend_from_slice(served.feed(&mut cache, 0, back)?.as_slice())?;
-    Ok(given)
+    let mut all = given(alloc, &mut served, &mut cache, 0, front)?;
+    all.extend_from_slice(given(alloc, &mut served, &mut cache, 0, back)?.as_slice())?;
+    Ok(all)
 }
 
 fn cut(alloc: Global, line: &str, bytes: &[u8], want: &str) -> Result<(), Fail> {

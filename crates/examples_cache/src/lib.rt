@@ -10,6 +10,8 @@ mod held_items;
 #[cfg(test)]
 mod reading;
 #[cfg(test)]
+mod slow_clients;
+#[cfg(test)]
 mod stepped_calls;
 #[cfg(test)]
 mod table;

@@ -1,6 +1,6 @@
 //! Laws of the serving of a connection. Each is a function without a body, whose contract is the law.
 
-ghost use Rattle.cache_tcp.specs.Laws.{PiecesAreOne, ClosesAfterLast, NothingAfterEnd, FeedIsDetermined};
+ghost use Rattle.cache_tcp.specs.Laws.{PiecesAreOne, ClosesAfterLast, NothingAfterEnd, FeedIsDetermined, StepsAreMessages, GoesOnAsAtOnce};
 
 /// What a client sends in two pieces at one moment is answered as if it came in one: the texts of both, joined.
 pub fn pieces_are_one()
@@ -21,4 +21,15 @@ pub fn nothing_after_end()
 /// and what the cache holds follow from what came and what it held.
 pub fn feed_is_determined()
     ensures { FeedIsDetermined }
+{}
+
+/// Asks that are answered one after another serve their messages: from the front of one to that of another each message between is
+/// served whole, by the text of its replies.
+pub fn steps_are_messages()
+    ensures { StepsAreMessages }
+{}
+
+/// A message that is answered in two goes is answered as at once, where nothing changed between.
+pub fn goes_on_as_at_once()
+    ensures { GoesOnAsAtOnce }
 {}

@@ -1,106 +1,114 @@
 //! One connection of a cache server: pieces in, replies out.
 
-ghost use Rattle.std.specs.Prelude.{◌≡◌, ◌↔◌, pos, ◌≤ℤ◌, [], IsOk, IsTrue, IfOk, OnOk, OnErr};
+ghost use Rattle.std.specs.Prelude.{◌≡◌, ◌↔◌, pos, ◌≤ℤ◌, [], IsTrue, OnOk, OnErr};
 ghost use Rattle.wire_parts.specs.declared.skip.Skip.TheVariants.{Nothing};
+ghost use Rattle.wire_parts.specs.Sending.{bytes_of};
 ghost use Rattle.wire_parts.specs.Stream.{Stands, Closed, extended};
-ghost use Rattle.wire_stream.specs.Steps.{output_of};
-ghost use Rattle.cache_tcp.specs.ConnectionServing.{Feeds, Stops};
+ghost use Rattle.cache_tcp.specs.Steps.{RunsOn, Stops, IsAnswered, IsWithin, at_front, spot_at};
 
 use crate::connection::moment::Moment;
 use crate::connection::serve::serve;
+use crate::connection::uses::Uses;
 use cache_server::Cache;
 use std::alloc::{AllocError, Global};
 use std::marker::Model;
-use wire_stream::connection::Connection;
+use wire_parts::to_send::SendBuffer;
+use wire_stream::connection::ClientStream;
 
-// A piece comes: what is complete is served, and the output is taken.
-fn feed_connection(
-    alloc: Global,
-    connection: &mut Connection,
-    cache: &mut Cache,
-    moment: Moment,
-    bytes: &[u8],
-) -> Result<Vec<u8>, AllocError>
-    requires { output_of connection.old ≡ [] }
-    ensures ok { IfOk result (λ text. Feeds moment.seconds connection.old.stream bytes.now cache.old text.items connection.new.stream cache.new) }
-    ensures given { OnOk result (output_of connection.new ≡ []) }
-    ensures err { OnErr result (Stops moment.seconds (extended connection.old.stream bytes.now) cache.old cache.new) }
-{
-    connection.feed(bytes)?;
-    serve(alloc, connection, cache, moment)?;
-    connection.take_output(alloc)
-}
-
-/// One connection of a cache server, for both dialects, mixed as the client likes: where its client's stream stands.
+/// One connection of a cache server, for both dialects, mixed as the client likes: where its client's stream stands, and how many asks of the message at
+/// the front were answered.
 #[derive(Drop)]
 pub struct Served {
-    connection: Connection,
+    stream: ClientStream,
+    answered: usize,
     alloc: Global,
 }
 
 impl Model for Served {
-    ghost use Rattle.std.specs.Prelude.{◌≡◌, []};
-    ghost use Rattle.wire_parts.specs.Stream.{Place};
-    ghost use Rattle.wire_stream.specs.Steps.{output_of};
+    ghost use Rattle.cache_tcp.specs.Steps.{Spot, spot_at, IsOnWay};
 
-    ghost Value = { Place };
+    ghost Value = { Spot };
 
-    ghost view = { λ s. s.connection.stream };
+    ghost view = { λ s. spot_at s.stream s.answered };
 
-    // No output is held that wasn't given.
-    ghost invariant = { λ s. output_of s.connection ≡ [] };
+    // No ask was answered of any message but the one at the front, and another of it is next.
+    ghost invariant = { λ s. IsOnWay (spot_at s.stream s.answered) };
 }
 
 impl Served {
     /// A connection whose client said nothing yet. It takes no memory.
     pub fn new(alloc: Global) -> Served
-        ensures { result ≡ Stands Nothing [] }
+        ensures { result ≡ at_front (Stands Nothing []) }
     {
         Served {
-            connection: Connection::new(alloc),
+            stream: ClientStream::copying(alloc),
+            answered: 0,
             alloc,
         }
     }
 
-    /// Whether the connection has ended: after `quit`, a line that is too long, or an error of `feed`. It takes no
+    /// Whether the connection has ended: after `quit`, a line that is too long, or an error of `serve`. It takes no
     /// memory.
     pub fn is_closed(&self) -> bool
-        ensures { IsTrue result ↔ self.now ≡ Closed }
+        ensures { IsTrue result ↔ self.now.place ≡ Closed }
     {
-        self.connection.stream.is_closed()
+        self.stream.is_closed()
     }
 
-    /// A piece of the client's bytes comes. All messages that are complete then are answered by the cache, one ask after
-    /// another, at this moment, in seconds, 0 or later; the reply texts are given, in order. Stores have stamp 0. A
-    /// client that wrote `noreply` is shown no reply, and one that wrote `q` none of those that `q` hides. `quit` ends the
-    /// connection, and so does a line without an end in its first 65,536 bytes, which is answered. After the end bytes
-    /// are dropped, and nothing is given.
+    /// A piece of the client's bytes comes. After the end they are dropped. The only error is running out of memory, which changes nothing.
+    pub fn feed(&mut self, bytes: &[u8]) -> Result<(), AllocError>
+        ensures ok { OnOk result (self.new ≡ spot_at (extended self.old.place bytes.now) self.old.count) }
+        ensures err { OnErr result (self.new ≡ self.old) }
+    {
+        self.stream.feed(bytes)
+    }
+
+    /// All messages that are complete are answered by the cache, one ask after another, at this moment, in seconds, 0 or later, until so
+    /// many bytes or more are to be sent; the reply texts go after what is to be sent, in order. A message is broken off between two of its
+    /// asks, and the next call goes on there. The keys that were asked for are noted.
+    ///
+    /// Stores have stamp 0. A client that wrote `noreply` is shown no reply, and one that wrote `q` none of those that `q` hides. `quit` ends
+    /// the connection, and so does a line without an end in its first 65,536 bytes, which is answered. After the end nothing is given.
     ///
     /// Where the cache runs out of memory to store an item, the reply is `SERVER_ERROR out of memory storing object`. Running out
-    /// of it anywhere else is the only error; then the connection has ended, and what wasn't given is lost.
+    /// of it anywhere else is the only error; then the connection has ended.
     ///
     /// Source: memcached's protocol.txt.
-    pub fn feed(
+    pub fn serve(
         &mut self,
         cache: &mut Cache,
         moment: i64,
-        bytes: &[u8],
-    ) -> Result<Vec<u8>, AllocError>
+        uses: &mut Uses,
+        out: &mut SendBuffer,
+        most: usize,
+    ) -> Result<(), AllocError>
         requires { pos 0 ≤ℤ moment }
-        ensures ok { IfOk result (λ text. Feeds moment self.old bytes.now cache.old text.items self.new cache.new) }
-        ensures ended { self.old ≡ Closed → IsOk result }
-        ensures err { OnErr result (self.new ≡ Closed) }
-        ensures stops { OnErr result (Stops moment (extended self.old bytes.now) cache.old cache.new) }
+        ensures ok { OnOk result (RunsOn moment self.old cache.old (bytes_of out.old) self.new cache.new (bytes_of out.new)) }
+        ensures all { OnOk result (IsAnswered most self.new.place (bytes_of out.new)) }
+        ensures err { OnErr result (self.new ≡ at_front Closed) }
+        ensures stops { OnErr result (Stops moment self.old cache.old cache.new) }
+        ensures within { IsWithin most (bytes_of out.old) → IsWithin most (bytes_of out.new) }
     {
-        if self.is_closed() {
-            return Ok(Vec::new(self.alloc));
-        }
         let now = Moment { seconds: moment };
-        let given = feed_connection(self.alloc, &mut self.connection, cache, now, bytes);
-        if given.is_err() {
-            self.connection.stream.close();
-            self.connection.output.clear();
+        match serve(
+            self.alloc,
+            &mut self.stream,
+            self.answered,
+            cache,
+            now,
+            uses,
+            out,
+            most,
+        ) {
+            Ok(answered) => {
+                self.answered = answered;
+                Ok(())
+            }
+            Err(error) => {
+                self.stream.close();
+                self.answered = 0;
+                Err(error)
+            }
         }
-        given
     }
 }

@@ -1,12 +1,15 @@
 use Rattle.std.proofs.Common.{◌≡◌, length}
 use Rattle.wire_parts.specs.Sending.{bytes_of}
-use Rattle.cache_tcp.specs.Serving.{ServesOn}
+use Rattle.cache_tcp.specs.Steps.{IsWithin}
+use Rattle.cache_tcp.specs.Serving.{Serves}
 use Rattle.cache_tcp.proofs.client.CacheClient.serve.Given as goal
 
-abbrev pub invariant-loop-moment : goal.invariant-loop-moment
-invariant-loop-moment g l =
-    ServesOn l.moment.seconds l.fn.self.conn.held.items (bytes_of l.fn.self.conn.unsent) l.fn.self.served l.fn.cache l.self.conn.held.items (bytes_of l.self.conn.unsent) l.self.served l.cache
-    × (l.self.conn.limits ≡ l.fn.self.conn.limits)
+abbrev pub invariant-loop-self : goal.invariant-loop-self
+invariant-loop-self g l = record {
+  serves : Serves l.moment.seconds l.fn.self.conn.held.items (bytes_of l.fn.self.conn.unsent) l.fn.self.served l.fn.cache l.self.conn.held.items (bytes_of l.self.conn.unsent) l.self.served l.cache;
+  within : IsWithin l.fn.self.conn.limits.unsent (bytes_of l.fn.self.conn.unsent) → IsWithin l.fn.self.conn.limits.unsent (bytes_of l.self.conn.unsent);
+  limits : l.self.conn.limits ≡ l.fn.self.conn.limits;
+}
 
-abbrev pub decreases-loop-moment : goal.decreases-loop-moment
-decreases-loop-moment g l = length l.self.conn.held.items
+abbrev pub decreases-loop-self : goal.decreases-loop-self
+decreases-loop-self g l = length l.self.conn.held.items

@@ -1,9 +1,15 @@
-use Rattle.wire_stream.specs.Steps.{held_len}
-use Rattle.cache_tcp.specs.Steps.{GoesOn}
+use Rattle.std.proofs.Common.{length}
+use Rattle.wire_parts.specs.Sending.{bytes_of}
+use Rattle.wire_stream.specs.Held.{held_at}
+use Rattle.cache_tcp.specs.Steps.{spot_at, IsOnWay, RunsOn, IsWithin}
 use Rattle.cache_tcp.proofs.connection.serve.serve.Given as goal
 
-abbrev pub invariant-loop-read : goal.invariant-loop-read
-invariant-loop-read l = GoesOn l.moment.seconds l.fn.connection l.fn.cache l.connection l.cache
+abbrev pub invariant-loop-alloc : goal.invariant-loop-alloc
+invariant-loop-alloc l = record {
+  way : IsOnWay (spot_at l.stream l.next);
+  runs : RunsOn l.moment.seconds (spot_at l.fn.stream l.first) l.fn.cache (bytes_of l.fn.out) (spot_at l.stream l.next) l.cache (bytes_of l.out);
+  within : IsWithin l.most (bytes_of l.fn.out) → IsWithin l.most (bytes_of l.out);
+}
 
-abbrev pub decreases-loop-read : goal.decreases-loop-read
-decreases-loop-read l = held_len l.connection
+abbrev pub decreases-loop-alloc : goal.decreases-loop-alloc
+decreases-loop-alloc l = length (held_at l.stream)

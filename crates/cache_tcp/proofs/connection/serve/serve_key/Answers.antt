@@ -1,11 +1,9 @@
 use Rattle.std.proofs.Common.{Some, sym, ap, ◌∙◌}
-use Rattle.std.proofs.lemmas.Result.{IfOk-weaker}
-use Rattle.cache_tcp.proofs.Keys.{serves_key}
+use Rattle.std.proofs.lemmas.Result.{on_err_weaker}
+use Rattle.cache_tcp.proofs.Keys.{stops_at}
 use Rattle.cache_tcp.proofs.connection.serve.serve_key.Goals as goal
 
-pub returns-clause-ok : goal.returns-clause-ok
-returns-clause-ok c =
-    let x = c.args.connection.now in
-    IfOk-weaker c.serve_ask-served.result _ _ (λ ended told.
-    serves_key c.args.moment.seconds x (record x { stream = c.ask.new.self }) c.serve_ask-served.new.connection c.args.request.now c.args.index c.get.result.now c.args.cache.now c.serve_ask-served.new.cache ended
-    (λ k. record x { stream = c.ask.ensures.same k }) c.requires (c.in_ok-ask.ensures.value ∙ ap Some (sym c.get.ensures)) told) c.serve_ask-served.ensures.ok
+pub returns-clause-err : goal.returns-clause-err
+returns-clause-err c =
+    on_err_weaker c.serve_ask-served.result (λ stops.
+    stops_at c.args.moment.seconds c.args.stream.now c.args.request.now c.args.index c.get.result.now c.args.cache.now c.serve_ask-served.new.cache c.requires.front (c.in_ok-ask.ensures.value ∙ ap Some (sym c.get.ensures)) stops) c.serve_ask-served.ensures.err

@@ -1,0 +1,364 @@
+//! Tests: clients that take their replies slowly, or not at all, each over a stream in memory.
+
+use crate::reading::{halves, key, number, same, text_of, wire};
+use cache_tcp::client::{AfterTurn, CacheClient};
+use cache_tcp::clock::Moment;
+use cache_tcp::connection::Cache;
+use mc_types::DATA_LIMIT;
+use serve_clients::socket::{Conn, Limits};
+use std::alloc::{AllocError, Global};
+use std::io;
+use std::io::{ErrorKind, Read, Write};
+use std::test::Fail;
+
+// A name, how many bytes are a backlog, and what happens. `hold K N` holds N bytes of data under a key of one letter, which differ from those of
+// other keys. Of a client, 0 or 1, `gives` says what is to be read of it, with `(9 x)` for 9 times x; `takes` how many bytes more it takes; and
+// `turn` what becomes of it after a turn, or `runs` after all turns in which something was left to do. Then come what is to be sent to it
+// (`unsent`), how many bytes that is (`length`), and what it took and wasn't looked at yet (`taken`).
+fn texts() -> &'static str {
+    r"A get goes on where it stopped, and each item is shown as it is when its turn comes.
+20
+0 gives set a 0 0 1|1|set b 0 0 1|2|get a b a|
+0 turn => waits
+0 unsent => STORED|STORED|VALUE a 0 1|1|
+1 takes 100
+1 gives set a 0 0 1|5|
+1 runs => waits
+1 taken => STORED|
+0 turn => waits
+0 takes 20
+0 turn => more
+0 turn => waits
+0 unsent => E a 0 1|1|VALUE b 0 1|2|
+0 takes 100
+0 runs => waits
+0 taken => STORED|STORED|VALUE a 0 1|1|VALUE b 0 1|2|VALUE a 0 1|5|END|
+
+Nothing is read while a backlog is left.
+8
+0 gives get a|get b|
+0 turn => waits
+0 gives get c|
+0 turn => waits
+0 unsent => END|END|
+0 takes 6
+0 runs => waits
+0 unsent => ND|END|
+0 takes 100
+0 runs => waits
+0 taken => END|END|END|
+
+What came before the end is answered, and nothing after it.
+8
+0 gives get a|get b|quit|get c|
+0 turn => waits
+0 takes 100
+0 runs => done
+0 taken => END|END|"
+}
+
+// The same with items of 1 MiB. `values K N` and `replies K N` let the client take as many bytes as the value of a key is shown by, without END or with
+// it, N times, and say how often these were its bytes.
+fn large() -> &'static str {
+    r"Gets of 1 MiB by a client that takes nothing, while another is answered; then it takes all.
+1048576
+hold b 1048576
+0 gives (32 get b|)
+0 turn => waits
+0 length => 1048602
+1 takes 100
+1 gives get a|
+1 runs => waits
+1 taken => END|
+0 turn => waits
+0 length => 1048602
+0 replies b 32 => 32
+0 length => 0
+0 takes 100
+0 runs => waits
+0 taken => nothing
+
+One get of many keys of 1 MiB.
+1048576
+hold b 1048576
+hold c 1048576
+0 gives get a c(30  b)|
+0 turn => waits
+0 length => 1048597
+1 takes 100
+1 gives get a|
+1 runs => waits
+1 taken => END|
+0 values c 1 => 1
+0 values b 30 => 30
+0 takes 100
+0 runs => waits
+0 taken => END|"
+}
+
+// What it gives, how many bytes more it takes, and what it took.
+#[derive(Drop)]
+struct Taker {
+    alloc: Global,
+    gives: Vec<u8>,
+    room: usize,
+    taken: Vec<u8>,
+}
+
+impl Read for Taker {
+    fn read(&mut self, buf: &mut [u8]) -> io::Result<usize> {
+        if self.gives.is_empty() {
+            return Err(io::Error::from(ErrorKind::WouldBlock));
+        }
+        let mut rest = self.gives.as_slice();
+        let read = rest.read(buf)?;
+        self.gives = rest.to_vec(self.alloc)?;
+        Ok(read.min(buf.len()))
+    }
+}
+
+impl Write for Taker {
+    fn write(&mut self, buf: &[u8]) -> io::Result<usize> {
+        let count = buf.len().min(self.room);
+        if count == 0 {
+            return Err(io::Error::from(ErrorKind::WouldBlock));
+        }
+        self.taken.extend_from_slice(&buf[..count])?;
+        self.room -= count;
+        Ok(count)
+    }
+
+    fn flush(&mut self) -> io::Result<()> {
+        Ok(())
+    }
+}
+
+type Client = CacheClient<Taker>;
+
+// Two clients of one cache.
+#[derive(Drop)]
+struct Clients {
+    alloc: Global,
+    cache: Cache,
+    first: Client,
+    second: Client,
+}
+
+fn client(alloc: Global, backlog: usize) -> Client {
+    let stream = Taker {
+        alloc,
+        gives: Vec::new(alloc),
+        room: 0,
+        taken: Vec::new(alloc),
+    };
+    let limits = Limits {
+        held: 65_536,
+        unsent: backlog,
+    };
+    CacheClient::new(alloc, Conn::new(alloc, stream, limits))
+}
+
+// The text with what stands between ( and ) written so often.
+fn repeated(alloc: Global, text: &str) -> Result<String, Fail> {
+    let (front, rest) = text.split_once("(").unwrap_or((text, "0 )"));
+    let (inside, back) = rest.split_once(")").unwrap_or((rest, ""));
+    let (count, part) = halves(inside, " ");
+    let mut all = front.to_string(alloc)?;
+    for _ in 0..number(count)? {
+        all.push_str(part)?;
+    }
+    all.push_str(back)?;
+    Ok(all)
+}
+
+fn give(alloc: Global, client: &mut Client, text: &str) -> Result<(), Fail> {
+    let text = repeated(alloc, text)?;
+    let bytes = wire(alloc, text.as_str())?;
+    client
+        .conn
+        .stream
+        .gives
+        .extend_from_slice(bytes.as_str().as_bytes())?;
+    client.conn.readable = true;
+    Ok(())
+}
+
+fn take(client: &mut Client, text: &str) -> Result<(), Fail> {
+    client.conn.stream.room = number(text)? as usize;
+    client.conn.writable = true;
+    Ok(())
+}
+
+fn word(after: AfterTurn) -> &'static str {
+    match after {
+        AfterTurn::More => "more",
+        AfterTurn::Waits => "waits",
+        AfterTurn::Done => "done",
+    }
+}
+
+fn turn(client: &mut Client, cache: &mut Cache) -> AfterTurn {
+    client.turn(cache, Moment { seconds: 0 })
+}
+
+fn run(client: &mut Client, cache: &mut Cache) -> AfterTurn {
+    for _ in 0..1_000 {
+        let after = turn(client, cache);
+        if after != AfterTurn::More {
+            return after;
+        }
+    }
+    AfterTurn::More
+}
+
+// The data that are held under a key.
+fn data_of(alloc: Global, name: &str, count: u32) -> Result<Vec<u8>, AllocError> {
+    let first = name.as_bytes().first().copied().unwrap_or(0);
+    let mut data = Vec::new(alloc);
+    for at in 0..count {
+        data.push(first.wrapping_add((at % 251) as u8))?;
+    }
+    Ok(data)
+}
+
+// What a value of 1 MiB is shown as.
+fn value_of(alloc: Global, name: &str, end: &str) -> Result<Vec<u8>, AllocError> {
+    let mut text = format!(in alloc; "VALUE {name} 0 {DATA_LIMIT}\r\n")?.into_bytes();
+    text.extend_from_slice(data_of(alloc, name, DATA_LIMIT)?.as_slice())?;
+    text.extend_from_slice(end.as_bytes())?;
+    Ok(text)
+}
+
+// The client takes as many bytes as these, so often: how often it took these.
+fn taken_often(client: &mut Client, cache: &mut Cache, part: &[u8], times: u32) -> u32 {
+    let mut count: u32 = 0;
+    for _ in 0..times {
+        client.conn.stream.room = part.len();
+        client.conn.writable = true;
+        run(client, cache);
+        if client.conn.stream.taken.as_slice() == part {
+            count = count.saturating_add(1);
+        }
+        client.conn.stream.taken.clear();
+    }
+    count
+}
+
+// A key and how often it is shown.
+fn often(
+    alloc: Global,
+    client: &mut Client,
+    cache: &mut Cache,
+    text: &str,
+    end: &str,
+) -> Result<String, Fail> {
+    let (name, times) = halves(text, " ");
+    let part = value_of(alloc, name, end)?;
+    let count = taken_often(client, cache, part.as_slice(), number(times)?);
+    Ok(count.to_string(alloc)?)
+}
+
+fn shown(alloc: Global, bytes: &[u8]) -> Result<String, AllocError> {
+    if bytes.is_empty() {
+        return "nothing".to_string(alloc);
+    }
+    text_of(alloc, bytes)
+}
+
+fn taken(alloc: Global, client: &mut Client) -> Result<String, AllocError> {
+    let text = shown(alloc, client.conn.stream.taken.as_slice())?;
+    client.conn.stream.taken.clear();
+    Ok(text)
+}
+
+// What was sent to a client, or is to be.
+fn told(alloc: Global, client: &mut Client, verb: &str) -> Result<String, AllocError> {
+    match verb {
+        "unsent" => shown(alloc, client.conn.unsent.to_vec(alloc)?.as_slice()),
+        "length" => client.conn.unsent.len().to_string(alloc),
+        _ => taken(alloc, client),
+    }
+}
+
+fn event(
+    alloc: Global,
+    client: &mut Client,
+    cache: &mut Cache,
+    text: &str,
+) -> Result<String, Fail> {
+    let (verb, text) = halves(text, " ");
+    match verb {
+        "gives" => give(alloc, client, text)?,
+        "takes" => take(client, text)?,
+        "turn" => return Ok(word(turn(client, cache)).to_string(alloc)?),
+        "runs" => return Ok(word(run(client, cache)).to_string(alloc)?),
+        "values" => return often(alloc, client, cache, text, "\r\n"),
+        "replies" => return often(alloc, client, cache, text, "\r\nEND\r\n"),
+        _ => return Ok(told(alloc, client, verb)?),
+    }
+    Ok(String::new(alloc))
+}
+
+fn hold(alloc: Global, cache: &mut Cache, text: &str) -> Result<(), Fail> {
+    let (name, count) = halves(text, " ");
+    let data = data_of(alloc, name, number(count)?)?;
+    if data.len() > DATA_LIMIT as usize {
+        return Err(Fail::new("too long"));
+    }
+    Ok(cache.hold(&key(name)?, data.as_slice())?)
+}
+
+impl Clients {
+    fn new(alloc: Global, backlog: usize) -> Result<Clients, AllocError> {
+        Ok(Clients {
+            alloc,
+            cache: Cache::new(alloc, 16)?,
+            first: client(alloc, backlog),
+            second: client(alloc, backlog),
+        })
+    }
+
+    fn answer(&mut self, text: &str) -> Result<String, Fail> {
+        let (who, rest) = halves(text, " ");
+        match who {
+            "0" => event(self.alloc, &mut self.first, &mut self.cache, rest),
+            "1" => event(self.alloc, &mut self.second, &mut self.cache, rest),
+            _ => {
+                hold(self.alloc, &mut self.cache, rest)?;
+                Ok(String::new(self.alloc))
+            }
+        }
+    }
+
+    fn step(&mut self, name: &str, line: &str) -> Result<(), Fail> {
+        let (event, want) = halves(line, " => ");
+        let got = self.answer(event)?;
+        same(name, line, got.as_str(), want)
+    }
+}
+
+fn example(alloc: Global, text: &str) -> Result<(), Fail> {
+    let (name, rest) = halves(text, "\n");
+    let (backlog, lines) = halves(rest, "\n");
+    let mut clients = Clients::new(alloc, number(backlog)? as usize)?;
+    for line in lines.lines() {
+        clients.step(name, line)?;
+    }
+    Ok(())
+}
+
+#[test]
+fn what_slow_clients_are_sent(rt: HostRuntime) -> Result<(), Fail> {
+    for text in texts().split("\n\n") {
+        example(rt.alloc(), text)?;
+    }
+    Ok(())
+}
+
+#[test]
+fn what_slow_clients_are_sent_of_large_items(rt: HostRuntime) -> Result<(), Fail> {
+    for text in large().split("\n\n") {
+        example(rt.alloc(), text)?;
+    }
+    Ok(())
+}
