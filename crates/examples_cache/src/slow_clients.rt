@@ -82,7 +82,7 @@ One get of many keys of 1 MiB.
 1048576
 hold b 1048576
 hold c 1048576
-0 gives get a c(30  b)|
+0 gives get a c(3  b)|
 0 turn => waits
 0 length => 1048597
 1 takes 100
@@ -90,7 +90,7 @@ hold c 1048576
 1 runs => waits
 1 taken => END|
 0 values c 1 => 1
-0 values b 30 => 30
+0 values b 3 => 3
 0 takes 100
 0 runs => waits
 0 taken => END|"
