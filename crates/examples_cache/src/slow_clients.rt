@@ -60,7 +60,7 @@ What came before the end is answered, and nothing after it.
 // The same with items of 1 MiB. `values K N` and `replies K N` let the client take as many bytes as the value of a key is shown by, without END or with
 // it, N times, and say how often these were its bytes.
 fn large() -> &'static str {
-    r"Gets of 1 MiB by a client that takes nothing, while another is answered; then it takes all.
+    r"Gets of 1 MiB by a client that takes nothing, while another is answered; then it takes some.
 1048576
 hold b 1048576
 0 gives (32 get b|)
@@ -72,17 +72,14 @@ hold b 1048576
 1 taken => END|
 0 turn => waits
 0 length => 1048602
-0 replies b 32 => 32
-0 length => 0
-0 takes 100
-0 runs => waits
-0 taken => nothing
+0 replies b 4 => 4
+0 length => 1048602
 
-One get of many keys of 1 MiB.
+One get of many keys of 1 MiB, of which all is taken in the end.
 1048576
 hold b 1048576
 hold c 1048576
-0 gives get a c(30  b)|
+0 gives get a c(3  b)|
 0 turn => waits
 0 length => 1048597
 1 takes 100
@@ -90,7 +87,7 @@ hold c 1048576
 1 runs => waits
 1 taken => END|
 0 values c 1 => 1
-0 values b 30 => 30
+0 values b 3 => 3
 0 takes 100
 0 runs => waits
 0 taken => END|"
