@@ -15,8 +15,9 @@ use Rattle.serve_links.specs.Story.{AnEnd, Agrees, AgreesLosing, AllGoFrom, text
 use Rattle.serve_links.proofs.LinkGoes.{losing}
 use Rattle.serve_links.proofs.Walked.{walks_keep}
 use Rattle.serve_proxy.specs.declared.proxy.ProxyEnd.{ProxyEnd}
-use Rattle.serve_proxy.specs.Ends.{Stay, AllGrowFrom, AllGrow, IsLoadOf, HasNoClients}
-use Rattle.serve_proxy.proofs.Going.{and_then, stays, same_core}
+use Rattle.serve_proxy.specs.Ends.{Stay, AllGoOr, AllGrowFrom, AllGrow, IsLoadOf, HasNoClients}
+use Rattle.serve_proxy.proofs.Going.{still, and_then, stays, same_core}
+use Rattle.serve_proxy.proofs.Linking.{or_any}
 use Rattle.serve_proxy.proofs.Growing.{grows}
 use Rattle.serve_proxy.proofs.LogWalks.{walks_are_fresh}
 use Rattle.serve_proxy.proofs.Staying.{stay_still}
@@ -101,6 +102,13 @@ stood old new core ends = grows (and_then (stays old.core.value ends) (same_core
 
 pub same_end : (old new : ProxyEnd Sockets) → new ≡ old → Serves old new
 same_end old new same = subst (λ x. Serves old x) (sym same) (stood old old refl (stay_still (history_of old.sockets.wire) old.sockets.clients old.sockets.links.all.items))
+
+-- nothing is done at all
+pub serves_still : (end : ProxyEnd Sockets) → Serves end end
+serves_still end = same_end end end refl
+
+pub goes_still : {A E : Type 0} (r : Result A E) (end : ProxyEnd Sockets) → AllGoOr r history_of end.core.value end.sockets end.core.value end.sockets
+goes_still r end = or_any history_of end.core.value end.sockets end.core.value end.sockets r still
 
 pub from_end : {A E : Type 0} (r : Result A E) (old mid new : ProxyEnd Sockets) → mid ≡ old → ServesTo r mid new → ServesTo r old new
 from_end r old mid new same g = subst (λ x. ServesTo r x new) same g

@@ -218,6 +218,7 @@ impl Serving {
     }
 
     // One turn, which doesn't wait longer than until the file is to be read again.
+    #[tactic(auto, using(crate::proofs::Loads::goes_still))]
     fn turn<R: Net + Clock>(&mut self, rt: &R, job: &ServeJob<'_>) -> io::Result<()>
         ensures ends { AllGoOr result history_of self.old.end.core.value self.old.end.sockets self.new.end.core.value self.new.end.sockets }
     {
@@ -269,6 +270,7 @@ impl Serving {
     }
 
     // Reads the file again, if that is due.
+    #[tactic(auto, using(crate::proofs::Loads::serves_still))]
     fn look_if_due<R: Files + Input + Net + Clock + AllocGlobal + Print + Eprint>(
         &mut self,
         rt: &R,
@@ -283,6 +285,7 @@ impl Serving {
     }
 
     // Reads the file. A text that it hadn't before is loaded; where it can't be read nothing is done.
+    #[tactic(auto, using(crate::proofs::Loads::serves_still))]
     fn look<R: Files + Input + Net + Clock + AllocGlobal + Print + Eprint>(
         &mut self,
         rt: &R,
@@ -319,6 +322,7 @@ impl Serving {
         }
     }
 
+    #[tactic(auto, using(crate::proofs::Loads::serves_still))]
     fn take_text<R: Net + AllocGlobal + Print + Eprint>(
         &mut self,
         rt: &R,
@@ -340,6 +344,7 @@ impl Serving {
 
     // Loads the configuration of the text, unless the text says what the one in use says, and prints what came of that. Whether the
     // configuration in use is that of the text then.
+    #[tactic(auto, using(crate::proofs::Loads::serves_still))]
     fn judge_text<R: Net + AllocGlobal + Eprint, W: Write>(
         &mut self,
         rt: &R,
@@ -358,6 +363,7 @@ impl Serving {
     }
 
     // Loads the configuration of the text, and prints what came of that, or why the text is none. Whether it was loaded.
+    #[tactic(auto, using(crate::proofs::Loads::serves_still))]
     fn load_text<R: Net + AllocGlobal + Eprint, W: Write>(
         &mut self,
         rt: &R,
