@@ -1,22 +1,18 @@
-use Rattle.std.proofs.Common.{refl}
-use Rattle.serve_proxy.proofs.Growing.{then_grows}
-use Rattle.mcgate.proofs.Loads.{turned, stood, same_end, to_any, to_err}
+use Rattle.serve_links.proofs.Walked.{and_stood, then}
+use Rattle.mcgate.proofs.Loads.{turned}
 use Rattle.mcgate.proofs.serving.Serving.run.Goals as goal
 
-pub loop-init : goal.loop-init
-loop-init g c = same_end _ _ refl
-
 pub returns-in_err-turn : goal.returns-in_err-turn
-returns-in_err-turn g c = record { ends = to_err c.from_residual.result _ _ c.from_residual.ensures.0 (then_grows c.loop.invariant (turned c.in_err-turn.ensures.ends)) }
+returns-in_err-turn g c = record { core = then c.loop.invariant (turned c.turn.ensures.core) }
 
 pub returns-in_err-look_if_due : goal.returns-in_err-look_if_due
-returns-in_err-look_if_due g c = record { ends = to_any c.from_residual-in_err-look_if_due.result _ _ (then_grows (then_grows (then_grows c.loop.invariant (turned c.in_ok-turn.ensures.ends)) (stood c.turn.new.self.end c.tell_news.new.self.end c.tell_news.ensures.core c.tell_news.ensures.ends)) c.look_if_due.ensures.ends) }
+returns-in_err-look_if_due g c = record { core = then (and_stood (then c.loop.invariant (turned c.turn.ensures.core)) c.tell_news.ensures.core) c.look_if_due.ensures.core }
 
 pub loop-preserved : goal.loop-preserved
-loop-preserved g c = then_grows (then_grows (then_grows c.loop.invariant (turned c.in_ok-turn.ensures.ends)) (stood c.turn.new.self.end c.tell_news.new.self.end c.tell_news.ensures.core c.tell_news.ensures.ends)) c.look_if_due.ensures.ends
+loop-preserved g c = then (and_stood (then c.loop.invariant (turned c.turn.ensures.core)) c.tell_news.ensures.core) c.look_if_due.ensures.core
 
 pub returns-in_err-end_turns : goal.returns-in_err-end_turns
-returns-in_err-end_turns g c = record { ends = to_any c.from_residual-in_err-end_turns.result _ _ (then_grows c.loop.invariant (turned c.end_turns.ensures.ends)) }
+returns-in_err-end_turns g c = record { core = then c.loop.invariant (turned c.end_turns.ensures.core) }
 
 pub returns : goal.returns
-returns g c = record { ends = then_grows c.loop.invariant (turned c.end_turns.ensures.ends) }
+returns g c = record { core = then c.loop.invariant (turned c.end_turns.ensures.core) }
