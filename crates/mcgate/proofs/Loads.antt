@@ -1,14 +1,26 @@
--- How the core of an end begins, a turn and a load as what may be done to it, and what it stays.
-use Rattle.std.proofs.Common.{◌≡◌, ℕ, List, [], ◌∷◌, Result, Ok, Err, refl, sym, subst, inl, inr}
+-- How an end begins, a turn and a load as what may be done to it, and what its core stays.
+use Rattle.std.proofs.Common.{◌≡◌, ℕ, true, false, List, [], ◌∷◌, Result, Ok, Err, refl, sym, ap, subst, append-nil, Option, Some, None, ◌++◌}
 use Rattle.std.specs.Prelude.{IfOk}
+use Rattle.std.specs.Result.{IsErr}
 use Rattle.route_json.specs.Servers.{Addresses}
 use Rattle.route_json.specs.Configuration.{Configuration}
 use Rattle.route_tree.specs.Route.{Route}
 use Rattle.core_commands.specs.declared.sharing.Sharing.{Sharing}
 use Rattle.core_accepted.specs.declared.served.ServedCore.{ServedCore}
 use Rattle.serve_links.specs.declared.settings.Settings.{Settings}
-use Rattle.serve_links.specs.CoreSteps.{Step, Opened, NotOpened, Fed, Polled, Stopped, Settled, Gave, Closed, LeftLine, Loaded, Linked, Asked, Greeted, Spelled, AreOf, IsOfTurn, GoesOn}
-use Rattle.serve_links.proofs.Walked.{still, walks_keep}
+use Rattle.serve_wire.specs.Events.{Event}
+use Rattle.serve_wire.specs.declared.sockets.sockets.Sockets.{Sockets}
+use Rattle.serve_links.specs.CoreSteps.{Step, Opened, NotOpened, Fed, Polled, Stopped, Settled, Gave, Closed, LeftLine, Loaded, Linked, Asked, Greeted, Spelled, Walks, AreOf, IsOfTurn}
+use Rattle.serve_links.specs.Story.{AnEnd, Agrees, AgreesLosing, AllGoFrom, texts_of}
+use Rattle.serve_links.proofs.LinkGoes.{losing}
+use Rattle.serve_links.proofs.Walked.{walks_keep}
+use Rattle.serve_proxy.specs.declared.proxy.ProxyEnd.{ProxyEnd}
+use Rattle.serve_proxy.specs.Ends.{Stay, AllGoOr, AllGrowFrom, AllGrow, IsLoadOf, HasNoClients}
+use Rattle.serve_proxy.proofs.Going.{still, and_then, stays, same_core}
+use Rattle.serve_proxy.proofs.Linking.{or_any}
+use Rattle.serve_proxy.proofs.Growing.{grows}
+use Rattle.serve_proxy.proofs.LogWalks.{walks_are_fresh}
+use Rattle.serve_proxy.proofs.Staying.{stay_still}
 use Rattle.core_accepted.specs.Begun.{any_begun}
 use Rattle.core_accepted.specs.Known.{first_of}
 use Rattle.core_accepted.specs.Logs.{IsAccepted}
@@ -16,7 +28,8 @@ use Rattle.serve_proxy.specs.LogsGoOn.{LogsAreFresh}
 use Rattle.mcgate.specs.declared.serve.Servable.{Servable}
 use Rattle.mcgate.specs.declared.serve.Servable.TheVariants as servables
 use Rattle.mcgate.specs.Sharing.{sharing_for}
-use Rattle.mcgate.specs.Serves.{HasTree, BeginsBy, Begins, SaysAfter, IsServed, Serves, MayLoad, MayLoadText, HasServed, StaysFresh}
+use Rattle.mcgate.specs.declared.serving.Serving.{Serving}
+use Rattle.mcgate.specs.Serves.{HasTree, HasServers, BeginsBy, Begins, BeginsServing, SaysAfter, IsServed, history_of, proxy_of, Serves, AgreesTo, ServesTo, GoFreshly, HasServed, StaysFresh}
 
 -- an end that began by these settings but for its sharing, which is that of its tree
 pub begins_on :
@@ -46,21 +59,88 @@ each_of_turn : (steps : List Step) → AreOf IsOfTurn steps → AreOf IsServed s
 each_of_turn [] kinds = tt
 each_of_turn (step ∷ steps) kinds = (of_turn step kinds.0, each_of_turn steps kinds.1)
 
-pub turned : {a b : ServedCore} → GoesOn a b → Serves a b
-turned g = record { steps = g.steps; kinds = each_of_turn g.steps g.kinds; walks = g.walks }
+-- nothing has happened
+pub no_clients : (h : List Event) → h ≡ [] → HasNoClients h
+no_clients h none = subst HasNoClients (sym none) (λ conn id is. none_some is)
+  where
+    none_some : {p : ℕ × ℕ} → ◌≡◌ {A = Option (ℕ × ℕ)} None (Some p) → ⊥
+    none_some e = cc
 
-by_load : (servers : Addresses) (text : List ℕ) (configuration : Configuration) (a b : ServedCore) → SaysAfter servers text configuration → MayLoad configuration a b → Serves a b
-by_load servers text configuration a b says (inl same) = still same
-by_load servers text configuration a b says (inr loaded) = record { steps = Loaded configuration loaded.0 ∷ []; kinds = ((servers, text, says), tt); walks = (a, refl, loaded.1) }
+-- its servers were copied
+pub servers_on :
+    {E : Type 0} (servable known : Servable) (servers : Addresses) (r : Result Addresses E) → servable ≡ known → HasServers known servers → IfOk r (λ copy. copy ≡ servers) → IfOk r (λ copy. HasServers servable copy)
+servers_on servable known servers (Ok copy) is has same = subst (λ x. HasServers x copy) (sym is) (subst (λ (l : Addresses). HasServers known l) (sym same) has)
+servers_on servable known servers (Err fault) is has same = tt
 
-pub by_text : (servers : Addresses) (text : List ℕ) (a b : ServedCore) → MayLoadText servers text a b → Serves a b
-by_text servers text a b (inl same) = still same
-by_text servers text a b (inr loaded) = by_load servers text loaded.0 a b loaded.1 loaded.2
+-- what serves is over an end that begins
+pub begins_serving :
+    {E : Type 0} (servable : Servable) (settings : Settings) (servers : Addresses) (end : ProxyEnd Sockets) (r : Result Serving E) → IfOk r (λ serving. serving.end ≡ end)
+    → Begins servable settings end.core.value → Agrees [] (proxy_of end) → texts_of end.sockets.links.all.items ≡ servers → HasServers servable servers → IfOk r (λ serving. BeginsServing servable settings serving.end)
+begins_serving servable settings servers end (Ok serving) is begins agrees texts has =
+    subst (λ x. BeginsServing servable settings x) (sym is) (record { core = begins; agrees = agrees; servers = subst (λ (l : Addresses). HasServers servable l) (sym texts) has })
+begins_serving servable settings servers end (Err fault) is begins agrees texts has = tt
+
+-- a turn
+pub turned : {P Q : List Step → AnEnd → Type 0} {a b : AnEnd} → AllGoFrom P Q IsOfTurn a b → AllGrowFrom P Q IsServed a b
+turned g = grows (record { steps = g.steps; kinds = each_of_turn g.steps g.kinds; walks = g.walks; agree = g.agree; texts = g.texts })
+
+-- what came of it
+false_true : false ≡ true → ⊥
+false_true e = cc
+
+pub to_err : {A E : Type 0} (r : Result A E) (old new : ProxyEnd Sockets) → IsErr r → AllGrowFrom Agrees AgreesLosing IsServed (proxy_of old) (proxy_of new) → ServesTo r old new
+to_err (Ok done) old new is g = absurd (false_true is)
+to_err (Err fault) old new is g = g
+
+pub to_any : {A E : Type 0} (r : Result A E) (old new : ProxyEnd Sockets) → Serves old new → ServesTo r old new
+to_any (Ok done) old new g = g
+to_any (Err fault) old new g = record { steps = g.steps; kinds = g.kinds; walks = g.walks; agree = λ past was. losing 0 (g.steps ++ past) (proxy_of new) (g.agree past was); texts = g.texts }
+
+-- nothing is done with the core, nor on any connection
+pub stood : {Is : Step → Type 0} (old new : ProxyEnd Sockets) → new.core ≡ old.core → Stay history_of old.sockets new.sockets → AllGrow Is (proxy_of old) (proxy_of new)
+stood old new core ends = grows (and_then (stays old.core.value ends) (same_core (ap (λ c. c.value) core)))
+
+pub same_end : (old new : ProxyEnd Sockets) → new ≡ old → Serves old new
+same_end old new same = subst (λ x. Serves old x) (sym same) (stood old old refl (stay_still (history_of old.sockets.wire) old.sockets.clients old.sockets.links.all.items))
+
+-- nothing is done at all
+pub serves_still : (end : ProxyEnd Sockets) → Serves end end
+serves_still end = same_end end end refl
+
+pub goes_still : {A E : Type 0} (r : Result A E) (end : ProxyEnd Sockets) → AllGoOr r history_of end.core.value end.sockets end.core.value end.sockets
+goes_still r end = or_any history_of end.core.value end.sockets end.core.value end.sockets r still
+
+pub from_end : {A E : Type 0} (r : Result A E) (old mid new : ProxyEnd Sockets) → mid ≡ old → ServesTo r mid new → ServesTo r old new
+from_end r old mid new same g = subst (λ x. ServesTo r x new) same g
+
+-- a load of what a text says
+pub loaded : (servers : Addresses) (text : List ℕ) (configuration : Configuration) {a b : AnEnd} → SaysAfter servers text configuration → AllGrow (IsLoadOf configuration) a b → AllGrow IsServed a b
+loaded servers text configuration says g = record { steps = g.steps; kinds = each g.steps g.kinds; walks = g.walks; agree = g.agree; texts = g.texts }
+  where
+    each : (steps : List Step) → AreOf (IsLoadOf configuration) steps → AreOf IsServed steps
+    each [] kinds = tt
+    each (step ∷ steps) kinds = (subst IsServed (sym kinds.0.1) (servers, text, says), each steps kinds.1)
+
+-- an end that agreed with nothing at first agrees with all that was done since, and where the gate accepted, each log goes on by that freshly
+has_freshly : (servable : Servable) (settings : Settings) (steps : List Step) (a b : ServedCore) → BeginsBy servable settings a → Walks steps a b → LogsAreFresh b → GoFreshly servable steps a b
+has_freshly (servables.Accepted accepted) settings steps a b begins walks fresh = walks_are_fresh steps a b walks fresh ((walks_keep steps a b walks).0 (first_of begins.config any_begun, begins.word, refl))
+has_freshly (servables.Unchecked configuration) settings steps a b begins walks fresh = tt
+
+pub has_served :
+    {A E : Type 0} (servable : Servable) (settings : Settings) (ended : Result A E) (first last : ProxyEnd Sockets) → BeginsServing servable settings first → ServesTo ended first last → LogsAreFresh last.core.value
+    → HasServed servable settings ended last
+has_served servable settings ended first last begins g fresh = record {
+  first = first;
+  begins = begins;
+  serves = g;
+  agrees = subst (λ l. AgreesTo ended l (proxy_of last)) (append-nil g.steps) (g.agree [] begins.agrees);
+  fresh = has_freshly servable (record settings { sharing = sharing_for begins.core.0 }) g.steps first.core.value last.core.value begins.core.2 g.walks fresh;
+}
 
 by_kind : (servable : Servable) (settings : Settings) (a b : ServedCore) → BeginsBy servable settings a → (IsAccepted a → IsAccepted b) → LogsAreFresh b → StaysFresh servable b
 by_kind (servables.Accepted accepted) settings a b begins kept fresh = let is = kept (first_of begins.config any_begun, begins.word, refl) in (is, fresh is)
 by_kind (servables.Unchecked configuration) settings a b begins kept fresh = tt
 
-pub stays_fresh : (servable : Servable) (settings : Settings) (core : ServedCore) → HasServed servable settings core → LogsAreFresh core → StaysFresh servable core
-stays_fresh servable settings core served fresh =
-    by_kind servable (record settings { sharing = sharing_for served.begins.0 }) served.began core served.begins.2 (walks_keep served.serves.steps served.began core served.serves.walks).0 fresh
+pub stays_fresh : {A E : Type 0} (servable : Servable) (settings : Settings) (ended : Result A E) (end : ProxyEnd Sockets) → HasServed servable settings ended end → LogsAreFresh end.core.value → StaysFresh servable end.core.value
+stays_fresh servable settings ended end served fresh =
+    by_kind servable (record settings { sharing = sharing_for served.begins.core.0 }) served.first.core.value end.core.value served.begins.core.2 (walks_keep served.serves.steps served.first.core.value end.core.value served.serves.walks).0 fresh

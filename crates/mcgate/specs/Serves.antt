@@ -1,5 +1,5 @@
--- How the core of a proxy that serves begins, and what is done to it. Source: mcgate's own.
-use Rattle.std.specs.Prelude.{◌≡◌, ℕ, ◌⊎◌, List, Ok}
+-- How a proxy that serves begins, and how its core and the ends of clients and servers go on. Source: mcgate's own.
+use Rattle.std.specs.Prelude.{◌≡◌, ℕ, ◌⊎◌, List, [], Result, Ok, Err}
 use Rattle.serde_json.specs.Read.{read}
 use Rattle.route_json.specs.Servers.{Addresses}
 use Rattle.route_json.specs.Configs.{read_after}
@@ -9,9 +9,15 @@ use Rattle.gate_check.specs.Sound.{IsLast}
 use Rattle.core_accepted.specs.declared.served.ServedCore.{ServedCore}
 use Rattle.core_accepted.specs.Loading.{IsLoaded}
 use Rattle.serve_links.specs.declared.settings.Settings.{Settings}
-use Rattle.serve_links.specs.CoreSteps.{Step, Opened, NotOpened, Fed, Polled, Stopped, Settled, Gave, Closed, LeftLine, Loaded, Linked, Asked, Greeted, Spelled, GoesBy}
+use Rattle.serve_wire.specs.Events.{Event}
+use Rattle.serve_wire.specs.declared.sockets.sockets.Sockets.{Sockets}
+use Rattle.serve_links.specs.CoreSteps.{Step, Opened, NotOpened, Fed, Polled, Stopped, Settled, Gave, Closed, LeftLine, Loaded, Linked, Asked, Greeted, Spelled}
+use Rattle.serve_links.specs.Story.{AnEnd, Agrees, AgreesLosing, texts_of}
+use Rattle.serve_proxy.specs.declared.proxy.ProxyEnd.{ProxyEnd}
+use Rattle.serve_proxy.specs.Ends.{end_of, AllGrowFrom, AllGrow}
 use Rattle.serve_proxy.specs.Beginning.{BeginsFresh, BeginsUnchecked}
 use Rattle.core_accepted.specs.Logs.{IsAccepted, EveryLogIsFresh}
+use Rattle.serve_proxy.specs.LogsGoOn.{LogsGoFreshly}
 use Rattle.mcgate.specs.Sharing.{sharing_for}
 use Rattle.mcgate.specs.declared.serve.Servable.{Servable}
 use Rattle.mcgate.specs.declared.serve.Servable.TheVariants as servables
@@ -51,9 +57,17 @@ IsServed (Asked at number dialect ask) = Unit {0}
 IsServed (Greeted at bytes) = Unit {0}
 IsServed (Spelled at number ask answer bytes) = Unit {0}
 
--- turns and such loads, one after another
-abbrev pub Serves : ServedCore → ServedCore → Type 0
-Serves old new = GoesBy IsServed old new
+-- all that has happened on its sockets, the latest first
+abbrev pub history_of : Sockets → List Event
+history_of wire = wire.log.events
+
+-- a proxy's core, and the ends of clients and servers beside it
+abbrev pub proxy_of : ProxyEnd Sockets → AnEnd
+proxy_of end = end_of history_of end.core.value end.sockets
+
+-- turns and such loads, one after another, and the ends of clients and servers go on with them
+abbrev pub Serves : ProxyEnd Sockets → ProxyEnd Sockets → Type 0
+Serves old new = AllGrow IsServed (proxy_of old) (proxy_of new)
 
 -- nothing is done, or this configuration is loaded
 abbrev pub MayLoad : Configuration → ServedCore → ServedCore → Type 0
@@ -63,11 +77,38 @@ MayLoad configuration old new = (new ≡ old) ⊎ ((generation : ℕ) × IsLoade
 abbrev pub MayLoadText : Addresses → List ℕ → ServedCore → ServedCore → Type 0
 MayLoadText servers text old new = (new ≡ old) ⊎ ((configuration : Configuration) × SaysAfter servers text configuration × MayLoad configuration old new)
 
--- it began so, and turns and loads led to it
-pub record HasServed (servable : Servable) (settings : Settings) (core : ServedCore) : Type 0 where
-  pub began : ServedCore
-  pub begins : Begins servable settings began
-  pub serves : Serves began core
+-- the ends agree with these calls; only where it ended with a fault, what one link holds may be lost
+abbrev pub AgreesTo : {A E : Type 0} → Result A E → List Step → AnEnd → Type 0
+AgreesTo (Ok done) = Agrees
+AgreesTo (Err fault) = AgreesLosing
+
+-- turns and such loads, one after another, that ended so, and the ends of clients and servers go on with them
+abbrev pub ServesTo : {A E : Type 0} → Result A E → ProxyEnd Sockets → ProxyEnd Sockets → Type 0
+ServesTo ended old new = AllGrowFrom Agrees (AgreesTo ended) IsServed (proxy_of old) (proxy_of new)
+
+-- these are its servers: of configurations that the gate accepted, those of the last one
+abbrev pub HasServers : Servable → Addresses → Type 0
+HasServers (servables.Accepted accepted) servers = (configuration : Configuration) × IsLast accepted configuration × (servers ≡ configuration.servers)
+HasServers (servables.Unchecked configuration) servers = servers ≡ configuration.servers
+
+-- an end of a proxy that begins with a new core of this: nothing was fed or given, each link is to its server, and no link has a connection
+pub record BeginsServing (servable : Servable) (settings : Settings) (end : ProxyEnd Sockets) : Type 0 where
+  pub core : Begins servable settings end.core.value
+  pub agrees : Agrees [] (proxy_of end)
+  pub servers : HasServers servable (texts_of end.sockets.links.all.items)
+
+-- where the gate accepted what is served, each log that may have led to the first core goes on by just these calls, and is fresh then
+abbrev pub GoFreshly : Servable → List Step → ServedCore → ServedCore → Type 0
+GoFreshly (servables.Accepted accepted) steps first last = LogsGoFreshly steps first last
+GoFreshly (servables.Unchecked configuration) steps first last = Unit {0}
+
+-- an end that began so was served, and that ended so: turns and loads alone led to what it is, the ends of its clients and its links agree with them, and each log goes on by them freshly
+pub record HasServed {A E : Type 0} (servable : Servable) (settings : Settings) (ended : Result A E) (end : ProxyEnd Sockets) : Type 0 where
+  pub first : ProxyEnd Sockets
+  pub begins : BeginsServing servable settings first
+  pub serves : ServesTo ended first end
+  pub agrees : AgreesTo ended serves.steps (proxy_of end)
+  pub fresh : GoFreshly servable serves.steps first.core.value end.core.value
 
 -- where the gate accepted what is served, the core is one on accepted trees, and each log that may have led to it is fresh
 abbrev pub StaysFresh : Servable → ServedCore → Type 0

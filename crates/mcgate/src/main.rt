@@ -26,7 +26,7 @@ use mcgate_args::input_text::InputFault;
 use mcgate_args::serve_arguments::ServeJob;
 use mcgate_check::status::{BAD_INPUT, DONE, REFUSED};
 use route_json::Config;
-use serve::{Judged, judge_text, look_up_only, serve};
+use serve::{Judged, Servable, judge_text, look_up_only, serve_to_end};
 use special::{is_special, special_line};
 use std::alloc::{AllocError, Global};
 use std::io;
@@ -198,6 +198,24 @@ fn run_loopback<R: Files + Input + AllocGlobal + Net + Clock + Eprint, W: Write>
     Ok(status)
 }
 
+/// Serves a configuration. Where it can't listen there, a line of detail says why.
+fn serve_job<R: Files + Input + AllocGlobal + Net + Clock + Print + Eprint>(
+    rt: &R,
+    job: ServeJob<'_>,
+    servable: Servable,
+    text: String,
+    lines: Lines,
+    details: &mut Details,
+) -> Result<u8, Stop> {
+    match serve_to_end(rt, &job, servable, text, lines) {
+        Ok((_serving, ended)) => ended,
+        Err(error) => {
+            details.add_listen(rt.alloc(), job.listen, &error);
+            Err(Stop::from(error))
+        }
+    }
+}
+
 /// Serves what a job names, or prints why it isn't served.
 fn run_serve<R: Files + Input + AllocGlobal + Net + Clock + Print + Eprint, W: Write>(
     rt: &R,
@@ -231,7 +249,7 @@ fn run_serve<R: Files + Input + AllocGlobal + Net + Clock + Print + Eprint, W: W
             if job.check {
                 return look_up_only(rt, job, &servable, &mut lines, details);
             }
-            serve(rt, job, servable, text, lines, details)
+            serve_job(rt, job, servable, text, lines, details)
         }
     }
 }

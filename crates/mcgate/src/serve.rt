@@ -1,8 +1,10 @@
 //! `mcgate serve`: the configuration is read and judged, and then served.
 
-ghost use Rattle.std.specs.Prelude.{IfOk, false};
+ghost use Rattle.std.specs.Prelude.{◌≡◌, IfOk, false, []};
+ghost use Rattle.serve_links.specs.Story.{Agrees, texts_of};
+ghost use Rattle.serve_proxy.specs.Ends.{HasNoClients};
 ghost use Rattle.mcgate.specs.Judging.{Judges, JudgesText};
-ghost use Rattle.mcgate.specs.Serves.{Begins, HasServed, StaysFresh};
+ghost use Rattle.mcgate.specs.Serves.{Begins, HasServers, BeginsServing, HasServed, StaysFresh, history_of, proxy_of};
 
 use crate::lines::Lines;
 use crate::serving::{Proxy, Serving, resolve, tell_if_unknown};
@@ -50,7 +52,9 @@ impl Servable {
     }
 
     // Its servers.
-    fn servers(&self, alloc: Global) -> Result<Servers, AllocError> {
+    fn servers(&self, alloc: Global) -> Result<Servers, AllocError>
+        ensures { IfOk result (λ servers. HasServers self.now servers) }
+    {
         match self {
             Servable::Accepted(accepted) => accepted.config().servers().copy(alloc),
             Servable::Unchecked(config) => config.servers().copy(alloc),
@@ -107,6 +111,8 @@ fn end_over(
     settings: Settings,
 ) -> Result<Proxy, AllocError>
     ensures core { IfOk result (λ end. Begins servable settings end.core.value) }
+    ensures ends { IfOk result (λ end. HasNoClients (history_of wire) → Agrees [] (proxy_of end)) }
+    ensures texts { IfOk result (λ end. texts_of end.sockets.links.all.items ≡ servers.now) }
 {
     let mut settings = settings;
     match servable {
@@ -123,7 +129,9 @@ fn end_over(
 }
 
 // A wire that listens there.
-fn listen_at<R: Net + Clock + AllocGlobal>(rt: &R, listen: &str) -> io::Result<Sockets> {
+fn listen_at<R: Net + Clock + AllocGlobal>(rt: &R, listen: &str) -> io::Result<Sockets>
+    ensures { IfOk result (λ wire. history_of wire ≡ []) }
+{
     Sockets::listen(rt, resolve(rt, listen)?)
 }
 
@@ -133,12 +141,28 @@ fn look_up<R: Net + Eprint>(
     lines: &mut Lines,
     wire: &mut Sockets,
     servers: &Servers,
-) -> io::Result<()> {
+) -> io::Result<()>
+    ensures { history_of wire.new ≡ history_of wire.old }
+{
     for at in 0..servers.len() {
-        if let Some(text) = text_at(servers, at) {
-            let found = wire.resolve(rt, text.as_bytes());
-            tell_if_unknown(rt, lines, text, found)?;
-        }
+        look_up_at(rt, lines, wire, servers, at)?;
+    }
+    Ok(())
+}
+
+// The same of this one of them.
+fn look_up_at<R: Net + Eprint>(
+    rt: &R,
+    lines: &mut Lines,
+    wire: &mut Sockets,
+    servers: &Servers,
+    at: usize,
+) -> io::Result<()>
+    ensures { history_of wire.new ≡ history_of wire.old }
+{
+    if let Some(text) = text_at(servers, at) {
+        let found = wire.resolve(rt, text.as_bytes());
+        tell_if_unknown(rt, lines, text, found)?;
     }
     Ok(())
 }
@@ -167,7 +191,9 @@ fn listen<R: Net + Clock + AllocGlobal + Eprint>(
     lines: &mut Lines,
     listen: &str,
     servers: &Servers,
-) -> io::Result<Sockets> {
+) -> io::Result<Sockets>
+    ensures { IfOk result (λ wire. history_of wire ≡ []) }
+{
     match listen_at(rt, listen) {
         Ok(mut wire) => {
             look_up(rt, lines, &mut wire, servers)?;
@@ -189,6 +215,8 @@ fn open<R: Net + Clock + AllocGlobal + Eprint>(
     servers: &Servers,
 ) -> io::Result<Proxy>
     ensures core { IfOk result (λ end. Begins servable job.now.settings end.core.value) }
+    ensures ends { IfOk result (λ end. Agrees [] (proxy_of end)) }
+    ensures texts { IfOk result (λ end. texts_of end.sockets.links.all.items ≡ servers.now) }
 {
     let wire = listen(rt, lines, job.listen, servers)?;
     Ok(end_over(rt.alloc(), wire, servable, servers, job.settings)?)
@@ -201,7 +229,7 @@ fn start<R: Net + Clock + AllocGlobal + Eprint>(
     text: String,
     lines: Lines,
 ) -> io::Result<Serving>
-    ensures core { IfOk result (λ serving. Begins servable job.now.settings serving.end.core.value) }
+    ensures { IfOk result (λ serving. BeginsServing servable job.now.settings serving.end) }
 {
     let servers = servable.servers(rt.alloc())?;
     let mut lines = lines;
@@ -209,42 +237,25 @@ fn start<R: Net + Clock + AllocGlobal + Eprint>(
     Serving::new(rt, end, servers, text, lines)
 }
 
-// Serves a configuration to the end, and tells so. What it was then comes with how that was.
-fn serve_to_end<R: Files + Input + Net + Clock + AllocGlobal + Print + Eprint>(
+/// Serves a configuration, and tells so; `text` is that of its file. What it was in the end comes with the exit status after the turns that
+/// were asked, or with why it ended before.
+///
+/// [`Stop::Device`] comes where the system's wait or clock fails, and [`Stop::Memory`] where memory was refused for a configuration that is
+/// read while it runs. An error comes where it can't listen there, or memory was refused for the proxy itself.
+pub fn serve_to_end<R: Files + Input + Net + Clock + AllocGlobal + Print + Eprint>(
     rt: &R,
     job: &ServeJob<'_>,
     servable: Servable,
     text: String,
     lines: Lines,
 ) -> io::Result<(Serving, Result<u8, Stop>)>
-    ensures served { IfOk result (λ ended. HasServed servable job.now.settings ended.0.end.core.value) }
+    ensures served { IfOk result (λ ended. HasServed servable job.now.settings ended.1 ended.0.end) }
     ensures fresh { IfOk result (λ ended. StaysFresh servable ended.0.end.core.value) }
 {
     let mut serving = start(rt, job, servable, text, lines)?;
     let ended = serving.tell_and_run(rt, job);
     serving.logs_are_fresh();
     Ok((serving, ended))
-}
-
-/// Serves a configuration, and tells so; `text` is that of its file. The answer is the exit status after the turns that were asked.
-///
-/// [`Stop::Device`] comes where it can't listen there, of which a line of detail says why, or where the system's wait or clock fails, and
-/// [`Stop::Memory`] where memory was refused for the proxy itself, or for a configuration that is read while it runs.
-pub fn serve<R: Files + Input + Net + Clock + AllocGlobal + Print + Eprint>(
-    rt: &R,
-    job: ServeJob<'_>,
-    servable: Servable,
-    text: String,
-    lines: Lines,
-    details: &mut Details,
-) -> Result<u8, Stop> {
-    match serve_to_end(rt, &job, servable, text, lines) {
-        Ok((_serving, ended)) => ended,
-        Err(error) => {
-            details.add_listen(rt.alloc(), job.listen, &error);
-            Err(Stop::from(error))
-        }
-    }
 }
 
 // What is said where some servers' addresses aren't known.

@@ -1,9 +1,9 @@
 //! A proxy that runs: its turns, what is told of its servers, and the configurations that are loaded meanwhile.
 
 ghost use Rattle.std.specs.Prelude.{◌≡◌, IfOk, string_bytes};
-ghost use Rattle.serve_links.specs.CoreSteps.{GoesOn};
+ghost use Rattle.serve_proxy.specs.Ends.{Stay, AllGoOr, AllGrow, IsLoadOf};
 ghost use Rattle.serve_proxy.specs.LogsGoOn.{LogsAreFresh};
-ghost use Rattle.mcgate.specs.Serves.{SaysAfter, Serves, MayLoad, MayLoadText};
+ghost use Rattle.mcgate.specs.Serves.{SaysAfter, history_of, proxy_of, Serves, ServesTo, MayLoad, MayLoadText};
 
 use crate::lines::Lines;
 use crate::special::is_special;
@@ -19,6 +19,7 @@ use mcgate_check::status::DONE;
 use route_json::addresses::Servers;
 use route_json::{Config, ConfigFault, read_config_after};
 use serde_json::Value;
+use serve_links::LinkNews;
 use serve_proxy::{ProxyEnd, text_at};
 use serve_wire::sockets::Sockets;
 use std::alloc::{AllocError, Global};
@@ -168,7 +169,7 @@ impl Serving {
         rt: &R,
         job: &ServeJob<'_>,
     ) -> Result<u8, Stop>
-        ensures core { Serves self.old.end.core.value self.new.end.core.value }
+        ensures ends { ServesTo result self.old.end self.new.end }
     {
         self.tell_start(rt, job)?;
         self.run(rt, job)
@@ -176,7 +177,7 @@ impl Serving {
 
     // Tells that it listens, and with a tree of which no gate was asked what that means.
     fn tell_start<R: Eprint>(&mut self, rt: &R, job: &ServeJob<'_>) -> io::Result<()>
-        ensures core { self.new.end.core ≡ self.old.end.core }
+        ensures { self.new.end ≡ self.old.end }
     {
         let address = self.end.wire().local_addr()?;
         if job.any {
@@ -200,7 +201,7 @@ impl Serving {
         rt: &R,
         job: &ServeJob<'_>,
     ) -> Result<u8, Stop>
-        ensures core { Serves self.old.end.core.value self.new.end.core.value }
+        ensures ends { ServesTo result self.old.end self.new.end }
     {
         for _ in 0..job.turns.map_or(u64::MAX, u64::from) {
             self.turn(rt, job)?;
@@ -217,8 +218,9 @@ impl Serving {
     }
 
     // One turn, which doesn't wait longer than until the file is to be read again.
+    #[tactic(auto, using(crate::proofs::Loads::goes_still))]
     fn turn<R: Net + Clock>(&mut self, rt: &R, job: &ServeJob<'_>) -> io::Result<()>
-        ensures core { GoesOn self.old.end.core.value self.new.end.core.value }
+        ensures ends { AllGoOr result history_of self.old.end.core.value self.old.end.sockets self.new.end.core.value self.new.end.sockets }
     {
         self.turns = self.turns.saturating_add(1);
         let Some(reload_ms) = job.reload_ms else {
@@ -231,18 +233,26 @@ impl Serving {
     // Tells what happened to servers. Where it can't be told nothing else is done.
     fn tell_news<R: Eprint>(&mut self, rt: &R)
         ensures core { self.new.end.core ≡ self.old.end.core }
+        ensures ends { Stay history_of self.old.end.sockets self.new.end.sockets }
     {
         for _ in 0..self.servers.len() {
             let Some((at, news)) = self.end.next_news() else {
                 return;
             };
-            let Ok(number) = u32::try_from(at) else {
-                return;
-            };
-            if let Some(text) = self.servers.get(ServerId::new(number)) {
-                let line = format_args!("mcgate: server {text}: {news}");
-                self.lines.tell(rt, line);
-            }
+            self.tell_of(rt, at, news);
+        }
+    }
+
+    // Tells this of a server.
+    fn tell_of<R: Eprint>(&mut self, rt: &R, at: usize, news: LinkNews)
+        ensures { self.new.end ≡ self.old.end }
+    {
+        let Ok(number) = u32::try_from(at) else {
+            return;
+        };
+        if let Some(text) = self.servers.get(ServerId::new(number)) {
+            let line = format_args!("mcgate: server {text}: {news}");
+            self.lines.tell(rt, line);
         }
     }
 
@@ -260,12 +270,13 @@ impl Serving {
     }
 
     // Reads the file again, if that is due.
+    #[tactic(auto, using(crate::proofs::Loads::serves_still))]
     fn look_if_due<R: Files + Input + Net + Clock + AllocGlobal + Print + Eprint>(
         &mut self,
         rt: &R,
         job: &ServeJob<'_>,
     ) -> Result<(), Stop>
-        ensures core { Serves self.old.end.core.value self.new.end.core.value }
+        ensures ends { Serves self.old.end self.new.end }
     {
         if self.is_due(rt, job)? {
             return self.look(rt, job);
@@ -274,12 +285,13 @@ impl Serving {
     }
 
     // Reads the file. A text that it hadn't before is loaded; where it can't be read nothing is done.
+    #[tactic(auto, using(crate::proofs::Loads::serves_still))]
     fn look<R: Files + Input + Net + Clock + AllocGlobal + Print + Eprint>(
         &mut self,
         rt: &R,
         job: &ServeJob<'_>,
     ) -> Result<(), Stop>
-        ensures core { Serves self.old.end.core.value self.new.end.core.value }
+        ensures ends { Serves self.old.end self.new.end }
     {
         self.turns = 0;
         self.since = Instant::now(rt)?;
@@ -300,7 +312,7 @@ impl Serving {
 
     // This is what the file has; it says the configuration in use or was refused.
     fn note_text(&mut self, text: String, is_used: bool)
-        ensures core { self.new.end.core ≡ self.old.end.core }
+        ensures { self.new.end ≡ self.old.end }
     {
         if is_used {
             self.text = text;
@@ -310,6 +322,7 @@ impl Serving {
         }
     }
 
+    #[tactic(auto, using(crate::proofs::Loads::serves_still))]
     fn take_text<R: Net + AllocGlobal + Print + Eprint>(
         &mut self,
         rt: &R,
@@ -317,6 +330,7 @@ impl Serving {
         text: String,
     ) -> Result<(), Stop>
         ensures core { MayLoadText self.old.servers (string_bytes text) self.old.end.core.value self.new.end.core.value }
+        ensures ends { Serves self.old.end self.new.end }
     {
         if self.has_seen(text.as_str()) {
             return Ok(());
@@ -330,6 +344,7 @@ impl Serving {
 
     // Loads the configuration of the text, unless the text says what the one in use says, and prints what came of that. Whether the
     // configuration in use is that of the text then.
+    #[tactic(auto, using(crate::proofs::Loads::serves_still))]
     fn judge_text<R: Net + AllocGlobal + Eprint, W: Write>(
         &mut self,
         rt: &R,
@@ -338,6 +353,7 @@ impl Serving {
         out: &mut W,
     ) -> Result<bool, Stop>
         ensures core { MayLoadText self.old.servers text.now self.old.end.core.value self.new.end.core.value }
+        ensures ends { Serves self.old.end self.new.end }
     {
         if says_the_same(rt.alloc(), self.text.as_str(), text) {
             writeln!(out, "reload unchanged generation={}", self.generation)?;
@@ -347,6 +363,7 @@ impl Serving {
     }
 
     // Loads the configuration of the text, and prints what came of that, or why the text is none. Whether it was loaded.
+    #[tactic(auto, using(crate::proofs::Loads::serves_still))]
     fn load_text<R: Net + AllocGlobal + Eprint, W: Write>(
         &mut self,
         rt: &R,
@@ -355,6 +372,7 @@ impl Serving {
         out: &mut W,
     ) -> Result<bool, Stop>
         ensures core { MayLoadText self.old.servers text.now self.old.end.core.value self.new.end.core.value }
+        ensures ends { Serves self.old.end self.new.end }
     {
         match read_after(rt.alloc(), &self.servers, text) {
             Ok((config, servers)) => self.load(rt, any, config, servers, out),
@@ -368,17 +386,33 @@ impl Serving {
     // Looks up those of these servers that weren't in use before.
     fn resolve<R: Net + Eprint>(&mut self, rt: &R, servers: &Servers) -> io::Result<()>
         ensures core { self.new.end.core ≡ self.old.end.core }
+        ensures ends { Stay history_of self.old.end.sockets self.new.end.sockets }
     {
         for at in self.servers.len()..servers.len() {
-            if let Some(text) = text_at(servers, at) {
-                self.resolve_one(rt, text)?;
-            }
+            self.resolve_at(rt, servers, at)?;
         }
         Ok(())
     }
 
+    // Looks up this one of them.
+    fn resolve_at<R: Net + Eprint>(
+        &mut self,
+        rt: &R,
+        servers: &Servers,
+        at: usize,
+    ) -> io::Result<()>
+        ensures core { self.new.end.core ≡ self.old.end.core }
+        ensures ends { Stay history_of self.old.end.sockets self.new.end.sockets }
+    {
+        match text_at(servers, at) {
+            Some(text) => self.resolve_one(rt, text),
+            None => Ok(()),
+        }
+    }
+
     fn resolve_one<R: Net + Eprint>(&mut self, rt: &R, text: &str) -> io::Result<()>
         ensures core { self.new.end.core ≡ self.old.end.core }
+        ensures ends { Stay history_of self.old.end.sockets self.new.end.sockets }
     {
         let found = self.end.resolve(rt, text);
         tell_if_unknown(rt, &mut self.lines, text, found)?;
@@ -395,6 +429,7 @@ impl Serving {
         out: &mut W,
     ) -> Result<bool, Stop>
         ensures core { MayLoad config self.old.end.core.value self.new.end.core.value }
+        ensures ends { AllGrow (IsLoadOf config) (proxy_of self.old.end) (proxy_of self.new.end) }
     {
         self.resolve(rt, &servers)?;
         match self.end.load(config, &servers) {

@@ -1,18 +1,21 @@
-use Rattle.serve_links.proofs.Walked.{and_stood, then}
-use Rattle.mcgate.proofs.Loads.{turned}
+use Rattle.serve_proxy.proofs.Growing.{then_grows}
+use Rattle.mcgate.proofs.Loads.{turned, stood, serves_still, to_any, to_err}
 use Rattle.mcgate.proofs.serving.Serving.run.Goals as goal
 
+pub loop-init : goal.loop-init
+loop-init g c = serves_still c.args.self.now.end
+
 pub returns-in_err-turn : goal.returns-in_err-turn
-returns-in_err-turn g c = record { core = then c.loop.invariant (turned c.turn.ensures.core) }
+returns-in_err-turn g c = record { ends = to_err c.from_residual.result c.args.self.now.end c.turn.new.self.end c.from_residual.ensures.0 (then_grows c.loop.invariant (turned c.in_err-turn.ensures.ends)) }
 
 pub returns-in_err-look_if_due : goal.returns-in_err-look_if_due
-returns-in_err-look_if_due g c = record { core = then (and_stood (then c.loop.invariant (turned c.turn.ensures.core)) c.tell_news.ensures.core) c.look_if_due.ensures.core }
+returns-in_err-look_if_due g c = record { ends = to_any c.from_residual-in_err-look_if_due.result c.args.self.now.end c.look_if_due.new.self.end (then_grows (then_grows (then_grows c.loop.invariant (turned c.in_ok-turn.ensures.ends)) (stood c.turn.new.self.end c.tell_news.new.self.end c.tell_news.ensures.core c.tell_news.ensures.ends)) c.look_if_due.ensures.ends) }
 
 pub loop-preserved : goal.loop-preserved
-loop-preserved g c = then (and_stood (then c.loop.invariant (turned c.turn.ensures.core)) c.tell_news.ensures.core) c.look_if_due.ensures.core
+loop-preserved g c = then_grows (then_grows (then_grows c.loop.invariant (turned c.in_ok-turn.ensures.ends)) (stood c.turn.new.self.end c.tell_news.new.self.end c.tell_news.ensures.core c.tell_news.ensures.ends)) c.look_if_due.ensures.ends
 
 pub returns-in_err-end_turns : goal.returns-in_err-end_turns
-returns-in_err-end_turns g c = record { core = then c.loop.invariant (turned c.end_turns.ensures.core) }
+returns-in_err-end_turns g c = record { ends = to_any c.from_residual-in_err-end_turns.result c.args.self.now.end c.end_turns.new.self (then_grows c.loop.invariant (turned c.end_turns.ensures.ends)) }
 
 pub returns : goal.returns
-returns g c = record { core = then c.loop.invariant (turned c.end_turns.ensures.core) }
+returns g c = record { ends = then_grows c.loop.invariant (turned c.end_turns.ensures.ends) }

@@ -2,4 +2,4 @@ use Rattle.mcgate.specs.Serves.{Serves}
 use Rattle.mcgate.proofs.serving.Serving.run.Given as goal
 
 abbrev pub invariant-loop : goal.invariant-loop
-invariant-loop g l = Serves l.fn.self.end.core.value l.self.end.core.value
+invariant-loop g l = Serves l.fn.self.end l.self.end
