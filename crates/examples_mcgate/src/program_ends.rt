@@ -39,6 +39,7 @@ mcgate where --config c k => where 1 in c
 mcgate where --config c  => no key
 mcgate cache --listen a:1 --capacity 5 => cache 5
 mcgate cache --capacity 4294967295 --turns 7 --listen a:1 => cache 4294967295 turns 7
+mcgate cache --listen a:1 --capacity 5 --memory-mb 6 => cache 5 memory-mb 6
 mcgate loopback => loopback of standard input
 mcgate loopback f => loopback of f
 mcgate serve --listen a:1 --config c => serve - fail-limit 3 auto
@@ -63,6 +64,7 @@ mcgate cache --listen a:1 => refused, told
 mcgate serve --config c => refused, told
 mcgate cache --listen a:1 --capacity 0 => refused, told
 mcgate cache --listen a:1 --capacity 4294967296 => refused, told
+mcgate cache --listen a:1 --capacity 5 --memory-mb 0 => refused, told
 mcgate check f g => refused, told
 mcgate loopback --any => refused, told
 mcgate replay --any --any => refused, told
@@ -143,6 +145,7 @@ fn push_job(out: &mut String, job: &Job<'_>) -> Result<(), AllocError> {
         Job::Loopback { file } => write!(out, "loopback of {}", file_word(file))?,
         Job::Cache(job) => {
             write!(out, "cache {}", job.settings.capacity)?;
+            push_number(out, "memory-mb", job.memory_mb)?;
             push_number(out, "turns", job.turns)?;
         }
         Job::Serve(job) => push_serve(out, job)?,

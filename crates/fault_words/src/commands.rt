@@ -51,7 +51,7 @@ const SERVE_FLAGS: [&str; 17] = [
     "turns",
 ];
 
-const CACHE_FLAGS: [&str; 4] = ["help", "listen", "capacity", "turns"];
+const CACHE_FLAGS: [&str; 5] = ["help", "listen", "capacity", "memory-mb", "turns"];
 
 /// The flags that may stand before any command.
 pub const TOP_FLAGS: [&str; 2] = ["help", "version"];
@@ -117,7 +117,8 @@ impl Command {
             Command::Serve => {
                 "mcgate serve --config FILE --listen HOST:PORT [--any] [--check] [FLAG N ..]"
             }
-            Command::Cache => "mcgate cache --listen HOST:PORT --capacity C [--turns N]",
+            Command::Cache =>
+                "mcgate cache --listen HOST:PORT --capacity C [--memory-mb N] [--turns N]",
             Command::Loopback => "mcgate loopback [SCRIPT]",
             Command::Help => "mcgate help [COMMAND]",
         }
