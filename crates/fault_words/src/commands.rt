@@ -31,7 +31,7 @@ pub const COMMANDS: [&str; 7] = [
     "check", "replay", "where", "serve", "cache", "loopback", "help",
 ];
 
-const SERVE_FLAGS: [&str; 17] = [
+const SERVE_FLAGS: [&str; 18] = [
     "help",
     "check",
     "config",
@@ -45,6 +45,7 @@ const SERVE_FLAGS: [&str; 17] = [
     "fail-limit",
     "retry-ms",
     "polls",
+    "stall-ms",
     "server-dialect",
     "reload-ms",
     "reload-every",

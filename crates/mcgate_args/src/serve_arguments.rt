@@ -39,6 +39,7 @@ opens, fails or comes back.
   --fail-limit N         the calls of a server that failed so many times in a row fail at once, 3
   --retry-ms N           for so long, and then one call tries, 1000
   --polls N              after so many reads of a server in a row without a whole answer its calls have failed; without it, any number
+  --stall-ms N           a client that takes nothing for so many milliseconds, while more than 1 MiB is to be sent to it, is closed, 10000
   --server-dialect WORD  how servers are asked for classic gets: classic, meta, or auto, by what each answers to an mn; auto
   --reload-ms N          FILE is read again each N milliseconds; without it and the next one, it isn't
   --reload-every N       FILE is read again each N turns
@@ -69,6 +70,7 @@ pub fn serve_command<'a>(alloc: Global) -> Result<Command<'a>, AllocError> {
         .arg(option(alloc, "fail-limit"))?
         .arg(option(alloc, "retry-ms"))?
         .arg(option(alloc, "polls"))?
+        .arg(option(alloc, "stall-ms"))?
         .arg(option(alloc, "server-dialect"))?
         .arg(option(alloc, "reload-every"))?
         .arg(option(alloc, "reload-ms"))?
@@ -115,6 +117,7 @@ fn settings_of(given: &ArgMatches<'_>) -> Result<Settings, ArgumentsFault> {
         fail_limit: count_of(given, "fail-limit")?.unwrap_or(usual.fail_limit),
         retry_ms: millis_of(given, "retry-ms", usual.retry_ms)?,
         polls: count_of(given, "polls")?,
+        stall_ms: millis_of(given, "stall-ms", usual.stall_ms)?,
         server_dialect: dialect_of(given, usual.server_dialect)?,
     })
 }

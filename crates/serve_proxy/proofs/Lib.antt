@@ -7,3 +7,4 @@ pub mod Lent
 pub mod Told
 pub mod Growing
 pub mod Linking
+pub mod Stalling

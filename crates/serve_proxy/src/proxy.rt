@@ -21,6 +21,7 @@ use crate::sending::{send_clients, send_links};
 use crate::serving::{serve_all, serve_asks};
 use crate::showing::give_back_room;
 use crate::sockets::Sockets;
+use crate::stalls::end_stalled;
 use core_accepted::laws::accepted_core_is_fresh;
 use core_accepted::{LoadFault, ServedCore};
 use gate_check::{Accepted, ReloadFault};
@@ -69,7 +70,9 @@ fn run_turn<W: Wire, R: Net + Clock>(
     // Calls go out.
     send_links(core, sockets)?;
     // Replies go out.
-    send_clients(core, sockets)
+    send_clients(core, sockets)?;
+    // Clients are closed that take nothing.
+    Ok(end_stalled(core, sockets)?)
 }
 
 impl<W: Wire + Drop> ProxyEnd<W> {
@@ -161,6 +164,15 @@ impl<W: Wire> ProxyEnd<W> {
         ensures ends { Stay W.history self.old.sockets self.new.sockets }
     {
         self.sockets.links.next_news(self.sockets.time)
+    }
+
+    /// How many clients were closed since that was told last, since each took nothing for so long while more than 1 MiB was to be sent to it.
+    /// It is told once a second at most.
+    pub fn next_stalled(&mut self) -> Option<u64>
+        ensures core { self.new.core ≡ self.old.core }
+        ensures ends { Stay W.history self.old.sockets self.new.sockets }
+    {
+        self.sockets.stalls.next_closed(self.sockets.time)
     }
 
     /// Where the gate accepted its trees, each log that may have led to the core is fresh. A law: it does nothing.

@@ -241,7 +241,7 @@ fn poll_once<W: Wire, N: Net>(
     }
 }
 
-// A client that has ended, for which nothing is left to do and to send, is gone.
+// A client that has ended, for which nothing is left to do and to send, is gone; so is one that is broken off, if no command of it is under way.
 fn close_client<W: Wire>(core: &mut ServedCore, sockets: &mut Sockets<W>, id: usize, rest: Rest)
     ensures ends { AllGoOn W.history core.old sockets.old core.new sockets.new }
 {
@@ -272,5 +272,6 @@ fn is_done(core: &ServedCore, id: usize, client: &Client, rest: Rest) -> bool {
     let is_ended = client.is_ended || core.is_closed(id);
     // Bytes that were left unread would take the last replies with them when the socket is closed.
     let is_read = client.is_ended || !client.conn.readable;
-    rest == Rest::Idle && is_ended && is_read && client.conn.unsent.is_empty()
+    let is_over = rest == Rest::Idle && is_ended && is_read;
+    client.conn.unsent.is_empty() && (client.is_broken || is_over)
 }
