@@ -52,7 +52,7 @@ of_turn (Closed client) is = tt
 of_turn (LeftLine client) is = tt
 of_turn (Linked at dialect) is = tt
 of_turn (Asked at number dialect ask) is = tt
-of_turn (Greeted at bytes) is = tt
+of_turn (Greeted at dialect bytes) is = tt
 of_turn (Spelled at number ask answer bytes) is = tt
 
 each_of_turn : (steps : List Step) → AreOf IsOfTurn steps → AreOf IsServed steps

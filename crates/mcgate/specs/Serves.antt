@@ -54,7 +54,7 @@ IsServed (Closed client) = Unit {0}
 IsServed (LeftLine client) = Unit {0}
 IsServed (Linked at dialect) = Unit {0}
 IsServed (Asked at number dialect ask) = Unit {0}
-IsServed (Greeted at bytes) = Unit {0}
+IsServed (Greeted at dialect bytes) = Unit {0}
 IsServed (Spelled at number ask answer bytes) = Unit {0}
 
 -- all that has happened on its sockets, the latest first

@@ -330,7 +330,7 @@ line_learns {at} {core} {h} x y can on l = by l.told
   where
     learned : (c d : Conn) → x.conn ≡ Some c → y.conn ≡ Some d → UsesSome (Some c) (Some d) → y.awaits_dialect ≡ false → LineGoes IsOfTurn at core h x core h y
     learned c d was is uses off = record {
-      steps = Greeted at uses.0 ∷ [];
+      steps = Greeted at y.dialect uses.0 ∷ [];
       kinds = (tt, tt);
       own = (refl, tt);
       walks = (core, refl, refl);
@@ -338,14 +338,14 @@ line_learns {at} {core} {h} x y can on l = by l.told
       text = ap (λ (z : Link). z.text.items) l.rest;
     }
       where
-        agreed : (past : List Step) → LineAgrees at past h x → LineAgrees at (Greeted at uses.0 ∷ past) h y
+        agreed : (past : List Step) → LineAgrees at past h x → LineAgrees at (Greeted at y.dialect uses.0 ∷ past) h y
         agreed past a =
             let talk = ap (λ b. if b then greeted uses.0 (talk_in past at) else talk_in past at) (equal at) in
             let before = talk_as refl refl refl (sym uses.1) refl refl refl (a.conn c was) in
             let now = talk_greets h at x.text.items (talk_in past at) c.number uses.0 d.held.items (bytes_of c.unsent) (said_asks x.calls.sent.items) x.awaits_dialect before in
-            has_conn at (Greeted at uses.0 ∷ past) h y d is
+            has_conn at (Greeted at y.dialect uses.0 ∷ past) h y d is
             (talk_as (ap (λ (z : Link). z.text.items) l.rest) talk (ap (λ (z : Conn). z.number) uses.2) refl (ap (λ (z : Conn). bytes_of z.unsent) uses.2) (ap (λ (z : Link). said_asks z.calls.sent.items) l.rest) off now)
-            (calls_later (Greeted at uses.0 ∷ []) past at y.waiting.items (subst (λ w. AreCalled past at w) (sym (ap (λ (z : Link). z.waiting.items) l.rest)) a.waiting))
+            (calls_later (Greeted at y.dialect uses.0 ∷ []) past at y.waiting.items (subst (λ w. AreCalled past at w) (sym (ap (λ (z : Link). z.waiting.items) l.rest)) a.waiting))
 
     by_conns : (o p : Option Conn) → x.conn ≡ o → y.conn ≡ p → UsesSome o p → y.awaits_dialect ≡ false → LineGoes IsOfTurn at core h x core h y
     by_conns None p was is uses off =
@@ -523,7 +523,7 @@ failed_own at (LeftLine client ∷ steps) kinds = absurd kinds.0
 failed_own at (Loaded configuration generation ∷ steps) kinds = absurd kinds.0
 failed_own at (Linked a dialect ∷ steps) kinds = absurd kinds.0
 failed_own at (Asked a number dialect ask ∷ steps) kinds = absurd kinds.0
-failed_own at (Greeted a bytes ∷ steps) kinds = absurd kinds.0
+failed_own at (Greeted a dialect bytes ∷ steps) kinds = absurd kinds.0
 failed_own at (Spelled a number ask answer bytes ∷ steps) kinds = absurd kinds.0
 
 last_called : (past : List Step) (at : ℕ) (first later : List SentCall) → AreCalled past at (first ++ later) → AreCalled past at later

@@ -47,7 +47,7 @@ IsPlain (LeftLine client) = Unit {0}
 IsPlain (Loaded configuration generation) = Unit {0}
 IsPlain (Linked at dialect) = ⊥
 IsPlain (Asked at number dialect ask) = ⊥
-IsPlain (Greeted at bytes) = ⊥
+IsPlain (Greeted at dialect bytes) = ⊥
 IsPlain (Spelled at number ask answer bytes) = ⊥
 
 pub clients_plain : (steps : List Step) → AreOf IsOfClients steps → AreOf IsPlain steps
@@ -67,7 +67,7 @@ clients_plain (step ∷ steps) kinds = (plain step kinds.0, clients_plain steps 
     plain (Loaded configuration generation) is = tt
     plain (Linked at dialect) is = is
     plain (Asked at number dialect ask) is = is
-    plain (Greeted at bytes) is = is
+    plain (Greeted at dialect bytes) is = is
     plain (Spelled at number ask answer bytes) is = is
 
 -- nothing is told of servers
@@ -85,7 +85,7 @@ plain_talk (LeftLine client ∷ steps) kinds past j = plain_talk steps kinds.1 p
 plain_talk (Loaded configuration generation ∷ steps) kinds past j = plain_talk steps kinds.1 past j
 plain_talk (Linked at dialect ∷ steps) kinds past j = absurd kinds.0
 plain_talk (Asked at number dialect ask ∷ steps) kinds past j = absurd kinds.0
-plain_talk (Greeted at bytes ∷ steps) kinds past j = absurd kinds.0
+plain_talk (Greeted at dialect bytes ∷ steps) kinds past j = absurd kinds.0
 plain_talk (Spelled at number ask answer bytes ∷ steps) kinds past j = absurd kinds.0
 
 -- and they may come at any time
@@ -106,7 +106,7 @@ plain_orderly (step ∷ steps) kinds past o = (follows step (steps ++ past) kind
     follows (Loaded configuration generation) before is = tt
     follows (Linked at dialect) before is = absurd is
     follows (Asked at number dialect ask) before is = absurd is
-    follows (Greeted at bytes) before is = absurd is
+    follows (Greeted at dialect bytes) before is = absurd is
     follows (Spelled at number ask answer bytes) before is = absurd is
 
 -- ---- steps of one server
@@ -117,7 +117,7 @@ server_tells_none at [] own past j = (refl, refl)
 server_tells_none at (Settled number outcome ∷ steps) own past j = server_tells_none at steps own.1 past j
 server_tells_none at (Linked a dialect ∷ steps) own past j = server_tells_none at steps own.1 past j
 server_tells_none at (Asked a number dialect ask ∷ steps) own past j = server_tells_none at steps own.1 past j
-server_tells_none at (Greeted a bytes ∷ steps) own past j = server_tells_none at steps own.1 past j
+server_tells_none at (Greeted a dialect bytes ∷ steps) own past j = server_tells_none at steps own.1 past j
 server_tells_none at (Spelled a number ask answer bytes ∷ steps) own past j = server_tells_none at steps own.1 past j
 server_tells_none at (Opened client ∷ steps) own past j = absurd own.0
 server_tells_none at (NotOpened fault ∷ steps) own past j = absurd own.0
@@ -137,7 +137,7 @@ talk_elsewhere at (Linked a dialect ∷ steps) own past j other =
     ap (λ b. if b then first_talk (first_asked_of dialect) (awaits_first dialect) else talk_in (steps ++ past) j) (ap (λ n. nat_eq n j) own.0 ∙ other) ∙ talk_elsewhere at steps own.1 past j other
 talk_elsewhere at (Asked a number dialect ask ∷ steps) own past j other =
     ap (λ b. if b then with_ask number dialect ask (talk_in (steps ++ past) j) else talk_in (steps ++ past) j) (ap (λ n. nat_eq n j) own.0 ∙ other) ∙ talk_elsewhere at steps own.1 past j other
-talk_elsewhere at (Greeted a bytes ∷ steps) own past j other =
+talk_elsewhere at (Greeted a dialect bytes ∷ steps) own past j other =
     ap (λ b. if b then greeted bytes (talk_in (steps ++ past) j) else talk_in (steps ++ past) j) (ap (λ n. nat_eq n j) own.0 ∙ other) ∙ talk_elsewhere at steps own.1 past j other
 talk_elsewhere at (Spelled a number ask answer bytes ∷ steps) own past j other =
     ap (λ b. if b then with_answer bytes (talk_in (steps ++ past) j) else talk_in (steps ++ past) j) (ap (λ n. nat_eq n j) own.0 ∙ other) ∙ talk_elsewhere at steps own.1 past j other

@@ -82,7 +82,7 @@ each_of_turn (step ∷ steps) each = (of_turn step each.0, each_of_turn steps ea
     of_turn (Loaded configuration generation) is = is
     of_turn (Linked at dialect) is = tt
     of_turn (Asked at number dialect ask) is = tt
-    of_turn (Greeted at bytes) is = tt
+    of_turn (Greeted at dialect bytes) is = tt
     of_turn (Spelled at number ask answer bytes) is = tt
 
 pub failed : {a b : ServedCore} → Fails a b → GoesOn a b
@@ -106,7 +106,7 @@ each_settled (step ∷ steps) each = (of_turn step each.0, each_settled steps ea
     of_turn (Loaded configuration generation) is = is
     of_turn (Linked at dialect) is = tt
     of_turn (Asked at number dialect ask) is = tt
-    of_turn (Greeted at bytes) is = tt
+    of_turn (Greeted at dialect bytes) is = tt
     of_turn (Spelled at number ask answer bytes) is = tt
 
 pub settled : {a b : ServedCore} → GoesBy IsSettlement a b → GoesOn a b
@@ -220,7 +220,7 @@ does_keep (LeftLine client) a b does = by_word a b does.1.word
 does_keep (Loaded configuration generation) a b does = loaded_keeps configuration generation a b does
 does_keep (Linked at dialect) a b does = as_it_was a b does
 does_keep (Asked at number dialect ask) a b does = as_it_was a b does
-does_keep (Greeted at bytes) a b does = as_it_was a b does
+does_keep (Greeted at dialect bytes) a b does = as_it_was a b does
 does_keep (Spelled at number ask answer bytes) a b does = as_it_was a b does.0
 
 pub walks_keep : WalksKeep

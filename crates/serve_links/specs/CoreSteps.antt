@@ -35,7 +35,7 @@ pub data Step : Type 0 where
   Loaded : (configuration : Configuration) (generation : ℕ) → Step
   Linked : (at : ℕ) (dialect : ServerDialect) → Step
   Asked : (at number : ℕ) (dialect : Dialect) (ask : Ask) → Step
-  Greeted : (at : ℕ) (bytes : List ℕ) → Step
+  Greeted : (at : ℕ) (dialect : Dialect) (bytes : List ℕ) → Step
   Spelled : (at number : ℕ) (ask : Ask) (answer : Answer) (bytes : List ℕ) → Step
 
 -- a core goes from one state to another by this call: as the core's own call of that name goes, and with each log that may have led to it. By what was done at a connection it stays; where bytes
@@ -55,7 +55,7 @@ Does (LeftLine client) old new = LeavesLine old.core client new.core × LogsGoBy
 Does (Loaded configuration generation) old new = IsLoaded old configuration generation new
 Does (Linked at dialect) old new = new ≡ old
 Does (Asked at number dialect ask) old new = new ≡ old
-Does (Greeted at bytes) old new = new ≡ old
+Does (Greeted at dialect bytes) old new = new ≡ old
 Does (Spelled at number ask answer bytes) old new = (new ≡ old) × (of_calls.asked old.core number ≡ Some ask)
 
 -- these calls, the latest first, lead from one state to the other
@@ -92,7 +92,7 @@ IsOfTurn (Closed client) = Unit {0}
 IsOfTurn (LeftLine client) = Unit {0}
 IsOfTurn (Linked at dialect) = Unit {0}
 IsOfTurn (Asked at number dialect ask) = Unit {0}
-IsOfTurn (Greeted at bytes) = Unit {0}
+IsOfTurn (Greeted at dialect bytes) = Unit {0}
 IsOfTurn (Spelled at number ask answer bytes) = Unit {0}
 
 -- a call of a server has an outcome
@@ -109,7 +109,7 @@ IsSettlement (LeftLine client) = ⊥
 IsSettlement (Loaded configuration generation) = ⊥
 IsSettlement (Linked at dialect) = ⊥
 IsSettlement (Asked at number dialect ask) = ⊥
-IsSettlement (Greeted at bytes) = ⊥
+IsSettlement (Greeted at dialect bytes) = ⊥
 IsSettlement (Spelled at number ask answer bytes) = ⊥
 
 -- a call of a server has failed
@@ -126,7 +126,7 @@ IsFailure (LeftLine client) = ⊥
 IsFailure (Loaded configuration generation) = ⊥
 IsFailure (Linked at dialect) = ⊥
 IsFailure (Asked at number dialect ask) = ⊥
-IsFailure (Greeted at bytes) = ⊥
+IsFailure (Greeted at dialect bytes) = ⊥
 IsFailure (Spelled at number ask answer bytes) = ⊥
 
 -- a call of a server is to be sent, over a connection that was there or a new one, or has failed
@@ -143,7 +143,7 @@ IsSending (Gave client bytes) = ⊥
 IsSending (Closed client) = ⊥
 IsSending (LeftLine client) = ⊥
 IsSending (Loaded configuration generation) = ⊥
-IsSending (Greeted at bytes) = ⊥
+IsSending (Greeted at dialect bytes) = ⊥
 IsSending (Spelled at number ask answer bytes) = ⊥
 
 -- it goes on by calls of it alone, and keeps its configuration

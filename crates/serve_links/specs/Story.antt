@@ -31,7 +31,7 @@ fed_in (LeftLine client ∷ steps) i = fed_in steps i
 fed_in (Loaded configuration generation ∷ steps) i = fed_in steps i
 fed_in (Linked at dialect ∷ steps) i = fed_in steps i
 fed_in (Asked at number dialect ask ∷ steps) i = fed_in steps i
-fed_in (Greeted at bytes ∷ steps) i = fed_in steps i
+fed_in (Greeted at dialect bytes ∷ steps) i = fed_in steps i
 fed_in (Spelled at number ask answer bytes ∷ steps) i = fed_in steps i
 
 -- all that the core gave for this client since it was opened
@@ -49,7 +49,7 @@ gave_in (LeftLine client ∷ steps) i = gave_in steps i
 gave_in (Loaded configuration generation ∷ steps) i = gave_in steps i
 gave_in (Linked at dialect ∷ steps) i = gave_in steps i
 gave_in (Asked at number dialect ask ∷ steps) i = gave_in steps i
-gave_in (Greeted at bytes ∷ steps) i = gave_in steps i
+gave_in (Greeted at dialect bytes ∷ steps) i = gave_in steps i
 gave_in (Spelled at number ask answer bytes ∷ steps) i = gave_in steps i
 
 -- a client's end agrees with what was fed and given for it by these calls

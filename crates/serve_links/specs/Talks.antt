@@ -53,7 +53,7 @@ with_answer bytes talk = record talk { told = talk.told ++ bytes; out = behind t
 abbrev pub talk_after : Step → ℕ → Talk → Talk
 talk_after (Linked at dialect) i talk = if nat_eq at i then first_talk (first_asked_of dialect) (awaits_first dialect) else talk
 talk_after (Asked at number dialect ask) i talk = if nat_eq at i then with_ask number dialect ask talk else talk
-talk_after (Greeted at bytes) i talk = if nat_eq at i then greeted bytes talk else talk
+talk_after (Greeted at dialect bytes) i talk = if nat_eq at i then greeted bytes talk else talk
 talk_after (Spelled at number ask answer bytes) i talk = if nat_eq at i then with_answer bytes talk else talk
 talk_after (Opened client) i talk = talk
 talk_after (NotOpened fault) i talk = talk
@@ -108,7 +108,7 @@ ComesBy number Failed past = Unit {0}
 -- after these steps this one may come: a server is asked what the core gave out for it, tells of its dialects where it is asked for that, and then answers its calls in their order; and a call is settled by its answer
 abbrev pub MayFollow : Step → List Step → Type 0
 MayFollow (Asked at number dialect ask) past = IsCalledIn past number at ask
-MayFollow (Greeted at bytes) past = (talk_in past at).awaits ≡ true
+MayFollow (Greeted at dialect bytes) past = (talk_in past at).awaits ≡ true
 MayFollow (Spelled at number ask answer bytes) past = IsNextAnswer number ask answer bytes (talk_in past at)
 MayFollow (Settled number outcome) past = ComesBy number outcome past
 MayFollow (Linked at dialect) past = Unit {0}
@@ -141,7 +141,7 @@ IsOfClients (Loaded configuration generation) = Unit {0}
 IsOfClients (Settled number outcome) = ⊥
 IsOfClients (Linked at dialect) = ⊥
 IsOfClients (Asked at number dialect ask) = ⊥
-IsOfClients (Greeted at bytes) = ⊥
+IsOfClients (Greeted at dialect bytes) = ⊥
 IsOfClients (Spelled at number ask answer bytes) = ⊥
 
 -- a step tells of this server, or settles a call
@@ -149,7 +149,7 @@ abbrev pub IsOfServer : ℕ → Step → Type 0
 IsOfServer i (Settled number outcome) = Unit {0}
 IsOfServer i (Linked at dialect) = at ≡ i
 IsOfServer i (Asked at number dialect ask) = at ≡ i
-IsOfServer i (Greeted at bytes) = at ≡ i
+IsOfServer i (Greeted at dialect bytes) = at ≡ i
 IsOfServer i (Spelled at number ask answer bytes) = at ≡ i
 IsOfServer i (Opened client) = ⊥
 IsOfServer i (NotOpened fault) = ⊥

@@ -172,7 +172,7 @@ IsSilent (Gave client bytes) = ⊥
 IsSilent (Loaded configuration generation) = ⊥
 IsSilent (Linked at dialect) = ⊥
 IsSilent (Asked at number dialect ask) = ⊥
-IsSilent (Greeted at bytes) = ⊥
+IsSilent (Greeted at dialect bytes) = ⊥
 IsSilent (Spelled at number ask answer bytes) = ⊥
 
 pub tells_none : (steps : List Step) → AreOf IsSilent steps → (past : List Step) (j : ℕ) → TellsNone j past steps
@@ -189,7 +189,7 @@ tells_none (Gave client bytes ∷ steps) kinds past j = absurd kinds.0
 tells_none (Loaded configuration generation ∷ steps) kinds past j = absurd kinds.0
 tells_none (Linked at dialect ∷ steps) kinds past j = absurd kinds.0
 tells_none (Asked at number dialect ask ∷ steps) kinds past j = absurd kinds.0
-tells_none (Greeted at bytes ∷ steps) kinds past j = absurd kinds.0
+tells_none (Greeted at dialect bytes ∷ steps) kinds past j = absurd kinds.0
 tells_none (Spelled at number ask answer bytes ∷ steps) kinds past j = absurd kinds.0
 
 pub silent_turn : (steps : List Step) → AreOf IsSilent steps → AreOf IsOfTurn steps
@@ -209,7 +209,7 @@ silent_turn (step ∷ steps) kinds = (of_turn step kinds.0, silent_turn steps ki
     of_turn (Loaded configuration generation) is = is
     of_turn (Linked at dialect) is = tt
     of_turn (Asked at number dialect ask) is = tt
-    of_turn (Greeted at bytes) is = tt
+    of_turn (Greeted at dialect bytes) is = tt
     of_turn (Spelled at number ask answer bytes) is = tt
 
 pub silent_plain : (steps : List Step) → AreOf IsSilent steps → AreOf IsPlain steps
@@ -229,7 +229,7 @@ silent_plain (step ∷ steps) kinds = (plain step kinds.0, silent_plain steps ki
     plain (Loaded configuration generation) is = tt
     plain (Linked at dialect) is = is
     plain (Asked at number dialect ask) is = is
-    plain (Greeted at bytes) is = is
+    plain (Greeted at dialect bytes) is = is
     plain (Spelled at number ask answer bytes) is = is
 
 fails_silent : (steps : List Step) → AreOf IsFailure steps → AreOf IsSilent steps
@@ -249,7 +249,7 @@ fails_silent (step ∷ steps) kinds = (silent step kinds.0, fails_silent steps k
     silent (Loaded configuration generation) is = is
     silent (Linked at dialect) is = is
     silent (Asked at number dialect ask) is = is
-    silent (Greeted at bytes) is = is
+    silent (Greeted at dialect bytes) is = is
     silent (Spelled at number ask answer bytes) is = is
 
 fails_send : (steps : List Step) → AreOf IsFailure steps → AreOf IsSending steps
@@ -269,7 +269,7 @@ fails_send (step ∷ steps) kinds = (sends step kinds.0, fails_send steps kinds.
     sends (Loaded configuration generation) is = is
     sends (Linked at dialect) is = tt
     sends (Asked at number dialect ask) is = tt
-    sends (Greeted at bytes) is = is
+    sends (Greeted at dialect bytes) is = is
     sends (Spelled at number ask answer bytes) is = is
 
 sends_turn : (steps : List Step) → AreOf IsSending steps → AreOf IsOfTurn steps
@@ -289,7 +289,7 @@ sends_turn (step ∷ steps) kinds = (of_turn step kinds.0, sends_turn steps kind
     of_turn (Loaded configuration generation) is = is
     of_turn (Linked at dialect) is = tt
     of_turn (Asked at number dialect ask) is = tt
-    of_turn (Greeted at bytes) is = tt
+    of_turn (Greeted at dialect bytes) is = tt
     of_turn (Spelled at number ask answer bytes) is = tt
 
 -- what fails and goes out goes on
