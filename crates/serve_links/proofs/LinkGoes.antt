@@ -92,6 +92,7 @@ losing at past x a = (
   record {
     orderly = a.orderly;
     clients = a.clients;
+    told = a.told;
     links = λ j link other there. a.links j link there;
     this = λ link there. as_lost at past x.history link (a.links at link there);
     gone = a.gone;

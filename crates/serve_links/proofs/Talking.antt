@@ -117,7 +117,7 @@ plain_orderly (step ∷ steps) kinds past o = (follows step (steps ++ past) kind
 
 -- nothing is told of clients
 pub server_tells_none : (at : ℕ) (steps : List Step) → AreOf (IsOfServer at) steps → (past : List Step) (j : ℕ) → TellsNone j past steps
-server_tells_none at [] own past j = (refl, refl)
+server_tells_none at [] own past j = (refl, refl, refl, refl)
 server_tells_none at (Settled number outcome ∷ steps) own past j = server_tells_none at steps own.1 past j
 server_tells_none at (Linked a dialect ∷ steps) own past j = server_tells_none at steps own.1 past j
 server_tells_none at (Asked a number dialect ask ∷ steps) own past j = server_tells_none at steps own.1 past j

@@ -1,5 +1,5 @@
 -- What a walk of a core tells of its clients, and how the ends of clients and links on a wire go on with it. Source: mcgate's own.
-use Rattle.std.specs.Prelude.{◌≡◌, ◌≢◌, ℕ, Bool, false, List, [], ◌∷◌, ◌++◌, Option, Some, map as each, if◌then◌else◌, nat_eq, slice_get, ◌⊎◌}
+use Rattle.std.specs.Prelude.{◌≡◌, ◌≢◌, ℕ, Bool, true, false, List, [], ◌∷◌, ◌++◌, Option, Some, map as each, if◌then◌else◌, nat_eq, slice_get, ◌⊎◌}
 use Rattle.mc_types.specs.declared.ask.Ask.{Ask}
 use Rattle.wire_parts.specs.Sending.{bytes_of}
 use Rattle.serve_wire.specs.Events.{Event, role, delivered, taken}
@@ -54,9 +54,54 @@ gave_in (Asked at number dialect ask ∷ steps) i = gave_in steps i
 gave_in (Greeted at dialect bytes ∷ steps) i = gave_in steps i
 gave_in (Spelled at number ask answer bytes ∷ steps) i = gave_in steps i
 
+-- whether this client was opened, and not closed since
+abbrev pub is_open_in : List Step → ℕ → Bool
+is_open_in [] i = false
+is_open_in (Opened client ∷ steps) i = if nat_eq client i then true else is_open_in steps i
+is_open_in (NotOpened fault ∷ steps) i = is_open_in steps i
+is_open_in (Fed client piece ∷ steps) i = is_open_in steps i
+is_open_in (Polled client poll ∷ steps) i = is_open_in steps i
+is_open_in (Stopped client fault ∷ steps) i = is_open_in steps i
+is_open_in (Settled number outcome ∷ steps) i = is_open_in steps i
+is_open_in (Gave client bytes ∷ steps) i = is_open_in steps i
+is_open_in (Closed client ∷ steps) i = if nat_eq client i then false else is_open_in steps i
+is_open_in (LeftLine client ∷ steps) i = is_open_in steps i
+is_open_in (Broke client ∷ steps) i = is_open_in steps i
+is_open_in (Loaded configuration generation ∷ steps) i = is_open_in steps i
+is_open_in (Linked at dialect ∷ steps) i = is_open_in steps i
+is_open_in (Asked at number dialect ask ∷ steps) i = is_open_in steps i
+is_open_in (Greeted at dialect bytes ∷ steps) i = is_open_in steps i
+is_open_in (Spelled at number ask answer bytes ∷ steps) i = is_open_in steps i
+
+-- whether it was broken off since it was opened
+abbrev pub is_broken_in : List Step → ℕ → Bool
+is_broken_in [] i = false
+is_broken_in (Opened client ∷ steps) i = if nat_eq client i then false else is_broken_in steps i
+is_broken_in (NotOpened fault ∷ steps) i = is_broken_in steps i
+is_broken_in (Fed client piece ∷ steps) i = is_broken_in steps i
+is_broken_in (Polled client poll ∷ steps) i = is_broken_in steps i
+is_broken_in (Stopped client fault ∷ steps) i = is_broken_in steps i
+is_broken_in (Settled number outcome ∷ steps) i = is_broken_in steps i
+is_broken_in (Gave client bytes ∷ steps) i = is_broken_in steps i
+is_broken_in (Closed client ∷ steps) i = is_broken_in steps i
+is_broken_in (LeftLine client ∷ steps) i = is_broken_in steps i
+is_broken_in (Broke client ∷ steps) i = if nat_eq client i then true else is_broken_in steps i
+is_broken_in (Loaded configuration generation ∷ steps) i = is_broken_in steps i
+is_broken_in (Linked at dialect ∷ steps) i = is_broken_in steps i
+is_broken_in (Asked at number dialect ask ∷ steps) i = is_broken_in steps i
+is_broken_in (Greeted at dialect bytes ∷ steps) i = is_broken_in steps i
+is_broken_in (Spelled at number ask answer bytes ∷ steps) i = is_broken_in steps i
+
 -- a client's end agrees with what was fed and given for it by these calls
 abbrev pub AgreesWith : List Step → List Event → ℕ → Client → Type 0
 AgreesWith steps h id client = EndAgrees h (fed_in steps) (gave_in steps) id client
+
+-- these steps tell how the client's end stands: it was opened, and is broken off where they say so
+abbrev pub IsTold : List Step → ℕ → Client → Type 0
+IsTold steps id client = (is_open_in steps id ≡ true) × (is_broken_in steps id ≡ client.is_broken)
+
+abbrev pub AreTold : List Step → Clients → Type 0
+AreTold steps clients = (id : ℕ) → IfSome (client_of clients id) (IsTold steps id)
 
 -- each client's end agrees with what was fed and given for it by these calls
 abbrev pub AgreeWith : List Step → List Event → Clients → Type 0
@@ -64,14 +109,23 @@ AgreeWith steps h clients = AllAgree h (fed_in steps) (gave_in steps) clients
 
 -- of this client the calls tell nothing more
 abbrev pub TellsNone : ℕ → List Step → List Step → Type 0
-TellsNone j past steps = (fed_in (steps ++ past) j ≡ fed_in past j) × (gave_in (steps ++ past) j ≡ gave_in past j)
+TellsNone j past steps =
+    (fed_in (steps ++ past) j ≡ fed_in past j) × (gave_in (steps ++ past) j ≡ gave_in past j) × (is_open_in (steps ++ past) j ≡ is_open_in past j) × (is_broken_in (steps ++ past) j ≡ is_broken_in past j)
 
--- the client whose connection this was is gone: the core closed it, or opened it anew, and until then its connection delivered what was fed for it, and more perhaps, and took the first of what was given for it
+-- a connection took all that the core gave for its client by these calls, or the client was broken off
+abbrev pub TookAll : List Step → List Event → ℕ → ℕ → Type 0
+TookAll steps h id conn = (gave_in steps id ≡ taken conn h) ⊎ (is_broken_in steps id ≡ true)
+
+-- a client ends by this step: the core closes it after its connection took all that was given, or opens it anew though it is open
+abbrev pub EndsBy : Step → List Step → List Event → ℕ → ℕ → Type 0
+EndsBy last steps h id conn = ((last ≡ Closed id) × TookAll steps h id conn) ⊎ ((last ≡ Opened id) × (is_open_in steps id ≡ true))
+
+-- the client whose connection this was is gone by this last step: until then the connection delivered what was fed for it, and more perhaps, and took what was given for it, or where it was broken off the first of that
 pub record IsGone (past : List Step) (h : List Event) (id conn : ℕ) : Type 0 where
   pub later : List Step
   pub last : Step
-  pub ends : (last ≡ Closed id) ⊎ (last ≡ Opened id)
   pub earlier : List Step
+  pub ends : EndsBy last earlier h id conn
   pub parts : past ≡ later ++ last ∷ earlier
   pub lost : ClientLost h (fed_in earlier) (gave_in earlier) id conn
 
@@ -143,6 +197,7 @@ pub record OneGoes (Is : Step → Type 0) (id : ℕ) (core : ServedCore) (h : Li
   pub own : AreOf IsOfClients steps
   pub walks : Walks steps core core'
   pub agrees : (past : List Step) → AgreesWith past h id client → AgreesWith (steps ++ past) h' id client'
+  pub told : (past : List Step) → IsTold past id client → IsTold (steps ++ past) id client'
   pub number : client'.conn.number ≡ client.conn.number
   pub only : TouchesOnly client.conn.number h h'
   pub others : (past : List Step) (j : ℕ) → nat_eq id j ≡ false → TellsNone j past steps
@@ -176,6 +231,7 @@ texts_of links = each (λ link. link.text.items) links
 pub record Agrees (past : List Step) (x : AnEnd) : Type 0 where
   pub orderly : IsOrderly past
   pub clients : AgreeWith past x.history x.clients
+  pub told : AreTold past x.clients
   pub links : LinesAgree past x.history x.links
   pub gone : (conn id : ℕ) → role conn x.history ≡ Some (0, id) → HasOrHad past x.history x.clients id conn
 
@@ -183,6 +239,7 @@ pub record Agrees (past : List Step) (x : AnEnd) : Type 0 where
 pub record AgreesBut (This : ℕ → List Step → List Event → Link → Type 0) (at : ℕ) (past : List Step) (x : AnEnd) : Type 0 where
   pub orderly : IsOrderly past
   pub clients : AgreeWith past x.history x.clients
+  pub told : AreTold past x.clients
   pub links : (j : ℕ) (link : Link) → nat_eq at j ≡ false → slice_get x.links j ≡ Some link → LineAgrees j past x.history link
   pub this : (link : Link) → slice_get x.links at ≡ Some link → This at past x.history link
   pub gone : (conn id : ℕ) → role conn x.history ≡ Some (0, id) → HasOrHad past x.history x.clients id conn
