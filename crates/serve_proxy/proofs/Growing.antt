@@ -17,7 +17,7 @@ use Rattle.serve_links.specs.declared.calls.calls.SentCall.{SentCall}
 use Rattle.serve_links.specs.declared.link.Link.{Link}
 use Rattle.serve_links.specs.Links.{IsDown}
 use Rattle.serve_links.specs.CoreSteps.{Step, Loaded}
-use Rattle.serve_links.specs.Story.{fed_in, gave_in, said_asks, AreCalled, LineState, line_of, LineAgrees, LinesAgree, AnEnd, Agrees, AllGoFrom, texts_of}
+use Rattle.serve_links.specs.Story.{fed_in, gave_in, IsTold, said_asks, AreCalled, LineState, line_of, LineAgrees, LinesAgree, AnEnd, Agrees, AllGoFrom, texts_of}
 use Rattle.serve_links.proofs.Walked.{walked, of_both}
 use Rattle.serve_proxy.specs.Ends.{lines_of, down_line, AddsLines, AllGrowFrom, AllGrow, IsLoadOf, HasNoClients}
 use Rattle.serve_proxy.proofs.Going.{agree_told, had_quiet, lines_told, get_line, texts_by_lines}
@@ -117,7 +117,7 @@ pub links_grow :
     {Is : Step → Type 0} {h : List Event} {cs : Clients} {ls ls' : List Link} (core : ServedCore) → AddsLines ls ls'
     → AllGrow Is (record { core = core; history = h; clients = cs; links = ls }) (record { core = core; history = h; clients = cs; links = ls' })
 links_grow {h = h} {ls = ls} {ls' = ls'} core adds =
-    record { steps = []; kinds = tt; walks = refl; agree = λ past was. record { orderly = was.orderly; clients = was.clients; links = lines_grow h past ls ls' adds was.links; gone = was.gone }; texts = (adds.0, texts_grow ls ls' adds) }
+    record { steps = []; kinds = tt; walks = refl; agree = λ past was. record { orderly = was.orderly; clients = was.clients; told = was.told; links = lines_grow h past ls ls' adds was.links; gone = was.gone }; texts = (adds.0, texts_grow ls ls' adds) }
 
 -- a configuration was loaded, which tells nothing of clients
 pub load_grows :
@@ -128,14 +128,14 @@ load_grows {h} {cs} {ls} configuration generation a b loaded =
       steps = Loaded configuration generation ∷ [];
       kinds = ((generation, refl), tt);
       walks = (a, refl, loaded);
-      agree = λ past was. record { orderly = (tt, was.orderly); clients = agree_told h (fed_in past) (gave_in past) (fed_in (Loaded configuration generation ∷ past)) (gave_in (Loaded configuration generation ∷ past)) cs (λ j. (refl, refl)) was.clients; links = lines_told h (Loaded configuration generation ∷ []) past ls (tt, tt) was.links; gone = λ conn id is. had_quiet past (Loaded configuration generation ∷ []) h h cs cs id conn (untouched conn h) refl is was.gone };
+      agree = λ past was. record { orderly = (tt, was.orderly); clients = agree_told h (fed_in past) (gave_in past) (fed_in (Loaded configuration generation ∷ past)) (gave_in (Loaded configuration generation ∷ past)) cs (λ j. (refl, refl)) was.clients; told = was.told; links = lines_told h (Loaded configuration generation ∷ []) past ls (tt, tt) was.links; gone = λ conn id is. had_quiet past (Loaded configuration generation ∷ []) h h cs cs id conn (untouched conn h) refl is was.gone };
       texts = ([], sym (append-nil (texts_of ls)));
     }
 
 -- it was, or it is as it was
 pub same_grows :
     {Is : Step → Type 0} {h : List Event} {cs : Clients} {ls : List Link} (a b : ServedCore) → b ≡ a → AllGrow Is (record { core = a; history = h; clients = cs; links = ls }) (record { core = b; history = h; clients = cs; links = ls })
-same_grows {Is} {h} {cs} {ls} a b same = record { steps = []; kinds = tt; walks = same; agree = λ past was. record { orderly = was.orderly; clients = was.clients; links = was.links; gone = was.gone }; texts = ([], sym (append-nil (texts_of ls))) }
+same_grows {Is} {h} {cs} {ls} a b same = record { steps = []; kinds = tt; walks = same; agree = λ past was. record { orderly = was.orderly; clients = was.clients; told = was.told; links = was.links; gone = was.gone }; texts = ([], sym (append-nil (texts_of ls))) }
 
 -- from a core that is the same
 pub grow_from :
@@ -147,7 +147,7 @@ grow_from {Is} {h} {cs} {ls} {a} {x} {b} same g = subst (λ y. AllGrow Is (recor
 
 -- no client is there, and no link has a connection
 pub new_agrees : (h : List Event) (core : ServedCore) (cs : Clients) (ls : List Link) → cs.all.items ≡ [] → AddsLines [] ls → HasNoClients h → Agrees [] (record { core = core; history = h; clients = cs; links = ls })
-new_agrees h core cs ls none adds new = record { orderly = tt; clients = λ id. subst (λ o. IfSome o (EndAgrees h (fed_in []) (gave_in []) id)) (sym (nobody id)) tt; links = lines_grow h [] [] ls adds (λ at link there. absurd (none_some there)); gone = λ conn id is. absurd (new conn id is) }
+new_agrees h core cs ls none adds new = record { orderly = tt; clients = λ id. subst (λ o. IfSome o (EndAgrees h (fed_in []) (gave_in []) id)) (sym (nobody id)) tt; told = λ id. subst (λ o. IfSome o (IsTold [] id)) (sym (nobody id)) tt; links = lines_grow h [] [] ls adds (λ at link there. absurd (none_some there)); gone = λ conn id is. absurd (new conn id is) }
   where
     nobody : (id : ℕ) → client_of cs id ≡ None
     nobody id = ap (λ (xs : List (Option Client)). option_flatten (slice_get xs id)) none

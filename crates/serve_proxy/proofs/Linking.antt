@@ -32,7 +32,7 @@ use Rattle.serve_links.specs.Story.{LineState, line_of, said_asks, LineAgrees, L
 use Rattle.serve_links.proofs.LinkGoes.{as_lost, line_between, line_settles, line_loses, line_asks, line_waits, line_takes}
 use Rattle.serve_proxy.specs.Ends.{lines_of, LinksTake, LinksGive, LineTakes, AllGoOn, AllGoBut, AllGoLosing, AllGoOr, AllGoUnless}
 use Rattle.serve_proxy.specs.declared.sockets.Sockets.{Sockets}
-use Rattle.serve_proxy.proofs.Going.{and_then, core_of, may_lose, may_lose_at, line_took, line_gave, had_quiet, numbers_kept}
+use Rattle.serve_proxy.proofs.Going.{and_then, core_of, may_lose, may_lose_at, line_took, line_gave, had_quiet, numbers_kept, told_kept}
 use Rattle.serve_proxy.proofs.Staying.{line_lent}
 
 -- ---- lines
@@ -199,6 +199,7 @@ but_clients {core = core} {h = h} {ls = ls} at cs cs' g keeps = record { steps =
     kept past was = record {
       orderly = was.orderly;
       clients = agree_still h (fed_in past) (gave_in past) cs cs' keeps was.clients;
+      told = told_kept past cs cs' keeps was.told;
       links = was.links;
       this = was.this;
       gone = λ conn id is. had_quiet past [] h h cs cs' id conn (untouched conn h) (numbers_kept (client_of cs id) (client_of cs' id) (keeps id)) is was.gone;

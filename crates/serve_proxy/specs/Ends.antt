@@ -1,15 +1,17 @@
 -- What a proxy's end has on its wire, and how that stays or goes on. Source: mcgate's own.
-use Rattle.std.specs.Prelude.{◌≡◌, ◌≢◌, ℕ, List, [], ◌++◌, Option, Some, None, Result, Ok, Err, false, map as each}
+use Rattle.std.specs.Prelude.{◌≡◌, ◌≢◌, ℕ, List, [], ◌++◌, Option, Some, None, Result, Ok, Err, false, IfSome, map as each}
+use Rattle.wire_parts.specs.Sending.{bytes_of}
 use Rattle.serve_wire.specs.Events.{Event, role}
 use Rattle.serve_wire.specs.Agreement.{IsUntouched}
 use Rattle.core_commands.specs.declared.ticket.Ticket.{Ticket}
 use Rattle.route_json.specs.Configuration.{Configuration}
 use Rattle.core_accepted.specs.declared.served.ServedCore.{ServedCore}
 use Rattle.serve_clients.specs.declared.clients.Clients.{Clients}
+use Rattle.serve_clients.specs.Marks.{client_of}
 use Rattle.serve_clients.specs.Agrees.{KeepsEnds}
 use Rattle.serve_links.specs.declared.calls.calls.SentCall.{SentCall}
 use Rattle.serve_links.specs.declared.link.Link.{Link}
-use Rattle.serve_links.specs.CoreSteps.{Step, Opened, Closed, Loaded, Does, Walks, AreOf, IsOfTurn, IsFailure, IsSending}
+use Rattle.serve_links.specs.CoreSteps.{Step, Opened, Closed, Broke, Loaded, Does, Walks, AreOf, IsOfTurn, IsFailure, IsSending}
 use Rattle.serve_proxy.specs.declared.sockets.Sockets.{Sockets}
 use Rattle.serve_links.specs.Story.{LineState, line_of, LineAgrees, LineLost, LineCalled, LineGoesFrom, LineGoes, AnEnd, Agrees, AgreesBut, AgreesCalled, AgreesLosing, AllGoFrom, AllGo, texts_of}
 
@@ -114,9 +116,21 @@ AllGoUnless at (Err refused) history core sockets core' sockets' = AllGoBut at h
 abbrev pub AllGoOpened : {W : Type 0} → (W → List Event) → (id : ℕ) → ServedCore → Sockets W → ServedCore → Sockets W → Type 0
 AllGoOpened history id core sockets core' sockets' = (before : ServedCore) → Does (Opened id) before core → AllGoOn history before sockets core' sockets'
 
--- whatever core has closed a client of this id, all go on from before that
+-- nothing is to be sent to this client, if there is one
+abbrev pub HasNoneUnsent : ℕ → Clients → Type 0
+HasNoneUnsent id clients = IfSome (client_of clients id) (λ x. bytes_of x.conn.unsent ≡ [])
+
+-- nothing is done with the core but that it closes this client, if it does, and the ends go on with that
+abbrev pub AllClose : {W : Type 0} → (W → List Event) → (id : ℕ) → ServedCore → Sockets W → ServedCore → Sockets W → Type 0
+AllClose history id core sockets core' sockets' = AllGo (λ step. step ≡ Closed id) (end_of history core sockets) (end_of history core' sockets')
+
+-- whatever core has closed a client of this id, all go on from before that, where nothing was to be sent to it
 abbrev pub AllGoClosed : {W : Type 0} → (W → List Event) → (id : ℕ) → Sockets W → Sockets W → Type 0
-AllGoClosed history id sockets sockets' = (before core : ServedCore) → Does (Closed id) before core → AllGoOn history before sockets core sockets'
+AllGoClosed history id sockets sockets' = (before core : ServedCore) → Does (Closed id) before core → HasNoneUnsent id sockets.clients → AllClose history id before sockets core sockets'
+
+-- nothing is done with the core; the client of this id may be broken off, and the ends go on with that
+abbrev pub AllGoBreaking : {W : Type 0} → (W → List Event) → (id : ℕ) → Sockets W → Sockets W → Type 0
+AllGoBreaking history id sockets sockets' = (core : ServedCore) → AllGo (λ step. step ≡ Broke id) (end_of history core sockets) (end_of history core sockets')
 
 -- no connection is a client's
 abbrev pub HasNoClients : List Event → Type 0
