@@ -19,7 +19,7 @@ use Rattle.serve_links.specs.declared.settings.ServerDialect.{ServerDialect}
 use Rattle.serve_links.specs.declared.link.Opening.{Opening}
 use Rattle.serve_links.specs.declared.link.Opening.TheVariants as opening
 use Rattle.serve_links.specs.declared.link.Link.{Link}
-use Rattle.serve_links.specs.CoreSteps.{Step, Opened, NotOpened, Fed, Polled, Stopped, Settled, Gave, Closed, LeftLine, Loaded, Linked, Asked, Greeted, Spelled, AreOf, IsOfTurn, IsFailure, IsSending, Fails}
+use Rattle.serve_links.specs.CoreSteps.{Step, Opened, NotOpened, Fed, Polled, Stopped, Settled, Gave, Closed, LeftLine, Broke, Loaded, Linked, Asked, Greeted, Spelled, AreOf, IsOfTurn, IsFailure, IsSending, Fails}
 use Rattle.serve_links.specs.Dialects.{asked_in}
 use Rattle.serve_links.specs.Lines.{first_asked_of, awaits_first, first_dialect, SameLine, KeepsLines, IsNewEnd, HasNewEnd, OpensBy, TakesGreeting, HasLearnt, Learns}
 use Rattle.serve_links.specs.Settled.{SettlesSome}
@@ -531,6 +531,7 @@ failed_own at (Stopped client fault ∷ steps) kinds = absurd kinds.0
 failed_own at (Gave client bytes ∷ steps) kinds = absurd kinds.0
 failed_own at (Closed client ∷ steps) kinds = absurd kinds.0
 failed_own at (LeftLine client ∷ steps) kinds = absurd kinds.0
+failed_own at (Broke client ∷ steps) kinds = absurd kinds.0
 failed_own at (Loaded configuration generation ∷ steps) kinds = absurd kinds.0
 failed_own at (Linked a dialect ∷ steps) kinds = absurd kinds.0
 failed_own at (Asked a number dialect ask ∷ steps) kinds = absurd kinds.0

@@ -5,7 +5,7 @@ use Rattle.mc_types.specs.declared.ask.Ask.{Ask}
 use Rattle.mc_types.specs.declared.call.Outcome.TheVariants.{Failed}
 use Rattle.core_proxy.specs.declared.note.Poll.TheVariants as polls
 use Rattle.serve_links.specs.declared.calls.calls.SentCall.{SentCall}
-use Rattle.serve_links.specs.CoreSteps.{Step, Opened, NotOpened, Fed, Polled, Stopped, Settled, Gave, Closed, LeftLine, Loaded, Linked, Asked, Greeted, Spelled, AreOf}
+use Rattle.serve_links.specs.CoreSteps.{Step, Opened, NotOpened, Fed, Polled, Stopped, Settled, Gave, Closed, LeftLine, Broke, Loaded, Linked, Asked, Greeted, Spelled, AreOf}
 use Rattle.serve_links.specs.Talks.{first_talk, with_ask, greeted, with_answer, talk_in, IsCalledIn, MayBeAsked, ComesBy, MayFollow, IsOrderly, IsOfClients, IsOfServer}
 use Rattle.serve_links.specs.Story.{TellsNone, MayGo, MayAllGo}
 
@@ -46,6 +46,7 @@ IsPlain (Stopped client fault) = Unit {0}
 IsPlain (Gave client bytes) = Unit {0}
 IsPlain (Closed client) = Unit {0}
 IsPlain (LeftLine client) = Unit {0}
+IsPlain (Broke client) = Unit {0}
 IsPlain (Loaded configuration generation) = Unit {0}
 IsPlain (Linked at dialect) = ⊥
 IsPlain (Asked at number dialect ask) = ⊥
@@ -66,6 +67,7 @@ clients_plain (step ∷ steps) kinds = (plain step kinds.0, clients_plain steps 
     plain (Gave client bytes) is = tt
     plain (Closed client) is = tt
     plain (LeftLine client) is = tt
+    plain (Broke client) is = tt
     plain (Loaded configuration generation) is = tt
     plain (Linked at dialect) is = is
     plain (Asked at number dialect ask) is = is
@@ -84,6 +86,7 @@ plain_talk (Stopped client fault ∷ steps) kinds past j = plain_talk steps kind
 plain_talk (Gave client bytes ∷ steps) kinds past j = plain_talk steps kinds.1 past j
 plain_talk (Closed client ∷ steps) kinds past j = plain_talk steps kinds.1 past j
 plain_talk (LeftLine client ∷ steps) kinds past j = plain_talk steps kinds.1 past j
+plain_talk (Broke client ∷ steps) kinds past j = plain_talk steps kinds.1 past j
 plain_talk (Loaded configuration generation ∷ steps) kinds past j = plain_talk steps kinds.1 past j
 plain_talk (Linked at dialect ∷ steps) kinds past j = absurd kinds.0
 plain_talk (Asked at number dialect ask ∷ steps) kinds past j = absurd kinds.0
@@ -105,6 +108,7 @@ plain_orderly (step ∷ steps) kinds past o = (follows step (steps ++ past) kind
     follows (Gave client bytes) before is = tt
     follows (Closed client) before is = tt
     follows (LeftLine client) before is = tt
+    follows (Broke client) before is = tt
     follows (Loaded configuration generation) before is = tt
     follows (Linked at dialect) before is = absurd is
     follows (Asked at number dialect ask) before is = absurd is
@@ -129,6 +133,7 @@ server_tells_none at (Stopped client fault ∷ steps) own past j = absurd own.0
 server_tells_none at (Gave client bytes ∷ steps) own past j = absurd own.0
 server_tells_none at (Closed client ∷ steps) own past j = absurd own.0
 server_tells_none at (LeftLine client ∷ steps) own past j = absurd own.0
+server_tells_none at (Broke client ∷ steps) own past j = absurd own.0
 server_tells_none at (Loaded configuration generation ∷ steps) own past j = absurd own.0
 
 -- nor of other servers
@@ -151,4 +156,5 @@ talk_elsewhere at (Stopped client fault ∷ steps) own past j other = absurd own
 talk_elsewhere at (Gave client bytes ∷ steps) own past j other = absurd own.0
 talk_elsewhere at (Closed client ∷ steps) own past j other = absurd own.0
 talk_elsewhere at (LeftLine client ∷ steps) own past j other = absurd own.0
+talk_elsewhere at (Broke client ∷ steps) own past j other = absurd own.0
 talk_elsewhere at (Loaded configuration generation ∷ steps) own past j other = absurd own.0

@@ -13,7 +13,7 @@ use Rattle.serve_clients.specs.Agrees.{EndAgrees, AllAgree}
 use Rattle.serve_clients.specs.Marks.{client_of}
 use Rattle.serve_links.specs.declared.calls.calls.SentCall.{SentCall}
 use Rattle.serve_links.specs.declared.link.Link.{Link}
-use Rattle.serve_links.specs.CoreSteps.{Step, Opened, NotOpened, Fed, Polled, Stopped, Settled, Gave, Closed, LeftLine, Loaded, Linked, Asked, Greeted, Spelled, Walks, AreOf}
+use Rattle.serve_links.specs.CoreSteps.{Step, Opened, NotOpened, Fed, Polled, Stopped, Settled, Gave, Closed, LeftLine, Broke, Loaded, Linked, Asked, Greeted, Spelled, Walks, AreOf}
 use Rattle.serve_links.specs.Talks.{SaidAsk, Talk, talk_in, IsCalledIn, MayBeAsked, IsOrderly, IsOfClients, IsOfServer}
 use Rattle.std.specs.Option.{option_map}
 
@@ -29,6 +29,7 @@ fed_in (Settled number outcome ∷ steps) i = fed_in steps i
 fed_in (Gave client bytes ∷ steps) i = fed_in steps i
 fed_in (Closed client ∷ steps) i = fed_in steps i
 fed_in (LeftLine client ∷ steps) i = fed_in steps i
+fed_in (Broke client ∷ steps) i = fed_in steps i
 fed_in (Loaded configuration generation ∷ steps) i = fed_in steps i
 fed_in (Linked at dialect ∷ steps) i = fed_in steps i
 fed_in (Asked at number dialect ask ∷ steps) i = fed_in steps i
@@ -47,6 +48,7 @@ gave_in (Settled number outcome ∷ steps) i = gave_in steps i
 gave_in (Gave client bytes ∷ steps) i = if nat_eq client i then gave_in steps i ++ bytes else gave_in steps i
 gave_in (Closed client ∷ steps) i = gave_in steps i
 gave_in (LeftLine client ∷ steps) i = gave_in steps i
+gave_in (Broke client ∷ steps) i = gave_in steps i
 gave_in (Loaded configuration generation ∷ steps) i = gave_in steps i
 gave_in (Linked at dialect ∷ steps) i = gave_in steps i
 gave_in (Asked at number dialect ask ∷ steps) i = gave_in steps i

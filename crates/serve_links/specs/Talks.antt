@@ -12,7 +12,7 @@ use Rattle.core_proxy.specs.declared.note.Poll.TheVariants as polls
 use Rattle.serve_links.specs.Dialects.{asked_in, SpellsIn, IsGreeting}
 use Rattle.serve_links.specs.declared.settings.ServerDialect.{ServerDialect}
 use Rattle.serve_links.specs.Lines.{first_asked_of, awaits_first, first_dialect}
-use Rattle.serve_links.specs.CoreSteps.{Step, Opened, NotOpened, Fed, Polled, Stopped, Settled, Gave, Closed, LeftLine, Loaded, Linked, Asked, Greeted, Spelled}
+use Rattle.serve_links.specs.CoreSteps.{Step, Opened, NotOpened, Fed, Polled, Stopped, Settled, Gave, Closed, LeftLine, Broke, Loaded, Linked, Asked, Greeted, Spelled}
 
 -- a call that a server was asked: its number, in which dialect it was asked, and its ask
 abbrev pub SaidAsk : Type 0
@@ -67,6 +67,7 @@ talk_after (Settled number outcome) i talk = talk
 talk_after (Gave client bytes) i talk = talk
 talk_after (Closed client) i talk = talk
 talk_after (LeftLine client) i talk = talk
+talk_after (Broke client) i talk = talk
 talk_after (Loaded configuration generation) i talk = talk
 
 -- what was said over it by these steps, the latest first
@@ -131,6 +132,7 @@ MayFollow (Stopped client fault) past = Unit {0}
 MayFollow (Gave client bytes) past = Unit {0}
 MayFollow (Closed client) past = Unit {0}
 MayFollow (LeftLine client) past = Unit {0}
+MayFollow (Broke client) past = Unit {0}
 MayFollow (Loaded configuration generation) past = Unit {0}
 
 -- so it is with each of them, after those before it
@@ -148,6 +150,7 @@ IsOfClients (Stopped client fault) = Unit {0}
 IsOfClients (Gave client bytes) = Unit {0}
 IsOfClients (Closed client) = Unit {0}
 IsOfClients (LeftLine client) = Unit {0}
+IsOfClients (Broke client) = Unit {0}
 IsOfClients (Loaded configuration generation) = Unit {0}
 IsOfClients (Settled number outcome) = ⊥
 IsOfClients (Linked at dialect) = ⊥
@@ -170,4 +173,5 @@ IsOfServer i (Stopped client fault) = ⊥
 IsOfServer i (Gave client bytes) = ⊥
 IsOfServer i (Closed client) = ⊥
 IsOfServer i (LeftLine client) = ⊥
+IsOfServer i (Broke client) = ⊥
 IsOfServer i (Loaded configuration generation) = ⊥

@@ -30,7 +30,7 @@ use Rattle.serve_clients.specs.Lending.{with_client}
 use Rattle.serve_clients.proofs.Agreeing.{state_stays, agree_still}
 use Rattle.serve_links.specs.declared.calls.calls.SentCall.{SentCall}
 use Rattle.serve_links.specs.declared.link.Link.{Link}
-use Rattle.serve_links.specs.CoreSteps.{Step, Opened, NotOpened, Fed, Polled, Stopped, Settled, Gave, Closed, LeftLine, Loaded, Linked, Asked, Greeted, Spelled, Does, Walks, AreOf, GoesBy, IsOfTurn, IsFailure, IsSending, Fails}
+use Rattle.serve_links.specs.CoreSteps.{Step, Opened, NotOpened, Fed, Polled, Stopped, Settled, Gave, Closed, LeftLine, Broke, Loaded, Linked, Asked, Greeted, Spelled, Does, Walks, AreOf, GoesBy, IsOfTurn, IsFailure, IsSending, Fails}
 use Rattle.serve_links.specs.Talks.{IsOfClients}
 use Rattle.serve_links.specs.Pieces.{FeedsHeld}
 use Rattle.serve_links.specs.Story.{fed_in, gave_in, AgreesWith, TellsNone, HasOrHad, LineState, line_of, LineAgrees, LineLost, LineCalled, LinesAgree, OneGoes, LineGoesFrom, LineGoes, AnEnd, Agrees, AgreesBut, AgreesCalled, AgreesSent, AgreesLosing, AllGoFrom, AllGo, texts_of}
@@ -167,6 +167,7 @@ IsSilent (Stopped client fault) = Unit {0}
 IsSilent (Settled number outcome) = outcome ≡ Failed
 IsSilent (Closed client) = Unit {0}
 IsSilent (LeftLine client) = Unit {0}
+IsSilent (Broke client) = ⊥
 IsSilent (Opened client) = ⊥
 IsSilent (Fed client piece) = ⊥
 IsSilent (Gave client bytes) = ⊥
@@ -184,6 +185,7 @@ tells_none (Stopped client fault ∷ steps) kinds past j = tells_none steps kind
 tells_none (Settled number outcome ∷ steps) kinds past j = tells_none steps kinds.1 past j
 tells_none (Closed client ∷ steps) kinds past j = tells_none steps kinds.1 past j
 tells_none (LeftLine client ∷ steps) kinds past j = tells_none steps kinds.1 past j
+tells_none (Broke client ∷ steps) kinds past j = absurd kinds.0
 tells_none (Opened client ∷ steps) kinds past j = absurd kinds.0
 tells_none (Fed client piece ∷ steps) kinds past j = absurd kinds.0
 tells_none (Gave client bytes ∷ steps) kinds past j = absurd kinds.0
@@ -204,6 +206,7 @@ silent_turn (step ∷ steps) kinds = (of_turn step kinds.0, silent_turn steps ki
     of_turn (Settled number outcome) is = tt
     of_turn (Closed client) is = tt
     of_turn (LeftLine client) is = tt
+    of_turn (Broke client) is = tt
     of_turn (Opened client) is = tt
     of_turn (Fed client piece) is = tt
     of_turn (Gave client bytes) is = tt
@@ -224,6 +227,7 @@ silent_plain (step ∷ steps) kinds = (plain step kinds.0, silent_plain steps ki
     plain (Stopped client fault) is = tt
     plain (Closed client) is = tt
     plain (LeftLine client) is = tt
+    plain (Broke client) is = tt
     plain (Opened client) is = tt
     plain (Fed client piece) is = tt
     plain (Gave client bytes) is = tt
@@ -244,6 +248,7 @@ fails_silent (step ∷ steps) kinds = (silent step kinds.0, fails_silent steps k
     silent (Stopped client fault) is = tt
     silent (Closed client) is = tt
     silent (LeftLine client) is = tt
+    silent (Broke client) is = is
     silent (Opened client) is = is
     silent (Fed client piece) is = is
     silent (Gave client bytes) is = is
@@ -264,6 +269,7 @@ fails_send (step ∷ steps) kinds = (sends step kinds.0, fails_send steps kinds.
     sends (Stopped client fault) is = is
     sends (Closed client) is = is
     sends (LeftLine client) is = is
+    sends (Broke client) is = is
     sends (Opened client) is = is
     sends (Fed client piece) is = is
     sends (Gave client bytes) is = is
@@ -284,6 +290,7 @@ sends_turn (step ∷ steps) kinds = (of_turn step kinds.0, sends_turn steps kind
     of_turn (Stopped client fault) is = tt
     of_turn (Closed client) is = tt
     of_turn (LeftLine client) is = tt
+    of_turn (Broke client) is = tt
     of_turn (Opened client) is = tt
     of_turn (Fed client piece) is = tt
     of_turn (Gave client bytes) is = tt
