@@ -4,6 +4,7 @@ use Rattle.std.specs.Prelude.{IfSome, nat_eq, slice_get}
 use Rattle.std.specs.Option.{option_map}
 use Rattle.std.proofs.lemmas.Bool.{cases_Bool, eq-eqb, eqb-true}
 use Rattle.mc_types.specs.declared.ask.Ask.{Ask}
+use Rattle.mc_types.specs.declared.ask.Dialect.{Dialect}
 use Rattle.wire_parts.specs.Sending.{bytes_of}
 use Rattle.serve_wire.specs.Events.{Event, role, delivered, taken}
 use Rattle.serve_wire.specs.Agreement.{ClientLost, IsUntouched}
@@ -14,11 +15,12 @@ use Rattle.serve_clients.specs.declared.clients.Clients.{Clients}
 use Rattle.serve_clients.specs.Agrees.{EndAgrees, AllAgree}
 use Rattle.serve_clients.proofs.Agreeing.{its, state_stays, client_lost}
 use Rattle.serve_clients.specs.Marks.{client_of}
+use Rattle.serve_links.specs.declared.calls.calls.SentCall.{SentCall}
 use Rattle.serve_links.specs.declared.link.Link.{Link}
 use Rattle.serve_links.specs.CoreSteps.{Step, Closed, Opened, AreOf}
 use Rattle.serve_links.specs.Talks.{SaidAsk, Talk, talk_in}
-use Rattle.serve_links.specs.Story.{fed_in, gave_in, is_open_in, is_broken_in, AgreesWith, IsTold, AreTold, TellsNone, TookAll, EndsBy, IsGone, HasOrHad, TalkAgrees, said_asks, LineAgrees, LinesAgree, texts_of, OneGoes, LineGoesFrom, LineGoes, AnEnd, Agrees, AgreesBut, AgreesCalled, AllGoFrom, AllGo, StoriesGoOn}
-use Rattle.serve_links.proofs.Talking.{called_later, calls_later, IsPlain, clients_plain, plain_talk, plain_orderly, server_tells_none, talk_elsewhere}
+use Rattle.serve_links.specs.Story.{fed_in, gave_in, is_open_in, is_broken_in, AgreesWith, IsTold, AreTold, TellsNone, TookAll, EndsBy, IsGone, HasOrHad, TalkAgrees, said_asks, LineAgrees, LinesAgree, texts_of, OneGoes, LineGoesFrom, LineGoes, AnEnd, Agrees, AgreesBut, AgreesCalled, AllGoFrom, AllGo, StoriesGoOn, AgreesSent}
+use Rattle.serve_links.proofs.Talking.{called_later, calls_later, IsPlain, clients_plain, plain_talk, plain_orderly, server_tells_none, talk_elsewhere, go_later}
 use Rattle.serve_links.proofs.Walked.{walked, of_both}
 
 -- ---- one end
@@ -69,15 +71,16 @@ all_told past steps clients none was = each_told (steps ++ past) clients (λ j z
 
 -- a connection that nothing touched, and of which nothing more was told
 pub talk_stays :
-    (h h' : List Event) (at : ℕ) (text : List ℕ) (t t' : Talk) (c : ℕ) (held unsent : List ℕ) (out : List SaidAsk) (awaits : Bool) → IsUntouched c h h' → t' ≡ t
-    → TalkAgrees h at text t c held unsent out awaits → TalkAgrees h' at text t' c held unsent out awaits
-talk_stays h h' at text t t' c held unsent out awaits same e was = record {
+    (h h' : List Event) (at : ℕ) (text : List ℕ) (t t' : Talk) (c : ℕ) (held unsent : List ℕ) (out : List SaidAsk) (awaits : Bool) (dialect : Dialect) → IsUntouched c h h' → t' ≡ t
+    → TalkAgrees h at text t c held unsent out awaits dialect → TalkAgrees h' at text t' c held unsent out awaits dialect
+talk_stays h h' at text t t' c held unsent out awaits dialect same e was = record {
   is_to = same.same_role ∙ was.is_to;
   address = same.same_address ∙ was.address;
   sent_is = ap (λ (x : Talk). x.sent) e ∙ was.sent_is ∙ ap (λ l. l ++ unsent) (sym same.same_went);
   told_is = same.same_came ∙ was.told_is ∙ ap (λ (x : Talk). x.told ++ held) (sym e);
   out_is = ap (λ (x : Talk). x.out) e ∙ was.out_is;
   awaits_is = ap (λ (x : Talk). x.awaits) e ∙ was.awaits_is;
+  dialect_is = ap (λ (x : Talk). x.dialect) e ∙ was.dialect_is;
 }
 
 -- a link whose connection nothing touched, and of whose server nothing more was told
@@ -86,7 +89,7 @@ pub line_stays :
     → LineAgrees at past h link → LineAgrees at (steps ++ past) h' link
 line_stays h h' at steps past link same told was = record {
   conn = λ conn is.
-      talk_stays h h' at link.text.items (talk_in past at) (talk_in (steps ++ past) at) conn.number conn.held.items (bytes_of conn.unsent) (said_asks link.calls.sent.items) link.awaits_dialect (same conn is) told (was.conn conn is);
+      talk_stays h h' at link.text.items (talk_in past at) (talk_in (steps ++ past) at) conn.number conn.held.items (bytes_of conn.unsent) (said_asks link.calls.sent.items) link.awaits_dialect link.dialect (same conn is) told (was.conn conn is);
   waiting = calls_later steps past at link.waiting.items was.waiting;
 }
 
@@ -362,6 +365,10 @@ all_then a b c g k = from_then a b c g k
 -- what the core gave out for a server stays so
 pub still_called : {Is : Step → Type 0} {a b : AnEnd} (number at : ℕ) (ask : Ask) → AllGo Is a b → AllGoFrom (AgreesCalled number at ask) (AgreesCalled number at ask) Is a b
 still_called number at ask g = record { steps = g.steps; kinds = g.kinds; walks = g.walks; agree = λ past was. (g.agree past was.0, called_later g.steps past number at ask was.1); texts = g.texts }
+
+-- and so does what may be asked
+pub still_sent : {Is : Step → Type 0} {a b : AnEnd} (at : ℕ) (call : SentCall) → AllGo Is a b → AllGoFrom (AgreesSent at call) (AgreesSent at call) Is a b
+still_sent at call g = record { steps = g.steps; kinds = g.kinds; walks = g.walks; agree = λ past was. (g.agree past was.0, go_later g.steps past at call was.1); texts = g.texts }
 
 -- the laws, by calls of any kind
 pub stories_go_on : (Is : Step → Type 0) → StoriesGoOn Is

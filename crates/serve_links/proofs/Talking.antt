@@ -5,10 +5,9 @@ use Rattle.mc_types.specs.declared.ask.Ask.{Ask}
 use Rattle.mc_types.specs.declared.call.Outcome.TheVariants.{Failed}
 use Rattle.core_proxy.specs.declared.note.Poll.TheVariants as polls
 use Rattle.serve_links.specs.declared.calls.calls.SentCall.{SentCall}
-use Rattle.serve_links.specs.Lines.{first_asked_of, awaits_first}
 use Rattle.serve_links.specs.CoreSteps.{Step, Opened, NotOpened, Fed, Polled, Stopped, Settled, Gave, Closed, LeftLine, Broke, Loaded, Linked, Asked, Greeted, Spelled, AreOf}
-use Rattle.serve_links.specs.Talks.{first_talk, with_ask, greeted, with_answer, talk_in, IsCalledIn, ComesBy, MayFollow, IsOrderly, IsOfClients, IsOfServer}
-use Rattle.serve_links.specs.Story.{TellsNone, AreCalled}
+use Rattle.serve_links.specs.Talks.{first_talk, with_ask, greeted, with_answer, talk_in, IsCalledIn, MayBeAsked, ComesBy, MayFollow, IsOrderly, IsOfClients, IsOfServer}
+use Rattle.serve_links.specs.Story.{TellsNone, MayGo, MayAllGo}
 
 -- ---- calls that the core gave out
 
@@ -24,11 +23,14 @@ called_later later past number at ask c = record {
   was = ap (λ l. later ++ l) c.was ∙ sym (append_assoc later c.later (Polled c.client (polls.Call c.ticket) ∷ c.earlier));
 }
 
-pub calls_later : (later past : List Step) (at : ℕ) (calls : List SentCall) → AreCalled past at calls → AreCalled (later ++ past) at calls
-calls_later later past at [] are = tt
-calls_later later past at (call ∷ calls) are = (called_later later past call.ticket.number at call.ticket.ask are.0, calls_later later past at calls are.1)
+pub go_later : (later past : List Step) (at : ℕ) (call : SentCall) → MayGo past at call → MayGo (later ++ past) at call
+go_later later past at call m = record { later = later ++ m.later; earlier = m.earlier; parts = ap (λ l. later ++ l) m.parts ∙ sym (append_assoc later m.later m.earlier); called = m.called; speaks = m.speaks }
 
-pub one_more : (past : List Step) (at : ℕ) (calls : List SentCall) (call : SentCall) → AreCalled past at calls → IsCalledIn past call.ticket.number at call.ticket.ask → AreCalled past at (calls ++ call ∷ [])
+pub calls_later : (later past : List Step) (at : ℕ) (calls : List SentCall) → MayAllGo past at calls → MayAllGo (later ++ past) at calls
+calls_later later past at [] are = tt
+calls_later later past at (call ∷ calls) are = (go_later later past at call are.0, calls_later later past at calls are.1)
+
+pub one_more : (past : List Step) (at : ℕ) (calls : List SentCall) (call : SentCall) → MayAllGo past at calls → MayGo past at call → MayAllGo past at (calls ++ call ∷ [])
 one_more past at [] call are is = (is, tt)
 one_more past at (first ∷ calls) call are is = (are.0, one_more past at calls call are.1 is)
 
@@ -139,11 +141,11 @@ pub talk_elsewhere : (at : ℕ) (steps : List Step) → AreOf (IsOfServer at) st
 talk_elsewhere at [] own past j other = refl
 talk_elsewhere at (Settled number outcome ∷ steps) own past j other = talk_elsewhere at steps own.1 past j other
 talk_elsewhere at (Linked a dialect ∷ steps) own past j other =
-    ap (λ b. if b then first_talk (first_asked_of dialect) (awaits_first dialect) else talk_in (steps ++ past) j) (ap (λ n. nat_eq n j) own.0 ∙ other) ∙ talk_elsewhere at steps own.1 past j other
+    ap (λ b. if b then first_talk dialect else talk_in (steps ++ past) j) (ap (λ n. nat_eq n j) own.0 ∙ other) ∙ talk_elsewhere at steps own.1 past j other
 talk_elsewhere at (Asked a number dialect ask ∷ steps) own past j other =
     ap (λ b. if b then with_ask number dialect ask (talk_in (steps ++ past) j) else talk_in (steps ++ past) j) (ap (λ n. nat_eq n j) own.0 ∙ other) ∙ talk_elsewhere at steps own.1 past j other
 talk_elsewhere at (Greeted a dialect bytes ∷ steps) own past j other =
-    ap (λ b. if b then greeted bytes (talk_in (steps ++ past) j) else talk_in (steps ++ past) j) (ap (λ n. nat_eq n j) own.0 ∙ other) ∙ talk_elsewhere at steps own.1 past j other
+    ap (λ b. if b then greeted dialect bytes (talk_in (steps ++ past) j) else talk_in (steps ++ past) j) (ap (λ n. nat_eq n j) own.0 ∙ other) ∙ talk_elsewhere at steps own.1 past j other
 talk_elsewhere at (Spelled a number ask answer bytes ∷ steps) own past j other =
     ap (λ b. if b then with_answer bytes (talk_in (steps ++ past) j) else talk_in (steps ++ past) j) (ap (λ n. nat_eq n j) own.0 ∙ other) ∙ talk_elsewhere at steps own.1 past j other
 talk_elsewhere at (Opened client ∷ steps) own past j other = absurd own.0

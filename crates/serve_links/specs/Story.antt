@@ -1,6 +1,7 @@
 -- What a walk of a core tells of its clients, and how the ends of clients and links on a wire go on with it. Source: mcgate's own.
 use Rattle.std.specs.Prelude.{◌≡◌, ◌≢◌, ℕ, Bool, true, false, List, [], ◌∷◌, ◌++◌, Option, Some, map as each, if◌then◌else◌, nat_eq, slice_get, ◌⊎◌}
 use Rattle.mc_types.specs.declared.ask.Ask.{Ask}
+use Rattle.mc_types.specs.declared.ask.Dialect.{Dialect}
 use Rattle.wire_parts.specs.Sending.{bytes_of}
 use Rattle.serve_wire.specs.Events.{Event, role, delivered, taken}
 use Rattle.serve_wire.specs.Agreement.{AddressAgrees, IsUntouched, ClientLost, TouchesOnly}
@@ -13,7 +14,7 @@ use Rattle.serve_clients.specs.Marks.{client_of}
 use Rattle.serve_links.specs.declared.calls.calls.SentCall.{SentCall}
 use Rattle.serve_links.specs.declared.link.Link.{Link}
 use Rattle.serve_links.specs.CoreSteps.{Step, Opened, NotOpened, Fed, Polled, Stopped, Settled, Gave, Closed, LeftLine, Broke, Loaded, Linked, Asked, Greeted, Spelled, Walks, AreOf}
-use Rattle.serve_links.specs.Talks.{SaidAsk, Talk, talk_in, IsCalledIn, IsOrderly, IsOfClients, IsOfServer}
+use Rattle.serve_links.specs.Talks.{SaidAsk, Talk, talk_in, IsCalledIn, MayBeAsked, IsOrderly, IsOfClients, IsOfServer}
 use Rattle.std.specs.Option.{option_map}
 
 -- all that the core was fed for this client since it was opened, by the calls of a walk, the latest first
@@ -141,50 +142,55 @@ HasOrHad past h clients id conn = (option_map (λ x. x.conn.number) (client_of c
 abbrev pub said_asks : List SentCall → List SaidAsk
 said_asks calls = each (λ call. (call.ticket.number, call.dialect, call.ticket.ask)) calls
 
--- the core gave out each of these calls for this server
-abbrev pub AreCalled : List Step → ℕ → List SentCall → Type 0
-AreCalled past at [] = Unit {0}
-AreCalled past at (call ∷ calls) = IsCalledIn past call.ticket.number at call.ticket.ask × AreCalled past at calls
+-- the core gave out this call for this server, and it may be asked in its dialect
+abbrev pub MayGo : List Step → ℕ → SentCall → Type 0
+MayGo past at call = MayBeAsked past call.ticket.number at call.dialect call.ticket.ask
+
+-- so it is with each of these calls
+abbrev pub MayAllGo : List Step → ℕ → List SentCall → Type 0
+MayAllGo past at [] = Unit {0}
+MayAllGo past at (call ∷ calls) = MayGo past at call × MayAllGo past at calls
 
 -- a connection agrees with what was said over it: it is to this server, and was begun at the address that this text names; what was to be sent is what it took, and then what is unsent; what it delivered told all
--- that was told, and is else held; these calls are out, and what the server tells of its dialects is awaited or not
-pub record TalkAgrees (h : List Event) (at : ℕ) (text : List ℕ) (talk : Talk) (c : ℕ) (held unsent : List ℕ) (out : List SaidAsk) (awaits : Bool) : Type 0 where
+-- that was told, and is else held; these calls are out, what the server tells of its dialects is awaited or not, and calls are asked in this dialect
+pub record TalkAgrees (h : List Event) (at : ℕ) (text : List ℕ) (talk : Talk) (c : ℕ) (held unsent : List ℕ) (out : List SaidAsk) (awaits : Bool) (dialect : Dialect) : Type 0 where
   pub is_to : role c h ≡ Some (1, at)
   pub address : AddressAgrees h text c
   pub sent_is : talk.sent ≡ taken c h ++ unsent
   pub told_is : delivered c h ≡ talk.told ++ held
   pub out_is : talk.out ≡ out
   pub awaits_is : talk.awaits ≡ awaits
+  pub dialect_is : talk.dialect ≡ dialect
 
 -- so does that of a link, if it has one, where so much of it is held
 abbrev pub ConnAgrees : ℕ → List Step → List Event → Link → Conn → List ℕ → Type 0
-ConnAgrees at past h link conn held = TalkAgrees h at link.text.items (talk_in past at) conn.number held (bytes_of conn.unsent) (said_asks link.calls.sent.items) link.awaits_dialect
+ConnAgrees at past h link conn held = TalkAgrees h at link.text.items (talk_in past at) conn.number held (bytes_of conn.unsent) (said_asks link.calls.sent.items) link.awaits_dialect link.dialect
 
--- a link agrees with these calls, and the core gave out all calls that wait for it
+-- a link agrees with these calls, and all calls that wait for it may go there
 pub record LineAgrees (at : ℕ) (past : List Step) (h : List Event) (link : Link) : Type 0 where
   pub conn : (conn : Conn) → link.conn ≡ Some conn → ConnAgrees at past h link conn conn.held.items
-  pub waiting : AreCalled past at link.waiting.items
+  pub waiting : MayAllGo past at link.waiting.items
 
 -- the same of a link whose bytes were lost: it agrees but for what it holds
 pub record LineLost (at : ℕ) (past : List Step) (h : List Event) (link : Link) : Type 0 where
   pub conn : (conn : Conn) → link.conn ≡ Some conn → (held : List ℕ) × ConnAgrees at past h link conn held
-  pub waiting : AreCalled past at link.waiting.items
+  pub waiting : MayAllGo past at link.waiting.items
 
--- a link agrees, and the core gave out this call for its server
-abbrev pub LineCalled : ℕ → Ask → (at : ℕ) → List Step → List Event → Link → Type 0
-LineCalled number ask at past h link = LineAgrees at past h link × IsCalledIn past number at ask
+-- a link agrees, and this call may go there
+abbrev pub LineCalled : SentCall → (at : ℕ) → List Step → List Event → Link → Type 0
+LineCalled call at past h link = LineAgrees at past h link × MayGo past at call
 
 -- each link agrees with these calls
 abbrev pub LinesAgree : List Step → List Event → List Link → Type 0
 LinesAgree past h links = (at : ℕ) (link : Link) → slice_get links at ≡ Some link → LineAgrees at past h link
 
 -- all that a link has to do with its connection and its calls: what names its server's address, the connection's number, what is held of it and what is to be sent, the calls that are out, those that wait, and
--- whether its server is to tell of its dialects
+-- whether its server is to tell of its dialects, and in which dialect calls are asked
 abbrev pub LineState : Type 0
-LineState = List ℕ × Option (ℕ × List ℕ × List ℕ) × List SaidAsk × List SentCall × Bool
+LineState = List ℕ × Option (ℕ × List ℕ × List ℕ) × List SaidAsk × List SentCall × Bool × Dialect
 
 abbrev pub line_of : Link → LineState
-line_of link = (link.text.items, option_map (λ (x : Conn). (x.number, x.held.items, bytes_of x.unsent)) link.conn, said_asks link.calls.sent.items, link.waiting.items, link.awaits_dialect)
+line_of link = (link.text.items, option_map (λ (x : Conn). (x.number, x.held.items, bytes_of x.unsent)) link.conn, said_asks link.calls.sent.items, link.waiting.items, link.awaits_dialect, link.dialect)
 
 -- all connections that were or are of others than this one are as they were
 abbrev pub KeepsOthers : ℕ × ℕ → List Event → List Event → Type 0
@@ -247,6 +253,10 @@ pub record AgreesBut (This : ℕ → List Step → List Event → Link → Type 
 -- all agree, and the core gave out this call for this server
 abbrev pub AgreesCalled : ℕ → ℕ → Ask → List Step → AnEnd → Type 0
 AgreesCalled number at ask past x = Agrees past x × IsCalledIn past number at ask
+
+-- all agree, and this call may go to this server
+abbrev pub AgreesSent : ℕ → SentCall → List Step → AnEnd → Type 0
+AgreesSent at call past x = Agrees past x × MayGo past at call
 
 -- all agree, but that what one link holds may be lost
 abbrev pub AgreesLosing : List Step → AnEnd → Type 0

@@ -28,11 +28,12 @@ use Rattle.serve_clients.specs.Marks.{client_of}
 use Rattle.serve_clients.specs.Agrees.{said_of, Breaks, StateAgrees, EndAgrees, GoesOnAgreeing, AllAgree}
 use Rattle.serve_clients.specs.Lending.{with_client}
 use Rattle.serve_clients.proofs.Agreeing.{state_stays, agree_still}
+use Rattle.serve_links.specs.declared.calls.calls.SentCall.{SentCall}
 use Rattle.serve_links.specs.declared.link.Link.{Link}
 use Rattle.serve_links.specs.CoreSteps.{Step, Opened, NotOpened, Fed, Polled, Stopped, Settled, Gave, Closed, LeftLine, Broke, Loaded, Linked, Asked, Greeted, Spelled, Does, Walks, AreOf, GoesBy, IsOfTurn, IsFailure, IsSending, Fails}
 use Rattle.serve_links.specs.Talks.{IsOfClients}
 use Rattle.serve_links.specs.Pieces.{FeedsHeld}
-use Rattle.serve_links.specs.Story.{fed_in, gave_in, is_open_in, is_broken_in, AgreesWith, IsTold, AreTold, TellsNone, HasOrHad, LineState, line_of, LineAgrees, LineLost, LineCalled, LinesAgree, OneGoes, LineGoesFrom, LineGoes, AnEnd, Agrees, AgreesBut, AgreesCalled, AgreesLosing, AllGoFrom, AllGo, texts_of}
+use Rattle.serve_links.specs.Story.{fed_in, gave_in, is_open_in, is_broken_in, AgreesWith, IsTold, AreTold, TellsNone, HasOrHad, LineState, line_of, LineAgrees, LineLost, LineCalled, LinesAgree, OneGoes, LineGoesFrom, LineGoes, AnEnd, Agrees, AgreesBut, AgreesCalled, AgreesLosing, AllGoFrom, AllGo, texts_of, AgreesSent}
 use Rattle.serve_links.proofs.Reading.{breaks_now}
 use Rattle.serve_links.proofs.Talking.{IsPlain, plain_talk, plain_orderly}
 use Rattle.serve_links.proofs.Story.{at_told, each_told, all_told, same_told, had_stays, one_of_all, line_among, line_stays, all_still, from_then, go_between, all_but, but_all}
@@ -146,7 +147,7 @@ go_stay a s = λ core. and_then (a core) (stays core s)
 
 -- ---- one link among all
 
-set_here : {A : Type 0} (xs : List A) (i : ℕ) (x : A) → i < length xs → slice_get (set xs i x) i ≡ Some x
+pub set_here : {A : Type 0} (xs : List A) (i : ℕ) (x : A) → i < length xs → slice_get (set xs i x) i ≡ Some x
 set_here [] i x within = absurd (omega arith)
 set_here (y ∷ xs) zero x within = refl
 set_here (y ∷ xs) (suc i) x within = set_here xs i x (omega arith)
@@ -354,6 +355,10 @@ gives_up {a = a} at g = go_between (λ past was. losing_at at past a was) (λ pa
 pub without_call : {Q : List Step → AnEnd → Type 0} {Is : Step → Type 0} {a b : AnEnd} (number at : ℕ) (ask : Ask) → AllGoFrom Agrees Q Is a b → AllGoFrom (AgreesCalled number at ask) Q Is a b
 without_call number at ask g = go_between (λ past was. was.0) (λ past was. was) g
 
+-- or one that may be asked
+pub without_sent : {Q : List Step → AnEnd → Type 0} {Is : Step → Type 0} {a b : AnEnd} (at : ℕ) (call : SentCall) → AllGoFrom Agrees Q Is a b → AllGoFrom (AgreesSent at call) Q Is a b
+without_sent at call g = go_between (λ past was. was.0) (λ past was. was) g
+
 pub agree_told : (h : List Event) (input output input' output' : ℕ → List ℕ) (cs : Clients) → ((j : ℕ) → (input' j ≡ input j) × (output' j ≡ output j)) → AllAgree h input output cs → AllAgree h input' output' cs
 agree_told h input output input' output' cs told was id = by (client_of cs id) (was id)
   where
@@ -486,28 +491,26 @@ line_given_up {h = h} {h' = h'} {cs = cs} {a = a} {b = b} links at x y within wa
 
 -- it took over a call
 pub line_took :
-    {Is : Step → Type 0} {h h' : List Event} {cs : Clients} {a b : ServedCore} (links : List Link) (at : ℕ) (x y : Link) (number : ℕ) (ask : Ask) → at < length links → x ≡ get_or links at x
-    → LineGoesFrom (LineCalled number ask) LineAgrees Is at a h x b h' y
-    → AllGoFrom (AgreesCalled number at ask) Agrees Is (record { core = a; history = h; clients = cs; links = links }) (record { core = b; history = h'; clients = cs; links = set links at y })
-line_took {h = h} {h' = h'} {cs = cs} {a = a} {b = b} links at x y number ask within was g =
+    {Is : Step → Type 0} {h h' : List Event} {cs : Clients} {a b : ServedCore} (links : List Link) (at : ℕ) (x y : Link) (call : SentCall) → at < length links → x ≡ get_or links at x → LineGoesFrom (LineCalled call) LineAgrees Is at a h x b h' y
+    → AllGoFrom (AgreesSent at call) Agrees Is (record { core = a; history = h; clients = cs; links = links }) (record { core = b; history = h'; clients = cs; links = set links at y })
+line_took {h = h} {h' = h'} {cs = cs} {a = a} {b = b} links at x y call within was g =
     go_between (λ past was. with_call past was) (λ past was. but_all at past (record { core = b; history = h'; clients = cs; links = set links at y }) was) (line_lends links at x y within was g)
   where
     with_call :
-        (past : List Step) → AgreesCalled number at ask past (record { core = a; history = h; clients = cs; links = links }) → AgreesBut (LineCalled number ask) at past (record { core = a; history = h; clients = cs; links = links })
+        (past : List Step) → AgreesSent at call past (record { core = a; history = h; clients = cs; links = links }) → AgreesBut (LineCalled call) at past (record { core = a; history = h; clients = cs; links = links })
     with_call past was =
         record { orderly = was.0.orderly; clients = was.0.clients; told = was.0.told; links = λ j link other there. was.0.links j link there; this = λ link there. (was.0.links at link there, was.1); gone = was.0.gone }
 
 -- one that waited was taken from it
 pub line_gave :
-    {Is : Step → Type 0} {h h' : List Event} {cs : Clients} {a b : ServedCore} (links : List Link) (at : ℕ) (x y : Link) (number : ℕ) (ask : Ask) → at < length links → x ≡ get_or links at x
-    → LineGoesFrom LineAgrees (LineCalled number ask) Is at a h x b h' y
-    → AllGoFrom Agrees (AgreesCalled number at ask) Is (record { core = a; history = h; clients = cs; links = links }) (record { core = b; history = h'; clients = cs; links = set links at y })
-line_gave {h = h} {h' = h'} {cs = cs} {a = a} {b = b} links at x y number ask within was g =
+    {Is : Step → Type 0} {h h' : List Event} {cs : Clients} {a b : ServedCore} (links : List Link) (at : ℕ) (x y : Link) (call : SentCall) → at < length links → x ≡ get_or links at x → LineGoesFrom LineAgrees (LineCalled call) Is at a h x b h' y
+    → AllGoFrom Agrees (AgreesSent at call) Is (record { core = a; history = h; clients = cs; links = links }) (record { core = b; history = h'; clients = cs; links = set links at y })
+line_gave {h = h} {h' = h'} {cs = cs} {a = a} {b = b} links at x y call within was g =
     go_between (λ past was. all_but at past (record { core = a; history = h; clients = cs; links = links }) was) (λ past was. with_call past was) (line_lends links at x y within was g)
   where
     with_call :
-        (past : List Step) → AgreesBut (LineCalled number ask) at past (record { core = b; history = h'; clients = cs; links = set links at y })
-        → AgreesCalled number at ask past (record { core = b; history = h'; clients = cs; links = set links at y })
+        (past : List Step) → AgreesBut (LineCalled call) at past (record { core = b; history = h'; clients = cs; links = set links at y })
+        → AgreesSent at call past (record { core = b; history = h'; clients = cs; links = set links at y })
     with_call past was = (
       but_all at past (record { core = b; history = h'; clients = cs; links = set links at y })
           (record { orderly = was.orderly; clients = was.clients; told = was.told; links = was.links; this = λ link there. (was.this link there).0; gone = was.gone }),
