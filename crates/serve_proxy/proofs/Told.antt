@@ -26,7 +26,7 @@ use Rattle.serve_links.specs.Story.{fed_in, gave_in, is_open_in, is_broken_in, I
 use Rattle.serve_links.proofs.Talking.{IsPlain, plain_talk, plain_orderly}
 use Rattle.serve_links.proofs.Story.{at_told, all_told, took_all, TellsSame, same_told, gone_stays, end_gone, had_stays, line_stays}
 use Rattle.serve_links.proofs.Walked.{walked, of_both}
-use Rattle.serve_proxy.specs.Ends.{EndsStay, EndsGo}
+use Rattle.serve_proxy.specs.Ends.{EndsStay, EndsGo, IsAllSent, IsAllSentTo}
 use Rattle.serve_proxy.proofs.Staying.{quiet}
 use Rattle.serve_proxy.proofs.Going.{IsSilent, tells_none, silent_turn, silent_plain, lines_told, agree_told, had_quiet, gave_one, gave_broken, gave_state, more_given, one_touched, one_breaks, same_agrees, same_client}
 
@@ -246,7 +246,7 @@ closed_tells c d h h' (inr same) = (ap (role d) same, ap (delivered d) same, ap 
 -- one was closed by the core, and is gone, and its connection was closed
 pub gone_go :
     {h h' : List Event} {cs cs' : Clients} {ls : List Link} (id : ℕ) (r : Option ℕ) → r ≡ option_map (λ x. x.conn.number) (client_of cs id) → cs'.all.items ≡ slice_set cs.all.items id None
-    → IfSome r (λ c. Closes c h h') → (r ≡ None → h' ≡ h) → (before core : ServedCore) → Does (Closed id) before core → IfSome (client_of cs id) (λ x. bytes_of x.conn.unsent ≡ [])
+    → IfSome r (λ c. Closes c h h') → (r ≡ None → h' ≡ h) → (before core : ServedCore) → Does (Closed id) before core → IsAllSentTo id cs
     → AllGo (λ step. step ≡ Closed id) (record { core = before; history = h; clients = cs; links = ls }) (record { core = core; history = h'; clients = cs'; links = ls })
 gone_go {h} {h'} {cs} {cs'} {ls} id r is gone some none before core does sent = record {
   steps = Closed id ∷ [];
@@ -284,9 +284,11 @@ gone_go {h} {h'} {cs} {cs'} {ls} id r is gone some none before core does sent = 
 
     took :
         (past : List Step) → Agrees past (record { core = before; history = h; clients = cs; links = ls }) → (j conn : ℕ) (x : Client) → client_of cs j ≡ Some x → j ≡ id → x.conn.number ≡ conn → TookAll past h j conn
-    took past was j conn x e here is_conn =
-        subst (λ c. TookAll past h j c) is_conn
-        (took_all past h j x (subst (λ o. IfSome o (EndAgrees h (fed_in past) (gave_in past) j)) e (was.clients j)) (at_told past cs j x e was.told) (subst (λ o. IfSome o (λ (y : Client). bytes_of y.conn.unsent ≡ [])) (ap (client_of cs) (sym here) ∙ e) sent))
+    took past was j conn x e here is_conn = subst (λ c. TookAll past h j c) is_conn (by (subst (λ o. IfSome o IsAllSent) (ap (client_of cs) (sym here) ∙ e) sent))
+      where
+        by : IsAllSent x → TookAll past h j x.conn.number
+        by (inl none) = took_all past h j x (subst (λ o. IfSome o (EndAgrees h (fed_in past) (gave_in past) j)) e (was.clients j)) (at_told past cs j x e was.told) none
+        by (inr broken) = inr ((at_told past cs j x e was.told).1 ∙ broken)
 
     still_told : (past : List Step) → AreTold past cs → (j : ℕ) → (j ≡ id) ⊎ (j ≢ id) → IfSome (client_of cs' j) (IsTold (Closed id ∷ past) j)
     still_told past was j (inl here) = subst (λ o. IfSome o (IsTold (Closed id ∷ past) j)) (sym (ap (client_of cs') here ∙ gone_here cs cs' id gone)) tt

@@ -1,5 +1,5 @@
 -- What a proxy's end has on its wire, and how that stays or goes on. Source: mcgate's own.
-use Rattle.std.specs.Prelude.{◌≡◌, ◌≢◌, ℕ, List, [], ◌++◌, Option, Some, None, Result, Ok, Err, false, IfSome, map as each, slice_get, IsSome, MatchOption}
+use Rattle.std.specs.Prelude.{◌≡◌, ◌≢◌, ℕ, List, [], ◌++◌, Option, Some, None, Result, Ok, Err, true, false, ◌⊎◌, IfSome, map as each, slice_get, IsSome, MatchOption}
 use Rattle.wire_parts.specs.Sending.{bytes_of}
 use Rattle.mc_types.specs.declared.ask.Dialect.{Dialect}
 use Rattle.mc_types.specs.declared.ask.Dialect.TheVariants.{Classic}
@@ -8,6 +8,7 @@ use Rattle.serve_wire.specs.Agreement.{IsUntouched}
 use Rattle.core_commands.specs.declared.ticket.Ticket.{Ticket}
 use Rattle.route_json.specs.Configuration.{Configuration}
 use Rattle.core_accepted.specs.declared.served.ServedCore.{ServedCore}
+use Rattle.serve_clients.specs.declared.clients.Client.{Client}
 use Rattle.serve_clients.specs.declared.clients.Clients.{Clients}
 use Rattle.serve_clients.specs.Marks.{client_of}
 use Rattle.serve_clients.specs.Agrees.{KeepsEnds}
@@ -122,17 +123,21 @@ AllGoUnless at (Err refused) history core sockets core' sockets' = AllGoBut at h
 abbrev pub AllGoOpened : {W : Type 0} → (W → List Event) → (id : ℕ) → ServedCore → Sockets W → ServedCore → Sockets W → Type 0
 AllGoOpened history id core sockets core' sockets' = (before : ServedCore) → Does (Opened id) before core → AllGoOn history before sockets core' sockets'
 
--- nothing is to be sent to this client, if there is one
-abbrev pub HasNoneUnsent : ℕ → Clients → Type 0
-HasNoneUnsent id clients = IfSome (client_of clients id) (λ x. bytes_of x.conn.unsent ≡ [])
+-- nothing is to be sent to a client, or it is broken off
+abbrev pub IsAllSent : Client → Type 0
+IsAllSent x = (bytes_of x.conn.unsent ≡ []) ⊎ (x.is_broken ≡ true)
+
+-- so it is with the client of this id, if there is one
+abbrev pub IsAllSentTo : ℕ → Clients → Type 0
+IsAllSentTo id clients = IfSome (client_of clients id) IsAllSent
 
 -- nothing is done with the core but that it closes this client, if it does, and the ends go on with that
 abbrev pub AllClose : {W : Type 0} → (W → List Event) → (id : ℕ) → ServedCore → Sockets W → ServedCore → Sockets W → Type 0
 AllClose history id core sockets core' sockets' = AllGo (λ step. step ≡ Closed id) (end_of history core sockets) (end_of history core' sockets')
 
--- whatever core has closed a client of this id, all go on from before that, where nothing was to be sent to it
+-- whatever core has closed a client of this id, all go on from before that, where all was sent to it
 abbrev pub AllGoClosed : {W : Type 0} → (W → List Event) → (id : ℕ) → Sockets W → Sockets W → Type 0
-AllGoClosed history id sockets sockets' = (before core : ServedCore) → Does (Closed id) before core → HasNoneUnsent id sockets.clients → AllClose history id before sockets core sockets'
+AllGoClosed history id sockets sockets' = (before core : ServedCore) → Does (Closed id) before core → IsAllSentTo id sockets.clients → AllClose history id before sockets core sockets'
 
 -- nothing is done with the core; the client of this id may be broken off, and the ends go on with that
 abbrev pub AllGoBreaking : {W : Type 0} → (W → List Event) → (id : ℕ) → Sockets W → Sockets W → Type 0

@@ -1,12 +1,11 @@
 //! Clients are served: what came of them goes to the core, their commands begin and go on, and their replies are shown.
 
-ghost use Rattle.std.specs.Prelude.{◌≡◌, ℕ, List, [], true};
-ghost use Rattle.wire_parts.specs.Sending.{bytes_of};
+ghost use Rattle.std.specs.Prelude.{◌≡◌, ℕ, List, true};
 ghost use Rattle.serve_wire.specs.Events.{Event};
 ghost use Rattle.core_accepted.specs.declared.served.ServedCore.{ServedCore};
 ghost use Rattle.serve_links.specs.CoreSteps.{IsOfTurn, Broke};
 ghost use Rattle.serve_links.specs.Story.{OneGoes};
-ghost use Rattle.serve_proxy.specs.Ends.{Stay, AllGoOn, AllClose, HasNoneUnsent};
+ghost use Rattle.serve_proxy.specs.Ends.{Stay, AllGoOn, AllClose, IsAllSent, IsAllSentTo};
 
 use crate::accepting::Accepting;
 use crate::calls::send_call;
@@ -258,7 +257,7 @@ fn close_client<W: Wire>(core: &mut ServedCore, sockets: &mut Sockets<W>, id: us
 // Whether that is so of a client.
 fn is_over<W: Wire>(core: &ServedCore, sockets: &mut Sockets<W>, id: usize, rest: Rest) -> bool
     ensures ends { Stay W.history sockets.old sockets.new }
-    ensures sent { result ≡ true → HasNoneUnsent id sockets.new.clients }
+    ensures sent { result ≡ true → IsAllSentTo id sockets.new.clients }
 {
     match sockets.clients.get_mut(id) {
         Some(client) => is_done(core, id, client, rest),
@@ -268,7 +267,7 @@ fn is_over<W: Wire>(core: &ServedCore, sockets: &mut Sockets<W>, id: usize, rest
 
 // Whether it is so of a client with this end.
 fn is_done(core: &ServedCore, id: usize, client: &Client, rest: Rest) -> bool
-    ensures sent { result ≡ true → bytes_of client.now.conn.unsent ≡ [] }
+    ensures sent { result ≡ true → IsAllSent client.now }
 {
     if !client.conn.unsent.is_empty() {
         return false;

@@ -1,6 +1,6 @@
 use Rattle.std.proofs.Common.{refl, sym, subst}
 use Rattle.std.specs.Prelude.{IfSome}
-use Rattle.wire_parts.specs.Sending.{bytes_of}
+use Rattle.serve_proxy.specs.Ends.{IsAllSent}
 use Rattle.serve_proxy.proofs.Lent.{on_some, lent_here, stay_lent}
 use Rattle.serve_proxy.proofs.serving.is_over.Goals as goal
 
@@ -12,5 +12,5 @@ returns-in-Some g c =
     let is = on_some c.get_mut.result c.in-Some.client _ c.in-Some.is (c.get_mut.follows.holds x) in
     record {
       ends = stay_lent s n c.args.id x x (sym c.in-Some.ensures.value) refl is;
-      sent = λ over. subst (λ o. IfSome o (λ y. bytes_of y.conn.unsent ≡ [])) (sym (lent_here s n c.args.id x x (sym c.in-Some.ensures.value) is)) (c.is_done.ensures.sent over);
+      sent = λ over. subst (λ o. IfSome o IsAllSent) (sym (lent_here s n c.args.id x x (sym c.in-Some.ensures.value) is)) (c.is_done.ensures.sent over);
     }
