@@ -22,7 +22,7 @@ use Rattle.core_accepted.specs.Begun.{any_begun}
 use Rattle.core_accepted.specs.Known.{Known, more}
 use Rattle.core_accepted.specs.Loading.{IsLoaded}
 use Rattle.serve_links.specs.Calls.{SettlesFirst, SettlesNext}
-use Rattle.serve_links.specs.CoreSteps.{Step, Opened, NotOpened, Fed, Polled, Stopped, Settled, Gave, Closed, LeftLine, Loaded, Linked, Asked, Greeted, Spelled, Does, Walks, AreOf, GoesBy, IsOfTurn, IsSettlement, IsFailure, GoesOn, Fails, WalksKeep}
+use Rattle.serve_links.specs.CoreSteps.{Step, Opened, NotOpened, Fed, Polled, Stopped, Settled, Gave, Closed, LeftLine, Broke, Loaded, Linked, Asked, Greeted, Spelled, Does, Walks, AreOf, GoesBy, IsOfTurn, IsSettlement, IsFailure, GoesOn, Fails, WalksKeep}
 
 pub walked : (later first : List Step) (a b c : ServedCore) → Walks first a b → Walks later b c → Walks (later ++ first) a c
 walked [] first a b c w v = subst (λ x. Walks first a x) (sym v) w
@@ -79,10 +79,11 @@ each_of_turn (step ∷ steps) each = (of_turn step each.0, each_of_turn steps ea
     of_turn (Gave client bytes) is = tt
     of_turn (Closed client) is = tt
     of_turn (LeftLine client) is = tt
+    of_turn (Broke client) is = tt
     of_turn (Loaded configuration generation) is = is
     of_turn (Linked at dialect) is = tt
     of_turn (Asked at number dialect ask) is = tt
-    of_turn (Greeted at bytes) is = tt
+    of_turn (Greeted at dialect bytes) is = tt
     of_turn (Spelled at number ask answer bytes) is = tt
 
 pub failed : {a b : ServedCore} → Fails a b → GoesOn a b
@@ -103,10 +104,11 @@ each_settled (step ∷ steps) each = (of_turn step each.0, each_settled steps ea
     of_turn (Gave client bytes) is = tt
     of_turn (Closed client) is = tt
     of_turn (LeftLine client) is = tt
+    of_turn (Broke client) is = tt
     of_turn (Loaded configuration generation) is = is
     of_turn (Linked at dialect) is = tt
     of_turn (Asked at number dialect ask) is = tt
-    of_turn (Greeted at bytes) is = tt
+    of_turn (Greeted at dialect bytes) is = tt
     of_turn (Spelled at number ask answer bytes) is = tt
 
 pub settled : {a b : ServedCore} → GoesBy IsSettlement a b → GoesOn a b
@@ -217,10 +219,11 @@ does_keep (Settled number outcome) a b does = settled_keeps number outcome a b d
 does_keep (Gave client bytes) a b does = by_word a b does.1.word
 does_keep (Closed client) a b does = by_word a b does.2.word
 does_keep (LeftLine client) a b does = by_word a b does.1.word
+does_keep (Broke client) a b does = as_it_was a b does
 does_keep (Loaded configuration generation) a b does = loaded_keeps configuration generation a b does
 does_keep (Linked at dialect) a b does = as_it_was a b does
 does_keep (Asked at number dialect ask) a b does = as_it_was a b does
-does_keep (Greeted at bytes) a b does = as_it_was a b does
+does_keep (Greeted at dialect bytes) a b does = as_it_was a b does
 does_keep (Spelled at number ask answer bytes) a b does = as_it_was a b does.0
 
 pub walks_keep : WalksKeep

@@ -1,12 +1,11 @@
 //! Clients are served: what came of them goes to the core, their commands begin and go on, and their replies are shown.
 
-ghost use Rattle.std.specs.Prelude.{◌≡◌, List};
+ghost use Rattle.std.specs.Prelude.{◌≡◌, ℕ, List, true};
 ghost use Rattle.serve_wire.specs.Events.{Event};
-ghost use Rattle.serve_wire.specs.Agreement.{TouchesOnly};
-ghost use Rattle.serve_clients.specs.Agrees.{GoesOnAgreeing};
-ghost use Rattle.serve_links.specs.CoreSteps.{IsOfTurn};
+ghost use Rattle.core_accepted.specs.declared.served.ServedCore.{ServedCore};
+ghost use Rattle.serve_links.specs.CoreSteps.{IsOfTurn, Broke};
 ghost use Rattle.serve_links.specs.Story.{OneGoes};
-ghost use Rattle.serve_proxy.specs.Ends.{Stay, AllGoOn};
+ghost use Rattle.serve_proxy.specs.Ends.{Stay, AllGoOn, AllClose, IsAllSent, IsAllSentTo};
 
 use crate::accepting::Accepting;
 use crate::calls::send_call;
@@ -155,9 +154,7 @@ fn read_client<W: Wire>(core: &mut ServedCore, sockets: &mut Sockets<W>, id: usi
 
 // One read of it, if it may give something, into room that is lent for that.
 fn read_end<W: Wire>(client: &mut Client, wire: &mut W, rooms: &mut Rooms, tally: &mut Tally)
-    ensures agrees { GoesOnAgreeing (W.history wire.old) (W.history wire.new) client.old client.new }
-    ensures elsewhere { TouchesOnly client.old.conn.number (W.history wire.old) (W.history wire.new) }
-    ensures number { client.new.conn.number ≡ client.old.conn.number }
+    ensures one { (id : ℕ) (core : ServedCore) → OneGoes (λ step. step ≡ Broke id) id core (W.history wire.old) client.old core (W.history wire.new) client.new }
 {
     if client.can_read() {
         rooms.lend_input(&mut client.conn.held);
@@ -243,7 +240,7 @@ fn poll_once<W: Wire, N: Net>(
 
 // A client that has ended, for which nothing is left to do and to send, is gone; so is one that is broken off, if no command of it is under way.
 fn close_client<W: Wire>(core: &mut ServedCore, sockets: &mut Sockets<W>, id: usize, rest: Rest)
-    ensures ends { AllGoOn W.history core.old sockets.old core.new sockets.new }
+    ensures ends { AllClose W.history id core.old sockets.old core.new sockets.new }
 {
     if !is_over(core, sockets, id, rest) {
         return;
@@ -260,6 +257,7 @@ fn close_client<W: Wire>(core: &mut ServedCore, sockets: &mut Sockets<W>, id: us
 // Whether that is so of a client.
 fn is_over<W: Wire>(core: &ServedCore, sockets: &mut Sockets<W>, id: usize, rest: Rest) -> bool
     ensures ends { Stay W.history sockets.old sockets.new }
+    ensures sent { result ≡ true → IsAllSentTo id sockets.new.clients }
 {
     match sockets.clients.get_mut(id) {
         Some(client) => is_done(core, id, client, rest),
@@ -268,10 +266,14 @@ fn is_over<W: Wire>(core: &ServedCore, sockets: &mut Sockets<W>, id: usize, rest
 }
 
 // Whether it is so of a client with this end.
-fn is_done(core: &ServedCore, id: usize, client: &Client, rest: Rest) -> bool {
+fn is_done(core: &ServedCore, id: usize, client: &Client, rest: Rest) -> bool
+    ensures sent { result ≡ true → IsAllSent client.now }
+{
+    if !client.conn.unsent.is_empty() {
+        return false;
+    }
     let is_ended = client.is_ended || core.is_closed(id);
     // Bytes that were left unread would take the last replies with them when the socket is closed.
     let is_read = client.is_ended || !client.conn.readable;
-    let is_over = rest == Rest::Idle && is_ended && is_read;
-    client.conn.unsent.is_empty() && (client.is_broken || is_over)
+    client.is_broken || (rest == Rest::Idle && is_ended && is_read)
 }

@@ -1,7 +1,7 @@
 //! Clients that take nothing of much that is to be sent to them: since when, and which are closed for that.
 
 ghost use Rattle.std.specs.Prelude.{◌≡◌, ◌↔◌, ℕ, ◌<◌, IsTrue, OnOk, None, length, slice_set};
-ghost use Rattle.serve_proxy.specs.Ends.{Stay, AllGoOn};
+ghost use Rattle.serve_proxy.specs.Ends.{Stay, AllGoOn, AllGoBreaking};
 ghost use Rattle.serve_proxy.specs.Stalls.{since_of, since_by, HasStalled, OnlyStalled};
 
 use crate::clock::earlier;
@@ -205,7 +205,7 @@ fn write_again<W: Wire>(
     ensures ends { AllGoOn W.history core.now sockets.old core.now sockets.new }
 {
     let (is_more, _) = write_client(core, sockets, id);
-    let is_broken = sockets.break_stalled(core, id);
+    let is_broken = sockets.break_stalled(id);
     sockets.stalls.note_closed(is_broken);
     sockets.mark_ready_if(id, is_more || is_broken)
 }
@@ -227,8 +227,8 @@ impl<W: Wire> Sockets<W> {
     }
 
     // If the client has stalled it is broken off: whether it has.
-    fn break_stalled(&mut self, core: &ServedCore, id: usize) -> bool
-        ensures ends { AllGoOn W.history core.now self.old core.now self.new }
+    fn break_stalled(&mut self, id: usize) -> bool
+        ensures ends { AllGoBreaking W.history id self.old self.new }
         ensures only { OnlyStalled self.old.links.settings.stall_ms self.old.time self.old.stalls self.old.clients self.new.clients }
     {
         let since = self.stalls.since(id);
