@@ -91,11 +91,25 @@ impl Stalls {
     pub fn note(&mut self, id: usize, before: usize, after: usize, now: u64, ms: u64)
         ensures since { self.new.since.items ≡ slice_set self.old.since.items id (since_by before after now (since_of self.old id)) }
     {
+        self.note_since(id, before, after, now);
+        self.note_if_none(after > MUCH, now.saturating_add(ms));
+    }
+
+    // The same, but for when it has stalled.
+    fn note_since(&mut self, id: usize, before: usize, after: usize, now: u64)
+        ensures since { self.new.since.items ≡ slice_set self.old.since.items id (since_by before after now (since_of self.old id)) }
+    {
         if let Some(since) = self.since.get_mut(id) {
             *since = since_after(before, after, now, *since);
         }
-        if after > MUCH && self.late_from.is_none() {
-            self.note_late(now.saturating_add(ms));
+    }
+
+    // If it is so, nobody has stalled before this time, unless somebody has before.
+    fn note_if_none(&mut self, is_so: bool, late_from: u64)
+        ensures { self.new ≡ record self.old { late_from = self.new.late_from } }
+    {
+        if is_so && self.late_from.is_none() {
+            self.late_from = Some(late_from);
         }
     }
 
