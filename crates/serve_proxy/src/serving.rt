@@ -258,7 +258,25 @@ fn close_client<W: Wire>(core: &mut ServedCore, sockets: &mut Sockets<W>, id: us
     }
 }
 
-// Whether the core has no more for the client, to whom all was sent.
+// Whether it has ended, and nothing is left to do for it.
+fn is_over<W: Wire>(core: &ServedCore, sockets: &mut Sockets<W>, id: usize, rest: Rest) -> bool
+    ensures ends { Stay W.history sockets.old sockets.new }
+{
+    match sockets.clients.get_mut(id) {
+        Some(client) => is_done(core, id, client, rest),
+        None => false,
+    }
+}
+
+// The same of its end.
+fn is_done(core: &ServedCore, id: usize, client: &Client, rest: Rest) -> bool {
+    let is_ended = client.is_ended || core.is_closed(id);
+    // Bytes that were left unread would take the last replies with them when the socket is closed.
+    let is_read = client.is_ended || !client.conn.readable;
+    rest == Rest::Idle && is_ended && is_read
+}
+
+// Whether the core has no more for it, and all was sent to it.
 fn has_all<W: Wire>(core: &mut ServedCore, sockets: &mut Sockets<W>, id: usize) -> bool
     ensures ends { AllClose W.history id core.old sockets.old core.new sockets.new }
     ensures given { result ≡ true → AllGiven W.history id core.old sockets.old core.new sockets.new }
@@ -287,22 +305,4 @@ fn is_all_sent(client: &Client) -> bool
     ensures { result ≡ (client.now.is_broken || (length (bytes_of client.now.conn.unsent) == 0)) }
 {
     client.is_broken || client.conn.unsent.is_empty()
-}
-
-// Whether that is so of a client.
-fn is_over<W: Wire>(core: &ServedCore, sockets: &mut Sockets<W>, id: usize, rest: Rest) -> bool
-    ensures ends { Stay W.history sockets.old sockets.new }
-{
-    match sockets.clients.get_mut(id) {
-        Some(client) => is_done(core, id, client, rest),
-        None => false,
-    }
-}
-
-// Whether it is so of a client with this end.
-fn is_done(core: &ServedCore, id: usize, client: &Client, rest: Rest) -> bool {
-    let is_ended = client.is_ended || core.is_closed(id);
-    // Bytes that were left unread would take the last replies with them when the socket is closed.
-    let is_read = client.is_ended || !client.conn.readable;
-    rest == Rest::Idle && is_ended && is_read
 }
