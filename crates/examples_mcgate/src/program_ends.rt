@@ -35,6 +35,8 @@ mcgate check f => check of f
 mcgate check --explain f => check explained of f
 mcgate check f --dot => check drawn of f
 mcgate check --explain --dot => refused, told
+mcgate certify => certify of standard input
+mcgate certify f => certify of f
 mcgate where --config c k => where 1 in c
 mcgate where --config c  => no key
 mcgate cache --listen a:1 --capacity 5 => cache 5
@@ -57,6 +59,8 @@ mcgate --any => refused, told
 mcgate help chek => refused, told
 mcgate help check serve => refused, told
 mcgate check --any => refused, told
+mcgate certify --any => refused, told
+mcgate certify f g => refused, told
 mcgate where k => refused, told
 mcgate where --config c => refused, told
 mcgate cache --listen a:1 => refused, told
@@ -140,6 +144,7 @@ fn push_job(out: &mut String, job: &Job<'_>) -> Result<(), AllocError> {
             write!(out, " of {}", file_word(file))?;
         }
         Job::Where { file, keys } => write!(out, "where {} in {file}", keys.len())?,
+        Job::Certify { file } => write!(out, "certify of {}", file_word(file))?,
         Job::Loopback { file } => write!(out, "loopback of {}", file_word(file))?,
         Job::Cache(job) => {
             write!(out, "cache {}", job.settings.capacity)?;
