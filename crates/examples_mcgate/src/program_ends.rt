@@ -48,7 +48,8 @@ mcgate serve --any --listen a:1 --config c --reload-every 4 --reload-ms 5 --fail
 mcgate serve --listen a:1 --config c --server-dialect auto => serve - fail-limit 3 auto
 mcgate serve --listen a:1 --config c --server-dialect classic => serve - fail-limit 3 classic
 mcgate serve --listen a:1 --config c --server-dialect meta => serve - fail-limit 3 meta
-mcgate serve --listen a:1 --config c --server-dialect old => refused, told"
+mcgate serve --listen a:1 --config c --server-dialect old => refused, told
+mcgate serve --listen a:1 --config c --certificate d => serve - by d fail-limit 3 auto"
 }
 
 // Arguments that the program doesn't have.
@@ -120,6 +121,9 @@ fn dialect_word(dialect: ServerDialect) -> &'static str {
 
 fn push_serve(out: &mut String, job: &ServeJob<'_>) -> Result<(), AllocError> {
     write!(out, "serve {}", any_word(job.any))?;
+    if let Some(certificate) = job.certificate {
+        write!(out, " by {certificate}")?;
+    }
     push_number(out, "reload-every", job.reload_every)?;
     push_number(out, "reload-ms", job.reload_ms)?;
     push_number(out, "fail-limit", Some(job.settings.fail_limit))?;

@@ -32,12 +32,13 @@ pub const COMMANDS: [&str; 8] = [
     "check", "certify", "replay", "where", "serve", "cache", "loopback", "help",
 ];
 
-const SERVE_FLAGS: [&str; 17] = [
+const SERVE_FLAGS: [&str; 18] = [
     "help",
     "check",
     "config",
     "listen",
     "any",
+    "certificate",
     "clients",
     "client-window",
     "link-window",
@@ -61,7 +62,7 @@ pub const TOP_FLAGS: [&str; 2] = ["help", "version"];
 pub fn takes_of(flag: &str) -> Takes {
     match flag {
         "help" | "version" | "any" | "check" | "explain" | "dot" => Takes::Nothing,
-        "config" => Takes::File,
+        "config" | "certificate" => Takes::File,
         "listen" => Takes::Address,
         "server-dialect" => Takes::Dialect,
         _ => Takes::Count,

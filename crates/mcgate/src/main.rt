@@ -2,6 +2,7 @@
 #![tactic(auto)]
 
 mod cache;
+mod certified;
 mod descriptors;
 mod lines;
 mod serve;
@@ -11,6 +12,7 @@ mod special;
 mod warnings;
 
 use cache::serve_cache;
+use certified::judge_text_by;
 use descriptors::within_descriptors;
 use fault_words::script::BadLine;
 use lines::Lines;
@@ -234,6 +236,26 @@ fn serve_job<R: Files + Input + AllocGlobal + Net + Clock + Print + Eprint>(
     }
 }
 
+/// Judges a configuration's text as a job says: by a certificate, where it names one.
+fn judge_job<R: Files + Input + AllocGlobal, W: Write>(
+    rt: &R,
+    job: &ServeJob<'_>,
+    text: &str,
+    out: &mut W,
+    details: &mut Details,
+) -> Result<Judged, Stop> {
+    let Some(file) = job.certificate else {
+        return judge_text(rt.alloc(), job.any, text, out);
+    };
+    match input_of(rt, Some(file), details) {
+        Ok(certificate) => judge_text_by(rt.alloc(), text, certificate.as_str(), out),
+        Err(fault) => {
+            details.add_configuration(rt.alloc(), file, &Err(fault));
+            Ok(Judged::Printed(decline(fault, out)?))
+        }
+    }
+}
+
 /// Serves what a job names, or prints why it isn't served.
 fn run_serve<R: Files + Input + AllocGlobal + Net + Clock + Print + Eprint, W: Write>(
     rt: &R,
@@ -252,7 +274,7 @@ fn run_serve<R: Files + Input + AllocGlobal + Net + Clock + Print + Eprint, W: W
             return decline(fault, out);
         }
     };
-    match judge_text(rt.alloc(), job.any, text.as_str(), out)? {
+    match judge_job(rt, &job, text.as_str(), out, details)? {
         Judged::Printed(status) => {
             details.add_text(rt.alloc(), job.file, text.as_str());
             if status == REFUSED {
