@@ -728,8 +728,8 @@ pub gave_broken :
 gave_broken {id} {a} {b} {h} x y bytes does number broken goes =
     record {
       steps = Broke id ∷ Gave id bytes ∷ [];
-      kinds = (tt, tt, tt);
-      own = (tt, tt, tt);
+      kinds = (tt, (tt, tt));
+      own = (tt, (tt, tt));
       walks = (b, (a, refl, does), refl);
       agrees = goes;
       told = λ past was. (was.0, ap (λ (t : Bool). if t then true else is_broken_in past id) (same_client id) ∙ sym broken);
