@@ -761,8 +761,7 @@ pub one_gives :
     → y ≡ record x { conn = record x.conn { unsent = y.conn.unsent } } → OneGives id a h x b h y
 one_gives {id} {a} {b} {h} x y gives more rest =
     let bytes = output_by (client_at a.core id) in
-    let said : said_of y ≡ (x.conn.number, x.conn.held.items, bytes_of x.conn.unsent ++ bytes, x.is_broken, x.is_ended) = ap said_of rest ∙ ap (λ l. (x.conn.number, x.conn.held.items, l, x.is_broken, x.is_ended)) more in
-    (
+    let said : said_of y ≡ (x.conn.number, x.conn.held.items, bytes_of x.conn.unsent ++ bytes, x.is_broken, x.is_ended) = ap said_of rest ∙ ap (λ l. (x.conn.number, x.conn.held.items, l, x.is_broken, x.is_ended)) more in (
       record {
         steps = Gave id bytes ∷ [];
         kinds = (inl (bytes, refl), tt);
