@@ -728,8 +728,8 @@ pub gave_broken :
 gave_broken {id} {a} {b} {h} x y bytes does number broken goes =
     record {
       steps = Broke id ∷ Gave id bytes ∷ [];
-      kinds = (tt, tt, tt);
-      own = (tt, tt, tt);
+      kinds = (tt, (tt, tt));
+      own = (tt, (tt, tt));
       walks = (b, (a, refl, does), refl);
       agrees = goes;
       told = λ past was. (was.0, ap (λ (t : Bool). if t then true else is_broken_in past id) (same_client id) ∙ sym broken);
@@ -761,8 +761,7 @@ pub one_gives :
     → y ≡ record x { conn = record x.conn { unsent = y.conn.unsent } } → OneGives id a h x b h y
 one_gives {id} {a} {b} {h} x y gives more rest =
     let bytes = output_by (client_at a.core id) in
-    let said : said_of y ≡ (x.conn.number, x.conn.held.items, bytes_of x.conn.unsent ++ bytes, x.is_broken, x.is_ended) = ap said_of rest ∙ ap (λ l. (x.conn.number, x.conn.held.items, l, x.is_broken, x.is_ended)) more in
-    (
+    let said : said_of y ≡ (x.conn.number, x.conn.held.items, bytes_of x.conn.unsent ++ bytes, x.is_broken, x.is_ended) = ap said_of rest ∙ ap (λ l. (x.conn.number, x.conn.held.items, l, x.is_broken, x.is_ended)) more in (
       record {
         steps = Gave id bytes ∷ [];
         kinds = (inl (bytes, refl), tt);
