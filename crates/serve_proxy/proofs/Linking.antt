@@ -137,8 +137,8 @@ begun_open at dialect x y h h' opening.NoAddress opens is = absurd cc
 begun_open at dialect x y h h' opening.Failed opens is = absurd cc
 begun_open at dialect x y h h' opening.NoMemory opens is = absurd cc
 
-none_isnt_some : {A : Type 0} → IsSome {T = A} None → ⊥
-none_isnt_some e = cc
+none_isnt_some : (A : Type 0) → IsSome {T = A} None → ⊥
+none_isnt_some A e = cc
 
 -- a call that the core gave out for this server may be asked in the dialect in which the link there asks
 may_go : (past : List Step) (x : AnEnd) (at : ℕ) (call : SentCall) → IsOpenAt at x.links → AsksIn call.dialect at x.links → Agrees past x → IsCalledIn past call.ticket.number at call.ticket.ask → MayGo past at call
@@ -148,7 +148,7 @@ may_go past x at call there asks was called = record { later = []; earlier = pas
     same = subst (λ o. MatchOption o (call.dialect ≡ Classic) (λ (link : Link). call.dialect ≡ link.dialect)) there.1 asks
 
     by : (o : Option Conn) → there.0.conn ≡ o → IsSome o → (talk_in past at).dialect ≡ call.dialect
-    by None e some = absurd (none_isnt_some some)
+    by None e some = absurd (none_isnt_some Conn some)
     by (Some c) e some = ((was.links at there.0 there.1).conn c e).dialect_is ∙ sym same
 
 -- so it goes, where that link stands at the number of its server
