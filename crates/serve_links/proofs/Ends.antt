@@ -1,6 +1,7 @@
 -- What a server tells over its link's connection.
 use Rattle.std.proofs.Common.{◌≡◌, ℕ, ◌+◌, true, false, List, [], ◌∷◌, ◌++◌, length, take, drop, Some, refl, sym, ap, ◌∙◌, subst, inr, arith}
 use Rattle.std.proofs.lemmas.List.{take-append-drop}
+use Rattle.std.proofs.Math.Seq.{take-append-add}
 use Rattle.text_words.specs.Line.{LF}
 use Rattle.mc_types.specs.declared.ask.Dialect.{Dialect}
 use Rattle.wire_meta_gets.specs.Learning.{IsDialectLine}
@@ -10,8 +11,7 @@ use Rattle.serve_links.specs.Dialects.{IsGreeting}
 use Rattle.serve_links.specs.Lines.{TakesGreeting, HasLearnt, Learns}
 
 first_line : (text rest : List ℕ) → take (length text + 1) (text ++ LF ∷ rest) ≡ text ++ LF ∷ []
-first_line [] rest = refl
-first_line (b ∷ text) rest = ap (λ l. b ∷ l) (first_line text rest)
+first_line text rest = take-append-add text (LF ∷ rest) 1
 
 line_length : (text : List ℕ) → length (text ++ LF ∷ []) ≡ length text + 1
 line_length [] = refl

@@ -208,6 +208,7 @@ talk_reads h h' at text t c held held' unsent out awaits dialect r was = record 
   told_is = r.came ∙ ap (λ l. l ++ r.bytes) was.told_is ∙ append_assoc t.told held r.bytes ∙ ap (λ l. t.told ++ l) (sym r.held_is);
   out_is = was.out_is;
   awaits_is = was.awaits_is;
+  dialect_is = was.dialect_is;
 }
 
 -- what came is held
@@ -233,6 +234,7 @@ talk_sends h h' at text t c held unsent unsent' out awaits dialect s was = recor
   told_is = s.same_came ∙ was.told_is;
   out_is = was.out_is;
   awaits_is = was.awaits_is;
+  dialect_is = was.dialect_is;
 }
 
 -- what is to be sent goes out, as far as it is taken
@@ -386,6 +388,7 @@ talk_asks h at text t c held unsent out awaits speaks number dialect ask was = r
   told_is = was.told_is;
   out_is = ap (λ (l : List SaidAsk). l ++ (number, dialect, ask) ∷ []) was.out_is;
   awaits_is = was.awaits_is;
+  dialect_is = was.dialect_is;
 }
 
 -- a call that the core gave out for its server is asked
@@ -450,6 +453,7 @@ talk_answers h at text t c spelled held unsent out out' awaits dialect was = rec
   told_is = was.told_is ∙ sym (append_assoc t.told spelled held);
   out_is = refl;
   awaits_is = was.awaits_is;
+  dialect_is = was.dialect_is;
 }
 
 -- the answers in front of what is held settle calls, and this is left of it

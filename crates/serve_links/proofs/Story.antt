@@ -117,7 +117,7 @@ took_told past h h' id conn same (inl all) = inl (all ∙ sym same.2)
 took_told past h h' id conn same (inr broken) = inr broken
 
 ends_told : (last : Step) (past : List Step) (h h' : List Event) (id conn : ℕ) → TellsSame conn h h' → EndsBy last past h id conn → EndsBy last past h' id conn
-ends_told last past h h' id conn same (inl closed) = inl (closed.0, took_told past h h' id conn same closed.1)
+ends_told last past h h' id conn same (inl closed) = inl (closed.0, closed.1, took_told past h h' id conn same closed.2)
 ends_told last past h h' id conn same (inr opened) = inr opened
 
 -- what is known of one that is gone stays known
@@ -197,11 +197,11 @@ same_client i j e = ap (λ (p : ℕ × ℕ). p.1) (same_some (0, i) (0, j) e)
 -- ---- one end among all
 
 -- one client's end goes on, and the others are as they were
-pub one_of_all :
+pub one_agrees :
     {Is : Step → Type 0} (id : ℕ) (old new : AnEnd) (x y : Client) → client_of old.clients id ≡ Some x → client_of new.clients id ≡ Some y
     → ((j : ℕ) → nat_eq id j ≡ false → client_of new.clients j ≡ client_of old.clients j) → new.links ≡ old.links
-    → OneGoes Is id old.core old.history x new.core new.history y → AllGo Is old new
-one_of_all {Is} id old new x y was is others links g = record { steps = g.steps; kinds = g.kinds; walks = g.walks; agree = agree; texts = ap texts_of links }
+    → (g : OneGoes Is id old.core old.history x new.core new.history y) (past : List Step) → Agrees past old → Agrees (g.steps ++ past) new
+one_agrees {Is} id old new x y was is others links g = agree
   where
     h : List Event
     h = old.history
@@ -273,6 +273,12 @@ one_of_all {Is} id old new x y was is others links g = record { steps = g.steps;
       links = lines past a;
       gone = gone past a;
     }
+
+pub one_of_all :
+    {Is : Step → Type 0} (id : ℕ) (old new : AnEnd) (x y : Client) → client_of old.clients id ≡ Some x → client_of new.clients id ≡ Some y
+    → ((j : ℕ) → nat_eq id j ≡ false → client_of new.clients j ≡ client_of old.clients j) → new.links ≡ old.links
+    → OneGoes Is id old.core old.history x new.core new.history y → AllGo Is old new
+one_of_all id old new x y was is others links g = record { steps = g.steps; kinds = g.kinds; walks = g.walks; agree = one_agrees id old new x y was is others links g; texts = ap texts_of links }
 
 -- one link's end goes on, and the others are as they were
 pub line_among :

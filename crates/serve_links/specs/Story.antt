@@ -1,5 +1,5 @@
 -- What a walk of a core tells of its clients, and how the ends of clients and links on a wire go on with it. Source: mcgate's own.
-use Rattle.std.specs.Prelude.{◌≡◌, ◌≢◌, ℕ, Bool, true, false, List, [], ◌∷◌, ◌++◌, Option, Some, map as each, if◌then◌else◌, nat_eq, slice_get, ◌⊎◌}
+use Rattle.std.specs.Prelude.{◌≡◌, ◌≢◌, ℕ, IfSome, Bool, true, false, List, [], ◌∷◌, ◌++◌, Option, Some, map as each, if◌then◌else◌, nat_eq, slice_get, ◌⊎◌}
 use Rattle.mc_types.specs.declared.ask.Ask.{Ask}
 use Rattle.mc_types.specs.declared.ask.Dialect.{Dialect}
 use Rattle.wire_parts.specs.Sending.{bytes_of}
@@ -117,9 +117,15 @@ TellsNone j past steps =
 abbrev pub TookAll : List Step → List Event → ℕ → ℕ → Type 0
 TookAll steps h id conn = (gave_in steps id ≡ taken conn h) ⊎ (is_broken_in steps id ≡ true)
 
--- a client ends by this step: the core closes it after its connection took all that was given, or opens it anew though it is open
+-- the last of these calls was that the core gave all that it had for this client
+pub record IsJustGiven (id : ℕ) (steps : List Step) : Type 0 where
+  pub bytes : List ℕ
+  pub earlier : List Step
+  pub last : steps ≡ Gave id bytes ∷ earlier
+
+-- a client ends by this step: the core closes it once it gave all that it had for it and the connection took that, or opens it anew though it is open
 abbrev pub EndsBy : Step → List Step → List Event → ℕ → ℕ → Type 0
-EndsBy last steps h id conn = ((last ≡ Closed id) × TookAll steps h id conn) ⊎ ((last ≡ Opened id) × (is_open_in steps id ≡ true))
+EndsBy last steps h id conn = ((last ≡ Closed id) × IsJustGiven id steps × TookAll steps h id conn) ⊎ ((last ≡ Opened id) × (is_open_in steps id ≡ true))
 
 -- the client whose connection this was is gone by this last step: until then the connection delivered what was fed for it, and more perhaps, and took what was given for it, or where it was broken off the first of that
 pub record IsGone (past : List Step) (h : List Event) (id conn : ℕ) : Type 0 where
@@ -249,6 +255,10 @@ pub record AgreesBut (This : ℕ → List Step → List Event → Link → Type 
   pub links : (j : ℕ) (link : Link) → nat_eq at j ≡ false → slice_get x.links j ≡ Some link → LineAgrees j past x.history link
   pub this : (link : Link) → slice_get x.links at ≡ Some link → This at past x.history link
   pub gone : (conn id : ℕ) → role conn x.history ≡ Some (0, id) → HasOrHad past x.history x.clients id conn
+
+-- all agree, and the core just gave all that it had for this client
+abbrev pub AgreesGiven : ℕ → List Step → AnEnd → Type 0
+AgreesGiven id past x = Agrees past x × IsJustGiven id past
 
 -- all agree, and the core gave out this call for this server
 abbrev pub AgreesCalled : ℕ → ℕ → Ask → List Step → AnEnd → Type 0

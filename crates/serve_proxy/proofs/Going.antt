@@ -33,13 +33,13 @@ use Rattle.serve_links.specs.declared.link.Link.{Link}
 use Rattle.serve_links.specs.CoreSteps.{Step, Opened, NotOpened, Fed, Polled, Stopped, Settled, Gave, Closed, LeftLine, Broke, Loaded, Linked, Asked, Greeted, Spelled, Does, Walks, AreOf, GoesBy, IsOfTurn, IsFailure, IsSending, Fails}
 use Rattle.serve_links.specs.Talks.{IsOfClients}
 use Rattle.serve_links.specs.Pieces.{FeedsHeld}
-use Rattle.serve_links.specs.Story.{fed_in, gave_in, is_open_in, is_broken_in, AgreesWith, IsTold, AreTold, TellsNone, HasOrHad, LineState, line_of, LineAgrees, LineLost, LineCalled, LinesAgree, OneGoes, LineGoesFrom, LineGoes, AnEnd, Agrees, AgreesBut, AgreesCalled, AgreesLosing, AllGoFrom, AllGo, texts_of, AgreesSent}
+use Rattle.serve_links.specs.Story.{fed_in, gave_in, is_open_in, is_broken_in, AgreesWith, IsTold, AreTold, TellsNone, HasOrHad, LineState, line_of, LineAgrees, LineLost, LineCalled, LinesAgree, OneGoes, LineGoesFrom, LineGoes, AnEnd, Agrees, AgreesGiven, AgreesBut, AgreesCalled, AgreesLosing, AllGoFrom, AllGo, texts_of, AgreesSent}
 use Rattle.serve_links.proofs.Reading.{breaks_now}
 use Rattle.serve_links.proofs.Talking.{IsPlain, plain_talk, plain_orderly}
-use Rattle.serve_links.proofs.Story.{at_told, each_told, all_told, same_told, had_stays, one_of_all, line_among, line_stays, all_still, from_then, go_between, all_but, but_all}
+use Rattle.serve_links.proofs.Story.{one_agrees, at_told, each_told, all_told, same_told, had_stays, one_of_all, line_among, line_stays, all_still, from_then, go_between, all_but, but_all}
 use Rattle.serve_links.proofs.LinkGoes.{same_line, as_lost, losing}
 use Rattle.serve_links.proofs.Walked.{walked, of_both}
-use Rattle.serve_proxy.specs.Ends.{lines_of, EndsStay, EndsGoFrom, EndsGo, LineStands}
+use Rattle.serve_proxy.specs.Ends.{lines_of, IsClosing, OneGives, EndsStay, EndsGoFrom, EndsGo, LineStands}
 use Rattle.serve_proxy.proofs.Lent.{lent_here, lent_others}
 
 -- ---- all ends, one after another
@@ -319,8 +319,12 @@ all_of more [] kinds = tt
 all_of more (step ∷ steps) kinds = (more step kinds.0, all_of more steps kinds.1)
 
 -- what is closed goes on, and so does what is broken off
-pub closing : {P Q : List Step → AnEnd → Type 0} {id : ℕ} {a b : AnEnd} → AllGoFrom P Q (λ step. step ≡ Closed id) a b → AllGoFrom P Q IsOfTurn a b
-closing g = record { steps = g.steps; kinds = all_of (λ step is. subst IsOfTurn (sym is) tt) g.steps g.kinds; walks = g.walks; agree = g.agree; texts = g.texts }
+pub closing : {P Q : List Step → AnEnd → Type 0} {id : ℕ} {a b : AnEnd} → AllGoFrom P Q (IsClosing id) a b → AllGoFrom P Q IsOfTurn a b
+closing {id = id} g = record { steps = g.steps; kinds = all_of of_turn g.steps g.kinds; walks = g.walks; agree = g.agree; texts = g.texts }
+  where
+    of_turn : (step : Step) → IsClosing id step → IsOfTurn step
+    of_turn step (inl gave) = subst IsOfTurn (sym gave.1) tt
+    of_turn step (inr closed) = subst IsOfTurn (sym closed) tt
 
 pub breaking : {P Q : List Step → AnEnd → Type 0} {id : ℕ} {a b : AnEnd} → AllGoFrom P Q (λ step. step ≡ Broke id) a b → AllGoFrom P Q IsOfTurn a b
 breaking g = record { steps = g.steps; kinds = all_of (λ step is. subst IsOfTurn (sym is) tt) g.steps g.kinds; walks = g.walks; agree = g.agree; texts = g.texts }
@@ -625,6 +629,24 @@ one_then {Is} {id} {a} {b} {c} {h} {h'} {h''} {x} {y} {z} g k =
           (ap (λ l. fed_in l j) e ∙ q.0 ∙ p.0, ap (λ l. gave_in l j) e ∙ q.1 ∙ p.1, ap (λ l. is_open_in l j) e ∙ q.2 ∙ p.2, ap (λ l. is_broken_in l j) e ∙ q.3 ∙ p.3);
     }
 
+-- it is done to one among all, to which the core gave all that it had
+pub one_given :
+    {h h' : List Event} {ls : List Link} {a b : ServedCore} (id : ℕ) (s n : Clients) (x y : Client) → client_of s id ≡ Some x → n ≡ with_client s id y → OneGives id a h x b h' y
+    → AllGoFrom Agrees (AgreesGiven id) (IsClosing id) (record { core = a; history = h; clients = s; links = ls }) (record { core = b; history = h'; clients = n; links = ls })
+one_given {h} {h'} {ls} {a} {b} id s n x y was is given =
+    let g = given.0 in
+    record {
+      steps = g.steps;
+      kinds = g.kinds;
+      walks = g.walks;
+      agree = λ past agreed. (
+        one_agrees id (record { core = a; history = h; clients = s; links = ls }) (record { core = b; history = h'; clients = n; links = ls })
+            x y was (lent_here s n id x y was is) (λ j other. lent_others s n id j y (not_same id j other) is) refl g past agreed,
+        record { bytes = given.1; earlier = past; last = ap (λ l. l ++ past) given.2 },
+      );
+      texts = refl;
+    }
+
 -- it is done to one among all
 pub one_goes :
     {Is : Step → Type 0} {h h' : List Event} {ls : List Link} {a b : ServedCore} (id : ℕ) (s n : Clients) (x y : Client) → client_of s id ≡ Some x → n ≡ with_client s id y → OneGoes Is id a h x b h' y
@@ -706,8 +728,8 @@ pub gave_broken :
 gave_broken {id} {a} {b} {h} x y bytes does number broken goes =
     record {
       steps = Broke id ∷ Gave id bytes ∷ [];
-      kinds = (tt, tt, tt);
-      own = (tt, tt, tt);
+      kinds = (tt, (tt, tt));
+      own = (tt, (tt, tt));
       walks = (b, (a, refl, does), refl);
       agrees = goes;
       told = λ past was. (was.0, ap (λ (t : Bool). if t then true else is_broken_in past id) (same_client id) ∙ sym broken);
@@ -731,4 +753,34 @@ one_shown {id} {a} {b} {h} x y (Ok shown) gives same more kept rest =
     subst (of_said h (fed_in past) (gave_in (Gave id bytes ∷ past)) id) (sym said)
     (gave_state h (fed_in past) (gave_in past) (gave_in (Gave id bytes ∷ past)) id x.conn.number x.conn.held.items (bytes_of x.conn.unsent) bytes x.is_broken x.is_ended (more_given past id bytes) was))
 one_shown {id} {a} {b} {h} x y (Err fault) gives same more kept rest =
+    one_touched same (same_agrees h x y (ap said_of rest ∙ ap (λ l. (x.conn.number, x.conn.held.items, l, x.is_broken, x.is_ended)) kept)) (ap (λ (z : Client). z.conn.number) rest) (λ d other. untouched d h) (ap (λ (z : Client). z.is_broken) rest)
+
+-- the core gave all that it had, and that is all that was done
+pub one_gives :
+    {id : ℕ} {a b : ServedCore} {h : List Event} (x y : Client) → Does (Gave id (output_by (client_at a.core id))) a b → bytes_of y.conn.unsent ≡ bytes_of x.conn.unsent ++ output_by (client_at a.core id)
+    → y ≡ record x { conn = record x.conn { unsent = y.conn.unsent } } → OneGives id a h x b h y
+one_gives {id} {a} {b} {h} x y gives more rest =
+    let bytes = output_by (client_at a.core id) in
+    let said : said_of y ≡ (x.conn.number, x.conn.held.items, bytes_of x.conn.unsent ++ bytes, x.is_broken, x.is_ended) = ap said_of rest ∙ ap (λ l. (x.conn.number, x.conn.held.items, l, x.is_broken, x.is_ended)) more in (
+      record {
+        steps = Gave id bytes ∷ [];
+        kinds = (inl (bytes, refl), tt);
+        own = (tt, tt);
+        walks = (a, refl, gives);
+        agrees = λ past was.
+            subst (of_said h (fed_in past) (gave_in (Gave id bytes ∷ past)) id) (sym said)
+            (gave_state h (fed_in past) (gave_in past) (gave_in (Gave id bytes ∷ past)) id x.conn.number x.conn.held.items (bytes_of x.conn.unsent) bytes x.is_broken x.is_ended (more_given past id bytes) was);
+        told = λ past was. (was.0, was.1 ∙ sym (ap (λ (s : ℕ × List ℕ × List ℕ × Bool × Bool). s.3) said));
+        number = ap (λ (s : ℕ × List ℕ × List ℕ × Bool × Bool). s.0) said;
+        only = λ d other. untouched d h;
+        others = λ past j other. (refl, ap (λ (t : Bool). if t then gave_in past j ++ bytes else gave_in past j) other, refl, refl);
+      },
+      bytes,
+      refl,
+    )
+
+-- or nothing
+pub one_kept :
+    {Is : Step → Type 0} {id : ℕ} {a b : ServedCore} {h : List Event} (x y : Client) → b ≡ a → bytes_of y.conn.unsent ≡ bytes_of x.conn.unsent → y ≡ record x { conn = record x.conn { unsent = y.conn.unsent } } → OneGoes Is id a h x b h y
+one_kept {h = h} x y same kept rest =
     one_touched same (same_agrees h x y (ap said_of rest ∙ ap (λ l. (x.conn.number, x.conn.held.items, l, x.is_broken, x.is_ended)) kept)) (ap (λ (z : Client). z.conn.number) rest) (λ d other. untouched d h) (ap (λ (z : Client). z.is_broken) rest)

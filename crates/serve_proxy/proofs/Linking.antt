@@ -119,7 +119,7 @@ polled_call client ticket r a b is ok fresh =
 
 -- the link at a place stands there still
 pub open_still : (at : ℕ) (ls ls' : List Link) → ls' ≡ ls → IsOpenAt at ls → IsOpenAt at ls'
-open_still at ls ls' same open = subst (IsOpenAt at) (sym same) open
+open_still at ls ls' same there = subst (IsOpenAt at) (sym same) there
 
 pub open_now : (links : List Link) (at : ℕ) (x : Link) → at < length links → x ≡ get_or links at x → IsSome x.conn → IsOpenAt at links
 open_now links at x within was some = (x, slice_get_read links (length links) at x refl within was, some)
@@ -137,25 +137,25 @@ begun_open at dialect x y h h' opening.NoAddress opens is = absurd cc
 begun_open at dialect x y h h' opening.Failed opens is = absurd cc
 begun_open at dialect x y h h' opening.NoMemory opens is = absurd cc
 
-none_isnt_some : {A : Type 0} → IsSome {T = A} None → ⊥
-none_isnt_some e = cc
+none_isnt_some : (A : Type 0) → IsSome {T = A} None → ⊥
+none_isnt_some A e = cc
 
 -- a call that the core gave out for this server may be asked in the dialect in which the link there asks
 may_go : (past : List Step) (x : AnEnd) (at : ℕ) (call : SentCall) → IsOpenAt at x.links → AsksIn call.dialect at x.links → Agrees past x → IsCalledIn past call.ticket.number at call.ticket.ask → MayGo past at call
-may_go past x at call open asks was called = record { later = []; earlier = past; parts = refl; called = called; speaks = by open.0.conn refl open.2 }
+may_go past x at call there asks was called = record { later = []; earlier = past; parts = refl; called = called; speaks = by there.0.conn refl there.2 }
   where
-    same : call.dialect ≡ open.0.dialect
-    same = subst (λ o. MatchOption o (call.dialect ≡ Classic) (λ (link : Link). call.dialect ≡ link.dialect)) open.1 asks
+    same : call.dialect ≡ there.0.dialect
+    same = subst (λ o. MatchOption o (call.dialect ≡ Classic) (λ (link : Link). call.dialect ≡ link.dialect)) there.1 asks
 
-    by : (o : Option Conn) → open.0.conn ≡ o → IsSome o → (talk_in past at).dialect ≡ call.dialect
-    by None e some = absurd (none_isnt_some some)
-    by (Some c) e some = ((was.links at open.0 open.1).conn c e).dialect_is ∙ sym same
+    by : (o : Option Conn) → there.0.conn ≡ o → IsSome o → (talk_in past at).dialect ≡ call.dialect
+    by None e some = absurd (none_isnt_some Conn some)
+    by (Some c) e some = ((was.links at there.0 there.1).conn c e).dialect_is ∙ sym same
 
 -- so it goes, where that link stands at the number of its server
 pub called_at :
     {Q : List Step → AnEnd → Type 0} {Is : Step → Type 0} {a b : AnEnd} (at : ℕ) (call : SentCall) → call.ticket.server ≡ at → IsOpenAt at a.links → AsksIn call.dialect at a.links → AllGoFrom (AgreesSent at call) Q Is a b
     → AllGoFrom (AgreesCalled call.ticket.number call.ticket.server call.ticket.ask) Q Is a b
-called_at {a = a} at call same open asks g = go_between (λ past was. (was.0, may_go past a at call open asks was.0 (subst (λ n. IsCalledIn past call.ticket.number n call.ticket.ask) same was.1))) (λ past was. was) g
+called_at {a = a} at call same there asks g = go_between (λ past was. (was.0, may_go past a at call there asks was.0 (subst (λ n. IsCalledIn past call.ticket.number n call.ticket.ask) same was.1))) (λ past was. was) g
 
 -- ---- answers
 

@@ -1,7 +1,7 @@
 -- Clients' ends that begin and end, and what the core gave for one.
 use Rattle.std.proofs.Common.{◌≡◌, ◌≢◌, ◌⊎◌, inl, inr, ℕ, zero, suc, Bool, true, false, if◌then◌else◌, List, [], ◌∷◌, ◌++◌, length, Option, Some, None, Result, Ok, Err, refl, sym, ap, ◌∙◌, subst, append_assoc, append-nil, arith}
 use Rattle.std.proofs.lemmas.Bool.{cases_eq, cases_Bool, eqb-true}
-use Rattle.std.specs.Prelude.{nat_eq, IfSome, IfErr, OnOk, slice_get, slice_set}
+use Rattle.std.specs.Prelude.{◌==◌, ◌||◌, nat_eq, IfSome, IfErr, OnOk, slice_get, slice_set}
 use Rattle.std.specs.Option.{option_map, option_flatten}
 use Rattle.fresh_runs.specs.Overlap as log
 use Rattle.wire_parts.specs.Sending.{bytes_of}
@@ -22,11 +22,11 @@ use Rattle.serve_clients.proofs.Agreeing.{its, keeps_none, state_stays, state_br
 use Rattle.serve_clients.proofs.Marked.{kept}
 use Rattle.serve_links.specs.declared.link.Link.{Link}
 use Rattle.serve_links.specs.CoreSteps.{Step, Opened, Gave, Closed, Does, AreOf, GoesBy, IsOfTurn}
-use Rattle.serve_links.specs.Story.{fed_in, gave_in, is_open_in, is_broken_in, IsTold, AreTold, TookAll, IsGone, IsUnused, HasOrHad, LinesAgree, OneGoes, Agrees, AllGo}
+use Rattle.serve_links.specs.Story.{fed_in, gave_in, is_open_in, is_broken_in, IsTold, AreTold, TookAll, IsJustGiven, IsGone, IsUnused, HasOrHad, LinesAgree, OneGoes, Agrees, AgreesGiven, AllGoFrom, AllGo}
 use Rattle.serve_links.proofs.Talking.{IsPlain, plain_talk, plain_orderly}
 use Rattle.serve_links.proofs.Story.{at_told, all_told, took_all, TellsSame, same_told, gone_stays, end_gone, had_stays, line_stays}
 use Rattle.serve_links.proofs.Walked.{walked, of_both}
-use Rattle.serve_proxy.specs.Ends.{EndsStay, EndsGo, IsAllSent, IsAllSentTo}
+use Rattle.serve_proxy.specs.Ends.{EndsStay, EndsGo, IsAllSent, IsAllSentTo, IsClosing}
 use Rattle.serve_proxy.proofs.Staying.{quiet}
 use Rattle.serve_proxy.proofs.Going.{IsSilent, tells_none, silent_turn, silent_plain, lines_told, agree_told, had_quiet, gave_one, gave_broken, gave_state, more_given, one_touched, one_breaks, same_agrees, same_client}
 
@@ -247,18 +247,18 @@ closed_tells c d h h' (inr same) = (ap (role d) same, ap (delivered d) same, ap 
 pub gone_go :
     {h h' : List Event} {cs cs' : Clients} {ls : List Link} (id : ℕ) (r : Option ℕ) → r ≡ option_map (λ x. x.conn.number) (client_of cs id) → cs'.all.items ≡ slice_set cs.all.items id None
     → IfSome r (λ c. Closes c h h') → (r ≡ None → h' ≡ h) → (before core : ServedCore) → Does (Closed id) before core → IsAllSentTo id cs
-    → AllGo (λ step. step ≡ Closed id) (record { core = before; history = h; clients = cs; links = ls }) (record { core = core; history = h'; clients = cs'; links = ls })
+    → AllGoFrom (AgreesGiven id) Agrees (IsClosing id) (record { core = before; history = h; clients = cs; links = ls }) (record { core = core; history = h'; clients = cs'; links = ls })
 gone_go {h} {h'} {cs} {cs'} {ls} id r is gone some none before core does sent = record {
   steps = Closed id ∷ [];
-  kinds = (refl, tt);
+  kinds = (inr refl, tt);
   walks = (before, refl, does);
-  agree = λ past was. record {
+  agree = λ past given. let was = given.0 in record {
     clients = λ j. clients past was.clients j (cases_eq j id);
     told = λ j. still_told past was.told j (cases_eq j id);
     orderly = (tt, was.orderly);
     links = λ at link there.
         line_stays h h' at (Closed id ∷ []) past link (λ conn c. touched past was.clients conn.number (1, at) ((was.links at link there).conn conn c).is_to (λ e. one_zero (ap (λ (p : ℕ × ℕ). p.0) e))) refl (was.links at link there);
-    gone = gone_of past was;
+    gone = gone_of past was given.1;
   };
   texts = refl;
 }
@@ -298,8 +298,8 @@ gone_go {h} {h'} {cs} {cs'} {ls} id r is gone some none before core does sent = 
         by None told = tt
         by (Some x) told = (ap (λ (t : Bool). if t then false else is_open_in past j) (unequal id j (λ e. other (sym e))) ∙ told.0, told.1)
 
-    gone_of : (past : List Step) → Agrees past (record { core = before; history = h; clients = cs; links = ls }) → (conn j : ℕ) → role conn h' ≡ Some (0, j) → HasOrHad (Closed id ∷ past) h' cs' j conn
-    gone_of past was conn j now = by (cases_eq j id)
+    gone_of : (past : List Step) → Agrees past (record { core = before; history = h; clients = cs; links = ls }) → IsJustGiven id past → (conn j : ℕ) → role conn h' ≡ Some (0, j) → HasOrHad (Closed id ∷ past) h' cs' j conn
+    gone_of past was given conn j now = by (cases_eq j id)
       where
         was_known : HasOrHad past h cs j conn
         was_known = was.gone conn j (sym (told conn).0 ∙ now)
@@ -307,7 +307,7 @@ gone_go {h} {h'} {cs} {cs'} {ls} id r is gone some none before core does sent = 
         of_closed : (o : Option Client) → client_of cs j ≡ o → j ≡ id → HasOrHad past h cs j conn → HasOrHad (Closed id ∷ past) h' cs' j conn
         of_closed None e here (inl its_end) = absurd (none_is (sym (ap (option_map (λ (x : Client). x.conn.number)) e) ∙ its_end))
         of_closed (Some x) e here (inl its_end) =
-            inr (inr (end_gone past [] (Closed id) h h' j conn x (inl (ap (λ k. Closed k) (sym here), took past was j conn x e here (number_is (sym (ap (option_map (λ (x : Client). x.conn.number)) e) ∙ its_end)))) (subst (λ o. IfSome o (EndAgrees h (fed_in past) (gave_in past) j)) e (was.clients j)) (number_is (sym (ap (option_map (λ (x : Client). x.conn.number)) e) ∙ its_end)) (told conn)))
+            inr (inr (end_gone past [] (Closed id) h h' j conn x (inl (ap (λ k. Closed k) (sym here), subst (λ k. IsJustGiven k past) (sym here) given, took past was j conn x e here (number_is (sym (ap (option_map (λ (x : Client). x.conn.number)) e) ∙ its_end)))) (subst (λ o. IfSome o (EndAgrees h (fed_in past) (gave_in past) j)) e (was.clients j)) (number_is (sym (ap (option_map (λ (x : Client). x.conn.number)) e) ∙ its_end)) (told conn)))
         of_closed o e here (inr (inl unused)) = inr (inl ((told conn).1 ∙ unused.0, (told conn).2 ∙ unused.1))
         of_closed o e here (inr (inr more)) = inr (inr (gone_stays past (Closed id ∷ []) h h' j conn (told conn) more))
 
@@ -362,3 +362,11 @@ one_empty {id} {a} {b} {h} x (Err fault) out out' ok err fresh more none = one_t
 pub no_length : (l : List ℕ) → length l ≡ 0 → l ≡ []
 no_length [] e = refl
 no_length (n ∷ l) e = absurd (omega arith)
+
+-- all is sent, by a test
+pub all_sent : (x : Client) (r : Bool) → r ≡ (x.is_broken || (length (bytes_of x.conn.unsent) == 0)) → r ≡ true → IsAllSent x
+all_sent x r is all = by x.is_broken refl
+  where
+    by : (b : Bool) → x.is_broken ≡ b → IsAllSent x
+    by true e = inr e
+    by false e = inl (no_length (bytes_of x.conn.unsent) (eqb-true _ _ (ap (λ b. b || (length (bytes_of x.conn.unsent) == 0)) (sym e) ∙ sym is ∙ all)))

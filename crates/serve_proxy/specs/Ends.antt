@@ -1,5 +1,5 @@
 -- What a proxy's end has on its wire, and how that stays or goes on. Source: mcgate's own.
-use Rattle.std.specs.Prelude.{◌≡◌, ◌≢◌, ℕ, List, [], ◌++◌, Option, Some, None, Result, Ok, Err, true, false, ◌⊎◌, IfSome, map as each, slice_get, IsSome, MatchOption}
+use Rattle.std.specs.Prelude.{◌≡◌, ◌≢◌, ℕ, List, [], ◌∷◌, ◌++◌, Option, Some, None, Result, Ok, Err, true, false, ◌⊎◌, IfSome, map as each, slice_get, IsSome, MatchOption}
 use Rattle.wire_parts.specs.Sending.{bytes_of}
 use Rattle.mc_types.specs.declared.ask.Dialect.{Dialect}
 use Rattle.mc_types.specs.declared.ask.Dialect.TheVariants.{Classic}
@@ -14,9 +14,9 @@ use Rattle.serve_clients.specs.Marks.{client_of}
 use Rattle.serve_clients.specs.Agrees.{KeepsEnds}
 use Rattle.serve_links.specs.declared.calls.calls.SentCall.{SentCall}
 use Rattle.serve_links.specs.declared.link.Link.{Link}
-use Rattle.serve_links.specs.CoreSteps.{Step, Opened, Closed, Broke, Loaded, Does, Walks, AreOf, IsOfTurn, IsFailure, IsSending}
+use Rattle.serve_links.specs.CoreSteps.{Step, Opened, Gave, Closed, Broke, Loaded, Does, Walks, AreOf, IsOfTurn, IsFailure, IsSending}
 use Rattle.serve_proxy.specs.declared.sockets.Sockets.{Sockets}
-use Rattle.serve_links.specs.Story.{LineState, line_of, LineAgrees, LineLost, LineCalled, LineGoesFrom, LineGoes, AnEnd, Agrees, AgreesBut, AgreesCalled, AgreesSent, AgreesLosing, AllGoFrom, AllGo, texts_of}
+use Rattle.serve_links.specs.Story.{LineState, line_of, LineAgrees, LineLost, LineCalled, LineGoesFrom, LineGoes, OneGoes, AnEnd, Agrees, AgreesGiven, AgreesBut, AgreesCalled, AgreesSent, AgreesLosing, AllGoFrom, AllGo, texts_of}
 
 -- what each link has to do with its connection and its calls
 abbrev pub lines_of : List Link → List LineState
@@ -131,13 +131,25 @@ IsAllSent x = (bytes_of x.conn.unsent ≡ []) ⊎ (x.is_broken ≡ true)
 abbrev pub IsAllSentTo : ℕ → Clients → Type 0
 IsAllSentTo id clients = IfSome (client_of clients id) IsAllSent
 
--- nothing is done with the core but that it closes this client, if it does, and the ends go on with that
-abbrev pub AllClose : {W : Type 0} → (W → List Event) → (id : ℕ) → ServedCore → Sockets W → ServedCore → Sockets W → Type 0
-AllClose history id core sockets core' sockets' = AllGo (λ step. step ≡ Closed id) (end_of history core sockets) (end_of history core' sockets')
+-- the core gives what it has for this client, or closes it
+abbrev pub IsClosing : ℕ → Step → Type 0
+IsClosing id step = ((bytes : List ℕ) × (step ≡ Gave id bytes)) ⊎ (step ≡ Closed id)
 
--- whatever core has closed a client of this id, all go on from before that, where all was sent to it
+-- nothing else is done with the core, and the ends go on with that
+abbrev pub AllClose : {W : Type 0} → (W → List Event) → (id : ℕ) → ServedCore → Sockets W → ServedCore → Sockets W → Type 0
+AllClose history id core sockets core' sockets' = AllGo (IsClosing id) (end_of history core sockets) (end_of history core' sockets')
+
+-- the core gave all that it had for this client, and nothing else is done with it
+abbrev pub AllGiven : {W : Type 0} → (W → List Event) → (id : ℕ) → ServedCore → Sockets W → ServedCore → Sockets W → Type 0
+AllGiven history id core sockets core' sockets' = AllGoFrom Agrees (AgreesGiven id) (IsClosing id) (end_of history core sockets) (end_of history core' sockets')
+
+-- so it is with one client's end
+abbrev pub OneGives : ℕ → ServedCore → List Event → Client → ServedCore → List Event → Client → Type 0
+OneGives id core h x core' h' y = (g : OneGoes (IsClosing id) id core h x core' h' y) × (bytes : List ℕ) × (g.steps ≡ Gave id bytes ∷ [])
+
+-- whatever core has closed a client of this id, all go on from before that, where it just gave all that it had for it, and all was sent
 abbrev pub AllGoClosed : {W : Type 0} → (W → List Event) → (id : ℕ) → Sockets W → Sockets W → Type 0
-AllGoClosed history id sockets sockets' = (before core : ServedCore) → Does (Closed id) before core → IsAllSentTo id sockets.clients → AllClose history id before sockets core sockets'
+AllGoClosed history id sockets sockets' = (before core : ServedCore) → Does (Closed id) before core → IsAllSentTo id sockets.clients → AllGoFrom (AgreesGiven id) Agrees (IsClosing id) (end_of history before sockets) (end_of history core sockets')
 
 -- nothing is done with the core; the client of this id may be broken off, and the ends go on with that
 abbrev pub AllGoBreaking : {W : Type 0} → (W → List Event) → (id : ℕ) → Sockets W → Sockets W → Type 0

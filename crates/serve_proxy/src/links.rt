@@ -46,7 +46,7 @@ fn begin<W: Wire, N: Net>(
     settings: &Settings,
 ) -> Opening
     ensures stands { LineStands at (W.history wire.old) (W.history wire.new) link.old link.new }
-    ensures open { result ≡ Opening.Begun → IsSome link.new.conn }
+    ensures conn { result ≡ Opening.Begun → IsSome link.new.conn }
 {
     match link.connect(alloc, net, wire, at, time, settings.server_dialect) {
         Opening::Failed => {
@@ -286,7 +286,7 @@ impl Links {
     /// Whether a call may go out on the link: it has a connection, or one could be begun, and it isn't held back.
     pub fn is_open<W: Wire, N: Net>(&mut self, net: &N, wire: &mut W, at: usize, time: u64) -> bool
         ensures ends { (clients : Clients) → EndsGo (W.history wire.old) (W.history wire.new) clients clients self.old.all.items self.new.all.items }
-        ensures open { result ≡ true → IsOpenAt at self.new.all.items }
+        ensures there { result ≡ true → IsOpenAt at self.new.all.items }
     {
         let Some(link) = self.all.get_mut(at) else {
             return false;

@@ -14,7 +14,7 @@ returns-then-is_full g c =
     let call : SentCall = record { ticket = c.args.ticket; client = c.args.id; since = c.args.sockets.now.time; dialect = c.dialect_of.result } in
     record {
       ends = and_then (still_called c.args.ticket.number c.args.ticket.server c.args.ticket.ask (c.is_open.ensures.ends c.args.sockets.now.clients c.args.core.now))
-          (called_at c.number-at.result call (sym c.number-at.ensures) (c.is_open.ensures.open c.if-not-is_open.false) c.dialect_of.ensures c.let_wait.ensures.ends);
+          (called_at c.number-at.result call (sym c.number-at.ensures) (c.is_open.ensures.there c.if-not-is_open.false) c.dialect_of.ensures c.let_wait.ensures.ends);
     }
 
 pub returns-in_err-begin_call : goal.returns-in_err-begin_call
@@ -22,7 +22,7 @@ returns-in_err-begin_call g c =
     let call : SentCall = record { ticket = c.args.ticket; client = c.args.id; since = c.args.sockets.now.time; dialect = c.dialect_of.result } in
     record {
       ends = and_then (still_called c.args.ticket.number c.args.ticket.server c.args.ticket.ask (c.is_open.ensures.ends c.args.sockets.now.clients c.args.core.now))
-          (called_at c.number-at.result call (sym c.number-at.ensures) (c.is_open.ensures.open c.if-not-is_open.false) c.dialect_of.ensures c.begin_call.ensures.ends);
+          (called_at c.number-at.result call (sym c.number-at.ensures) (c.is_open.ensures.there c.if-not-is_open.false) c.dialect_of.ensures c.begin_call.ensures.ends);
     }
 
 pub returns : goal.returns
@@ -31,6 +31,6 @@ returns g c =
     record {
       ends = and_then
           (and_then (still_called c.args.ticket.number c.args.ticket.server c.args.ticket.ask (c.is_open.ensures.ends c.args.sockets.now.clients c.args.core.now))
-          (called_at c.number-at.result call (sym c.number-at.ensures) (c.is_open.ensures.open c.if-not-is_open.false) c.dialect_of.ensures c.begin_call.ensures.ends))
+          (called_at c.number-at.result call (sym c.number-at.ensures) (c.is_open.ensures.there c.if-not-is_open.false) c.dialect_of.ensures c.begin_call.ensures.ends))
           (stays c.begin_call.new.core (stay_links _ _ _ _ c.mark_output.ensures.lines));
     }
