@@ -45,7 +45,7 @@ fn may_go_on(client: &Client, in_rounds: bool) -> bool {
 fn note_rest(client: &mut Client, rest: Rest, in_rounds: bool) -> bool
     ensures said { said_of client.new ≡ said_of client.old }
 {
-    let is_left = rest == Rest::Full && client.is_broken;
+    let is_left = rest == Rest::Full && client.is_broken && client.wants_more;
     client.wants_more = in_rounds || rest == Rest::Idle || rest == Rest::Waiting || is_left;
     rest == Rest::More || client.can_read() || (rest == Rest::Idle && client.has_held())
 }
