@@ -46,6 +46,7 @@ mcgate loopback => loopback of standard input
 mcgate loopback f => loopback of f
 mcgate serve --listen a:1 --config c => serve - fail-limit 3 auto
 mcgate serve --any --listen a:1 --config c --reload-every 4 --reload-ms 5 --fail-limit 6 => serve any reload-every 4 reload-ms 5 fail-limit 6 auto
+mcgate serve --listen a:1 --config c --stall-ms 7 => serve - fail-limit 3 stall-ms 7 auto
 mcgate serve --listen a:1 --config c --server-dialect auto => serve - fail-limit 3 auto
 mcgate serve --listen a:1 --config c --server-dialect classic => serve - fail-limit 3 classic
 mcgate serve --listen a:1 --config c --server-dialect meta => serve - fail-limit 3 meta
@@ -129,6 +130,9 @@ fn push_serve(out: &mut String, job: &ServeJob<'_>) -> Result<(), AllocError> {
     push_number(out, "reload-every", job.reload_every)?;
     push_number(out, "reload-ms", job.reload_ms)?;
     push_number(out, "fail-limit", Some(job.settings.fail_limit))?;
+    if job.stall_ms != 10_000 {
+        write!(out, " stall-ms {}", job.stall_ms)?;
+    }
     write!(out, " {}", dialect_word(job.settings.server_dialect))?;
     Ok(())
 }

@@ -203,6 +203,7 @@ impl Serving {
     ) -> Result<u8, Stop>
         ensures ends { ServesTo result self.old.end self.new.end }
     {
+        self.end.set_stall_ms(job.stall_ms);
         for _ in 0..job.turns.map_or(u64::MAX, u64::from) {
             self.turn(rt, job)?;
             self.tell_news(rt);

@@ -19,6 +19,8 @@ pub struct ServeJob<'a> {
     pub certificate: Option<&'a str>,
     /// Nothing is served: it ends once all that is tested at the start was tested.
     pub check: bool,
+    /// A client is closed that takes nothing for so many milliseconds.
+    pub stall_ms: u64,
     /// After so many turns the file is read again.
     pub reload_every: Option<u32>,
     /// After so many milliseconds the file is read again.
@@ -26,6 +28,9 @@ pub struct ServeJob<'a> {
     /// After so many turns it ends; without a number it doesn't.
     pub turns: Option<u32>,
 }
+
+// How many milliseconds a client may take nothing.
+const STALL_MS: u64 = 10_000;
 
 pub const SERVE_HELP: &str =
     "usage: mcgate serve --config FILE --listen HOST:PORT [--any] [--check] [FLAG N ..]
@@ -121,7 +126,6 @@ fn settings_of(given: &ArgMatches<'_>) -> Result<Settings, ArgumentsFault> {
         fail_limit: count_of(given, "fail-limit")?.unwrap_or(usual.fail_limit),
         retry_ms: millis_of(given, "retry-ms", usual.retry_ms)?,
         polls: count_of(given, "polls")?,
-        stall_ms: millis_of(given, "stall-ms", usual.stall_ms)?,
         server_dialect: dialect_of(given, usual.server_dialect)?,
     })
 }
@@ -145,6 +149,7 @@ pub fn serve_job<'a>(given: &ArgMatches<'a>) -> Result<Job<'a>, ArgumentsFault> 
         any,
         certificate,
         check: given.get_flag("check"),
+        stall_ms: millis_of(given, "stall-ms", STALL_MS)?,
         reload_every: count_of(given, "reload-every")?,
         reload_ms: count_of(given, "reload-ms")?,
         turns: count_of(given, "turns")?,

@@ -66,8 +66,8 @@ fn listen<R: Net + Clock + AllocGlobal>(rt: &R, servers: &Servers) -> io::Result
     Ok(wire)
 }
 
-// One command of a client at a time, each key for one command alone, and one call: so calls are made in the order in which a run of the script makes them, each as the client wrote it. No call is ever late, no
-// server is held back, and no client is closed that takes nothing.
+// One command of a client at a time, each key for one command alone, and one call: so calls are made in the order in which a run of the script makes them, each as the client wrote it. No call is ever late, and
+// no server is held back.
 fn settings() -> Settings {
     Settings {
         clients: SCRIPT_CLIENTS,
@@ -79,7 +79,6 @@ fn settings() -> Settings {
         fail_limit: u32::MAX,
         retry_ms: 0,
         polls: None,
-        stall_ms: u64::MAX,
         server_dialect: ServerDialect::Classic,
     }
 }

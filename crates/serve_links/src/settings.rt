@@ -33,14 +33,12 @@ pub struct Settings {
     pub retry_ms: u64,
     /// After so many reads of a server in a row that brought no whole answer its calls have failed; without a number they may be any.
     pub polls: Option<u32>,
-    /// After how many milliseconds a client is closed that takes nothing, while much is to be sent to it.
-    pub stall_ms: u64,
     pub server_dialect: ServerDialect,
 }
 
 impl Settings {
     /// 1,024 clients, 32 commands of each, 256 calls at each server, keys shared, one second each time, three failures, any number of reads,
-    /// ten seconds for a client that takes nothing, and dialects as servers tell.
+    /// and dialects as servers tell.
     pub fn usual() -> Settings {
         Settings {
             clients: 1_024,
@@ -52,7 +50,6 @@ impl Settings {
             fail_limit: 3,
             retry_ms: 1_000,
             polls: None,
-            stall_ms: 10_000,
             server_dialect: ServerDialect::Auto,
         }
     }

@@ -28,6 +28,6 @@ HasStalled ms now None client = ⊥
 HasStalled ms now (Some from) client = (MUCH < length (bytes_of client.conn.unsent)) × (from + ms ≤ now)
 
 -- each client has the end that it had, or it has stalled
-abbrev pub OnlyStalled : (ms now : ℕ) → Stalls → Clients → Clients → Type 0
-OnlyStalled ms now stalls old new =
-    (id : ℕ) → (option_map said_of (client_of new id) ≡ option_map said_of (client_of old id)) ⊎ IfSome (client_of old id) (HasStalled ms now (since_of stalls id))
+abbrev pub OnlyStalled : (now : ℕ) → Stalls → Clients → Clients → Type 0
+OnlyStalled now stalls old new =
+    (id : ℕ) → (option_map said_of (client_of new id) ≡ option_map said_of (client_of old id)) ⊎ IfSome (client_of old id) (HasStalled stalls.ms now (since_of stalls id))

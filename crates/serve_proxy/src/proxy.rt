@@ -166,6 +166,14 @@ impl<W: Wire> ProxyEnd<W> {
         self.sockets.links.next_news(self.sockets.time)
     }
 
+    /// A client is closed that takes nothing for so many milliseconds, while more than 1 MiB is to be sent to it. Without it, ten seconds.
+    pub fn set_stall_ms(&mut self, ms: u64)
+        ensures core { self.new.core ≡ self.old.core }
+        ensures ends { Stay W.history self.old.sockets self.new.sockets }
+    {
+        self.sockets.stalls.set_ms(ms);
+    }
+
     /// How many clients were closed since that was told last, since each took nothing for so long while more than 1 MiB was to be sent to it.
     /// It is told once a second at most.
     pub fn next_stalled(&mut self) -> Option<u64>

@@ -92,10 +92,7 @@ pub fn write_client<W: Wire>(core: &ServedCore, sockets: &mut Sockets<W>, id: us
             let before = client.conn.unsent.len();
             let is_more = send_once(core, id, client, &mut sockets.wire);
             let after = client.conn.unsent.len();
-            let stall_ms = sockets.links.settings.stall_ms;
-            sockets
-                .stalls
-                .note(id, before, after, sockets.time, stall_ms);
+            sockets.stalls.note(id, before, after, sockets.time);
             (is_more, has_spare(&client.conn.unsent))
         }
         None => (false, false),

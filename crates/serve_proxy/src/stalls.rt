@@ -15,12 +15,17 @@ use std::alloc::{AllocError, Global};
 // More bytes than these are much.
 const MUCH: usize = 1_048_576;
 
+// How many milliseconds a client may take nothing, where nothing else is set.
+const USUAL_MS: u64 = 10_000;
+
 // What is to be told is told once in so many milliseconds at most.
 const QUIET_MS: u64 = 1_000;
 
 /// Since when clients take nothing of much that is to be sent to them.
 #[derive(Drop)]
 pub struct Stalls {
+    // How many milliseconds a client may take nothing.
+    ms: u64,
     // By their ids, in milliseconds.
     since: Vec<Option<u64>>,
     // Nobody has stalled before this time.
@@ -61,11 +66,19 @@ impl Stalls {
     /// Nobody is noted yet.
     pub fn new(alloc: Global) -> Stalls {
         Stalls {
+            ms: USUAL_MS,
             since: Vec::new(alloc),
             late_from: None,
             closed: 0,
             quiet_until: 0,
         }
+    }
+
+    /// A client that takes nothing for so many milliseconds of much has stalled.
+    pub fn set_ms(&mut self, ms: u64)
+        ensures { self.new ≡ record self.old { ms = ms } }
+    {
+        self.ms = ms;
     }
 
     /// A client of this id can be noted.
@@ -87,12 +100,12 @@ impl Stalls {
     }
 
     /// The client was written now, as far as it took something: so many bytes were to be sent before, and so many are after. It has stalled
-    /// when it took nothing for so many milliseconds.
-    pub fn note(&mut self, id: usize, before: usize, after: usize, now: u64, ms: u64)
+    /// when it took nothing for so long as is set.
+    pub fn note(&mut self, id: usize, before: usize, after: usize, now: u64)
         ensures since { self.new.since.items ≡ slice_set self.old.since.items id (since_by before after now (since_of self.old id)) }
     {
         self.note_since(id, before, after, now);
-        self.note_if_none(after > MUCH, now.saturating_add(ms));
+        self.note_if_none(after > MUCH, now.saturating_add(self.ms));
     }
 
     // The same, but for when it has stalled.
@@ -141,11 +154,11 @@ impl Stalls {
     }
 
     // When the client will have stalled is noted, if it hasn't by now.
-    fn note_later(&mut self, id: usize, now: u64, ms: u64)
+    fn note_later(&mut self, id: usize, now: u64)
         ensures { self.new ≡ record self.old { late_from = self.new.late_from } }
     {
         if let Some(from) = self.since(id) {
-            let late_from = from.saturating_add(ms);
+            let late_from = from.saturating_add(self.ms);
             if late_from > now {
                 self.note_late(late_from);
             }
@@ -233,7 +246,7 @@ impl<W: Wire> Sockets<W> {
         let Some(client) = self.clients.get_mut(id) else {
             return false;
         };
-        if !has_stalled(client, since, self.time, self.links.settings.stall_ms) {
+        if !has_stalled(client, since, self.time, self.stalls.ms) {
             return false;
         }
         client.conn.writable = true;
@@ -243,13 +256,13 @@ impl<W: Wire> Sockets<W> {
     // If the client has stalled it is broken off: whether it has.
     fn break_stalled(&mut self, id: usize) -> bool
         ensures ends { AllGoBreaking W.history id self.old self.new }
-        ensures only { OnlyStalled self.old.links.settings.stall_ms self.old.time self.old.stalls self.old.clients self.new.clients }
+        ensures only { OnlyStalled self.old.time self.old.stalls self.old.clients self.new.clients }
     {
         let since = self.stalls.since(id);
         let Some(client) = self.clients.get_mut(id) else {
             return false;
         };
-        if !has_stalled(client, since, self.time, self.links.settings.stall_ms) {
+        if !has_stalled(client, since, self.time, self.stalls.ms) {
             return false;
         }
         client.break_off();
@@ -260,7 +273,6 @@ impl<W: Wire> Sockets<W> {
     fn note_later(&mut self, id: usize)
         ensures ends { Stay W.history self.old self.new }
     {
-        self.stalls
-            .note_later(id, self.time, self.links.settings.stall_ms);
+        self.stalls.note_later(id, self.time);
     }
 }

@@ -18,7 +18,7 @@ returns g c =
       ends = λ core.
           one_goes c.args.id c.args.self.now.clients (c.get_mut.follows.lender y) x y (sym c.in-Some.ensures.value) lends
           (one_broken refl refl (breaks_now _ x y broken) (number_broken x y broken) (λ d other. untouched d _) (ap (λ (z : Client). z.is_broken) broken.rest));
-      only = only_one _ _ _ c.args.self.now.clients (c.get_mut.follows.lender y) c.args.id x y (sym c.in-Some.ensures.value) lends (c.has_stalled.ensures.0 c.if-has_stalled.true);
+      only = only_one _ _ c.args.self.now.clients (c.get_mut.follows.lender y) c.args.id x y (sym c.in-Some.ensures.value) lends (c.has_stalled.ensures.0 c.if-has_stalled.true);
     }
 
 pub returns-then-not-has_stalled : goal.returns-then-not-has_stalled
@@ -27,8 +27,8 @@ returns-then-not-has_stalled g c =
     let lends = on_some c.get_mut.result c.in-Some.client _ c.in-Some.is (c.get_mut.follows.holds x) in
     record {
       ends = λ core. stays core (stay_lent c.args.self.now.clients (c.get_mut.follows.lender x) c.args.id x x (sym c.in-Some.ensures.value) refl lends);
-      only = only_kept _ _ _ c.args.self.now.clients (c.get_mut.follows.lender x) c.args.id x (sym c.in-Some.ensures.value) lends;
+      only = only_kept _ _ c.args.self.now.clients (c.get_mut.follows.lender x) c.args.id x (sym c.in-Some.ensures.value) lends;
     }
 
 pub returns-in_default : goal.returns-in_default
-returns-in_default g c = record { ends = λ core. stays core (stay_alike c.get_mut.follows.holds-at-none); only = only_none _ _ _ _ _ c.get_mut.follows.holds-at-none }
+returns-in_default g c = record { ends = λ core. stays core (stay_alike c.get_mut.follows.holds-at-none); only = only_none _ _ _ _ c.get_mut.follows.holds-at-none }
