@@ -46,7 +46,7 @@ mcgate loopback => loopback of standard input
 mcgate loopback f => loopback of f
 mcgate serve --listen a:1 --config c => serve - fail-limit 3 auto
 mcgate serve --any --listen a:1 --config c --reload-every 4 --reload-ms 5 --fail-limit 6 => serve any reload-every 4 reload-ms 5 fail-limit 6 auto
-mcgate serve --listen a:1 --config c --stall-ms 7 => serve - fail-limit 3 stall-ms 7 auto
+mcgate serve --listen a:1 --config c --stall-ms 7 --memory-mb 8 => serve - fail-limit 3 stall-ms 7 memory 8388608 auto
 mcgate serve --listen a:1 --config c --server-dialect auto => serve - fail-limit 3 auto
 mcgate serve --listen a:1 --config c --server-dialect classic => serve - fail-limit 3 classic
 mcgate serve --listen a:1 --config c --server-dialect meta => serve - fail-limit 3 meta
@@ -131,7 +131,7 @@ fn push_serve(out: &mut String, job: &ServeJob<'_>) -> Result<(), AllocError> {
     push_number(out, "reload-ms", job.reload_ms)?;
     push_number(out, "fail-limit", Some(job.settings.fail_limit))?;
     if job.stall_ms != 10_000 {
-        write!(out, " stall-ms {}", job.stall_ms)?;
+        write!(out, " stall-ms {} memory {}", job.stall_ms, job.memory)?;
     }
     write!(out, " {}", dialect_word(job.settings.server_dialect))?;
     Ok(())

@@ -32,7 +32,7 @@ pub const COMMANDS: [&str; 8] = [
     "check", "certify", "replay", "where", "serve", "cache", "loopback", "help",
 ];
 
-const SERVE_FLAGS: [&str; 18] = [
+const SERVE_FLAGS: [&str; 20] = [
     "help",
     "check",
     "config",
@@ -48,6 +48,7 @@ const SERVE_FLAGS: [&str; 18] = [
     "retry-ms",
     "polls",
     "stall-ms",
+    "memory-mb",
     "server-dialect",
     "reload-ms",
     "reload-every",

@@ -203,7 +203,7 @@ impl Serving {
     ) -> Result<u8, Stop>
         ensures ends { ServesTo result self.old.end self.new.end }
     {
-        self.end.set_stall_ms(job.stall_ms);
+        self.end.bound_clients(job.stall_ms, job.memory);
         for _ in 0..job.turns.map_or(u64::MAX, u64::from) {
             self.turn(rt, job)?;
             self.tell_news(rt);
@@ -246,7 +246,7 @@ impl Serving {
         ensures ends { Stay history_of self.old.end.sockets self.new.end.sockets }
     {
         if let Some(count) = self.end.next_stalled() {
-            let line = format_args!("mcgate: stalled clients closed: {count}");
+            let line = format_args!("mcgate: clients closed that took too little: {count}");
             self.lines.tell(rt, line);
         }
     }

@@ -21,6 +21,8 @@ pub struct ServeJob<'a> {
     pub check: bool,
     /// A client is closed that takes nothing for so many milliseconds.
     pub stall_ms: u64,
+    /// So many bytes are to be sent to all clients at most.
+    pub memory: usize,
     /// After so many turns the file is read again.
     pub reload_every: Option<u32>,
     /// After so many milliseconds the file is read again.
@@ -31,6 +33,11 @@ pub struct ServeJob<'a> {
 
 // How many milliseconds a client may take nothing.
 const STALL_MS: u64 = 10_000;
+
+// How many MiB may be to be sent to all clients.
+const MEMORY_MB: usize = 1_024;
+
+const MIB: usize = 1_048_576;
 
 pub const SERVE_HELP: &str =
     "usage: mcgate serve --config FILE --listen HOST:PORT [--any] [--check] [FLAG N ..]
@@ -47,6 +54,7 @@ opens, fails or comes back.
   --retry-ms N           for so long, and then one call tries, 1000
   --polls N              after so many reads of a server in a row without a whole answer its calls have failed; without it, any number
   --stall-ms N           a client that takes nothing for so many milliseconds, while more than 1 MiB is to be sent to it, is closed, 10000
+  --memory-mb N          where more than so many MiB are to be sent to all clients, the client to which most are is closed, 1024
   --server-dialect WORD  how servers are asked for classic gets: classic, meta, or auto, by what each answers to an mn; auto
   --reload-ms N          FILE is read again each N milliseconds; without it and the next one, it isn't
   --reload-every N       FILE is read again each N turns
@@ -79,6 +87,7 @@ pub fn serve_command<'a>(alloc: Global) -> Result<Command<'a>, AllocError> {
         .arg(option(alloc, "retry-ms"))?
         .arg(option(alloc, "polls"))?
         .arg(option(alloc, "stall-ms"))?
+        .arg(option(alloc, "memory-mb"))?
         .arg(option(alloc, "server-dialect"))?
         .arg(option(alloc, "reload-every"))?
         .arg(option(alloc, "reload-ms"))?
@@ -150,6 +159,7 @@ pub fn serve_job<'a>(given: &ArgMatches<'a>) -> Result<Job<'a>, ArgumentsFault> 
         certificate,
         check: given.get_flag("check"),
         stall_ms: millis_of(given, "stall-ms", STALL_MS)?,
+        memory: size_of(given, "memory-mb", MEMORY_MB)?.saturating_mul(MIB),
         reload_every: count_of(given, "reload-every")?,
         reload_ms: count_of(given, "reload-ms")?,
         turns: count_of(given, "turns")?,

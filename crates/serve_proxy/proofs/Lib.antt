@@ -8,3 +8,4 @@ pub mod Told
 pub mod Growing
 pub mod Linking
 pub mod Stalling
+pub mod Greatest

@@ -1,5 +1,5 @@
 -- Clients that take nothing of much that is to be sent to them. Source: mcgate's own.
-use Rattle.std.specs.Prelude.{◌≡◌, ◌⊎◌, ℕ, ◌+◌, ◌<◌, ◌≤◌, length, nat_lt, Option, Some, None, IfSome, if◌then◌else◌, slice_get}
+use Rattle.std.specs.Prelude.{◌≡◌, ◌⊎◌, ℕ, ◌+◌, ◌-◌, ◌^◌, ◌<◌, ◌≤◌, min, length, nat_lt, nat_le, Option, Some, None, IfSome, if◌then◌else◌, slice_get}
 use Rattle.std.specs.Option.{option_map, option_flatten}
 use Rattle.wire_parts.specs.Sending.{bytes_of}
 use Rattle.serve_clients.specs.declared.clients.Client.{Client}
@@ -31,3 +31,24 @@ HasStalled ms now (Some from) client = (MUCH < length (bytes_of client.conn.unse
 abbrev pub OnlyStalled : (now : ℕ) → Stalls → Clients → Clients → Type 0
 OnlyStalled now stalls old new =
     (id : ℕ) → (option_map said_of (client_of new id) ≡ option_map said_of (client_of old id)) ⊎ IfSome (client_of old id) (HasStalled stalls.ms now (since_of stalls id))
+
+-- how many bytes are to be sent to the client of this id, so far as they can be counted
+abbrev pub unsent_of : Option Client → ℕ
+unsent_of None = 0
+unsent_of (Some client) = min (length (bytes_of client.conn.unsent)) (2 ^ 64 - 1)
+
+abbrev pub unsent_at : Clients → ℕ → ℕ
+unsent_at clients id = unsent_of (client_of clients id)
+
+-- to none is more to be sent than to the client of this id
+abbrev pub HasMost : Clients → ℕ → Type 0
+HasMost clients id = (other : ℕ) → unsent_at clients other ≤ unsent_at clients id
+
+-- of a client to which most was to be sent so far and this one, that to which more is, and how much
+abbrev pub greater_of : Option (ℕ × ℕ) → ℕ → ℕ → Option (ℕ × ℕ)
+greater_of None id count = Some (id, count)
+greater_of (Some best) id count = if nat_le count best.1 then Some best else Some (id, count)
+
+-- each client has the end that it had, or to none was more to be sent
+abbrev pub OnlyMost : Clients → Clients → Type 0
+OnlyMost old new = (id : ℕ) → (option_map said_of (client_of new id) ≡ option_map said_of (client_of old id)) ⊎ HasMost old id

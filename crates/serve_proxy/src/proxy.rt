@@ -21,7 +21,7 @@ use crate::sending::{send_clients, send_links};
 use crate::serving::{serve_all, serve_asks};
 use crate::showing::give_back_room;
 use crate::sockets::Sockets;
-use crate::stalls::end_stalled;
+use crate::stalls::{end_stalled, shed};
 use core_accepted::laws::accepted_core_is_fresh;
 use core_accepted::{LoadFault, ServedCore};
 use gate_check::{Accepted, ReloadFault};
@@ -72,7 +72,9 @@ fn run_turn<W: Wire, R: Net + Clock>(
     // Replies go out.
     send_clients(core, sockets)?;
     // Clients are closed that take nothing.
-    Ok(end_stalled(core, sockets)?)
+    end_stalled(core, sockets)?;
+    // So are those that hold most, if all hold too much.
+    Ok(shed(core, sockets)?)
 }
 
 impl<W: Wire + Drop> ProxyEnd<W> {
@@ -166,16 +168,16 @@ impl<W: Wire> ProxyEnd<W> {
         self.sockets.links.next_news(self.sockets.time)
     }
 
-    /// A client is closed that takes nothing for so many milliseconds, while more than 1 MiB is to be sent to it. Without it, ten seconds.
-    pub fn set_stall_ms(&mut self, ms: u64)
+    /// A client is closed that takes nothing for so many milliseconds, while more than 1 MiB is to be sent to it; and where more bytes than these
+    /// are to be sent to all, the client to which most are. Without it, ten seconds and 1 GiB.
+    pub fn bound_clients(&mut self, ms: u64, most: usize)
         ensures core { self.new.core ≡ self.old.core }
         ensures ends { Stay W.history self.old.sockets self.new.sockets }
     {
-        self.sockets.stalls.set_ms(ms);
+        self.sockets.stalls.bound(ms, most);
     }
 
-    /// How many clients were closed since that was told last, since each took nothing for so long while more than 1 MiB was to be sent to it.
-    /// It is told once a second at most.
+    /// How many clients were closed for that since it was told last. It is told once a second at most.
     pub fn next_stalled(&mut self) -> Option<u64>
         ensures core { self.new.core ≡ self.old.core }
         ensures ends { Stay W.history self.old.sockets self.new.sockets }
