@@ -1,4 +1,4 @@
-use Rattle.std.proofs.Common.{List, ℕ, refl, sym, subst}
+use Rattle.std.proofs.Common.{ℕ, List, refl, sym, subst}
 use Rattle.wire_meta_gets.specs.Learning.{IsDialectLine}
 use Rattle.serve_links.proofs.Ends.{learns_told}
 use Rattle.serve_links.proofs.link.Link.learn.Goals as goal
