@@ -13,7 +13,8 @@ use Rattle.core_proxy.specs.Faults.{CanOpen, CanFeed, CanClose, OpenFault}
 use Rattle.core_proxy.specs.CoreState.{Opens, Feeds, Gives, Closes, LeavesLine, client_at, dropped_by}
 use Rattle.core_proxy.specs.Settles as of_calls
 use Rattle.core_proxy.specs.Polls.{Polls, PollFault, Then, Perhaps, BeginsOne, IsPolled}
-use Rattle.core_accepted.specs.Logs.{LogsGoBy, IsAccepted, fed}
+use Rattle.core_accepted.specs.declared.beginnings.Beginnings.{Beginnings}
+use Rattle.core_accepted.specs.Logs.{LogsGoBy, IsAccepted, IsAcceptedSince, fed}
 use Rattle.core_accepted.specs.Results.{PollStops}
 use Rattle.core_accepted.specs.declared.served.ServedCore.{ServedCore}
 use Rattle.core_accepted.specs.Results.{IsSettled}
@@ -163,3 +164,7 @@ Fails old new = GoesBy IsFailure old new
 -- a law of all walks: a core whose trees the gate accepted stays one, and so does one on other trees
 abbrev pub WalksKeep : Type 0
 WalksKeep = (steps : List Step) (old new : ServedCore) → Walks steps old new → (IsAccepted old → IsAccepted new) × (IsAccepted new → IsAccepted old)
+
+-- a law of all walks: where the gate accepted a configuration at first, it only accepted others after it, and what is said of how servers began stays
+abbrev pub WalksKeepSince : Type 0
+WalksKeepSince = (steps : List Step) (old new : ServedCore) → Walks steps old new → (first : Configuration) (begun : Beginnings) → IsAcceptedSince first begun old → IsAcceptedSince first begun new

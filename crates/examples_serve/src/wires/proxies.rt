@@ -153,13 +153,19 @@ open 8 => no
 taken 8 => get a\r\n
 taken 9 => get b\r\n
 
-A connection that ends while nothing is out costs no command.
+A connection that ends or fails while nothing is out costs no command.
 host 127.0.0.1:5001
-peer 8
+peer 7
 awaits 7
 sends END\r\n
 until 50
 ends
+answers 127.0.0.1:5001
+peer 8
+awaits 7
+sends END\r\n
+until 100
+fails
 answers 127.0.0.1:5001
 peer 9
 awaits 7
@@ -169,19 +175,28 @@ peer 1
 sends get a\r\n
 until 50
 sends get b\r\n
+until 100
+sends get c\r\n
 calls 0
 proxy <one server>
 turn 40
-taken 1 => END\r\nEND\r\n
+taken 1 => END\r\nEND\r\nEND\r\n
+open 7 => no
+taken 8 => get b\r\n
 open 8 => no
-taken 9 => get b\r\n
+taken 9 => get c\r\n
 
-A server ends within an answer: the call has failed, and what came of it is dropped.
+A connection ends or fails within an answer: the call has failed, and what came of it is dropped.
 host 127.0.0.1:5001
-peer 8
+peer 7
 awaits 7
 sends VALUE a 0 3\r\nx
 ends
+answers 127.0.0.1:5001
+peer 8
+awaits 7
+sends VALUE b 0 3\r\nx
+fails
 answers 127.0.0.1:5001
 peer 9
 awaits 7
@@ -191,11 +206,76 @@ peer 1
 sends get a\r\n
 awaits 26
 sends get b\r\n
+awaits 52
+sends get c\r\n
 calls 0
 proxy <one server>
 turn 40
-taken 1 => SERVER_ERROR call failed\r\nEND\r\n
+taken 1 => SERVER_ERROR call failed\r\nSERVER_ERROR call failed\r\nEND\r\n
+open 7 => no
 open 8 => no
+taken 9 => get c\r\n
+
+Bytes that are no answer, and ones that tell no dialect: the calls have failed at once, and the next one goes to a new connection.
+host 127.0.0.1:5001
+peer 7
+awaits 11
+sends MN\r\nHELLO\r\nEND\r\n
+answers 127.0.0.1:5001
+peer 8
+awaits 11
+sends HELLO\r\nEND\r\n
+answers 127.0.0.1:5001
+peer 9
+awaits 11
+sends MN\r\nEND\r\n
+answers 127.0.0.1:5001
+peer 1
+sends get a\r\n
+awaits 26
+sends get b\r\n
+awaits 52
+sends get c\r\n
+calls 0
+auto-proxy <one server>
+-- Nothing is late in a second, which is ten turns in which nothing happens.
+turn 15
+taken 1 => SERVER_ERROR call failed\r\nSERVER_ERROR call failed\r\nEND\r\n
+open 7 => no
+open 8 => no
+taken 9 => mn\r\nget c\r\n
+
+A client sends no more, and takes its replies slowly: it gets them all, and then the connection is closed.
+host 127.0.0.1:5001
+peer 9
+awaits 14
+sends END\r\nEND\r\n
+answers 127.0.0.1:5001
+peer 1
+window 4
+sends get a\r\nget b\r\nget
+ends
+calls 0
+proxy <one server>
+turn 10
+taken 1 => END\r\nEND\r\n
+open 1 => no
+taken 9 => get a\r\nget b\r\n
+
+A client leaves 2 MB of replies untaken: of its commands 32 begin at once, and then not one more for each of 20 replies.
+host 127.0.0.1:5001
+peer 9
+-- 9 * 8 + 23 * 9
+awaits 279
+sends «20 VALUE k# 0 100000\r\n<data>\r\nEND\r\n»
+answers 127.0.0.1:5001
+peer 1
+window 1000
+sends «64 get k#\r\n»
+calls 0
+proxy <one server>
+turn 60
+took 9 «52 get k#\r\n» => no
 
 A client breaks off while its call is out: the answer is no other client's.
 host 127.0.0.1:5001
