@@ -299,10 +299,23 @@ fn end_if_stalled<W: Wire>(
 ) -> Result<(), AllocError>
     ensures ends { AllGoOn W.history core.now sockets.old core.now sockets.new }
 {
-    if sockets.may_have_stalled(id) {
-        write_again(core, sockets, id)?;
-    }
+    let may_have = sockets.may_have_stalled(id);
+    write_again_if(core, sockets, id, may_have)?;
     sockets.note_later(id);
+    Ok(())
+}
+
+fn write_again_if<W: Wire>(
+    core: &ServedCore,
+    sockets: &mut Sockets<W>,
+    id: usize,
+    is_so: bool,
+) -> Result<(), AllocError>
+    ensures ends { AllGoOn W.history core.now sockets.old core.now sockets.new }
+{
+    if is_so {
+        return write_again(core, sockets, id);
+    }
     Ok(())
 }
 

@@ -412,15 +412,40 @@ sends get b\r\n
 calls 9000
 proxy <one server>
 -- (those in which nothing comes wait for 100 ms)
-turn 115
+turn 90
 open 1 => yes
 taken 3 => nothing
-turn 30
+turn 60
 taken 3 => END\r\n
 open 1 => no
 turn 200
 open 2 => yes
 open 3 => yes
+news => server 0: connected; 1 stalled
+
+Where more than three million bytes are to be sent to all, the client is closed to which most are.
+host 127.0.0.1:5001
+peer 9
+awaits 261
+sends «30 VALUE k# 0 100000\r\n<data>\r\nEND\r\n»
+awaits 333
+sends «9 VALUE k# 0 100000\r\n<data>\r\nEND\r\n»
+answers 127.0.0.1:5001
+peer 1
+room 300000
+sends «30 get k#\r\n»
+calls 0
+peer 2
+room 300000
+sends «9 get k#\r\n»
+calls 3000
+proxy <one server>
+bounds 10000 3000000
+turn 45
+open 1 => yes
+turn 45
+open 1 => no
+open 2 => yes
 news => server 0: connected; 1 stalled
 
 Megabytes of commands at once come to the server as they are, and as many of answers to the client, whatever is read and taken at once.
@@ -644,8 +669,17 @@ impl Scripted<'_> {
             "proxy" => self.begin(text, ServerDialect::Classic),
             "auto-proxy" => self.begin(text, ServerDialect::Auto),
             "turn" => self.turn_often(text.parse::<usize>()?),
+            "bounds" => self.bound(text),
             _ => self.script(verb, text),
         }
+    }
+
+    // For how many milliseconds a client may take nothing, and how much may be to be sent to all.
+    fn bound(&mut self, text: &str) -> Result<(), Fail> {
+        let (ms, most) = cut(text);
+        let (ms, most) = (ms.parse::<u64>()?, most.parse::<usize>()?);
+        self.proxy()?.bound_clients(ms, most);
+        Ok(())
     }
 
     fn next_news(&mut self) -> Result<Option<(usize, LinkNews)>, Fail> {
