@@ -35,6 +35,11 @@ mcgate check f => check of f
 mcgate check --explain f => check explained of f
 mcgate check f --dot => check drawn of f
 mcgate check --explain --dot => refused, told
+mcgate check --history h => check of standard input after h
+mcgate check c --history h => check of c after h
+mcgate check --history h --explain => refused, told
+mcgate history h => history h
+mcgate history => refused, told
 mcgate where --config c k => where 1 in c
 mcgate where --config c  => no key
 mcgate cache --listen a:1 --capacity 5 => cache 5
@@ -43,6 +48,8 @@ mcgate loopback => loopback of standard input
 mcgate loopback f => loopback of f
 mcgate serve --listen a:1 --config c => serve - fail-limit 3 auto
 mcgate serve --any --listen a:1 --config c --reload-every 4 --reload-ms 5 --fail-limit 6 => serve any reload-every 4 reload-ms 5 fail-limit 6 auto
+mcgate serve --listen a:1 --config c --history h => serve - after h fail-limit 3 auto
+mcgate serve --listen a:1 --config c --history h --any => refused, told
 mcgate serve --listen a:1 --config c --server-dialect auto => serve - fail-limit 3 auto
 mcgate serve --listen a:1 --config c --server-dialect classic => serve - fail-limit 3 classic
 mcgate serve --listen a:1 --config c --server-dialect meta => serve - fail-limit 3 meta
@@ -116,6 +123,9 @@ fn dialect_word(dialect: ServerDialect) -> &'static str {
 
 fn push_serve(out: &mut String, job: &ServeJob<'_>) -> Result<(), AllocError> {
     write!(out, "serve {}", any_word(job.any))?;
+    if let Some(history) = job.history {
+        write!(out, " after {history}")?;
+    }
     push_number(out, "reload-every", job.reload_every)?;
     push_number(out, "reload-ms", job.reload_ms)?;
     push_number(out, "fail-limit", Some(job.settings.fail_limit))?;
@@ -135,6 +145,10 @@ fn push_job(out: &mut String, job: &Job<'_>) -> Result<(), AllocError> {
         Job::Run { task, file } => {
             write!(out, "{} of {}", task_words(*task), file_word(file))?;
         }
+        Job::CheckAfter { history, file } => {
+            write!(out, "check of {} after {history}", file_word(file))?;
+        }
+        Job::History { file } => write!(out, "history {file}")?,
         Job::RunOver { any, config, file } => {
             write!(out, "replay {} over {config}", any_word(*any))?;
             write!(out, " of {}", file_word(file))?;
@@ -212,6 +226,7 @@ mcgate -h => mcgate sends
 mcgate help => mcgate sends
 mcgate help where => usage: mcgate where 
 mcgate help serve => usage: mcgate serve 
+mcgate history -h => usage: mcgate history 
 mcgate cache -h => usage: mcgate cache 
 mcgate check --help => usage: mcgate check 
 mcgate replay --help => usage: mcgate replay 

@@ -20,6 +20,7 @@ pub enum Command {
     Serve,
     Cache,
     Loopback,
+    History,
     Help,
 }
 
@@ -27,16 +28,17 @@ pub enum Command {
 pub const DIALECTS: [&str; 3] = ["auto", "classic", "meta"];
 
 /// The names of the commands.
-pub const COMMANDS: [&str; 7] = [
-    "check", "replay", "where", "serve", "cache", "loopback", "help",
+pub const COMMANDS: [&str; 8] = [
+    "check", "replay", "where", "serve", "cache", "loopback", "history", "help",
 ];
 
-const SERVE_FLAGS: [&str; 17] = [
+const SERVE_FLAGS: [&str; 18] = [
     "help",
     "check",
     "config",
     "listen",
     "any",
+    "history",
     "clients",
     "client-window",
     "link-window",
@@ -60,7 +62,7 @@ pub const TOP_FLAGS: [&str; 2] = ["help", "version"];
 pub fn takes_of(flag: &str) -> Takes {
     match flag {
         "help" | "version" | "any" | "check" | "explain" | "dot" => Takes::Nothing,
-        "config" => Takes::File,
+        "config" | "history" => Takes::File,
         "listen" => Takes::Address,
         "server-dialect" => Takes::Dialect,
         _ => Takes::Count,
@@ -90,6 +92,7 @@ impl Command {
             "serve" => Some(Command::Serve),
             "cache" => Some(Command::Cache),
             "loopback" => Some(Command::Loopback),
+            "history" => Some(Command::History),
             "help" => Some(Command::Help),
             _ => None,
         }
@@ -104,6 +107,7 @@ impl Command {
             Command::Serve => "serve",
             Command::Cache => "cache",
             Command::Loopback => "loopback",
+            Command::History => "history",
             Command::Help => "help",
         }
     }
@@ -111,14 +115,15 @@ impl Command {
     /// Its words, as a usage line has them.
     pub fn usage(self) -> &'static str {
         match self {
-            Command::Check => "mcgate check [--explain | --dot] [FILE]",
+            Command::Check => "mcgate check [--explain | --dot | --history FILE] [FILE]",
             Command::Replay => "mcgate replay [--any] [--config FILE] [SCRIPT]",
             Command::Where => "mcgate where --config FILE KEY..",
             Command::Serve => {
-                "mcgate serve --config FILE --listen HOST:PORT [--any] [--check] [FLAG N ..]"
+                "mcgate serve --config FILE --listen HOST:PORT [--any | --history FILE] [--check] [FLAG N ..]"
             }
             Command::Cache => "mcgate cache --listen HOST:PORT --capacity C [--turns N]",
             Command::Loopback => "mcgate loopback [SCRIPT]",
+            Command::History => "mcgate history FILE",
             Command::Help => "mcgate help [COMMAND]",
         }
     }
@@ -126,12 +131,12 @@ impl Command {
     /// The names of its flags.
     pub fn flags(self) -> &'static [&'static str] {
         match self {
-            Command::Check => &["help", "explain", "dot"],
+            Command::Check => &["help", "explain", "dot", "history"],
             Command::Replay => &["help", "any", "config"],
             Command::Where => &["help", "config"],
             Command::Serve => &SERVE_FLAGS,
             Command::Cache => &CACHE_FLAGS,
-            Command::Loopback | Command::Help => &["help"],
+            Command::Loopback | Command::History | Command::Help => &["help"],
         }
     }
 
@@ -148,7 +153,11 @@ impl Command {
     /// How many words it takes at most that are no flags and no values of theirs.
     pub fn most_words(self) -> usize {
         match self {
-            Command::Check | Command::Replay | Command::Loopback | Command::Help => 1,
+            Command::Check
+            | Command::Replay
+            | Command::Loopback
+            | Command::History
+            | Command::Help => 1,
             Command::Where => usize::MAX,
             Command::Serve | Command::Cache => 0,
         }
@@ -157,7 +166,7 @@ impl Command {
     /// How many of those it takes at least.
     pub fn least_words(self) -> usize {
         match self {
-            Command::Where => 1,
+            Command::Where | Command::History => 1,
             _ => 0,
         }
     }
@@ -165,7 +174,7 @@ impl Command {
     /// What those words are.
     pub fn word(self) -> &'static str {
         match self {
-            Command::Check => "FILE",
+            Command::Check | Command::History => "FILE",
             Command::Replay | Command::Loopback => "SCRIPT",
             Command::Where => "KEY",
             Command::Serve | Command::Cache => "",

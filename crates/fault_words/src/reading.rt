@@ -154,19 +154,41 @@ impl Reader {
             .find(|flag| !self.has(flag))
     }
 
+    // Flags that don't go together.
+    fn apart<'a>(&self) -> Option<Cause<'a>> {
+        let is_after = self.has("history");
+        if self.has("dot") {
+            if self.has("explain") {
+                return Some(Cause::Apart("explain", "dot"));
+            }
+            if is_after {
+                return Some(Cause::Apart("dot", "history"));
+            }
+        }
+        if is_after {
+            if self.has("explain") {
+                return Some(Cause::Apart("explain", "history"));
+            }
+            if self.has("any") {
+                return Some(Cause::Apart("any", "history"));
+            }
+        }
+        None
+    }
+
     // What is wrong once there are no more words.
     fn end<'a>(&self) -> Option<Cause<'a>> {
         if let Some(flag) = self.waiting {
             return Some(Cause::NoValue(flag));
         }
-        if self.has("explain") && self.has("dot") {
-            return Some(Cause::TwoForms);
+        if let Some(cause) = self.apart() {
+            return Some(cause);
         }
         if let Some(flag) = self.missing() {
             return Some(Cause::Missing(flag));
         }
         if self.words < self.command.least_words() {
-            return Some(Cause::NoWord);
+            return Some(Cause::NoWord(self.command.word()));
         }
         None
     }

@@ -5,6 +5,7 @@ ghost use Rattle.clap.specs.Values.{kind_of};
 ghost use Rattle.mcgate_args.specs.Stops.{arguments_fault_at};
 
 use crate::cache_arguments::{CACHE_HELP, CacheJob, cache_command, cache_job};
+use crate::history_arguments::{HISTORY_HELP, history_command, history_job};
 use crate::loopback_arguments::{LOOPBACK_HELP, loopback_command, loopback_job};
 use crate::serve_arguments::{SERVE_HELP, ServeJob, serve_command, serve_job};
 use clap::error::ErrorKind;
@@ -30,6 +31,15 @@ pub enum Job<'a> {
     Run {
         task: Task,
         file: Option<&'a str>,
+    },
+    /// Print the gate's verdict on a configuration, of a file or of standard input, and whether it may follow this history.
+    CheckAfter {
+        history: &'a str,
+        file: Option<&'a str>,
+    },
+    /// Tell what a history remembers.
+    History {
+        file: &'a str,
     },
     /// Run a script of events, of a file or of standard input, over the configuration in this file: with `any` whatever the gate
     /// says of its tree.
@@ -82,7 +92,7 @@ const VERSION: &str = "mcgate 1\n";
 const HELP: &str =
     "mcgate sends memcached commands through a tree of routes, and asks of a tree whether it can show deleted data.
 
-usage: mcgate check [--explain | --dot] [FILE]
+usage: mcgate check [--explain | --dot | --history HISTORY] [FILE]
                                      print the gate's verdict on a configuration, with --explain also in words,
                                      with --dot as a picture
        mcgate replay [--any] [--config FILE] [SCRIPT]
@@ -91,6 +101,7 @@ usage: mcgate check [--explain | --dot] [FILE]
                                      print where keys live in the tree of a configuration
        mcgate serve --config FILE --listen HOST:PORT [--any]
                                      serve a configuration that the gate accepts, between clients and servers
+       mcgate history FILE           print what serve --history FILE remembers
        mcgate cache --listen HOST:PORT --capacity C
                                      be a memcached server of C items
        mcgate loopback [SCRIPT]      run a script with proxy, clients and servers as ends of TCP connections
@@ -101,7 +112,7 @@ Without FILE or SCRIPT the input is standard input. Without any arguments mcgate
 Exit status: 0 accepted or done, 1 refused by the gate, 2 bad arguments or input, 3 memory or a device failed, or too many calls.
 ";
 
-const CHECK_HELP: &str = "usage: mcgate check [--explain | --dot] [FILE]
+const CHECK_HELP: &str = "usage: mcgate check [--explain | --dot | --history HISTORY] [FILE]
 
 Reads a configuration in JSON, of FILE or of standard input, and prints the gate's verdict:
   accepted places=N      no run of the tree shows deleted data; the keys have N places
@@ -115,6 +126,14 @@ With --explain lines that begin with # follow: by which way a read reaches the s
 which it leaves, and what to change.
 With --dot the tree and its servers are printed as a graph for Graphviz, in place of accepted and refused lines: of a refused
 tree the way by which a read reaches the server and the server are red.
+With --history the configuration is judged also as mcgate serve --history HISTORY would, and nothing is written:
+  history accepted generation=G
+                         it may be the G-th
+  history unchanged generation=G
+                         the last line says it
+  history refused generation=G server=A ..
+                         A may hold what a delete under generation G left
+  history: line N: ..    why HISTORY is no history
 Exit status: 0 accepted, 1 refused, 2 no configuration, 3 memory or a device failed.
 ";
 
@@ -188,6 +207,7 @@ fn check_command<'a>(alloc: Global) -> Result<Command<'a>, AllocError> {
         .arg(help_flag(alloc))?
         .arg(explain)?
         .arg(dot)?
+        .arg(option(alloc, "history"))?
         .arg(Arg::new(alloc, "FILE"))
 }
 
@@ -238,6 +258,7 @@ fn command<'a>(alloc: Global) -> Result<Command<'a>, AllocError> {
         .subcommand(where_command(alloc)?)?
         .subcommand(cache_command(alloc)?)?
         .subcommand(loopback_command(alloc)?)?
+        .subcommand(history_command(alloc)?)?
         .subcommand(help_command(alloc)?)?
         .subcommand(serve_command(alloc)?)
 }
@@ -258,10 +279,15 @@ fn check_job<'a>(given: &ArgMatches<'a>) -> Result<Job<'a>, ArgumentsFault> {
         return Ok(Job::Print(CHECK_HELP));
     }
     let form = form_of(given.get_flag("explain"), given.get_flag("dot"))?;
-    Ok(Job::Run {
-        task: Task::Check { form },
-        file: given.get_str("FILE"),
-    })
+    let file = given.get_str("FILE");
+    match (given.get_str("history"), form) {
+        (None, form) => Ok(Job::Run {
+            task: Task::Check { form },
+            file,
+        }),
+        (Some(history), Form::Lines) => Ok(Job::CheckAfter { history, file }),
+        (Some(_), _) => Err(ArgumentsFault::Refused),
+    }
 }
 
 // What the arguments after `replay` ask for.
@@ -317,6 +343,7 @@ fn help_on<'a>(name: &str) -> Result<Job<'a>, ArgumentsFault> {
         "cache" => Ok(Job::Print(CACHE_HELP)),
         "loopback" => Ok(Job::Print(LOOPBACK_HELP)),
         "serve" => Ok(Job::Print(SERVE_HELP)),
+        "history" => Ok(Job::Print(HISTORY_HELP)),
         "help" => Ok(Job::Print(HELP)),
         _ => Err(ArgumentsFault::Refused),
     }
@@ -344,7 +371,7 @@ fn plain_job<'a>(given: &ArgMatches<'a>) -> Job<'a> {
     }
 }
 
-/// What the arguments ask for, the program's name first: `check [--explain | --dot] [FILE]`, `replay [--any] [--config FILE] [SCRIPT]`,
+/// What the arguments ask for, the program's name first: `check [--explain | --dot | --history HISTORY] [FILE]`, `history FILE`, `replay [--any] [--config FILE] [SCRIPT]`,
 /// `where --config FILE KEY..`, `cache --listen HOST:PORT --capacity C [--turns N]`, `loopback [SCRIPT]`, `serve` with its flags, or none
 /// at all after it, which is `replay`. Also `help [COMMAND]`, `-h` and `--help`, before or after a command, and `--version`.
 ///
@@ -363,6 +390,7 @@ pub fn read_arguments<'a>(
         Some(("cache", given)) => cache_job(given),
         Some(("loopback", given)) => Ok(loopback_job(given)),
         Some(("serve", given)) => serve_job(given),
+        Some(("history", given)) => history_job(given),
         Some(("help", given)) => help_job(given),
         Some((_, given)) => Ok(replay_job(given)),
         None => Ok(plain_job(&matches)),

@@ -6,6 +6,8 @@ pub mod bad_lines;
 pub mod cache_arguments;
 pub mod details;
 pub mod ends;
+pub mod histories;
+pub mod history_arguments;
 pub mod input;
 pub mod input_text;
 pub mod loopback_arguments;

@@ -1,0 +1,27 @@
+-- What a text ends with, and one line more.
+use Rattle.std.proofs.Common.{◌≡◌, ℕ, ◌+◌, ◌-◌, Bool, true, false, List, [], ◌∷◌, ◌++◌, length, take, Result, Ok, Err, Some, None, refl, sym, ap, subst, ◌∙◌}
+use Rattle.std.specs.Prelude.{MatchBool, OnOk, IfOk}
+use Rattle.std.specs.Str.Pattern.{HasSuffixMatch, FindsTextSuffix}
+use Rattle.gate_growth.specs.declared.ledger.page.Beginning.{Beginning}
+use Rattle.gate_history.specs.declared.generation.Generation.{Generation}
+use Rattle.gate_history.specs.Histories.{IsHistoryOf}
+use Rattle.gate_history.specs.Judged.{AreSoundBy}
+use Rattle.gate_history.specs.Standing.{EndsWith, Stands, SaysNext}
+use Rattle.gate_history.specs.Written.{IsLineFor, WrittenIsRead}
+use Rattle.gate_history.proofs.ReadBack.{written_is_read}
+
+-- the line that a text would have is the end of the bytes
+pub ends_so : (bytes line text : List ℕ) (number : ℕ) (began : Beginning) (r : Bool) → MatchBool r (HasSuffixMatch (FindsTextSuffix line) bytes) (FindsTextSuffix line bytes None) → IsLineFor number began text line → r ≡ true → EndsWith bytes text
+ends_so bytes line text number began true h is e =
+    let front = take (length bytes - h.0) bytes in
+    (front, number, began, is.0, h.1.1 ∙ ap (λ (l : List ℕ). front ++ l) is.1, is.3)
+ends_so bytes line text number began false h is e = absurd cc
+
+-- with its line the configuration stands at the end
+pub stands_next :
+    (gs new : List Generation) (g : Generation) (file longer bytes text : List ℕ) → IsHistoryOf gs file → new ≡ gs ++ g ∷ [] → longer ≡ file ++ bytes → IsLineFor (length gs + 1) g.began text bytes → SaysNext gs text g.config
+    → IsHistoryOf new longer × EndsWith longer text
+stands_next gs new g file longer bytes text is next whole line says =
+    let read = written_is_read gs g file text bytes is line says in
+    ( subst (λ (l : List Generation). IsHistoryOf l longer) (sym next) (subst (IsHistoryOf (gs ++ g ∷ [])) (sym whole) read),
+      (file, length gs + 1, g.began, line.0, whole ∙ ap (λ (l : List ℕ). file ++ l) line.1, line.3) )
