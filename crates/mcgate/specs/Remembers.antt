@@ -14,8 +14,7 @@ StandsIn None text = Unit {0}
 -- so does a text that wasn't refused
 abbrev pub MayStand : Remembering → Option Kept → List ℕ → Type 0
 MayStand outcomes.Refused memory text = Unit {0}
-MayStand outcomes.Stood memory text = StandsIn memory text
-MayStand (outcomes.Added old) memory text = StandsIn memory text
+MayStand (outcomes.Stands old) memory text = StandsIn memory text
 
 -- the core goes on as it was; or a text was loaded that stands there
 abbrev pub StandsIfLoaded : ServedCore → ServedCore → Option Kept → List ℕ → Type 0

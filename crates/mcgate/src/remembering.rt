@@ -28,10 +28,8 @@ pub struct Kept {
 pub enum Remembering {
     /// It may not be, and why was printed.
     Refused,
-    /// No history is kept, or its last line says the text.
-    Stood,
-    /// Its line was written. This is the text of the file without it.
-    Added(String),
+    /// Where a history is kept, its last line says the text. This is the text of the file without that line, if it was written now.
+    Stands(Option<String>),
 }
 
 // The folder of a file.
@@ -126,7 +124,7 @@ impl Kept {
         ensures { (text : List ℕ) → Stands (string_bytes self.old.file.text) text → IfOk result (λ r. MayStand r (Some self.new) text) }
     {
         match put(rt, self.path.as_str(), self.file.text()) {
-            Ok(()) => Ok(Remembering::Added(old)),
+            Ok(()) => Ok(Remembering::Stands(Some(old))),
             Err(error) => {
                 tell_unwritten(rt, lines, self.path.as_str(), &error);
                 self.go_back(rt.alloc(), old)?;
@@ -147,7 +145,7 @@ impl Kept {
         ensures { IfOk result (λ r. MayStand r (Some self.new) text.now) }
     {
         match self.file.take_text(rt.alloc(), text, self.added) {
-            Ok(None) => Ok(Remembering::Stood),
+            Ok(None) => Ok(Remembering::Stands(None)),
             Ok(Some(old)) => self.write_line(rt, lines, old, out),
             Err(fault) => {
                 print_kept_after(&fault, out)?;
@@ -182,20 +180,20 @@ pub fn remember<R: Files + AllocGlobal + Eprint, W: Write>(
     ensures { IfOk result (λ r. MayStand r memory.new text.now) }
 {
     match memory {
-        None => Ok(Remembering::Stood),
+        None => Ok(Remembering::Stands(None)),
         Some(kept) => kept.take(rt, lines, text, out),
     }
 }
 
-/// After a text wasn't loaded: the file is what it was.
+/// After a text wasn't loaded: the file has this text again, if its line was written.
 pub fn forget<R: Files + AllocGlobal + Eprint>(
     rt: &R,
     lines: &mut Lines,
     memory: &mut Option<Kept>,
-    remembering: Remembering,
+    old: Option<String>,
 ) -> Result<(), Stop> {
-    match (memory, remembering) {
-        (Some(kept), Remembering::Added(old)) => kept.put_back(rt, lines, old),
+    match (memory, old) {
+        (Some(kept), Some(old)) => kept.put_back(rt, lines, old),
         _ => Ok(()),
     }
 }

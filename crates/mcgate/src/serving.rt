@@ -433,7 +433,7 @@ impl Serving {
     {
         match remember(rt, &mut self.lines, &mut self.memory, text, out)? {
             Remembering::Refused => Ok(false),
-            remembering => self.load_remembered(rt, any, text, remembering, out),
+            Remembering::Stands(old) => self.load_remembered(rt, any, text, old, out),
         }
     }
 
@@ -443,7 +443,7 @@ impl Serving {
         rt: &R,
         any: bool,
         text: &str,
-        remembering: Remembering,
+        old: Option<String>,
         out: &mut W,
     ) -> Result<bool, Stop>
         requires stands { StandsIn self.old.memory text.now }
@@ -454,7 +454,7 @@ impl Serving {
         if self.load_text(rt, any, text, out)? {
             return Ok(true);
         }
-        forget(rt, &mut self.lines, &mut self.memory, remembering)?;
+        forget(rt, &mut self.lines, &mut self.memory, old)?;
         Ok(false)
     }
 

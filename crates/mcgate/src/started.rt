@@ -6,6 +6,7 @@ ghost use Rattle.mcgate.specs.Remembers.{StandsIn};
 use crate::histories::file_at;
 use crate::lines::Lines;
 use crate::remembering::{Kept, unwritten_line};
+use core_accepted::Beginnings;
 use gate_growth::ledger::Beginning;
 use gate_history::HistoryFile;
 use mcgate_args::details::Details;
@@ -41,10 +42,18 @@ impl Started {
     }
 }
 
-// How the new servers of the next generation began.
-fn began_of(file: &HistoryFile, _job: &ServeJob<'_>) -> Beginning {
-    let _count = file.count();
-    Beginning::Any
+// How servers began, as the job says.
+fn begun_of(_job: &ServeJob<'_>) -> Beginnings {
+    Beginnings::any()
+}
+
+// How the new servers of the next generation of a file began.
+fn began_in(file: &HistoryFile, begun: Beginnings) -> Beginning {
+    if file.count() == 0 {
+        begun.opened
+    } else {
+        begun.added
+    }
 }
 
 // The text is the next generation of this file, if it may be; else why not is printed.
@@ -57,10 +66,11 @@ fn begin_in<R: Files + AllocGlobal, W: Write>(
     out: &mut W,
     details: &mut Details,
 ) -> Result<Begun, Stop> {
-    let began = began_of(&file, job);
+    let begun = begun_of(job);
+    let began = began_in(&file, begun);
     let mut file = file;
     match file.take_text(rt.alloc(), text.as_str(), began) {
-        Ok(old) => match Kept::new(rt, path, file, Beginning::Any, old.is_some()) {
+        Ok(old) => match Kept::new(rt, path, file, begun.added, old.is_some()) {
             Ok(kept) => Ok(Begun::Started(Started {
                 text,
                 memory: Some(kept),
@@ -114,7 +124,7 @@ pub fn refused_after<R: Files + Input + AllocGlobal + Eprint, W: Write>(
     let Some(file) = file_at(rt, path, lines, out, details)? else {
         return Ok(Some(BAD_INPUT));
     };
-    let began = began_of(&file, job);
+    let began = began_in(&file, begun_of(job));
     let mut file = file;
     match file.take_text(rt.alloc(), text, began) {
         Ok(_) => Ok(None),
