@@ -29,7 +29,7 @@ pub enum Cause<'a> {
     Missing(&'static str),
     /// The command wants such a word.
     NoWord(&'static str),
-    /// These flags don't go together.
+    /// The two flags don't go together.
     Apart(&'static str, &'static str),
     /// The word is no key.
     NoKey(&'a str, KeyFault),

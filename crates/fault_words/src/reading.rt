@@ -154,26 +154,21 @@ impl Reader {
             .find(|flag| !self.has(flag))
     }
 
-    // Flags that don't go together.
-    fn apart<'a>(&self) -> Option<Cause<'a>> {
-        let is_after = self.has("history");
-        if self.has("dot") {
-            if self.has("explain") {
-                return Some(Cause::Apart("explain", "dot"));
-            }
-            if is_after {
-                return Some(Cause::Apart("dot", "history"));
-            }
+    // Whether the first flag stands there with the second.
+    fn apart<'a>(&self, flag: &'static str, other: &'static str) -> Option<Cause<'a>> {
+        if self.has(flag) && self.has(other) {
+            Some(Cause::Apart(flag, other))
+        } else {
+            None
         }
-        if is_after {
-            if self.has("explain") {
-                return Some(Cause::Apart("explain", "history"));
-            }
-            if self.has("any") {
-                return Some(Cause::Apart("any", "history"));
-            }
-        }
-        None
+    }
+
+    // What is wrong with the forms that are asked for.
+    fn forms<'a>(&self) -> Option<Cause<'a>> {
+        self.apart("explain", "dot")
+            .or(self.apart("explain", "history"))
+            .or(self.apart("dot", "history"))
+            .or(self.apart("any", "history"))
     }
 
     // What is wrong once there are no more words.
@@ -181,7 +176,7 @@ impl Reader {
         if let Some(flag) = self.waiting {
             return Some(Cause::NoValue(flag));
         }
-        if let Some(cause) = self.apart() {
+        if let Some(cause) = self.forms() {
             return Some(cause);
         }
         if let Some(flag) = self.missing() {

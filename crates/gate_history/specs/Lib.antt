@@ -1,4 +1,5 @@
 pub mod Generations
+pub mod InFile
 pub mod Spelled
 pub mod Lines
 pub mod Histories

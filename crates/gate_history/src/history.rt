@@ -87,12 +87,7 @@ impl History {
     }
 
     /// Makes the configuration the next generation, where it may be. Its new servers began so. After an error all is as it was.
-    pub fn follow(
-        &mut self,
-        alloc: Global,
-        config: Config,
-        new: Beginning,
-    ) -> Result<(), Unsound>
+    pub fn follow(&mut self, alloc: Global, config: Config, new: Beginning) -> Result<(), Unsound>
         ensures followed { OnOk result (self.new ≡ self.old ++ record { config = config; began = new } ∷ []) }
         ensures refused { IfErr result (λ unsound. (self.new ≡ self.old) × IsUnsoundAfter self.old config new unsound) }
     {

@@ -3,19 +3,18 @@
 ghost use Rattle.std.specs.Prelude.{◌≡◌, ◌+◌, ℕ, List, [], ◌++◌, length, IsTrue, IfOk, IfErr, MatchResult, OnErr, OnOk, string_bytes};
 ghost use Rattle.gate_growth.specs.declared.ledger.page.Beginning.{Beginning};
 ghost use Rattle.gate_history.specs.declared.generation.Generation.{Generation};
-ghost use Rattle.gate_history.specs.Histories.{IsHistoryOf};
 ghost use Rattle.gate_history.specs.Judged.{IsNoHistory};
-ghost use Rattle.gate_history.specs.Standing.{EndsWith, Stands, SaysNext, IsNoNext};
-ghost use Rattle.gate_history.specs.Written.{IsLineFor, WrittenIsRead};
+ghost use Rattle.gate_history.specs.Standing.{Stands, SaysNext, IsNoNext};
+ghost use Rattle.gate_history.specs.Written.{IsLineFor};
 
 use crate::fault::{HistoryFault, NextFault};
 use crate::history::History;
-use crate::laws::written_is_read;
 use crate::reading::read_history;
 use crate::writing::{LineFault, write_line};
-use gate_growth::ledger::{Beginning, Unsound};
+use gate_growth::ledger::Beginning;
 use route_json::{Config, Servers, read_config_after};
 use std::alloc::{AllocError, Global};
+use std::marker::Model;
 use std::mem::replace;
 
 /// A history, and the text of its file.
@@ -23,7 +22,20 @@ use std::mem::replace;
 pub struct HistoryFile {
     history: History,
     text: String,
-    ghost said: { IsHistoryOf history (string_bytes text) },
+}
+
+impl Model for HistoryFile {
+    ghost use Rattle.std.specs.Prelude.{string_bytes};
+    ghost use Rattle.gate_history.specs.InFile.{InFile, in_file_code};
+    ghost use Rattle.gate_history.specs.Histories.{IsHistoryOf};
+
+    ghost Value = { InFile };
+
+    ghost coded = { in_file_code };
+
+    ghost view = { λ f. record { generations = f.history; text = string_bytes f.text } };
+
+    ghost invariant = { λ f. IsHistoryOf f.history (string_bytes f.text) };
 }
 
 // What stands beside a configuration that is to be the next generation.
@@ -106,8 +118,7 @@ fn drop_config(_config: Config) {}
 impl HistoryFile {
     /// That of no generation, without text. The only error is that memory was refused.
     pub fn new(alloc: Global) -> Result<HistoryFile, AllocError>
-        ensures history { IfOk result (λ file. file.history ≡ []) }
-        ensures text { IfOk result (λ file. string_bytes file.text ≡ []) }
+        ensures { IfOk result (λ file. file ≡ record { generations = []; text = [] }) }
     {
         Ok(HistoryFile {
             history: History::new(alloc)?,
@@ -117,7 +128,7 @@ impl HistoryFile {
 
     /// That of a text, or the text's first fault.
     pub fn read(alloc: Global, text: String) -> Result<HistoryFile, HistoryFault>
-        ensures { MatchResult result (λ file. file.text ≡ text) (IsNoHistory (string_bytes text)) }
+        ensures { MatchResult result (λ file. file.text ≡ string_bytes text) (IsNoHistory (string_bytes text)) }
     {
         match read_history(alloc, text.as_str()) {
             Ok(history) => Ok(HistoryFile { history, text }),
@@ -127,21 +138,21 @@ impl HistoryFile {
 
     /// The history.
     pub fn history(&self) -> &History
-        ensures { result.now ≡ self.now.history }
+        ensures { result.now ≡ self.now.generations }
     {
         &self.history
     }
 
     /// The text.
     pub fn text(&self) -> &str
-        ensures { result.now ≡ string_bytes self.now.text }
+        ensures { result.now ≡ self.now.text }
     {
         self.text.as_str()
     }
 
     /// The history, without its text.
     pub fn into_history(self) -> History
-        ensures { result ≡ self.history }
+        ensures { result ≡ self.generations }
     {
         let HistoryFile { history, text: _ } = self;
         history
@@ -149,20 +160,23 @@ impl HistoryFile {
 
     /// How many generations there are.
     pub fn count(&self) -> usize
-        ensures { result ≡ length self.now.history }
+        ensures { result ≡ length self.now.generations }
     {
         self.history.generations().len()
     }
 
     /// Whether the last line says the JSON of the text.
     pub fn ends_with(&self, alloc: Global, text: &str) -> Result<bool, LineFault>
-        ensures { IfOk result (λ ends. IsTrue ends → Stands (string_bytes self.now.text) text.now) }
+        ensures { IfOk result (λ ends. IsTrue ends → Stands self.now.text text.now) }
     {
         let generations = self.history.generations();
         let Some(last) = generations.last() else {
             return Ok(false);
         };
-        let line = write_line(alloc, generations.len() as u32, last.began, text)?;
+        let Ok(number) = u32::try_from(generations.len()) else {
+            return Ok(false);
+        };
+        let line = write_line(alloc, number, last.began, text)?;
         Ok(self.text.as_str().ends_with(line.as_str()))
     }
 
@@ -174,30 +188,40 @@ impl HistoryFile {
         text: &str,
         began: Beginning,
     ) -> Result<String, NextFault>
-        ensures stands { OnOk result (Stands (string_bytes self.new.text) text.now) }
-        ensures old { IfOk result (λ old. old ≡ self.old.text) }
-        ensures refused { IfErr result (IsNoNext self.old.history text.now began) }
-        ensures same { OnErr result ((self.new.history ≡ self.old.history) × (self.new.text ≡ self.old.text)) }
+        ensures stands { OnOk result (Stands self.new.text text.now) }
+        ensures old { IfOk result (λ old. string_bytes old ≡ self.old.text) }
+        ensures refused { IfErr result (IsNoNext self.old.generations text.now began) }
+        ensures same { OnErr result (self.new ≡ self.old) }
     {
         let config = config_after(alloc, &self.history, text)?;
-        match prepare(alloc, &self.history, self.text.as_str(), &config, text, began) {
-            Ok(Prepared {
-                servers,
-                text: longer,
-            }) => match self.history.follow(alloc, config, began) {
-                Ok(()) => {
-                    written_is_read();
-                    let _sound = self.history.generations();
-                    Ok(replace(&mut self.text, longer))
+        match prepare(
+            alloc,
+            &self.history,
+            self.text.as_str(),
+            &config,
+            text,
+            began,
+        ) {
+            Ok(prepared) => {
+                let Prepared {
+                    servers,
+                    text: longer,
+                } = prepared;
+                match self.history.follow(alloc, config, began) {
+                    Ok(()) => {
+                        let _sound = self.history.generations();
+                        Ok(replace(&mut self.text, longer))
+                    }
+                    Err(unsound) => Err(NextFault::Refused(servers, unsound)),
                 }
-                Err(unsound) => Err(NextFault::Refused(servers, unsound)),
-            },
+            }
             Err(fault) => {
                 drop_config(config);
                 Err(fault)
             }
         }
     }
+
     /// The last line says the text then, where it may: it does already, and then nothing is done and there is no answer; or it is
     /// the line of the configuration that the text says, as the next generation, and the answer is the text without it.
     pub fn take_text(
@@ -206,9 +230,9 @@ impl HistoryFile {
         text: &str,
         began: Beginning,
     ) -> Result<Option<String>, NextFault>
-        ensures stands { OnOk result (Stands (string_bytes self.new.text) text.now) }
-        ensures refused { IfErr result (IsNoNext self.old.history text.now began) }
-        ensures same { OnErr result ((self.new.history ≡ self.old.history) × (self.new.text ≡ self.old.text)) }
+        ensures stands { OnOk result (Stands self.new.text text.now) }
+        ensures refused { IfErr result (IsNoNext self.old.generations text.now began) }
+        ensures same { OnErr result (self.new ≡ self.old) }
     {
         match self.ends_with(alloc, text) {
             Ok(true) => Ok(None),

@@ -8,10 +8,11 @@ use gate_growth::ledger::Beginning;
 use gate_history::HistoryFile;
 use mcgate_args::ends::Stop;
 use mcgate_args::histories::print_kept_after;
+use mcgate_args::input_text::INPUT_LIMIT;
 use std::alloc::{AllocError, Global};
 use std::fs::{File, OpenFile, rename};
 use std::io;
-use std::io::Write;
+use std::io::{ErrorKind, Write};
 use std::rt::Files;
 
 /// A history, and the file in which it stands: it was read from there, or written there and synced.
@@ -54,8 +55,11 @@ fn sync_folder<R: Files>(rt: &R, folder: &str) -> io::Result<()> {
     folder.sync_all()
 }
 
-// The file has the text, and the disk too: at each moment before it has it as it was.
+// The file has the text, and the disk too: at each moment before it has it as it was. One that couldn't be read again isn't written.
 fn put<R: Files + AllocGlobal>(rt: &R, path: &str, text: &str) -> io::Result<()> {
+    if text.len() > INPUT_LIMIT {
+        return Err(io::Error::from(ErrorKind::FileTooLarge));
+    }
     let beside = format!(in rt.alloc(); "{path}.new")?;
     write_synced(rt, beside.as_str(), text)?;
     rename(rt, beside.as_str(), path)?;
@@ -121,7 +125,7 @@ impl Kept {
         old: String,
         out: &mut W,
     ) -> Result<Remembering, Stop>
-        ensures { (text : List ℕ) → Stands (string_bytes self.old.file.text) text → IfOk result (λ r. MayStand r (Some self.new) text) }
+        ensures { (text : List ℕ) → Stands self.old.file.text text → IfOk result (λ r. MayStand r (Some self.new) text) }
     {
         match put(rt, self.path.as_str(), self.file.text()) {
             Ok(()) => Ok(Remembering::Stands(Some(old))),

@@ -1,6 +1,6 @@
 //! A text that is to be served, and what is remembered of those before it.
 
-ghost use Rattle.std.specs.Prelude.{◌≡◌, string_bytes};
+ghost use Rattle.std.specs.Prelude.{string_bytes};
 ghost use Rattle.mcgate.specs.Remembers.{StandsIn};
 
 use crate::histories::file_at;
@@ -22,7 +22,7 @@ use std::rt::Files;
 pub struct Started {
     text: String,
     memory: Option<Kept>,
-    ghost stands: { StandsIn memory (string_bytes text) },
+    ghost stands: { ∥ StandsIn memory (string_bytes text) ∥₁ },
 }
 
 /// What came of a text: it may be served, or the exit status of what was printed instead.
@@ -35,7 +35,7 @@ pub enum Begun {
 impl Started {
     /// The text, and what is remembered.
     pub fn into_parts(self) -> (String, Option<Kept>)
-        ensures { StandsIn result.1 (string_bytes result.0) }
+        ensures { ∥ StandsIn result.1 (string_bytes result.0) ∥₁ }
     {
         let Started { text, memory } = self;
         (text, memory)
@@ -80,13 +80,7 @@ fn begin_in<R: Files + AllocGlobal, W: Write>(
                 Err(Stop::from(error))
             }
         },
-        Err(fault) => Ok(Begun::Printed(print_no_next(
-            rt.alloc(),
-            path,
-            &fault,
-            out,
-            details,
-        )?)),
+        Err(fault) => Ok(Begun::Printed(print_no_next(rt.alloc(), path, &fault, out, details)?)),
     }
 }
 
@@ -128,12 +122,6 @@ pub fn refused_after<R: Files + Input + AllocGlobal + Eprint, W: Write>(
     let mut file = file;
     match file.take_text(rt.alloc(), text, began) {
         Ok(_) => Ok(None),
-        Err(fault) => Ok(Some(print_no_next(
-            rt.alloc(),
-            path,
-            &fault,
-            out,
-            details,
-        )?)),
+        Err(fault) => Ok(Some(print_no_next(rt.alloc(), path, &fault, out, details)?)),
     }
 }

@@ -78,11 +78,7 @@ fn print_config_fault<W: Write>(fault: &ConfigFault, out: &mut W) -> Result<(), 
 }
 
 // Prints why a configuration of these servers may not be loaded.
-fn print_unsound<W: Write>(
-    servers: &Servers,
-    unsound: &Unsound,
-    out: &mut W,
-) -> Result<(), Stop> {
+fn print_unsound<W: Write>(servers: &Servers, unsound: &Unsound, out: &mut W) -> Result<(), Stop> {
     match reload_fault_of(unsound) {
         ReloadFault::NoMemory => Err(Stop::Memory),
         fault => Ok(write_kept(servers, &fault, out)?),
@@ -169,7 +165,11 @@ pub fn check_after<W: Write>(
     let mut file = file;
     match file.take_text(alloc, text, began) {
         Ok(old) => {
-            let word = if old.is_some() { "accepted" } else { "unchanged" };
+            let word = if old.is_some() {
+                "accepted"
+            } else {
+                "unchanged"
+            };
             writeln!(out, "history {word} generation={}", file.count())?;
             Ok(DONE)
         }
