@@ -1,6 +1,6 @@
 -- What a text ends with, and one line more.
-use Rattle.std.proofs.Common.{◌≡◌, ℕ, ◌+◌, ◌-◌, Bool, true, false, List, [], ◌∷◌, ◌++◌, length, take, Result, Ok, Err, Some, None, refl, sym, ap, subst, ◌∙◌}
-use Rattle.std.specs.Prelude.{MatchBool, OnOk, IfOk}
+use Rattle.std.proofs.Common.{◌≡◌, ℕ, ◌+◌, ◌-◌, Bool, true, false, List, [], ◌∷◌, ◌++◌, length, take, None, sym, ap, subst, ◌∙◌}
+use Rattle.std.specs.Prelude.{MatchBool}
 use Rattle.std.specs.Str.Pattern.{HasSuffixMatch, FindsTextSuffix}
 use Rattle.gate_growth.specs.declared.ledger.page.Beginning.{Beginning}
 use Rattle.gate_history.specs.declared.generation.Generation.{Generation}
@@ -8,16 +8,16 @@ use Rattle.gate_history.specs.InFile.{InFile}
 use Rattle.gate_history.specs.Histories.{IsHistoryOf}
 use Rattle.gate_history.specs.Judged.{AreSoundBy}
 use Rattle.gate_history.specs.Standing.{EndsWith, Stands, SaysNext}
-use Rattle.gate_history.specs.Written.{IsLineFor, WrittenIsRead}
+use Rattle.gate_history.specs.Written.{IsLineFor}
 use Rattle.gate_history.proofs.ReadBack.{written_is_read}
 
 -- the line that a text would have is the end of the bytes
-pub ends_so : {number : ℕ} {began : Beginning} (bytes line text s n : List ℕ) (r : Bool) → s ≡ bytes → n ≡ line → MatchBool r (HasSuffixMatch (FindsTextSuffix n) s) (FindsTextSuffix n s None) → IsLineFor number began text line → r ≡ true
+pub ends_so : (number : ℕ) (began : Beginning) (bytes line text s n : List ℕ) (r : Bool) → s ≡ bytes → n ≡ line → MatchBool r (HasSuffixMatch (FindsTextSuffix n) s) (FindsTextSuffix n s None) → IsLineFor number began text line → r ≡ true
     → EndsWith bytes text
-ends_so {number} {began} bytes line text s n true s-is n-is h is e =
+ends_so number began bytes line text s n true s-is n-is h is e =
     let front = take (length s - h.0) s in
     (front, number, began, is.0, sym s-is ∙ h.1.1 ∙ ap (λ (l : List ℕ). front ++ l) (n-is ∙ is.1), is.3)
-ends_so bytes line text s n false s-is n-is h is e = absurd cc
+ends_so number began bytes line text s n false s-is n-is h is e = absurd cc
 
 -- a history that stands so in its file
 pub stands_by : (f : InFile) (gs : List Generation) (bytes text : List ℕ) → record { generations = gs; text = bytes } ≡ f → IsHistoryOf gs bytes → AreSoundBy gs → EndsWith bytes text → Stands f.text text

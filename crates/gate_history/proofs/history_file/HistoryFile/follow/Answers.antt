@@ -1,4 +1,4 @@
-use Rattle.std.proofs.Common.{◌≡◌, ◌∙◌, ◌++◌, List, ℕ, ap, subst, string_bytes}
+use Rattle.std.proofs.Common.{◌∙◌, ◌++◌, List, ℕ, ap, subst, string_bytes}
 use Rattle.std.proofs.lemmas.Result.{err_from_is_err_and}
 use Rattle.gate_history.specs.InFile.{InFile}
 use Rattle.gate_history.specs.Standing.{IsNoNext}
