@@ -300,6 +300,38 @@ taken 1 => nothing
 open 1 => no
 taken 2 => END\r\n
 
+A delete waits for a get that may copy its key, and goes out when that has ended.
+host 127.0.0.1:5001
+host 127.0.0.1:5002
+peer 8
+awaits 7
+sends END\r\n
+-- 7 + 16, and 10 more
+awaits 23
+sends STORED\r\n
+awaits 33
+sends DELETED\r\n
+answers 127.0.0.1:5001
+peer 9
+awaits 7
+until 50
+sends VALUE k 0 1\r\n7\r\nEND\r\n
+awaits 17
+sends DELETED\r\n
+answers 127.0.0.1:5002
+peer 1
+sends get k\r\n
+calls 0
+peer 2
+sends delete k\r\n
+calls 20
+proxy <warm-up>
+turn 40
+taken 8 => get k\r\nadd k 0 0 1\r\n7\r\ndelete k\r\n
+taken 9 => get k\r\ndelete k\r\n
+taken 1 => VALUE k 0 1\r\n7\r\nEND\r\n
+taken 2 => DELETED\r\n
+
 Nobody answers at one address, and no host is known of the other.
 host 127.0.0.1:5001
 peer 1
