@@ -35,6 +35,8 @@ mcgate check f => check of f
 mcgate check --explain f => check explained of f
 mcgate check f --dot => check drawn of f
 mcgate check --explain --dot => refused, told
+mcgate certify => certify of standard input
+mcgate certify f => certify of f
 mcgate where --config c k => where 1 in c
 mcgate where --config c  => no key
 mcgate cache --listen a:1 --capacity 5 => cache 5
@@ -46,7 +48,8 @@ mcgate serve --any --listen a:1 --config c --reload-every 4 --reload-ms 5 --fail
 mcgate serve --listen a:1 --config c --server-dialect auto => serve - fail-limit 3 auto
 mcgate serve --listen a:1 --config c --server-dialect classic => serve - fail-limit 3 classic
 mcgate serve --listen a:1 --config c --server-dialect meta => serve - fail-limit 3 meta
-mcgate serve --listen a:1 --config c --server-dialect old => refused, told"
+mcgate serve --listen a:1 --config c --server-dialect old => refused, told
+mcgate serve --listen a:1 --config c --certificate d => serve - by d fail-limit 3 auto"
 }
 
 // Arguments that the program doesn't have.
@@ -57,6 +60,8 @@ mcgate --any => refused, told
 mcgate help chek => refused, told
 mcgate help check serve => refused, told
 mcgate check --any => refused, told
+mcgate certify --any => refused, told
+mcgate certify f g => refused, told
 mcgate where k => refused, told
 mcgate where --config c => refused, told
 mcgate cache --listen a:1 => refused, told
@@ -116,6 +121,9 @@ fn dialect_word(dialect: ServerDialect) -> &'static str {
 
 fn push_serve(out: &mut String, job: &ServeJob<'_>) -> Result<(), AllocError> {
     write!(out, "serve {}", any_word(job.any))?;
+    if let Some(certificate) = job.certificate {
+        write!(out, " by {certificate}")?;
+    }
     push_number(out, "reload-every", job.reload_every)?;
     push_number(out, "reload-ms", job.reload_ms)?;
     push_number(out, "fail-limit", Some(job.settings.fail_limit))?;
@@ -140,6 +148,7 @@ fn push_job(out: &mut String, job: &Job<'_>) -> Result<(), AllocError> {
             write!(out, " of {}", file_word(file))?;
         }
         Job::Where { file, keys } => write!(out, "where {} in {file}", keys.len())?,
+        Job::Certify { file } => write!(out, "certify of {}", file_word(file))?,
         Job::Loopback { file } => write!(out, "loopback of {}", file_word(file))?,
         Job::Cache(job) => {
             write!(out, "cache {}", job.settings.capacity)?;

@@ -15,6 +15,7 @@ pub enum Takes {
 #[derive(Clone, Copy, PartialEq, Eq)]
 pub enum Command {
     Check,
+    Certify,
     Replay,
     Where,
     Serve,
@@ -27,16 +28,17 @@ pub enum Command {
 pub const DIALECTS: [&str; 3] = ["auto", "classic", "meta"];
 
 /// The names of the commands.
-pub const COMMANDS: [&str; 7] = [
-    "check", "replay", "where", "serve", "cache", "loopback", "help",
+pub const COMMANDS: [&str; 8] = [
+    "check", "certify", "replay", "where", "serve", "cache", "loopback", "help",
 ];
 
-const SERVE_FLAGS: [&str; 17] = [
+const SERVE_FLAGS: [&str; 18] = [
     "help",
     "check",
     "config",
     "listen",
     "any",
+    "certificate",
     "clients",
     "client-window",
     "link-window",
@@ -60,7 +62,7 @@ pub const TOP_FLAGS: [&str; 2] = ["help", "version"];
 pub fn takes_of(flag: &str) -> Takes {
     match flag {
         "help" | "version" | "any" | "check" | "explain" | "dot" => Takes::Nothing,
-        "config" => Takes::File,
+        "config" | "certificate" => Takes::File,
         "listen" => Takes::Address,
         "server-dialect" => Takes::Dialect,
         _ => Takes::Count,
@@ -85,6 +87,7 @@ impl Command {
     pub fn of(word: &str) -> Option<Command> {
         match word {
             "check" => Some(Command::Check),
+            "certify" => Some(Command::Certify),
             "replay" => Some(Command::Replay),
             "where" => Some(Command::Where),
             "serve" => Some(Command::Serve),
@@ -99,6 +102,7 @@ impl Command {
     pub fn name(self) -> &'static str {
         match self {
             Command::Check => "check",
+            Command::Certify => "certify",
             Command::Replay => "replay",
             Command::Where => "where",
             Command::Serve => "serve",
@@ -112,6 +116,7 @@ impl Command {
     pub fn usage(self) -> &'static str {
         match self {
             Command::Check => "mcgate check [--explain | --dot] [FILE]",
+            Command::Certify => "mcgate certify [FILE]",
             Command::Replay => "mcgate replay [--any] [--config FILE] [SCRIPT]",
             Command::Where => "mcgate where --config FILE KEY..",
             Command::Serve => {
@@ -131,7 +136,7 @@ impl Command {
             Command::Where => &["help", "config"],
             Command::Serve => &SERVE_FLAGS,
             Command::Cache => &CACHE_FLAGS,
-            Command::Loopback | Command::Help => &["help"],
+            Command::Certify | Command::Loopback | Command::Help => &["help"],
         }
     }
 
@@ -148,7 +153,11 @@ impl Command {
     /// How many words it takes at most that are no flags and no values of theirs.
     pub fn most_words(self) -> usize {
         match self {
-            Command::Check | Command::Replay | Command::Loopback | Command::Help => 1,
+            Command::Check
+            | Command::Certify
+            | Command::Replay
+            | Command::Loopback
+            | Command::Help => 1,
             Command::Where => usize::MAX,
             Command::Serve | Command::Cache => 0,
         }
@@ -165,7 +174,7 @@ impl Command {
     /// What those words are.
     pub fn word(self) -> &'static str {
         match self {
-            Command::Check => "FILE",
+            Command::Check | Command::Certify => "FILE",
             Command::Replay | Command::Loopback => "SCRIPT",
             Command::Where => "KEY",
             Command::Serve | Command::Cache => "",

@@ -1,3 +1,4 @@
 pub mod Sharing
 pub mod Serves
 pub mod Judging
+pub mod Certified

@@ -11,7 +11,7 @@ use Rattle.core_accepted.specs.Loading.{IsLoaded}
 use Rattle.serve_links.specs.declared.settings.Settings.{Settings}
 use Rattle.serve_wire.specs.Events.{Event}
 use Rattle.serve_wire.specs.declared.sockets.sockets.Sockets.{Sockets}
-use Rattle.serve_links.specs.CoreSteps.{Step, Opened, NotOpened, Fed, Polled, Stopped, Settled, Gave, Closed, LeftLine, Loaded, Linked, Asked, Greeted, Spelled}
+use Rattle.serve_links.specs.CoreSteps.{Step, Opened, NotOpened, Fed, Polled, Stopped, Settled, Gave, Closed, LeftLine, Broke, Loaded, Linked, Asked, Greeted, Spelled}
 use Rattle.serve_links.specs.Story.{AnEnd, Agrees, AgreesLosing, texts_of}
 use Rattle.serve_proxy.specs.declared.proxy.ProxyEnd.{ProxyEnd}
 use Rattle.serve_proxy.specs.Ends.{end_of, AllGrowFrom, AllGrow}
@@ -52,9 +52,10 @@ IsServed (Settled number outcome) = Unit {0}
 IsServed (Gave client bytes) = Unit {0}
 IsServed (Closed client) = Unit {0}
 IsServed (LeftLine client) = Unit {0}
+IsServed (Broke client) = Unit {0}
 IsServed (Linked at dialect) = Unit {0}
 IsServed (Asked at number dialect ask) = Unit {0}
-IsServed (Greeted at bytes) = Unit {0}
+IsServed (Greeted at dialect bytes) = Unit {0}
 IsServed (Spelled at number ask answer bytes) = Unit {0}
 
 -- all that has happened on its sockets, the latest first

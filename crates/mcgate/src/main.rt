@@ -2,6 +2,7 @@
 #![tactic(auto)]
 
 mod cache;
+mod certified;
 mod descriptors;
 mod lines;
 mod serve;
@@ -11,12 +12,14 @@ mod special;
 mod warnings;
 
 use cache::serve_cache;
+use certified::judge_text_by;
 use descriptors::within_descriptors;
 use fault_words::script::BadLine;
 use lines::Lines;
 use mc_types::Key;
 use mcgate_args::arguments::{Job, Task, read_arguments};
 use mcgate_args::bad_lines::{bad_line_of_events, bad_line_of_task};
+use mcgate_args::certifying::certify_input;
 use mcgate_args::details::{Details, name_of};
 use mcgate_args::ends::{
     Stop, decline, end_of, read_configuration, run_events, run_input, run_keys, run_over_tcp,
@@ -184,6 +187,23 @@ fn run_where<R: Files + Input + AllocGlobal, W: Write>(
     Ok(status)
 }
 
+/// Prints a certificate of the configuration of a file or of standard input.
+fn run_certify<R: Files + Input + AllocGlobal, W: Write>(
+    rt: &R,
+    file: Option<&str>,
+    out: &mut W,
+    details: &mut Details,
+) -> Result<u8, Stop> {
+    let input = input_of(rt, file, details);
+    let status = certify_input(rt.alloc(), &input, out)?;
+    match (status, &input) {
+        (BAD_INPUT, _) => details.add_configuration(rt.alloc(), name_of(file), &input),
+        (REFUSED, Ok(text)) => details.add_refusal(rt.alloc(), file, text.as_str()),
+        _ => {}
+    }
+    Ok(status)
+}
+
 /// Runs a script over TCP.
 fn run_loopback<R: Files + Input + AllocGlobal + Net + Clock + Eprint, W: Write>(
     rt: &R,
@@ -216,6 +236,26 @@ fn serve_job<R: Files + Input + AllocGlobal + Net + Clock + Print + Eprint>(
     }
 }
 
+/// Judges a configuration's text as a job says: by a certificate, where it names one.
+fn judge_job<R: Files + Input + AllocGlobal, W: Write>(
+    rt: &R,
+    job: &ServeJob<'_>,
+    text: &str,
+    out: &mut W,
+    details: &mut Details,
+) -> Result<Judged, Stop> {
+    let Some(file) = job.certificate else {
+        return judge_text(rt.alloc(), job.any, text, out);
+    };
+    match input_of(rt, Some(file), details) {
+        Ok(certificate) => judge_text_by(rt.alloc(), text, certificate.as_str(), out),
+        Err(fault) => {
+            details.add_configuration(rt.alloc(), file, &Err(fault));
+            Ok(Judged::Printed(decline(fault, out)?))
+        }
+    }
+}
+
 /// Serves what a job names, or prints why it isn't served.
 fn run_serve<R: Files + Input + AllocGlobal + Net + Clock + Print + Eprint, W: Write>(
     rt: &R,
@@ -234,7 +274,7 @@ fn run_serve<R: Files + Input + AllocGlobal + Net + Clock + Print + Eprint, W: W
             return decline(fault, out);
         }
     };
-    match judge_text(rt.alloc(), job.any, text.as_str(), out)? {
+    match judge_job(rt, &job, text.as_str(), out, details)? {
         Judged::Printed(status) => {
             details.add_text(rt.alloc(), job.file, text.as_str());
             if status == REFUSED {
@@ -272,6 +312,7 @@ fn run<R: Files + Input + AllocGlobal + Env + Net + Clock + Print + Eprint, W: W
         Job::Run { task, file } => run_task(rt, task, file, out, details),
         Job::RunOver { any, config, file } => run_over(rt, any, config, file, out, details),
         Job::Where { file, keys } => run_where(rt, file, &keys, out, details),
+        Job::Certify { file } => run_certify(rt, file, out, details),
         Job::Loopback { file } => run_loopback(rt, file, out, details),
         Job::Cache(job) => serve_cache(rt, job, details),
         Job::Serve(job) => run_serve(rt, job, out, details),

@@ -5,6 +5,7 @@ ghost use Rattle.clap.specs.Values.{kind_of};
 ghost use Rattle.mcgate_args.specs.Stops.{arguments_fault_at};
 
 use crate::cache_arguments::{CACHE_HELP, CacheJob, cache_command, cache_job};
+use crate::certify_arguments::{CERTIFY_HELP, certify_command, certify_job};
 use crate::loopback_arguments::{LOOPBACK_HELP, loopback_command, loopback_job};
 use crate::serve_arguments::{SERVE_HELP, ServeJob, serve_command, serve_job};
 use clap::error::ErrorKind;
@@ -42,6 +43,10 @@ pub enum Job<'a> {
     Where {
         file: &'a str,
         keys: Vec<Key>,
+    },
+    /// Print a certificate of the configuration of a file or of standard input.
+    Certify {
+        file: Option<&'a str>,
     },
     /// Run a script, of a file or of standard input, over TCP.
     Loopback {
@@ -85,6 +90,7 @@ const HELP: &str =
 usage: mcgate check [--explain | --dot] [FILE]
                                      print the gate's verdict on a configuration, with --explain also in words,
                                      with --dot as a picture
+       mcgate certify [FILE]         print a certificate of a configuration that the gate accepts
        mcgate replay [--any] [--config FILE] [SCRIPT]
                                      run a script, and print what each client gets
        mcgate where --config FILE KEY..
@@ -234,6 +240,7 @@ fn command<'a>(alloc: Global) -> Result<Command<'a>, AllocError> {
         .arg(help_flag(alloc))?
         .arg(version)?
         .subcommand(check_command(alloc)?)?
+        .subcommand(certify_command(alloc)?)?
         .subcommand(replay_command(alloc)?)?
         .subcommand(where_command(alloc)?)?
         .subcommand(cache_command(alloc)?)?
@@ -312,6 +319,7 @@ fn where_job<'a>(alloc: Global, given: &ArgMatches<'a>) -> Result<Job<'a>, Argum
 fn help_on<'a>(name: &str) -> Result<Job<'a>, ArgumentsFault> {
     match name {
         "check" => Ok(Job::Print(CHECK_HELP)),
+        "certify" => Ok(Job::Print(CERTIFY_HELP)),
         "replay" => Ok(Job::Print(REPLAY_HELP)),
         "where" => Ok(Job::Print(WHERE_HELP)),
         "cache" => Ok(Job::Print(CACHE_HELP)),
@@ -344,8 +352,8 @@ fn plain_job<'a>(given: &ArgMatches<'a>) -> Job<'a> {
     }
 }
 
-/// What the arguments ask for, the program's name first: `check [--explain | --dot] [FILE]`, `replay [--any] [--config FILE] [SCRIPT]`,
-/// `where --config FILE KEY..`, `cache --listen HOST:PORT --capacity C [--turns N]`, `loopback [SCRIPT]`, `serve` with its flags, or none
+/// What the arguments ask for, the program's name first: `check [--explain | --dot] [FILE]`, `certify [FILE]`,
+/// `replay [--any] [--config FILE] [SCRIPT]`, `where --config FILE KEY..`, `cache --listen HOST:PORT --capacity C [--turns N]`, `loopback [SCRIPT]`, `serve` with its flags, or none
 /// at all after it, which is `replay`. Also `help [COMMAND]`, `-h` and `--help`, before or after a command, and `--version`.
 ///
 /// A KEY that is none is [`ArgumentsFault::Key`], and any other arguments are [`ArgumentsFault::Refused`].
@@ -359,6 +367,7 @@ pub fn read_arguments<'a>(
     let matches = command.try_get_matches_from(arguments)?;
     match matches.subcommand() {
         Some(("check", given)) => check_job(given),
+        Some(("certify", given)) => Ok(certify_job(given)),
         Some(("where", given)) => where_job(alloc, given),
         Some(("cache", given)) => cache_job(given),
         Some(("loopback", given)) => Ok(loopback_job(given)),

@@ -4,6 +4,8 @@
 pub mod arguments;
 pub mod bad_lines;
 pub mod cache_arguments;
+pub mod certify_arguments;
+pub mod certifying;
 pub mod details;
 pub mod ends;
 pub mod input;

@@ -15,6 +15,8 @@ pub struct ServeJob<'a> {
     pub settings: Settings,
     /// A tree that the gate refuses is served too.
     pub any: bool,
+    /// The file of a certificate, by which the tree is accepted at the start.
+    pub certificate: Option<&'a str>,
     /// Nothing is served: it ends once all that is tested at the start was tested.
     pub check: bool,
     /// After so many turns the file is read again.
@@ -44,6 +46,7 @@ opens, fails or comes back.
   --reload-every N       FILE is read again each N turns
   --turns N              ends after so many turns; without it, it doesn't end
   --any                  serves a tree that the gate refuses too: nothing is promised then
+  --certificate FILE     at the start the tree is accepted by this certificate, as mcgate-verify tests it, or refused; not with --any
   --check                serves nothing: it tests the words, FILE, its tree, and that all addresses are known, and ends
 Each N is 1..=4294967295.
 A tree that the gate refuses isn't served, and its refused: line is printed.
@@ -74,6 +77,7 @@ pub fn serve_command<'a>(alloc: Global) -> Result<Command<'a>, AllocError> {
         .arg(option(alloc, "reload-ms"))?
         .arg(option(alloc, "turns"))?
         .arg(switch(alloc, "any"))?
+        .arg(option(alloc, "certificate"))?
         .arg(switch(alloc, "check"))
 }
 
@@ -127,11 +131,16 @@ pub fn serve_job<'a>(given: &ArgMatches<'a>) -> Result<Job<'a>, ArgumentsFault> 
     let (Some(file), Some(listen)) = (given.get_str("config"), given.get_str("listen")) else {
         return Err(ArgumentsFault::Refused);
     };
+    let (any, certificate) = (given.get_flag("any"), given.get_str("certificate"));
+    if any && certificate.is_some() {
+        return Err(ArgumentsFault::Refused);
+    }
     Ok(Job::Serve(ServeJob {
         file,
         listen,
         settings: settings_of(given)?,
-        any: given.get_flag("any"),
+        any,
+        certificate,
         check: given.get_flag("check"),
         reload_every: count_of(given, "reload-every")?,
         reload_ms: count_of(given, "reload-ms")?,

@@ -14,7 +14,7 @@ use Rattle.core_proxy.specs.Settles.{IsCalled}
 use Rattle.core_accepted.specs.declared.served.ServedCore.{ServedCore}
 use Rattle.core_accepted.specs.Logs.{MayHaveLed, IsAccepted, IsFreshLog, EveryLogIsFresh, fed}
 use Rattle.core_accepted.specs.Losses.{IsLoss}
-use Rattle.serve_links.specs.CoreSteps.{Step, Opened, NotOpened, Fed, Polled, Stopped, Settled, Gave, Closed, LeftLine, Loaded, Linked, Asked, Greeted, Spelled, Walks}
+use Rattle.serve_links.specs.CoreSteps.{Step, Opened, NotOpened, Fed, Polled, Stopped, Settled, Gave, Closed, LeftLine, Broke, Loaded, Linked, Asked, Greeted, Spelled, Walks}
 
 -- by these entries nobody else writes the servers
 abbrev pub AreOwn : List (Entry dialect) → Type 0
@@ -71,10 +71,11 @@ module _ (opening : ℕ → List ℕ → Option Item) where
   StepGoes (Gave client bytes) past old led new Holds = GoesOnSaying (λ entries. entries ≡ log.Gives client bytes ∷ []) past new Holds
   StepGoes (Closed client) past old led new Holds = GoesOnSaying (λ entries. entries ≡ log.Resets client ∷ []) past new Holds
   StepGoes (LeftLine client) past old led new Holds = GoesOnSaying (λ entries. entries ≡ []) past new Holds
+  StepGoes (Broke client) past old led new Holds = StaysOn past old new Holds
   StepGoes (Loaded configuration generation) past old led new Holds = GoesOnSaying (λ entries. entries ≡ []) past new Holds
   StepGoes (Linked at _) past old led new Holds = StaysOn past old new Holds
   StepGoes (Asked at number _ ask) past old led new Holds = StaysOn past old new Holds
-  StepGoes (Greeted at bytes) past old led new Holds = StaysOn past old new Holds
+  StepGoes (Greeted at dialect bytes) past old led new Holds = StaysOn past old new Holds
   StepGoes (Spelled at number ask answer bytes) past old led new Holds = StaysOn past old new Holds
 
   -- these calls, the latest first: the log goes on by each of them in turn, and this holds of it then
