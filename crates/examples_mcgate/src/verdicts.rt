@@ -4,6 +4,8 @@
 #[cfg(test)]
 mod explanations;
 #[cfg(test)]
+mod fleets;
+#[cfg(test)]
 mod pictures;
 #[cfg(test)]
 mod places;

@@ -6,6 +6,7 @@ pub mod bad_lines;
 pub mod cache_arguments;
 pub mod details;
 pub mod ends;
+pub mod fleets;
 pub mod input;
 pub mod input_text;
 pub mod loopback_arguments;
