@@ -35,6 +35,11 @@ mcgate check f => check of f
 mcgate check --explain f => check explained of f
 mcgate check f --dot => check drawn of f
 mcgate check --explain --dot => refused, told
+mcgate check --fleet => check of a fleet with 0 and standard input
+mcgate check --fleet --with a --with=b f => check of a fleet with 2 and f
+mcgate check --with a f => refused, told
+mcgate check --fleet --dot f => refused, told
+mcgate check --fleet --explain => refused, told
 mcgate certify => certify of standard input
 mcgate certify f => certify of f
 mcgate where --config c k => where 1 in c
@@ -146,6 +151,10 @@ fn push_job(out: &mut String, job: &Job<'_>) -> Result<(), AllocError> {
         Job::RunOver { any, config, file } => {
             write!(out, "replay {} over {config}", any_word(*any))?;
             write!(out, " of {}", file_word(file))?;
+        }
+        Job::CheckFleet(job) => {
+            write!(out, "check of a fleet with {}", job.with.len())?;
+            write!(out, " and {}", file_word(&job.file))?;
         }
         Job::Where { file, keys } => write!(out, "where {} in {file}", keys.len())?,
         Job::Certify { file } => write!(out, "certify of {}", file_word(file))?,

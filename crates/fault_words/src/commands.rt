@@ -61,12 +61,17 @@ pub const TOP_FLAGS: [&str; 2] = ["help", "version"];
 /// What follows the flag of this name.
 pub fn takes_of(flag: &str) -> Takes {
     match flag {
-        "help" | "version" | "any" | "check" | "explain" | "dot" => Takes::Nothing,
-        "config" | "certificate" => Takes::File,
+        "help" | "version" | "any" | "check" | "explain" | "dot" | "fleet" => Takes::Nothing,
+        "config" | "certificate" | "with" => Takes::File,
         "listen" => Takes::Address,
         "server-dialect" => Takes::Dialect,
         _ => Takes::Count,
     }
+}
+
+/// Whether a flag may stand there more than once.
+pub fn is_repeated(flag: &str) -> bool {
+    flag == "with"
 }
 
 impl Takes {
@@ -115,7 +120,7 @@ impl Command {
     /// Its words, as a usage line has them.
     pub fn usage(self) -> &'static str {
         match self {
-            Command::Check => "mcgate check [--explain | --dot] [FILE]",
+            Command::Check => "mcgate check [--explain | --dot | --fleet [--with FILE ..]] [FILE]",
             Command::Certify => "mcgate certify [FILE]",
             Command::Replay => "mcgate replay [--any] [--config FILE] [SCRIPT]",
             Command::Where => "mcgate where --config FILE KEY..",
@@ -131,7 +136,7 @@ impl Command {
     /// The names of its flags.
     pub fn flags(self) -> &'static [&'static str] {
         match self {
-            Command::Check => &["help", "explain", "dot"],
+            Command::Check => &["help", "explain", "dot", "fleet", "with"],
             Command::Replay => &["help", "any", "config"],
             Command::Where => &["help", "config"],
             Command::Serve => &SERVE_FLAGS,

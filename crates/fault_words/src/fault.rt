@@ -29,8 +29,10 @@ pub enum Cause<'a> {
     Missing(&'static str),
     /// The command wants a word.
     NoWord,
-    /// `--explain` and `--dot` don't go together.
-    TwoForms,
+    /// The two flags don't go together.
+    Apart(&'static str, &'static str),
+    /// The first flag stands only beside the second.
+    Beside(&'static str, &'static str),
     /// The word is no key.
     NoKey(&'a str, KeyFault),
 }
@@ -88,7 +90,8 @@ impl Display for Cause<'_> {
             Cause::Extra(word) => write!(f, "one word too many: {}", Escaped(word.as_bytes())),
             Cause::Missing(flag) => { write!(f, "--{flag} {} is missing", takes_of(flag).value()) }
             Cause::NoWord => f.write_str("a KEY is missing"),
-            Cause::TwoForms => f.write_str("--explain and --dot don't go together"),
+            Cause::Apart(flag, other) => write!(f, "--{flag} and --{other} don't go together"),
+            Cause::Beside(flag, other) => write!(f, "--{flag} stands only beside --{other}"),
             Cause::NoKey(word, fault) => {
                 write!(
                     f,

@@ -24,6 +24,7 @@ use mcgate_args::details::{Details, name_of};
 use mcgate_args::ends::{
     Stop, decline, end_of, read_configuration, run_events, run_input, run_keys, run_over_tcp,
 };
+use mcgate_args::fleets::{FleetFile, FleetJob, run_fleet};
 use mcgate_args::input::text_noting;
 use mcgate_args::input_text::InputFault;
 use mcgate_args::serve_arguments::ServeJob;
@@ -170,6 +171,69 @@ fn run_over<R: Files + Input + AllocGlobal + Eprint, W: Write>(
     Ok(status)
 }
 
+/// Adds a file of a fleet to others; where it gives no input, prints why, and answers the status.
+fn add_file<'a, R: Files + Input + AllocGlobal, W: Write>(
+    rt: &R,
+    file: Option<&'a str>,
+    files: &mut Vec<FleetFile<'a>>,
+    out: &mut W,
+    details: &mut Details,
+) -> Result<Option<u8>, Stop> {
+    let name = name_of(file);
+    match input_of(rt, file, details) {
+        Ok(text) => match files.push(FleetFile { name, text }) {
+            Ok(()) => Ok(None),
+            Err(_) => Err(Stop::Memory),
+        },
+        Err(fault) => {
+            details.add_configuration(rt.alloc(), name, &Err(fault));
+            Ok(Some(decline(fault, out)?))
+        }
+    }
+}
+
+/// Tells of the file of a fleet that isn't accepted by itself: what is wrong with it, or why the gate refuses its tree.
+fn tell_of_file(alloc: Global, file: &FleetFile<'_>, status: u8, details: &mut Details) {
+    if status == BAD_INPUT {
+        details.add_text(alloc, file.name, file.text.as_str());
+    } else {
+        details.add_refusal(alloc, Some(file.name), file.text.as_str());
+    }
+}
+
+/// Prints the verdict on the configurations of these files, by which the proxies of a fleet run at the same time.
+fn check_files<R: AllocGlobal, W: Write>(
+    rt: &R,
+    files: &[FleetFile<'_>],
+    out: &mut W,
+    details: &mut Details,
+) -> Result<u8, Stop> {
+    let end = run_fleet(rt.alloc(), files, out)?;
+    if let Some(file) = end.alone.and_then(|index| files.get(index)) {
+        tell_of_file(rt.alloc(), file, end.status, details);
+    }
+    Ok(end.status)
+}
+
+/// Reads the files that a job names, and prints the verdict on them.
+fn check_fleet<R: Files + Input + AllocGlobal, W: Write>(
+    rt: &R,
+    job: &FleetJob<'_>,
+    out: &mut W,
+    details: &mut Details,
+) -> Result<u8, Stop> {
+    let mut files = Vec::new(rt.alloc());
+    for file in &job.with {
+        if let Some(status) = add_file(rt, Some(*file), &mut files, out, details)? {
+            return Ok(status);
+        }
+    }
+    match add_file(rt, job.file, &mut files, out, details)? {
+        Some(status) => Ok(status),
+        None => check_files(rt, &files, out, details),
+    }
+}
+
 /// Prints where keys live in the tree of a file's configuration.
 fn run_where<R: Files + Input + AllocGlobal, W: Write>(
     rt: &R,
@@ -311,6 +375,7 @@ fn run<R: Files + Input + AllocGlobal + Env + Net + Clock + Print + Eprint, W: W
     match job {
         Job::Run { task, file } => run_task(rt, task, file, out, details),
         Job::RunOver { any, config, file } => run_over(rt, any, config, file, out, details),
+        Job::CheckFleet(job) => check_fleet(rt, &job, out, details),
         Job::Where { file, keys } => run_where(rt, file, &keys, out, details),
         Job::Certify { file } => run_certify(rt, file, out, details),
         Job::Loopback { file } => run_loopback(rt, file, out, details),

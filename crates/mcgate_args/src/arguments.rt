@@ -6,6 +6,7 @@ ghost use Rattle.mcgate_args.specs.Stops.{arguments_fault_at};
 
 use crate::cache_arguments::{CACHE_HELP, CacheJob, cache_command, cache_job};
 use crate::certify_arguments::{CERTIFY_HELP, certify_command, certify_job};
+use crate::fleets::arguments::{FleetJob, fleet_job, is_of_fleet, with_fleet};
 use crate::loopback_arguments::{LOOPBACK_HELP, loopback_command, loopback_job};
 use crate::serve_arguments::{SERVE_HELP, ServeJob, serve_command, serve_job};
 use clap::error::ErrorKind;
@@ -39,6 +40,8 @@ pub enum Job<'a> {
         config: &'a str,
         file: Option<&'a str>,
     },
+    /// Print the gate's verdict on the configurations of a fleet.
+    CheckFleet(FleetJob<'a>),
     /// Print where these keys live in the tree of the configuration in this file.
     Where {
         file: &'a str,
@@ -90,6 +93,8 @@ const HELP: &str =
 usage: mcgate check [--explain | --dot] [FILE]
                                      print the gate's verdict on a configuration, with --explain also in words,
                                      with --dot as a picture
+       mcgate check --fleet [--with FILE ..] [FILE]
+                                     the same for proxies before the same servers, which run by any of these at the same time
        mcgate certify [FILE]         print a certificate of a configuration that the gate accepts
        mcgate replay [--any] [--config FILE] [SCRIPT]
                                      run a script, and print what each client gets
@@ -107,7 +112,7 @@ Without FILE or SCRIPT the input is standard input. Without any arguments mcgate
 Exit status: 0 accepted or done, 1 refused by the gate, 2 bad arguments or input, 3 memory or a device failed, or too many calls.
 ";
 
-const CHECK_HELP: &str = "usage: mcgate check [--explain | --dot] [FILE]
+const CHECK_HELP: &str = "usage: mcgate check [--explain | --dot | --fleet [--with FILE ..]] [FILE]
 
 Reads a configuration in JSON, of FILE or of standard input, and prints the gate's verdict:
   accepted places=N      no run of the tree shows deleted data; the keys have N places
@@ -121,6 +126,15 @@ With --explain lines that begin with # follow: by which way a read reaches the s
 which it leaves, and what to change.
 With --dot the tree and its servers are printed as a graph for Graphviz, in place of accepted and refused lines: of a refused
 tree the way by which a read reaches the server and the server are red.
+With --fleet all proxies before the same servers are judged together, each of which may run by any of the files at any time. First
+each file is judged by itself, and the first that isn't accepted is told as above; then all together, which gives one line:
+  accepted trees=N       no run of such proxies shows deleted data, whichever of the N trees each runs by
+  refused: a read copies, route=R prefix=P file=F
+                         by the tree of F a get of keys with this prefix copies an item, at this route
+  refused: reads=F deletes=G server=A read=OP delete=D prefix=P residue=R/L
+                         the same gap of two trees: a read by that of F may be answered from A, which a delete by that of G leaves
+  refused: too many files, or too many places reads=F deletes=G
+                         there are more than 15 files, or the two trees together have more than 262,144 places
 Exit status: 0 accepted, 1 refused, 2 no configuration, 3 memory or a device failed.
 ";
 
@@ -189,12 +203,13 @@ fn check_command<'a>(alloc: Global) -> Result<Command<'a>, AllocError> {
     let dot = Arg::new(alloc, "dot")
         .long("dot")
         .action(ArgAction::SetTrue);
-    Command::new(alloc, "check")
+    let command = Command::new(alloc, "check")
         .disable_help_flag(true)
         .arg(help_flag(alloc))?
         .arg(explain)?
         .arg(dot)?
-        .arg(Arg::new(alloc, "FILE"))
+        .arg(Arg::new(alloc, "FILE"))?;
+    with_fleet(alloc, command)
 }
 
 fn replay_command<'a>(alloc: Global) -> Result<Command<'a>, AllocError> {
@@ -260,9 +275,12 @@ fn form_of(explain: bool, dot: bool) -> Result<Form, ArgumentsFault> {
 }
 
 // What the arguments after `check` ask for.
-fn check_job<'a>(given: &ArgMatches<'a>) -> Result<Job<'a>, ArgumentsFault> {
+fn check_job<'a>(alloc: Global, given: &ArgMatches<'a>) -> Result<Job<'a>, ArgumentsFault> {
     if given.get_flag("help") {
         return Ok(Job::Print(CHECK_HELP));
+    }
+    if is_of_fleet(given) {
+        return Ok(Job::CheckFleet(fleet_job(alloc, given)?));
     }
     let form = form_of(given.get_flag("explain"), given.get_flag("dot"))?;
     Ok(Job::Run {
@@ -352,7 +370,7 @@ fn plain_job<'a>(given: &ArgMatches<'a>) -> Job<'a> {
     }
 }
 
-/// What the arguments ask for, the program's name first: `check [--explain | --dot] [FILE]`, `certify [FILE]`,
+/// What the arguments ask for, the program's name first: `check [--explain | --dot | --fleet [--with FILE ..]] [FILE]`, `certify [FILE]`,
 /// `replay [--any] [--config FILE] [SCRIPT]`, `where --config FILE KEY..`, `cache --listen HOST:PORT --capacity C [--turns N]`, `loopback [SCRIPT]`, `serve` with its flags, or none
 /// at all after it, which is `replay`. Also `help [COMMAND]`, `-h` and `--help`, before or after a command, and `--version`.
 ///
@@ -366,7 +384,7 @@ pub fn read_arguments<'a>(
     };
     let matches = command.try_get_matches_from(arguments)?;
     match matches.subcommand() {
-        Some(("check", given)) => check_job(given),
+        Some(("check", given)) => check_job(alloc, given),
         Some(("certify", given)) => Ok(certify_job(given)),
         Some(("where", given)) => where_job(alloc, given),
         Some(("cache", given)) => cache_job(given),

@@ -8,6 +8,7 @@ pub mod certify_arguments;
 pub mod certifying;
 pub mod details;
 pub mod ends;
+pub mod fleets;
 pub mod input;
 pub mod input_text;
 pub mod loopback_arguments;
