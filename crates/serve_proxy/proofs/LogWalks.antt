@@ -200,7 +200,7 @@ module _ (opening : ℕ → List ℕ → Option Item) (past : List (Entry dialec
   step_goes (Loaded configuration generation) does = let t = does.goes opening past led in ([], refl, λ past l. l, t.after, holds past t.after)
   step_goes (Linked at _) does = by_none opening past old new led Holds holds does
   step_goes (Asked at number _ ask) does = by_none opening past old new led Holds holds does
-  step_goes (Greeted at dialect bytes) does = by_none opening past old new led Holds holds does
+  step_goes (Greeted at _ bytes) does = by_none opening past old new led Holds holds does
   step_goes (Spelled at number ask answer bytes) does = by_none opening past old new led Holds holds does.0
 
 module _ (opening : ℕ → List ℕ → Option Item) (past : List (Entry dialect)) (old : ServedCore) (led : MayHaveLed opening past old) where

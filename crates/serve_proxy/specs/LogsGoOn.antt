@@ -78,7 +78,7 @@ module _ (opening : ℕ → List ℕ → Option Item) where
   StepGoes (Loaded configuration generation) past old led new Holds = GoesOnSaying (λ entries. entries ≡ []) past new Holds
   StepGoes (Linked at _) past old led new Holds = StaysOn past old new Holds
   StepGoes (Asked at number _ ask) past old led new Holds = StaysOn past old new Holds
-  StepGoes (Greeted at dialect bytes) past old led new Holds = StaysOn past old new Holds
+  StepGoes (Greeted at _ bytes) past old led new Holds = StaysOn past old new Holds
   StepGoes (Spelled at number ask answer bytes) past old led new Holds = StaysOn past old new Holds
 
   -- these calls, the latest first: the log goes on by each of them in turn, and this holds of it then

@@ -1,4 +1,4 @@
-use Rattle.std.proofs.Common.{refl, ap}
+use Rattle.std.proofs.Common.{refl, sym, ap, ◌∙◌}
 use Rattle.serve_proxy.proofs.Staying.{stay_links}
 use Rattle.serve_proxy.proofs.Going.{line_goes, go_stay}
 use Rattle.serve_proxy.proofs.Linking.{open_still, open_now, open_set}
@@ -21,3 +21,6 @@ returns-in-Failed g c = record {
   ends = λ clients. line_goes c.args.self.now.all.items c.args.at c.in-Some.link.now c.begin.new.link c.in-Some.ensures.item.3.0 c.in-Some.ensures.value c.begin.ensures.stands;
   there = λ is. absurd (let no = is in cc no);
 }
+
+pub returns-then-is_some-clause-there : goal.returns-then-is_some-clause-there
+returns-then-is_some-clause-there g c = λ is. open_now c.args.self.now.all.items c.args.at c.in-Some.link.now c.in-Some.ensures.item.3.0 c.in-Some.ensures.value (sym c.is_some.ensures ∙ c.if-is_some.true)
