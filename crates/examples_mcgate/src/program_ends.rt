@@ -13,7 +13,7 @@ use mcgate_args::input_text::InputFault;
 use mcgate_args::serve_arguments::ServeJob;
 use mcgate_check::{Form, RunFault};
 use route_json::Config;
-use serve_proxy::ServerDialect;
+use serve_proxy::{Beginning, ServerDialect};
 use std::alloc::{AllocError, Global};
 use std::io;
 use std::io::ErrorKind;
@@ -54,7 +54,13 @@ mcgate serve --listen a:1 --config c --server-dialect auto => serve - fail-limit
 mcgate serve --listen a:1 --config c --server-dialect classic => serve - fail-limit 3 classic
 mcgate serve --listen a:1 --config c --server-dialect meta => serve - fail-limit 3 meta
 mcgate serve --listen a:1 --config c --server-dialect old => refused, told
-mcgate serve --listen a:1 --config c --certificate d => serve - by d fail-limit 3 auto"
+mcgate serve --listen a:1 --config c --certificate d => serve - by d fail-limit 3 auto
+mcgate serve --listen a:1 --config c --opened own --new-servers empty => serve - fail-limit 3 auto own empty
+mcgate serve --listen a:1 --config c --opened any --new-servers any => serve - fail-limit 3 auto
+mcgate serve --listen a:1 --config c --opened own => serve - fail-limit 3 auto own
+mcgate serve --listen a:1 --config c --new-servers empty => serve - fail-limit 3 auto empty
+mcgate serve --listen a:1 --config c --opened empty => refused, told
+mcgate serve --listen a:1 --config c --new-servers flush => refused, told"
 }
 
 // Arguments that the program doesn't have.
@@ -124,6 +130,13 @@ fn dialect_word(dialect: ServerDialect) -> &'static str {
     }
 }
 
+fn push_beginning(out: &mut String, word: &str, beginning: Beginning) -> Result<(), AllocError> {
+    if let Beginning::Own = beginning {
+        write!(out, " {word}")?;
+    }
+    Ok(())
+}
+
 fn push_serve(out: &mut String, job: &ServeJob<'_>) -> Result<(), AllocError> {
     write!(out, "serve {}", any_word(job.any))?;
     if let Some(certificate) = job.certificate {
@@ -133,7 +146,8 @@ fn push_serve(out: &mut String, job: &ServeJob<'_>) -> Result<(), AllocError> {
     push_number(out, "reload-ms", job.reload_ms)?;
     push_number(out, "fail-limit", Some(job.settings.fail_limit))?;
     write!(out, " {}", dialect_word(job.settings.server_dialect))?;
-    Ok(())
+    push_beginning(out, "own", job.begun.opened)?;
+    push_beginning(out, "empty", job.begun.added)
 }
 
 fn file_word<'a>(file: &Option<&'a str>) -> &'a str {

@@ -8,7 +8,8 @@ pub enum Takes {
     Address,
     /// A number in 1..=4294967295.
     Count,
-    Dialect,
+    /// One of a few words.
+    Word,
 }
 
 /// The commands.
@@ -24,15 +25,12 @@ pub enum Command {
     Help,
 }
 
-/// The words of the server dialects.
-pub const DIALECTS: [&str; 3] = ["auto", "classic", "meta"];
-
 /// The names of the commands.
 pub const COMMANDS: [&str; 8] = [
     "check", "certify", "replay", "where", "serve", "cache", "loopback", "help",
 ];
 
-const SERVE_FLAGS: [&str; 18] = [
+const SERVE_FLAGS: [&str; 20] = [
     "help",
     "check",
     "config",
@@ -48,6 +46,8 @@ const SERVE_FLAGS: [&str; 18] = [
     "retry-ms",
     "polls",
     "server-dialect",
+    "opened",
+    "new-servers",
     "reload-ms",
     "reload-every",
     "turns",
@@ -64,7 +64,7 @@ pub fn takes_of(flag: &str) -> Takes {
         "help" | "version" | "any" | "check" | "explain" | "dot" | "fleet" => Takes::Nothing,
         "config" | "certificate" | "with" => Takes::File,
         "listen" => Takes::Address,
-        "server-dialect" => Takes::Dialect,
+        "server-dialect" | "opened" | "new-servers" => Takes::Word,
         _ => Takes::Count,
     }
 }
@@ -72,6 +72,16 @@ pub fn takes_of(flag: &str) -> Takes {
 /// Whether a flag may stand there more than once.
 pub fn is_repeated(flag: &str) -> bool {
     flag == "with"
+}
+
+/// The words of which one follows the flag of this name, where it takes one of a few.
+pub fn words_after(flag: &str) -> &'static [&'static str] {
+    match flag {
+        "server-dialect" => &["auto", "classic", "meta"],
+        "opened" => &["any", "own"],
+        "new-servers" => &["any", "empty"],
+        _ => &[],
+    }
 }
 
 impl Takes {
@@ -82,7 +92,7 @@ impl Takes {
             Takes::File => "FILE",
             Takes::Address => "HOST:PORT",
             Takes::Count => "N",
-            Takes::Dialect => "WORD",
+            Takes::Word => "WORD",
         }
     }
 }

@@ -49,6 +49,15 @@ pub struct WordFault<'a> {
     pub meant: Option<&'static str>,
 }
 
+// Which word it has to be.
+fn wanted_word(flag: &str) -> &'static str {
+    match flag {
+        "opened" => "any or own",
+        "new-servers" => "any or empty",
+        _ => "auto, classic or meta",
+    }
+}
+
 // What a flag's value has to be.
 fn wanted(flag: &str) -> &'static str {
     match takes_of(flag) {
@@ -56,7 +65,7 @@ fn wanted(flag: &str) -> &'static str {
         Takes::File => "the name of a file",
         Takes::Address => "HOST:PORT",
         Takes::Count => "a number in 1..=4294967295",
-        Takes::Dialect => "auto, classic or meta",
+        Takes::Word => wanted_word(flag),
     }
 }
 

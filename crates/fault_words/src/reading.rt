@@ -1,6 +1,6 @@
 //! The first fault of the program's words.
 
-use crate::commands::{COMMANDS, Command, DIALECTS, TOP_FLAGS, Takes, is_repeated, takes_of};
+use crate::commands::{COMMANDS, Command, TOP_FLAGS, Takes, is_repeated, takes_of, words_after};
 use crate::fault::{Cause, WordFault};
 use crate::names::nearest;
 use mc_types::Key;
@@ -18,7 +18,7 @@ fn is_value(flag: &str, text: &str) -> bool {
         Takes::Nothing => false,
         Takes::File | Takes::Address => true,
         Takes::Count => !matches!(u32_number(text.as_bytes()), None | Some(0)),
-        Takes::Dialect => DIALECTS.contains(&text),
+        Takes::Word => words_after(flag).contains(&text),
     }
 }
 
@@ -229,9 +229,7 @@ fn meant_after(
     match cause {
         Cause::NoCommand(word) => nearest(alloc, word, COMMANDS.as_slice()),
         Cause::NoFlag(word) => meant_flag(alloc, command.flags(), word),
-        Cause::BadValue(flag, text) if takes_of(flag) == Takes::Dialect => {
-            nearest(alloc, text, DIALECTS.as_slice())
-        }
+        Cause::BadValue(flag, text) => nearest(alloc, text, words_after(flag)),
         _ => Ok(None),
     }
 }

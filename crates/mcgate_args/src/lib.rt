@@ -3,6 +3,7 @@
 
 pub mod arguments;
 pub mod bad_lines;
+pub mod beginning_arguments;
 pub mod cache_arguments;
 pub mod certify_arguments;
 pub mod certifying;

@@ -1,8 +1,9 @@
 //! The arguments of `mcgate serve`, and what they ask for.
 
 use crate::arguments::{ArgumentsFault, Job, count_of, help_flag, option, switch};
+use crate::beginning_arguments::begun_of;
 use clap::{ArgMatches, Command};
-use serve_proxy::{ServerDialect, Settings};
+use serve_proxy::{Beginnings, ServerDialect, Settings};
 use std::alloc::{AllocError, Global};
 
 /// What `mcgate serve` is to do.
@@ -13,6 +14,8 @@ pub struct ServeJob<'a> {
     /// Where to listen: a host and a port.
     pub listen: &'a str,
     pub settings: Settings,
+    /// How servers began.
+    pub begun: Beginnings,
     /// A tree that the gate refuses is served too.
     pub any: bool,
     /// The file of a certificate, by which the tree is accepted at the start.
@@ -42,6 +45,9 @@ opens, fails or comes back.
   --retry-ms N           for so long, and then one call tries, 1000
   --polls N              after so many reads of a server in a row without a whole answer its calls have failed; without it, any number
   --server-dialect WORD  how servers are asked for classic gets: classic, meta, or auto, by what each answers to an mn; auto
+  --opened WORD          what the servers of the first configuration held before: any, or own: of each key nothing but what its tree
+                         may put on them; any
+  --new-servers WORD     what servers held that a reload brings: any, or empty: nothing; any
   --reload-ms N          FILE is read again each N milliseconds; without it and the next one, it isn't
   --reload-every N       FILE is read again each N turns
   --turns N              ends after so many turns; without it, it doesn't end
@@ -73,6 +79,8 @@ pub fn serve_command<'a>(alloc: Global) -> Result<Command<'a>, AllocError> {
         .arg(option(alloc, "retry-ms"))?
         .arg(option(alloc, "polls"))?
         .arg(option(alloc, "server-dialect"))?
+        .arg(option(alloc, "opened"))?
+        .arg(option(alloc, "new-servers"))?
         .arg(option(alloc, "reload-every"))?
         .arg(option(alloc, "reload-ms"))?
         .arg(option(alloc, "turns"))?
@@ -139,6 +147,7 @@ pub fn serve_job<'a>(given: &ArgMatches<'a>) -> Result<Job<'a>, ArgumentsFault> 
         file,
         listen,
         settings: settings_of(given)?,
+        begun: begun_of(given)?,
         any,
         certificate,
         check: given.get_flag("check"),

@@ -7,7 +7,7 @@ use examples_tables::playing::{Stage, cut, first_line, play_lines, shown, yes_or
 use gate_check::{Accepted, judge};
 use route_json::addresses::Servers;
 use route_json::{Config, read_config, read_config_after};
-use serve_proxy::{LinkNews, ProxyEnd, ServerDialect, Settings, text_at};
+use serve_proxy::{Beginnings, LinkNews, ProxyEnd, ServerDialect, Settings, text_at};
 use serve_wire::Wire;
 use serve_wire::memory::{Memory, Peer};
 use std::alloc::{AllocError, Global};
@@ -575,7 +575,14 @@ fn end_over(
     servers: &Servers,
     settings: Settings,
 ) -> Result<ProxyEnd<Memory>, Fail> {
-    Ok(ProxyEnd::new(rt.alloc(), wire, accepted, servers, settings)?)
+    Ok(ProxyEnd::new(
+        rt.alloc(),
+        wire,
+        accepted,
+        Beginnings::any(),
+        servers,
+        settings,
+    )?)
 }
 
 fn begin(
