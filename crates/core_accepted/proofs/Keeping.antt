@@ -38,7 +38,7 @@ use Rattle.core_accepted.specs.declared.beginnings.Beginnings.{Beginnings}
 use Rattle.core_accepted.specs.declared.served.ServedCore.{ServedCore}
 use Rattle.core_accepted.specs.Begun.{any_begun}
 use Rattle.core_accepted.specs.Known.{Known, is_arbitrary, first_of}
-use Rattle.core_accepted.specs.Logs.{MayBeLoaded, MayHaveLed, LogsGoBy, IsNewFrom, IsUnchecked, fed, IsFreshLog, IsAccepted, EveryLogIsFresh, EveryLogFromIsFresh}
+use Rattle.core_accepted.specs.Logs.{MayBeLoaded, MayHaveLed, LogsGoBy, IsNewFrom, IsUnchecked, fed, IsFreshLog, IsAccepted, EveryLogIsFresh, EveryLogFromIsFresh, IsAcceptedSince, BeginSo, EveryLogSinceIsFresh}
 
 tree_at_number : (xs : List Configuration) (i : ℕ) (c : Configuration) → slice_get xs i ≡ Some c → slice_get (trees_of xs) i ≡ Some c.tree
 tree_at_number [] i c e = absurd (cc)
@@ -157,6 +157,14 @@ opens_anyhow known any opening server key none = absurd (let all = any_is_arbitr
 
 pub any_are_fresh : (served : ServedCore) → ((known : Known) → served.accepted ≡ Some known → EveryLogFromIsFresh known served) → IsAccepted served → EveryLogIsFresh served
 any_are_fresh served fresh is opening past led lost = fresh is.0 is.1 opening past led (opens_anyhow is.0 is.2 opening) lost
+
+-- by the first configuration alone
+pub since_are_fresh : (first : Configuration) (begun : Beginnings) (served : ServedCore) → ((known : Known) → served.accepted ≡ Some known → EveryLogFromIsFresh known served) → IsAcceptedSince first begun served → EveryLogSinceIsFresh first begun served
+since_are_fresh first begun served fresh is opening past led begins lost = fresh (record (first_of first begun) { configs = first ∷ is.0 }) is.1 opening past led begins lost
+
+-- where nothing is said, servers held at first anything
+pub begin_anyhow : (first : Configuration) (opening : ℕ → List ℕ → Option Item) → BeginSo first any_begun opening
+begin_anyhow first opening = opens_anyhow (first_of first any_begun) refl opening
 
 -- room for more clients
 grown : (old : ServedCore) (n : ℕ) → LogsGoBy old (λ entries. entries ≡ []) (record old { core = record old.core { clients = record old.core.clients { capacity = n } } })

@@ -1,9 +1,12 @@
 -- What is known of the configurations that the gate accepted, and of how their servers began. Source: mcgate's own.
-use Rattle.std.specs.Prelude.{ℕ, ◌<◌, ◌≤◌, Bool, List, [], ◌∷◌, ◌++◌, length, nat_lt, if◌then◌else◌, refl}
+use Rattle.std.specs.Prelude.{◌≡◌, ℕ, ◌<◌, ◌≤◌, Bool, List, [], ◌∷◌, ◌++◌, Option, Some, None, length, nat_lt, if◌then◌else◌, refl}
 use Rattle.std.specs.Coded.{Coded, code_by, coded×, coded_list, coded_ℕ}
+use Rattle.route_tree.specs.Each.{Each}
+use Rattle.route_tree.specs.Route.{IsTree}
 use Rattle.route_json.specs.Configuration.{Configuration, configuration_code}
 use Rattle.gate_check.specs.Sound.{trees_of}
 use Rattle.gate_growth.specs.declared.ledger.book.Ledger.{Ledger}
+use Rattle.gate_growth.specs.Grown.{AreSoundSince}
 use Rattle.gate_growth.specs.Pages.{is_any}
 use Rattle.gate_growth.specs.Ledgers.{server_count, IsLedgerOf}
 use Rattle.core_accepted.specs.declared.beginnings.Beginnings.{Beginnings}
@@ -32,8 +35,14 @@ first_of config begun = record { configs = config ∷ []; founders = length conf
 abbrev pub more : Configuration → Known → Known
 more config known = record known { configs = known.configs ++ config ∷ [] }
 
--- this ledger knows them
-pub record IsBookOf (known : Known) (ledger : Ledger) : Type 0 where
+-- the ledger knows them; there is none before a second one is to follow the first
+abbrev pub KnowsThem : Known → Option Ledger → Type 0
+KnowsThem known (Some ledger) = IsLedgerOf (is_arbitrary known) (trees_of known.configs) ledger × (known.founders ≤ server_count ledger)
+KnowsThem known None = (first : Configuration) × (known.configs ≡ first ∷ []) × (known.founders ≡ length first.servers)
+
+-- they are sound, and known to the ledger
+pub record IsBookOf (known : Known) (ledger : Option Ledger) : Type 0 where
   pub some : 0 < length known.configs
-  pub kept : IsLedgerOf (is_arbitrary known) (trees_of known.configs) ledger
-  pub founded : known.founders ≤ server_count ledger
+  pub trees_are : Each IsTree (trees_of known.configs)
+  pub sound : AreSoundSince (is_arbitrary known) (trees_of known.configs)
+  pub kept : KnowsThem known ledger

@@ -85,3 +85,17 @@ abbrev pub EveryLogFromIsFresh : Known → ServedCore → Type 0
 EveryLogFromIsFresh known served =
     (opening : ℕ → List ℕ → Option Item) (past : List (Entry dialect)) → MayHaveLed opening past served → OpensBy (is_arbitrary known) (trees_of known.configs) opening
     → LosesOnly (run_of past) → IsFreshLog served.core.limits.sharing opening past
+
+-- the gate accepted this configuration at first and these others after it, and servers began so
+abbrev pub IsAcceptedSince : Configuration → Beginnings → ServedCore → Type 0
+IsAcceptedSince first begun served = (later : List Configuration) × (served.accepted ≡ Some (record (first_of first begun) { configs = first ∷ later }))
+
+-- servers held at first what is said of them: of those of the first configuration, by which `own` is said of a key, at most what its tree puts there; of new ones, where that is said, nothing
+abbrev pub BeginSo : Configuration → Beginnings → (ℕ → List ℕ → Option Item) → Type 0
+BeginSo first begun opening = OpensBy (is_arbitrary (first_of first begun)) (first.tree ∷ []) opening
+
+-- each log that may have led to the core is fresh, where servers began so and nobody else writes them
+abbrev pub EveryLogSinceIsFresh : Configuration → Beginnings → ServedCore → Type 0
+EveryLogSinceIsFresh first begun served =
+    (opening : ℕ → List ℕ → Option Item) (past : List (Entry dialect)) → MayHaveLed opening past served → BeginSo first begun opening → LosesOnly (run_of past)
+    → IsFreshLog served.core.limits.sharing opening past

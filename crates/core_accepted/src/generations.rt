@@ -1,6 +1,6 @@
 //! The configurations that the gate accepted one after another, and the ledger that knows them.
 
-ghost use Rattle.std.specs.Prelude.{◌≡◌, ℕ, suc, Bool, List, [], ◌∷◌, ◌++◌, ◌↔◌, ◌<◌, length, max, vec_len, vec_capacity, IsTrue, MatchResult, IfOk, IfErr, OnOk, OnErr};
+ghost use Rattle.std.specs.Prelude.{◌≡◌, ℕ, suc, Bool, List, [], ◌∷◌, ◌++◌, ◌↔◌, ◌<◌, Option, Some, None, length, max, vec_len, vec_capacity, IsTrue, MatchResult, IfOk, IfErr, OnOk, OnErr};
 ghost use Rattle.route_tree.specs.Each.{Each};
 ghost use Rattle.route_tree.specs.Route.{Route, IsTree};
 ghost use Rattle.gate_check.specs.Sound.{IsLast, trees_of};
@@ -8,10 +8,13 @@ ghost use Rattle.gate_check.specs.Reload.{KeepsNumbers};
 ghost use Rattle.gate_growth.specs.Grown.{AreSoundSince};
 ghost use Rattle.gate_growth.specs.Pages.{AreOpened};
 ghost use Rattle.gate_growth.specs.Ledgers.{server_count, IsLedgerOf, IsUnsoundFor};
-ghost use Rattle.core_accepted.specs.Known.{is_arbitrary, first_of, more};
+ghost use Rattle.gate_growth.specs.declared.ledger.unsound.Unsound.TheVariants.{NoMemory};
+ghost use Rattle.route_json.specs.Configuration.{Configuration};
+ghost use Rattle.core_accepted.specs.Known.{Known, IsBookOf, is_arbitrary, first_of, more};
 
 use crate::beginnings::Beginnings;
 use crate::numbers::are_kept;
+use gate_check::Accepted;
 use gate_growth::ledger::{Beginning, Ledger, Unsound};
 use route_json::Config;
 use std::alloc::{AllocError, Global};
@@ -22,7 +25,8 @@ use std::marker::Model;
 #[derive(Drop)]
 pub struct Generations {
     configs: Vec<Config>,
-    ledger: Ledger,
+    // `None` until one follows the first: then the ledger of the first is made, for which a start needn't wait.
+    ledger: Option<Ledger>,
     // How many servers the first of them has.
     founders: usize,
     begun: Beginnings,
@@ -82,24 +86,72 @@ fn take_next(
     }
 }
 
+// The ledger, or where there is none that of the first configuration, the only one, whose servers began so. The only error:
+// memory was refused, since the gate accepted that one's tree.
+fn opened_ledger(
+    alloc: Global,
+    ledger: Option<Ledger>,
+    configs: &[Config],
+    opened: Beginning,
+) -> Result<Ledger, Unsound>
+    requires { 0 < length configs.now }
+    ensures opened { (known : Known) → known.configs ≡ configs.now → known.begun.opened ≡ opened → IsBookOf known ledger → IfOk result (λ book. IsBookOf known (Some book)) }
+    ensures none { IfErr result (λ unsound. (unsound ≡ NoMemory) × (ledger ≡ None)) }
+{
+    match ledger {
+        Some(ledger) => Ok(ledger),
+        None => match Ledger::first(alloc, &configs[0], opened) {
+            Ok(ledger) => Ok(ledger),
+            Err(_) => Err(Unsound::NoMemory),
+        },
+    }
+}
+
+// As `take_next`, also where there is no ledger yet.
+fn take_later(
+    alloc: Global,
+    ledger: &mut Option<Ledger>,
+    configs: &mut Vec<Config>,
+    config: Config,
+    begun: Beginnings,
+) -> Result<u32, Unsound>
+    requires { 0 < length configs.old.items }
+    ensures taken { OnOk result (configs.new.items ≡ configs.old.items ++ config ∷ []) }
+    ensures same { OnErr result (configs.new.items ≡ configs.old.items) }
+    ensures followed { (known : Known) → known.configs ≡ configs.old.items → known.begun ≡ begun → IsBookOf known ledger.old → MatchResult result (λ n. n ≡ suc (length (trees_of known.configs))) (IsUnsoundFor (is_arbitrary known) (trees_of known.configs) config.tree) }
+    ensures book { (known : Known) → known.configs ≡ configs.old.items → known.begun ≡ begun → IsBookOf known ledger.old → IsBookOf (record known { configs = configs.new.items }) ledger.new }
+{
+    let held = ledger.take();
+    match opened_ledger(alloc, held, configs, begun.opened) {
+        Err(unsound) => {
+            drop_config(config);
+            Err(unsound)
+        }
+        Ok(book) => {
+            let mut book = book;
+            let result = take_next(alloc, &mut book, configs, config, begun.added);
+            *ledger = Some(book);
+            result
+        }
+    }
+}
+
 impl Generations {
-    /// The configuration, whose tree the gate accepted, as the first generation; its servers, and those that later ones bring,
-    /// began so. The only error: memory was refused.
+    /// The accepted configuration in use as the first generation; its servers, and those that later ones bring, began so. The
+    /// only error: memory was refused.
     pub fn first(
         alloc: Global,
-        config: &Config,
+        accepted: &Accepted,
         begun: Beginnings,
     ) -> Result<Generations, AllocError>
-        ensures { IfOk result (λ generations. generations ≡ first_of config.now begun) }
+        ensures { IfOk result (λ generations. (config : Configuration) × IsLast accepted.now config × (generations ≡ first_of config begun)) }
     {
-        let Ok(ledger) = Ledger::first(alloc, config, begun.opened) else {
-            return Err(AllocError);
-        };
+        let config = accepted.config();
         let mut configs = Vec::new(alloc);
         configs.push(config.copy(alloc)?)?;
         Ok(Generations {
             configs,
-            ledger,
+            ledger: None,
             founders: config.servers().len(),
             begun,
         })
@@ -128,7 +180,7 @@ impl Generations {
         ensures sound { OnOk result (AreSoundSince (is_arbitrary self.new) (trees_of self.new.configs)) }
         ensures refused { IfErr result (λ unsound. (self.new ≡ self.old) × IsUnsoundFor (is_arbitrary self.old) (trees_of self.old.configs) config.tree unsound) }
     {
-        let added = self.begun.added;
-        take_next(alloc, &mut self.ledger, &mut self.configs, config, added)
+        let begun = self.begun;
+        take_later(alloc, &mut self.ledger, &mut self.configs, config, begun)
     }
 }

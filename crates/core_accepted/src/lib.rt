@@ -10,6 +10,7 @@ mod numbers;
 pub mod served;
 
 pub use beginnings::Beginnings;
+pub use gate_growth::ledger::Beginning;
 pub use generations::Generations;
 pub use loading::LoadFault;
 pub use served::ServedCore;

@@ -53,9 +53,8 @@ impl ServedCore {
     ) -> Result<ServedCore, AllocError>
         ensures { IfOk result (λ served. IsNewFrom accepted begun limits served) }
     {
-        let config = accepted.config();
-        let generations = Generations::first(alloc, config, begun)?;
-        let tree = config.tree().copy()?;
+        let generations = Generations::first(alloc, &accepted, begun)?;
+        let tree = accepted.config().tree().copy()?;
         Ok(ServedCore {
             core: Core::unchecked(alloc, tree, limits),
             accepted: Some(generations),

@@ -13,7 +13,7 @@ use mcgate_args::input_text::InputFault;
 use mcgate_args::serve_arguments::ServeJob;
 use mcgate_check::{Form, RunFault};
 use route_json::Config;
-use serve_proxy::ServerDialect;
+use serve_proxy::{Beginning, ServerDialect};
 use std::alloc::{AllocError, Global};
 use std::io;
 use std::io::ErrorKind;
@@ -35,6 +35,13 @@ mcgate check f => check of f
 mcgate check --explain f => check explained of f
 mcgate check f --dot => check drawn of f
 mcgate check --explain --dot => refused, told
+mcgate check --fleet => check of a fleet with 0 and standard input
+mcgate check --fleet --with a --with=b f => check of a fleet with 2 and f
+mcgate check --with a f => refused, told
+mcgate check --fleet --dot f => refused, told
+mcgate check --fleet --explain => refused, told
+mcgate certify => certify of standard input
+mcgate certify f => certify of f
 mcgate check --history h => check of standard input after h
 mcgate check c --history h => check of c after h
 mcgate check --history h --explain => refused, told
@@ -53,7 +60,14 @@ mcgate serve --listen a:1 --config c --history h --any => refused, told
 mcgate serve --listen a:1 --config c --server-dialect auto => serve - fail-limit 3 auto
 mcgate serve --listen a:1 --config c --server-dialect classic => serve - fail-limit 3 classic
 mcgate serve --listen a:1 --config c --server-dialect meta => serve - fail-limit 3 meta
-mcgate serve --listen a:1 --config c --server-dialect old => refused, told"
+mcgate serve --listen a:1 --config c --server-dialect old => refused, told
+mcgate serve --listen a:1 --config c --certificate d => serve - by d fail-limit 3 auto
+mcgate serve --listen a:1 --config c --opened own --new-servers empty => serve - fail-limit 3 auto own empty
+mcgate serve --listen a:1 --config c --opened any --new-servers any => serve - fail-limit 3 auto
+mcgate serve --listen a:1 --config c --opened own => serve - fail-limit 3 auto own
+mcgate serve --listen a:1 --config c --new-servers empty => serve - fail-limit 3 auto empty
+mcgate serve --listen a:1 --config c --opened empty => refused, told
+mcgate serve --listen a:1 --config c --new-servers flush => refused, told"
 }
 
 // Arguments that the program doesn't have.
@@ -64,6 +78,8 @@ mcgate --any => refused, told
 mcgate help chek => refused, told
 mcgate help check serve => refused, told
 mcgate check --any => refused, told
+mcgate certify --any => refused, told
+mcgate certify f g => refused, told
 mcgate where k => refused, told
 mcgate where --config c => refused, told
 mcgate cache --listen a:1 => refused, told
@@ -121,8 +137,18 @@ fn dialect_word(dialect: ServerDialect) -> &'static str {
     }
 }
 
+fn push_beginning(out: &mut String, word: &str, beginning: Beginning) -> Result<(), AllocError> {
+    if let Beginning::Own = beginning {
+        write!(out, " {word}")?;
+    }
+    Ok(())
+}
+
 fn push_serve(out: &mut String, job: &ServeJob<'_>) -> Result<(), AllocError> {
     write!(out, "serve {}", any_word(job.any))?;
+    if let Some(certificate) = job.certificate {
+        write!(out, " by {certificate}")?;
+    }
     if let Some(history) = job.history {
         write!(out, " after {history}")?;
     }
@@ -130,7 +156,8 @@ fn push_serve(out: &mut String, job: &ServeJob<'_>) -> Result<(), AllocError> {
     push_number(out, "reload-ms", job.reload_ms)?;
     push_number(out, "fail-limit", Some(job.settings.fail_limit))?;
     write!(out, " {}", dialect_word(job.settings.server_dialect))?;
-    Ok(())
+    push_beginning(out, "own", job.begun.opened)?;
+    push_beginning(out, "empty", job.begun.added)
 }
 
 fn file_word<'a>(file: &Option<&'a str>) -> &'a str {
@@ -153,7 +180,12 @@ fn push_job(out: &mut String, job: &Job<'_>) -> Result<(), AllocError> {
             write!(out, "replay {} over {config}", any_word(*any))?;
             write!(out, " of {}", file_word(file))?;
         }
+        Job::CheckFleet(job) => {
+            write!(out, "check of a fleet with {}", job.with.len())?;
+            write!(out, " and {}", file_word(&job.file))?;
+        }
         Job::Where { file, keys } => write!(out, "where {} in {file}", keys.len())?,
+        Job::Certify { file } => write!(out, "certify of {}", file_word(file))?,
         Job::Loopback { file } => write!(out, "loopback of {}", file_word(file))?,
         Job::Cache(job) => {
             write!(out, "cache {}", job.settings.capacity)?;

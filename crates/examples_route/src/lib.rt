@@ -1,7 +1,10 @@
-//! Worked examples of routes: hashes, plain trees, jobs of one command on small trees, the places of trees, and the gate's verdicts.
+//! Worked examples of routes: hashes, plain trees, jobs of one command on small trees, the places of trees, the gate's
+//! verdicts, and certificates.
 //! They stand above the crates that they show, so that a change of an example proves the example alone.
 #![tactic(auto)]
 
+#[cfg(test)]
+mod certificates;
 mod configs;
 #[cfg(test)]
 mod gates;

@@ -8,13 +8,15 @@ pub enum Takes {
     Address,
     /// A number in 1..=4294967295.
     Count,
-    Dialect,
+    /// One of a few words.
+    Word,
 }
 
 /// The commands.
 #[derive(Clone, Copy, PartialEq, Eq)]
 pub enum Command {
     Check,
+    Certify,
     Replay,
     Where,
     Serve,
@@ -24,21 +26,19 @@ pub enum Command {
     Help,
 }
 
-/// The words of the server dialects.
-pub const DIALECTS: [&str; 3] = ["auto", "classic", "meta"];
-
 /// The names of the commands.
-pub const COMMANDS: [&str; 8] = [
-    "check", "replay", "where", "serve", "cache", "loopback", "history", "help",
+pub const COMMANDS: [&str; 9] = [
+    "check", "certify", "replay", "where", "serve", "cache", "loopback", "history", "help",
 ];
 
-const SERVE_FLAGS: [&str; 18] = [
+const SERVE_FLAGS: [&str; 21] = [
     "help",
     "check",
     "config",
     "listen",
     "any",
     "history",
+    "certificate",
     "clients",
     "client-window",
     "link-window",
@@ -48,6 +48,8 @@ const SERVE_FLAGS: [&str; 18] = [
     "retry-ms",
     "polls",
     "server-dialect",
+    "opened",
+    "new-servers",
     "reload-ms",
     "reload-every",
     "turns",
@@ -61,11 +63,26 @@ pub const TOP_FLAGS: [&str; 2] = ["help", "version"];
 /// What follows the flag of this name.
 pub fn takes_of(flag: &str) -> Takes {
     match flag {
-        "help" | "version" | "any" | "check" | "explain" | "dot" => Takes::Nothing,
-        "config" | "history" => Takes::File,
+        "help" | "version" | "any" | "check" | "explain" | "dot" | "fleet" => Takes::Nothing,
+        "config" | "certificate" | "with" | "history" => Takes::File,
         "listen" => Takes::Address,
-        "server-dialect" => Takes::Dialect,
+        "server-dialect" | "opened" | "new-servers" => Takes::Word,
         _ => Takes::Count,
+    }
+}
+
+/// Whether a flag may stand there more than once.
+pub fn is_repeated(flag: &str) -> bool {
+    flag == "with"
+}
+
+/// The words of which one follows the flag of this name, where it takes one of a few.
+pub fn words_after(flag: &str) -> &'static [&'static str] {
+    match flag {
+        "server-dialect" => &["auto", "classic", "meta"],
+        "opened" => &["any", "own"],
+        "new-servers" => &["any", "empty"],
+        _ => &[],
     }
 }
 
@@ -77,7 +94,7 @@ impl Takes {
             Takes::File => "FILE",
             Takes::Address => "HOST:PORT",
             Takes::Count => "N",
-            Takes::Dialect => "WORD",
+            Takes::Word => "WORD",
         }
     }
 }
@@ -87,6 +104,7 @@ impl Command {
     pub fn of(word: &str) -> Option<Command> {
         match word {
             "check" => Some(Command::Check),
+            "certify" => Some(Command::Certify),
             "replay" => Some(Command::Replay),
             "where" => Some(Command::Where),
             "serve" => Some(Command::Serve),
@@ -102,6 +120,7 @@ impl Command {
     pub fn name(self) -> &'static str {
         match self {
             Command::Check => "check",
+            Command::Certify => "certify",
             Command::Replay => "replay",
             Command::Where => "where",
             Command::Serve => "serve",
@@ -115,11 +134,14 @@ impl Command {
     /// Its words, as a usage line has them.
     pub fn usage(self) -> &'static str {
         match self {
-            Command::Check => "mcgate check [--explain | --dot | --history FILE] [FILE]",
+            Command::Check => {
+                "mcgate check [--explain | --dot | --history FILE | --fleet [--with FILE ..]] [FILE]"
+            }
+            Command::Certify => "mcgate certify [FILE]",
             Command::Replay => "mcgate replay [--any] [--config FILE] [SCRIPT]",
             Command::Where => "mcgate where --config FILE KEY..",
             Command::Serve => {
-                "mcgate serve --config FILE --listen HOST:PORT [--any | --history FILE] [--check] [FLAG N ..]"
+                "mcgate serve --config FILE --listen HOST:PORT [--any] [--check] [FLAG N ..]"
             }
             Command::Cache => "mcgate cache --listen HOST:PORT --capacity C [--turns N]",
             Command::Loopback => "mcgate loopback [SCRIPT]",
@@ -131,12 +153,12 @@ impl Command {
     /// The names of its flags.
     pub fn flags(self) -> &'static [&'static str] {
         match self {
-            Command::Check => &["help", "explain", "dot", "history"],
+            Command::Check => &["help", "explain", "dot", "fleet", "with", "history"],
             Command::Replay => &["help", "any", "config"],
             Command::Where => &["help", "config"],
             Command::Serve => &SERVE_FLAGS,
             Command::Cache => &CACHE_FLAGS,
-            Command::Loopback | Command::History | Command::Help => &["help"],
+            Command::Certify | Command::Loopback | Command::History | Command::Help => &["help"],
         }
     }
 
@@ -154,6 +176,7 @@ impl Command {
     pub fn most_words(self) -> usize {
         match self {
             Command::Check
+            | Command::Certify
             | Command::Replay
             | Command::Loopback
             | Command::History
@@ -174,7 +197,7 @@ impl Command {
     /// What those words are.
     pub fn word(self) -> &'static str {
         match self {
-            Command::Check | Command::History => "FILE",
+            Command::Check | Command::Certify | Command::History => "FILE",
             Command::Replay | Command::Loopback => "SCRIPT",
             Command::Where => "KEY",
             Command::Serve | Command::Cache => "",

@@ -31,6 +31,8 @@ pub enum Cause<'a> {
     NoWord(&'static str),
     /// The two flags don't go together.
     Apart(&'static str, &'static str),
+    /// The first flag stands only beside the second.
+    Beside(&'static str, &'static str),
     /// The word is no key.
     NoKey(&'a str, KeyFault),
 }
@@ -47,6 +49,15 @@ pub struct WordFault<'a> {
     pub meant: Option<&'static str>,
 }
 
+// Which word it has to be.
+fn wanted_word(flag: &str) -> &'static str {
+    match flag {
+        "opened" => "any or own",
+        "new-servers" => "any or empty",
+        _ => "auto, classic or meta",
+    }
+}
+
 // What a flag's value has to be.
 fn wanted(flag: &str) -> &'static str {
     match takes_of(flag) {
@@ -54,7 +65,7 @@ fn wanted(flag: &str) -> &'static str {
         Takes::File => "the name of a file",
         Takes::Address => "HOST:PORT",
         Takes::Count => "a number in 1..=4294967295",
-        Takes::Dialect => "auto, classic or meta",
+        Takes::Word => wanted_word(flag),
     }
 }
 
@@ -89,6 +100,7 @@ impl Display for Cause<'_> {
             Cause::Missing(flag) => { write!(f, "--{flag} {} is missing", takes_of(flag).value()) }
             Cause::NoWord(word) => write!(f, "a {word} is missing"),
             Cause::Apart(flag, other) => write!(f, "--{flag} and --{other} don't go together"),
+            Cause::Beside(flag, other) => write!(f, "--{flag} stands only beside --{other}"),
             Cause::NoKey(word, fault) => {
                 write!(
                     f,

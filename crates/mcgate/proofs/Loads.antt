@@ -10,10 +10,10 @@ use Rattle.core_accepted.specs.declared.served.ServedCore.{ServedCore}
 use Rattle.serve_links.specs.declared.settings.Settings.{Settings}
 use Rattle.serve_wire.specs.Events.{Event}
 use Rattle.serve_wire.specs.declared.sockets.sockets.Sockets.{Sockets}
-use Rattle.serve_links.specs.CoreSteps.{Step, Opened, NotOpened, Fed, Polled, Stopped, Settled, Gave, Closed, LeftLine, Loaded, Linked, Asked, Greeted, Spelled, Walks, AreOf, IsOfTurn}
+use Rattle.serve_links.specs.CoreSteps.{Step, Opened, NotOpened, Fed, Polled, Stopped, Settled, Gave, Closed, LeftLine, Broke, Loaded, Linked, Asked, Greeted, Spelled, Walks, AreOf, IsOfTurn}
 use Rattle.serve_links.specs.Story.{AnEnd, Agrees, AgreesLosing, AllGoFrom, texts_of}
 use Rattle.serve_links.proofs.LinkGoes.{losing}
-use Rattle.serve_links.proofs.Walked.{walks_keep}
+use Rattle.serve_links.proofs.Walked.{walks_keep_since}
 use Rattle.serve_proxy.specs.declared.proxy.ProxyEnd.{ProxyEnd}
 use Rattle.serve_proxy.specs.Beginning.{LoadStops}
 use Rattle.serve_proxy.specs.Ends.{Stay, AllGoOr, AllGrowFrom, AllGrow, IsLoadOf, HasNoClients}
@@ -25,9 +25,8 @@ use Rattle.serve_proxy.proofs.Staying.{stay_still}
 use Rattle.gate_check.specs.declared.reloading.ReloadFault.TheVariants.{NoMemory}
 use Rattle.core_accepted.specs.declared.loading.LoadFault.{LoadFault}
 use Rattle.core_accepted.specs.declared.loading.LoadFault.TheVariants.{Refused}
-use Rattle.core_accepted.specs.Begun.{any_begun}
-use Rattle.core_accepted.specs.Known.{first_of}
-use Rattle.core_accepted.specs.Logs.{IsAccepted}
+use Rattle.core_accepted.specs.declared.beginnings.Beginnings.{Beginnings}
+use Rattle.core_accepted.proofs.Keeping.{since_are_fresh}
 use Rattle.serve_proxy.specs.LogsGoOn.{LogsAreFresh}
 use Rattle.mcgate.specs.declared.serve.Servable.{Servable}
 use Rattle.mcgate.specs.declared.serve.Servable.TheVariants as servables
@@ -37,11 +36,11 @@ use Rattle.mcgate.specs.Serves.{HasTree, HasServers, BeginsBy, Begins, BeginsSer
 
 -- an end that began by these settings but for its sharing, which is that of its tree
 pub begins_on :
-    {T E : Type 0} (core : T → ServedCore) (servable known : Servable) (settings : Settings) (sharing : Sharing) (tree : Route) (r : Result T E) → servable ≡ known → HasTree known tree → sharing ≡ sharing_for tree
-    → IfOk r (λ end. BeginsBy known (record settings { sharing = sharing }) (core end)) → IfOk r (λ end. Begins servable settings (core end))
-begins_on core servable known settings sharing tree (Ok end) is has sharing_is begins =
-    subst (λ (x : Servable). Begins x settings (core end)) (sym is) (tree, has, subst (λ (s : Sharing). BeginsBy known (record settings { sharing = s }) (core end)) sharing_is begins)
-begins_on core servable known settings sharing tree (Err fault) is has sharing_is begins = tt
+    {T E : Type 0} (core : T → ServedCore) (servable known : Servable) (begun : Beginnings) (settings : Settings) (sharing : Sharing) (tree : Route) (r : Result T E) → servable ≡ known → HasTree known tree → sharing ≡ sharing_for tree
+    → IfOk r (λ end. BeginsBy known begun (record settings { sharing = sharing }) (core end)) → IfOk r (λ end. Begins servable begun settings (core end))
+begins_on core servable known begun settings sharing tree (Ok end) is has sharing_is begins =
+    subst (λ (x : Servable). Begins x begun settings (core end)) (sym is) (tree, has, subst (λ (s : Sharing). BeginsBy known begun (record settings { sharing = s }) (core end)) sharing_is begins)
+begins_on core servable known begun settings sharing tree (Err fault) is has sharing_is begins = tt
 
 of_turn : (step : Step) → IsOfTurn step → IsServed step
 of_turn (Loaded configuration generation) is = absurd is
@@ -54,9 +53,10 @@ of_turn (Settled number outcome) is = tt
 of_turn (Gave client bytes) is = tt
 of_turn (Closed client) is = tt
 of_turn (LeftLine client) is = tt
+of_turn (Broke client) is = tt
 of_turn (Linked at dialect) is = tt
 of_turn (Asked at number dialect ask) is = tt
-of_turn (Greeted at bytes) is = tt
+of_turn (Greeted at dialect bytes) is = tt
 of_turn (Spelled at number ask answer bytes) is = tt
 
 each_of_turn : (steps : List Step) → AreOf IsOfTurn steps → AreOf IsServed steps
@@ -78,11 +78,11 @@ servers_on servable known servers (Err fault) is has same = tt
 
 -- what serves is over an end that begins
 pub begins_serving :
-    {E : Type 0} (servable : Servable) (settings : Settings) (servers : Addresses) (end : ProxyEnd Sockets) (r : Result Serving E) → IfOk r (λ serving. serving.end ≡ end)
-    → Begins servable settings end.core.value → Agrees [] (proxy_of end) → texts_of end.sockets.links.all.items ≡ servers → HasServers servable servers → IfOk r (λ serving. BeginsServing servable settings serving.end)
-begins_serving servable settings servers end (Ok serving) is begins agrees texts has =
-    subst (λ x. BeginsServing servable settings x) (sym is) (record { core = begins; agrees = agrees; servers = subst (λ (l : Addresses). HasServers servable l) (sym texts) has })
-begins_serving servable settings servers end (Err fault) is begins agrees texts has = tt
+    {E : Type 0} (servable : Servable) (begun : Beginnings) (settings : Settings) (servers : Addresses) (end : ProxyEnd Sockets) (r : Result Serving E) → IfOk r (λ serving. serving.end ≡ end)
+    → Begins servable begun settings end.core.value → Agrees [] (proxy_of end) → texts_of end.sockets.links.all.items ≡ servers → HasServers servable servers → IfOk r (λ serving. BeginsServing servable begun settings serving.end)
+begins_serving servable begun settings servers end (Ok serving) is begins agrees texts has =
+    subst (λ x. BeginsServing servable begun settings x) (sym is) (record { core = begins; agrees = agrees; servers = subst (λ (l : Addresses). HasServers servable l) (sym texts) has })
+begins_serving servable begun settings servers end (Err fault) is begins agrees texts has = tt
 
 -- a turn
 pub turned : {P Q : List Step → AnEnd → Type 0} {a b : AnEnd} → AllGoFrom P Q IsOfTurn a b → AllGrowFrom P Q IsServed a b
@@ -130,25 +130,27 @@ loaded servers text configuration says g = record { steps = g.steps; kinds = eac
     each (step ∷ steps) kinds = (subst IsServed (sym kinds.0.1) (servers, text, says), each steps kinds.1)
 
 -- an end that agreed with nothing at first agrees with all that was done since, and where the gate accepted, each log goes on by that freshly
-has_freshly : (servable : Servable) (settings : Settings) (steps : List Step) (a b : ServedCore) → BeginsBy servable settings a → Walks steps a b → LogsAreFresh b → GoFreshly servable steps a b
-has_freshly (servables.Accepted accepted) settings steps a b begins walks fresh = walks_are_fresh steps a b walks fresh ((walks_keep steps a b walks).0 (first_of begins.config any_begun, begins.word, refl))
-has_freshly (servables.Unchecked configuration) settings steps a b begins walks fresh = tt
+has_freshly : (servable : Servable) (begun : Beginnings) (settings : Settings) (steps : List Step) (a b : ServedCore) → BeginsBy servable begun settings a → Walks steps a b → LogsAreFresh b → GoFreshly servable begun steps a b
+has_freshly (servables.Accepted accepted) begun settings steps a b begins walks fresh = (begins.config, begins.last, walks_are_fresh steps a b walks fresh begins.config begun ([], begins.word))
+has_freshly (servables.Unchecked configuration) begun settings steps a b begins walks fresh = tt
 
 pub has_served :
-    {A E : Type 0} (servable : Servable) (settings : Settings) (ended : Result A E) (first last : ProxyEnd Sockets) → BeginsServing servable settings first → ServesTo ended first last → LogsAreFresh last.core.value
-    → HasServed servable settings ended last
-has_served servable settings ended first last begins g fresh = record {
+    {A E : Type 0} (servable : Servable) (begun : Beginnings) (settings : Settings) (ended : Result A E) (first last : ProxyEnd Sockets) → BeginsServing servable begun settings first → ServesTo ended first last → LogsAreFresh last.core.value
+    → HasServed servable begun settings ended last
+has_served servable begun settings ended first last begins g fresh = record {
   first = first;
   begins = begins;
   serves = g;
   agrees = subst (λ l. AgreesTo ended l (proxy_of last)) (append-nil g.steps) (g.agree [] begins.agrees);
-  fresh = has_freshly servable (record settings { sharing = sharing_for begins.core.0 }) g.steps first.core.value last.core.value begins.core.2 g.walks fresh;
+  fresh = has_freshly servable begun (record settings { sharing = sharing_for begins.core.0 }) g.steps first.core.value last.core.value begins.core.2 g.walks fresh;
 }
 
-by_kind : (servable : Servable) (settings : Settings) (a b : ServedCore) → BeginsBy servable settings a → (IsAccepted a → IsAccepted b) → LogsAreFresh b → StaysFresh servable b
-by_kind (servables.Accepted accepted) settings a b begins kept fresh = let is = kept (first_of begins.config any_begun, begins.word, refl) in (is, fresh is)
-by_kind (servables.Unchecked configuration) settings a b begins kept fresh = tt
+by_kind : (servable : Servable) (begun : Beginnings) (settings : Settings) (steps : List Step) (a b : ServedCore) → BeginsBy servable begun settings a → Walks steps a b → LogsAreFresh b → StaysFresh servable begun b
+by_kind (servables.Accepted accepted) begun settings steps a b begins walks fresh =
+    let is = walks_keep_since steps a b walks begins.config begun ([], begins.word) in
+    (begins.config, begins.last, is, since_are_fresh begins.config begun b fresh is)
+by_kind (servables.Unchecked configuration) begun settings steps a b begins walks fresh = tt
 
-pub stays_fresh : {A E : Type 0} (servable : Servable) (settings : Settings) (ended : Result A E) (end : ProxyEnd Sockets) → HasServed servable settings ended end → LogsAreFresh end.core.value → StaysFresh servable end.core.value
-stays_fresh servable settings ended end served fresh =
-    by_kind servable (record settings { sharing = sharing_for served.begins.core.0 }) served.first.core.value end.core.value served.begins.core.2 (walks_keep served.serves.steps served.first.core.value end.core.value served.serves.walks).0 fresh
+pub stays_fresh : {A E : Type 0} (servable : Servable) (begun : Beginnings) (settings : Settings) (ended : Result A E) (end : ProxyEnd Sockets) → HasServed servable begun settings ended end → LogsAreFresh end.core.value → StaysFresh servable begun end.core.value
+stays_fresh servable begun settings ended end served fresh =
+    by_kind servable begun (record settings { sharing = sharing_for served.begins.core.0 }) served.serves.steps served.first.core.value end.core.value served.begins.core.2 served.serves.walks fresh

@@ -1,4 +1,5 @@
 pub mod Sharing
 pub mod Serves
 pub mod Judging
+pub mod Certified
 pub mod Remembers

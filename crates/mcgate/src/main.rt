@@ -2,6 +2,7 @@
 #![tactic(auto)]
 
 mod cache;
+mod certified;
 mod descriptors;
 mod histories;
 mod lines;
@@ -14,6 +15,7 @@ mod started;
 mod warnings;
 
 use cache::serve_cache;
+use certified::judge_text_by;
 use descriptors::within_descriptors;
 use fault_words::script::BadLine;
 use histories::{run_after, run_history};
@@ -21,10 +23,12 @@ use lines::Lines;
 use mc_types::Key;
 use mcgate_args::arguments::{Job, Task, read_arguments};
 use mcgate_args::bad_lines::{bad_line_of_events, bad_line_of_task};
+use mcgate_args::certifying::certify_input;
 use mcgate_args::details::{Details, name_of};
 use mcgate_args::ends::{
     Stop, decline, end_of, read_configuration, run_events, run_input, run_keys, run_over_tcp,
 };
+use mcgate_args::fleets::{FleetFile, FleetJob, run_fleet};
 use mcgate_args::input::text_noting;
 use mcgate_args::input_text::InputFault;
 use mcgate_args::serve_arguments::ServeJob;
@@ -194,6 +198,69 @@ fn run_over<R: Files + Input + AllocGlobal + Eprint, W: Write>(
     Ok(status)
 }
 
+/// Adds a file of a fleet to others; where it gives no input, prints why, and answers the status.
+fn add_file<'a, R: Files + Input + AllocGlobal, W: Write>(
+    rt: &R,
+    file: Option<&'a str>,
+    files: &mut Vec<FleetFile<'a>>,
+    out: &mut W,
+    details: &mut Details,
+) -> Result<Option<u8>, Stop> {
+    let name = name_of(file);
+    match input_of(rt, file, details) {
+        Ok(text) => match files.push(FleetFile { name, text }) {
+            Ok(()) => Ok(None),
+            Err(_) => Err(Stop::Memory),
+        },
+        Err(fault) => {
+            details.add_configuration(rt.alloc(), name, &Err(fault));
+            Ok(Some(decline(fault, out)?))
+        }
+    }
+}
+
+/// Tells of the file of a fleet that isn't accepted by itself: what is wrong with it, or why the gate refuses its tree.
+fn tell_of_file(alloc: Global, file: &FleetFile<'_>, status: u8, details: &mut Details) {
+    if status == BAD_INPUT {
+        details.add_text(alloc, file.name, file.text.as_str());
+    } else {
+        details.add_refusal(alloc, Some(file.name), file.text.as_str());
+    }
+}
+
+/// Prints the verdict on the configurations of these files, by which the proxies of a fleet run at the same time.
+fn check_files<R: AllocGlobal, W: Write>(
+    rt: &R,
+    files: &[FleetFile<'_>],
+    out: &mut W,
+    details: &mut Details,
+) -> Result<u8, Stop> {
+    let end = run_fleet(rt.alloc(), files, out)?;
+    if let Some(file) = end.alone.and_then(|index| files.get(index)) {
+        tell_of_file(rt.alloc(), file, end.status, details);
+    }
+    Ok(end.status)
+}
+
+/// Reads the files that a job names, and prints the verdict on them.
+fn check_fleet<R: Files + Input + AllocGlobal, W: Write>(
+    rt: &R,
+    job: &FleetJob<'_>,
+    out: &mut W,
+    details: &mut Details,
+) -> Result<u8, Stop> {
+    let mut files = Vec::new(rt.alloc());
+    for file in &job.with {
+        if let Some(status) = add_file(rt, Some(*file), &mut files, out, details)? {
+            return Ok(status);
+        }
+    }
+    match add_file(rt, job.file, &mut files, out, details)? {
+        Some(status) => Ok(status),
+        None => check_files(rt, &files, out, details),
+    }
+}
+
 /// Prints where keys live in the tree of a file's configuration.
 fn run_where<R: Files + Input + AllocGlobal, W: Write>(
     rt: &R,
@@ -208,6 +275,23 @@ fn run_where<R: Files + Input + AllocGlobal, W: Write>(
         details.add_configuration(rt.alloc(), file, &input);
     }
     tell_of_refusal(rt.alloc(), file, &input, status, details);
+    Ok(status)
+}
+
+/// Prints a certificate of the configuration of a file or of standard input.
+fn run_certify<R: Files + Input + AllocGlobal, W: Write>(
+    rt: &R,
+    file: Option<&str>,
+    out: &mut W,
+    details: &mut Details,
+) -> Result<u8, Stop> {
+    let input = input_of(rt, file, details);
+    let status = certify_input(rt.alloc(), &input, out)?;
+    match (status, &input) {
+        (BAD_INPUT, _) => details.add_configuration(rt.alloc(), name_of(file), &input),
+        (REFUSED, Ok(text)) => details.add_refusal(rt.alloc(), file, text.as_str()),
+        _ => {}
+    }
     Ok(status)
 }
 
@@ -243,6 +327,26 @@ fn serve_job<R: Files + Input + AllocGlobal + Net + Clock + Print + Eprint>(
     }
 }
 
+/// Judges a configuration's text as a job says: by a certificate, where it names one.
+fn judge_job<R: Files + Input + AllocGlobal, W: Write>(
+    rt: &R,
+    job: &ServeJob<'_>,
+    text: &str,
+    out: &mut W,
+    details: &mut Details,
+) -> Result<Judged, Stop> {
+    let Some(file) = job.certificate else {
+        return judge_text(rt.alloc(), job.any, text, out);
+    };
+    match input_of(rt, Some(file), details) {
+        Ok(certificate) => judge_text_by(rt.alloc(), text, certificate.as_str(), out),
+        Err(fault) => {
+            details.add_configuration(rt.alloc(), file, &Err(fault));
+            Ok(Judged::Printed(decline(fault, out)?))
+        }
+    }
+}
+
 /// Serves it after the history that is kept, if it may follow, or prints why not.
 fn begin_job<R: Files + Input + AllocGlobal + Net + Clock + Print + Eprint, W: Write>(
     rt: &R,
@@ -255,7 +359,17 @@ fn begin_job<R: Files + Input + AllocGlobal + Net + Clock + Print + Eprint, W: W
 ) -> Result<u8, Stop> {
     let mut lines = lines;
     match begin(rt, &job, text, &mut lines, out, details) {
-        Ok(Begun::Started(started)) => serve_job(rt, job, servable, started, lines, details),
+        Ok(Begun::Started(started)) => {
+            let begun = started.begun;
+            serve_job(
+                rt,
+                ServeJob { begun, ..job },
+                servable,
+                started,
+                lines,
+                details,
+            )
+        }
         Ok(Begun::Printed(status)) => Ok(status),
         Err(stop) => Err(stop),
     }
@@ -295,7 +409,7 @@ fn run_serve<R: Files + Input + AllocGlobal + Net + Clock + Print + Eprint, W: W
             return decline(fault, out);
         }
     };
-    match judge_text(rt.alloc(), job.any, text.as_str(), out)? {
+    match judge_job(rt, &job, text.as_str(), out, details)? {
         Judged::Printed(status) => {
             details.add_text(rt.alloc(), job.file, text.as_str());
             if status == REFUSED {
@@ -334,7 +448,9 @@ fn run<R: Files + Input + AllocGlobal + Env + Net + Clock + Print + Eprint, W: W
         Job::CheckAfter { history, file } => run_check_after(rt, history, file, out, details),
         Job::History { file } => run_history(rt, file, out, details),
         Job::RunOver { any, config, file } => run_over(rt, any, config, file, out, details),
+        Job::CheckFleet(job) => check_fleet(rt, &job, out, details),
         Job::Where { file, keys } => run_where(rt, file, &keys, out, details),
+        Job::Certify { file } => run_certify(rt, file, out, details),
         Job::Loopback { file } => run_loopback(rt, file, out, details),
         Job::Cache(job) => serve_cache(rt, job, details),
         Job::Serve(job) => run_serve(rt, job, out, details),

@@ -18,7 +18,7 @@ use mcgate_check::checking::{print_fault, print_refused};
 use mcgate_check::status::DONE;
 use route_json::addresses::Servers;
 use route_json::{Config, read_config};
-use serve_proxy::{ProxyEnd, Settings, text_at};
+use serve_proxy::{Beginnings, ProxyEnd, Settings, text_at};
 use serve_wire::Wire;
 use serve_wire::sockets::Sockets;
 use std::alloc::{AllocError, Global};
@@ -103,15 +103,16 @@ pub fn judge_text<W: Write>(
     }
 }
 
-// The end that serves it.
+// The end that serves it, where servers began so.
 fn end_over(
     alloc: Global,
     wire: Sockets,
     servable: Servable,
     servers: &Servers,
+    begun: Beginnings,
     settings: Settings,
 ) -> Result<Proxy, AllocError>
-    ensures core { IfOk result (λ end. Begins servable settings end.core.value) }
+    ensures core { IfOk result (λ end. Begins servable begun settings end.core.value) }
     ensures ends { IfOk result (λ end. HasNoClients (history_of wire) → Agrees [] (proxy_of end)) }
     ensures texts { IfOk result (λ end. texts_of end.sockets.links.all.items ≡ servers.now) }
 {
@@ -119,7 +120,7 @@ fn end_over(
     match servable {
         Servable::Accepted(accepted) => {
             settings.sharing = sharing_for(accepted.config().tree());
-            ProxyEnd::new(alloc, wire, accepted, servers, settings)
+            ProxyEnd::new(alloc, wire, accepted, begun, servers, settings)
         }
         Servable::Unchecked(config) => {
             let tree = config.tree().copy()?;
@@ -215,12 +216,12 @@ fn open<R: Net + Clock + AllocGlobal + Eprint>(
     servable: Servable,
     servers: &Servers,
 ) -> io::Result<Proxy>
-    ensures core { IfOk result (λ end. Begins servable job.now.settings end.core.value) }
+    ensures core { IfOk result (λ end. Begins servable job.now.begun job.now.settings end.core.value) }
     ensures ends { IfOk result (λ end. Agrees [] (proxy_of end)) }
     ensures texts { IfOk result (λ end. texts_of end.sockets.links.all.items ≡ servers.now) }
 {
     let wire = listen(rt, lines, job.listen, servers)?;
-    Ok(end_over(rt.alloc(), wire, servable, servers, job.settings)?)
+    Ok(end_over(rt.alloc(), wire, servable, servers, job.begun, job.settings)?)
 }
 
 fn start<R: Net + Clock + AllocGlobal + Eprint>(
@@ -230,7 +231,7 @@ fn start<R: Net + Clock + AllocGlobal + Eprint>(
     started: Started,
     lines: Lines,
 ) -> io::Result<Serving>
-    ensures { IfOk result (λ serving. BeginsServing servable job.now.settings serving.end) }
+    ensures { IfOk result (λ serving. BeginsServing servable job.now.begun job.now.settings serving.end) }
 {
     let servers = servable.servers(rt.alloc())?;
     let mut lines = lines;
@@ -250,8 +251,8 @@ pub fn serve_to_end<R: Files + Input + Net + Clock + AllocGlobal + Print + Eprin
     started: Started,
     lines: Lines,
 ) -> io::Result<(Serving, Result<u8, Stop>)>
-    ensures served { IfOk result (λ ended. HasServed servable job.now.settings ended.1 ended.0.end) }
-    ensures fresh { IfOk result (λ ended. StaysFresh servable ended.0.end.core.value) }
+    ensures served { IfOk result (λ ended. HasServed servable job.now.begun job.now.settings ended.1 ended.0.end) }
+    ensures fresh { IfOk result (λ ended. StaysFresh servable job.now.begun ended.0.end.core.value) }
 {
     let mut serving = start(rt, job, servable, started, lines)?;
     let ended = serving.tell_and_run(rt, job);

@@ -6,7 +6,6 @@ ghost use Rattle.mcgate.specs.Remembers.{StandsIn};
 use crate::histories::file_at;
 use crate::lines::Lines;
 use crate::remembering::{Kept, unwritten_line};
-use core_accepted::Beginnings;
 use gate_growth::ledger::Beginning;
 use gate_history::HistoryFile;
 use mcgate_args::details::Details;
@@ -14,6 +13,7 @@ use mcgate_args::ends::Stop;
 use mcgate_args::histories::print_no_next;
 use mcgate_args::serve_arguments::ServeJob;
 use mcgate_check::status::BAD_INPUT;
+use serve_proxy::Beginnings;
 use std::io::Write;
 use std::rt::Files;
 
@@ -22,6 +22,8 @@ use std::rt::Files;
 pub struct Started {
     text: String,
     memory: Option<Kept>,
+    /// How servers began.
+    pub begun: Beginnings,
     ghost stands: { ∥ StandsIn memory (string_bytes text) ∥₁ },
 }
 
@@ -37,14 +39,25 @@ impl Started {
     pub fn into_parts(self) -> (String, Option<Kept>)
         ensures { ∥ StandsIn result.1 (string_bytes result.0) ∥₁ }
     {
-        let Started { text, memory } = self;
+        let Started {
+            text,
+            memory,
+            begun: _,
+        } = self;
         (text, memory)
     }
 }
 
-// How servers began, as the job says.
-fn begun_of(_job: &ServeJob<'_>) -> Beginnings {
-    Beginnings::any()
+// How servers began for a core after the history of this file: where there were trees before, those of its first one held anything.
+fn begun_after(file: &HistoryFile, begun: Beginnings) -> Beginnings {
+    if file.count() == 0 {
+        begun
+    } else {
+        Beginnings {
+            opened: Beginning::Any,
+            added: begun.added,
+        }
+    }
 }
 
 // How the new servers of the next generation of a file began.
@@ -66,14 +79,15 @@ fn begin_in<R: Files + AllocGlobal, W: Write>(
     out: &mut W,
     details: &mut Details,
 ) -> Result<Begun, Stop> {
-    let begun = begun_of(job);
-    let began = began_in(&file, begun);
+    let began = began_in(&file, job.begun);
+    let begun = begun_after(&file, job.begun);
     let mut file = file;
     match file.take_text(rt.alloc(), text.as_str(), began) {
         Ok(old) => match Kept::new(rt, path, file, begun.added, old.is_some()) {
             Ok(kept) => Ok(Begun::Started(Started {
                 text,
                 memory: Some(kept),
+                begun,
             })),
             Err(error) => {
                 details.add(unwritten_line(rt.alloc(), path, &error));
@@ -95,7 +109,11 @@ pub fn begin<R: Files + Input + AllocGlobal + Eprint, W: Write>(
     details: &mut Details,
 ) -> Result<Begun, Stop> {
     match job.history {
-        None => Ok(Begun::Started(Started { text, memory: None })),
+        None => Ok(Begun::Started(Started {
+            text,
+            memory: None,
+            begun: job.begun,
+        })),
         Some(path) => match file_at(rt, path, lines, out, details)? {
             Some(file) => begin_in(rt, job, path, file, text, out, details),
             None => Ok(Begun::Printed(BAD_INPUT)),
@@ -118,7 +136,7 @@ pub fn refused_after<R: Files + Input + AllocGlobal + Eprint, W: Write>(
     let Some(file) = file_at(rt, path, lines, out, details)? else {
         return Ok(Some(BAD_INPUT));
     };
-    let began = began_in(&file, begun_of(job));
+    let began = began_in(&file, job.begun);
     let mut file = file;
     match file.take_text(rt.alloc(), text, began) {
         Ok(_) => Ok(None),

@@ -58,9 +58,13 @@ abbrev pub Overruns : Task → List ℕ → Option (List ℕ) → Option (List �
 Overruns (tasks.Check form) text old new = ⊥
 Overruns (tasks.Replay any) text old new = Overran any (told text) old new
 
--- a run over TCP and where keys live: there never are too many calls
+-- a run over TCP, certificates and where keys live: there never are too many calls
 abbrev pub NeverOverruns : List ℕ → Option (List ℕ) → Option (List ℕ) → Type 0
 NeverOverruns text old new = ⊥
+
+-- of what is judged alone nothing was written where memory was refused
+abbrev pub WritesNothing : List ℕ → Option (List ℕ) → Option (List ℕ) → Type 0
+WritesNothing text old new = new ≡ old
 
 -- of where keys live some of the lines may have been written where memory was refused, and nothing is said of them
 abbrev pub SaysNothing : List ℕ → Option (List ℕ) → Option (List ℕ) → Type 0

@@ -134,8 +134,8 @@ pub fn end_of(ended: Result<u8, Stop>) -> End
     }
 }
 
-// What the answer of a run means for the program.
-fn ended(answer: u8) -> Result<u8, Stop>
+/// What the answer of a run means for the program.
+pub(crate) fn ended(answer: u8) -> Result<u8, Stop>
     requires { answer ≤ 5 }
     ensures { Ends answer result }
 {

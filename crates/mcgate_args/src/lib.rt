@@ -3,9 +3,13 @@
 
 pub mod arguments;
 pub mod bad_lines;
+pub mod beginning_arguments;
 pub mod cache_arguments;
+pub mod certify_arguments;
+pub mod certifying;
 pub mod details;
 pub mod ends;
+pub mod fleets;
 pub mod histories;
 pub mod history_arguments;
 pub mod input;

@@ -1,8 +1,9 @@
 //! The arguments of `mcgate serve`, and what they ask for.
 
 use crate::arguments::{ArgumentsFault, Job, count_of, help_flag, option, switch};
+use crate::beginning_arguments::begun_of;
 use clap::{ArgMatches, Command};
-use serve_proxy::{ServerDialect, Settings};
+use serve_proxy::{Beginnings, ServerDialect, Settings};
 use std::alloc::{AllocError, Global};
 
 /// What `mcgate serve` is to do.
@@ -13,8 +14,12 @@ pub struct ServeJob<'a> {
     /// Where to listen: a host and a port.
     pub listen: &'a str,
     pub settings: Settings,
+    /// How servers began.
+    pub begun: Beginnings,
     /// A tree that the gate refuses is served too.
     pub any: bool,
+    /// The file of a certificate, by which the tree is accepted at the start.
+    pub certificate: Option<&'a str>,
     /// The file of what is remembered from one run to the next, if there is one.
     pub history: Option<&'a str>,
     /// Nothing is served: it ends once all that is tested at the start was tested.
@@ -42,12 +47,16 @@ opens, fails or comes back.
   --retry-ms N           for so long, and then one call tries, 1000
   --polls N              after so many reads of a server in a row without a whole answer its calls have failed; without it, any number
   --server-dialect WORD  how servers are asked for classic gets: classic, meta, or auto, by what each answers to an mn; auto
+  --opened WORD          what the servers of the first configuration held before: any, or own: of each key nothing but what its tree
+                         may put on them; any
+  --new-servers WORD     what servers held that a reload brings: any, or empty: nothing; any
   --reload-ms N          FILE is read again each N milliseconds; without it and the next one, it isn't
   --reload-every N       FILE is read again each N turns
   --turns N              ends after so many turns; without it, it doesn't end
   --history FILE         the configurations that were accepted so far stand in FILE: the first one and each new text is judged after
                          them, and written there before it is used; without it, what is promised begins with this start
   --any                  serves a tree that the gate refuses too: nothing is promised then
+  --certificate FILE     at the start the tree is accepted by this certificate, as mcgate-verify tests it, or refused; not with --any
   --check                serves nothing: it tests the words, FILE, its tree, and that all addresses are known, and ends
 Each N is 1..=4294967295.
 A tree that the gate refuses isn't served, and its refused: line is printed.
@@ -74,11 +83,14 @@ pub fn serve_command<'a>(alloc: Global) -> Result<Command<'a>, AllocError> {
         .arg(option(alloc, "retry-ms"))?
         .arg(option(alloc, "polls"))?
         .arg(option(alloc, "server-dialect"))?
+        .arg(option(alloc, "opened"))?
+        .arg(option(alloc, "new-servers"))?
         .arg(option(alloc, "reload-every"))?
         .arg(option(alloc, "reload-ms"))?
         .arg(option(alloc, "turns"))?
         .arg(option(alloc, "history"))?
         .arg(switch(alloc, "any"))?
+        .arg(option(alloc, "certificate"))?
         .arg(switch(alloc, "check"))
 }
 
@@ -140,11 +152,17 @@ pub fn serve_job<'a>(given: &ArgMatches<'a>) -> Result<Job<'a>, ArgumentsFault> 
     let (Some(file), Some(listen)) = (given.get_str("config"), given.get_str("listen")) else {
         return Err(ArgumentsFault::Refused);
     };
+    let (any, certificate) = (given.get_flag("any"), given.get_str("certificate"));
+    if any && certificate.is_some() {
+        return Err(ArgumentsFault::Refused);
+    }
     Ok(Job::Serve(ServeJob {
         file,
         listen,
         settings: settings_of(given)?,
-        any: given.get_flag("any"),
+        begun: begun_of(given)?,
+        any,
+        certificate,
         history: history_of(given)?,
         check: given.get_flag("check"),
         reload_every: count_of(given, "reload-every")?,

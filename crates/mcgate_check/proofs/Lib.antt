@@ -8,3 +8,4 @@ pub mod Whole
 pub mod Statuses
 pub mod Runs
 pub mod RunLines
+pub mod Proposed

@@ -12,3 +12,4 @@ pub mod Reporting
 pub mod Asking
 pub mod Blocks
 pub mod Finding
+pub mod Certifying

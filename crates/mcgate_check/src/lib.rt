@@ -1,14 +1,15 @@
-//! What `mcgate check` and `mcgate where` print: the gate's verdict on a configuration, as lines, in words or as a
-//! picture, or its fault; a script that shows a gap; and where keys live.
+//! What `mcgate check`, `certify` and `where` print: the gate's verdict on a configuration, as lines, in words or as a
+//! picture, or its fault; a script that shows a gap; a certificate; and where keys live.
 //!
 //! ```text
-//! arguments --mcgate_args--> check, where  --> here
-//!                            replay        --> mcgate_replay    --> script_run
-//!                            loopback      --> mcgate_loopback  --> serve_proxy and cache_tcp, in one thread
-//!                            serve, cache  --> mcgate           --> serve_proxy; cache_tcp
+//! arguments --mcgate_args--> check, certify, where --> here
+//!                            replay                --> mcgate_replay    --> script_run
+//!                            loopback              --> mcgate_loopback  --> serve_proxy and cache_tcp, in one thread
+//!                            serve, cache          --> mcgate           --> serve_proxy; cache_tcp
 //! ```
 #![tactic(auto)]
 
+pub mod certifying;
 pub mod checking;
 pub mod drawing;
 pub mod explaining;

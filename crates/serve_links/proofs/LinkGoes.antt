@@ -19,12 +19,12 @@ use Rattle.serve_links.specs.declared.settings.ServerDialect.{ServerDialect}
 use Rattle.serve_links.specs.declared.link.Opening.{Opening}
 use Rattle.serve_links.specs.declared.link.Opening.TheVariants as opening
 use Rattle.serve_links.specs.declared.link.Link.{Link}
-use Rattle.serve_links.specs.CoreSteps.{Step, Opened, NotOpened, Fed, Polled, Stopped, Settled, Gave, Closed, LeftLine, Loaded, Linked, Asked, Greeted, Spelled, AreOf, IsOfTurn, IsFailure, IsSending, Fails}
+use Rattle.serve_links.specs.CoreSteps.{Step, Opened, NotOpened, Fed, Polled, Stopped, Settled, Gave, Closed, LeftLine, Broke, Loaded, Linked, Asked, Greeted, Spelled, AreOf, IsOfTurn, IsFailure, IsSending, Fails}
 use Rattle.serve_links.specs.Dialects.{asked_in}
-use Rattle.serve_links.specs.Lines.{first_asked_of, awaits_first, SameLine, KeepsLines, IsNewEnd, HasNewEnd, OpensBy, UsesSome, Learns}
+use Rattle.serve_links.specs.Lines.{first_asked_of, awaits_first, first_dialect, SameLine, KeepsLines, IsNewEnd, HasNewEnd, OpensBy, TakesGreeting, HasLearnt, Learns}
 use Rattle.serve_links.specs.Settled.{SettlesSome}
 use Rattle.serve_links.specs.Talks.{SaidAsk, Talk, first_talk, with_ask, greeted, talk_in, IsOrderly, IsOfServer}
-use Rattle.serve_links.specs.Story.{said_asks, AreCalled, TalkAgrees, ConnAgrees, LineAgrees, LineLost, LineCalled, LineState, line_of, KeepsOthers, LineGoesFrom, LineGoes, AnEnd, Agrees, AgreesLosing}
+use Rattle.serve_links.specs.Story.{said_asks, MayGo, MayAllGo, TalkAgrees, ConnAgrees, LineAgrees, LineLost, LineCalled, LineState, line_of, KeepsOthers, LineGoesFrom, LineGoes, AnEnd, Agrees, AgreesLosing}
 use Rattle.serve_links.proofs.Talking.{calls_later, one_more, IsPlain, plain_orderly}
 use Rattle.serve_links.proofs.Walked.{walked, of_both}
 use Rattle.serve_links.proofs.Answering.{Answers, answers_some}
@@ -62,24 +62,25 @@ quiet h d = untouched d h
 -- ---- what agrees, in equal words
 
 pub talk_as :
-    {h : List Event} {at : ℕ} {text text' : List ℕ} {t t' : Talk} {c c' : ℕ} {held held' unsent unsent' : List ℕ} {out out' : List SaidAsk} {awaits awaits' : Bool}
-    → text' ≡ text → t' ≡ t → c' ≡ c → held' ≡ held → unsent' ≡ unsent → out' ≡ out → awaits' ≡ awaits
-    → TalkAgrees h at text t c held unsent out awaits → TalkAgrees h at text' t' c' held' unsent' out' awaits'
-talk_as {h} {at} {text} {text'} {t} {t'} {c} {c'} {held} {held'} {unsent} {unsent'} {out} {out'} {awaits} {awaits'} text_is t_is c_is held_same unsent_same out_same awaits_same was = record {
+    {h : List Event} {at : ℕ} {text text' : List ℕ} {t t' : Talk} {c c' : ℕ} {held held' unsent unsent' : List ℕ} {out out' : List SaidAsk} {awaits awaits' : Bool} {dialect dialect' : Dialect}
+    → text' ≡ text → t' ≡ t → c' ≡ c → held' ≡ held → unsent' ≡ unsent → out' ≡ out → awaits' ≡ awaits → dialect' ≡ dialect
+    → TalkAgrees h at text t c held unsent out awaits dialect → TalkAgrees h at text' t' c' held' unsent' out' awaits' dialect'
+talk_as {h} {at} {text} {text'} {t} {t'} {c} {c'} {held} {held'} {unsent} {unsent'} {out} {out'} {awaits} {awaits'} {dialect} {dialect'} text_is t_is c_is held_same unsent_same out_same awaits_same dialect_same was = record {
   is_to = ap (λ n. role n h) c_is ∙ was.is_to;
   address = ap (λ n. address_of n h) c_is ∙ was.address ∙ ap (λ (x : List ℕ). Some x) (sym text_is);
   sent_is = ap (λ (x : Talk). x.sent) t_is ∙ was.sent_is ∙ ap (λ n. taken n h ++ unsent) (sym c_is) ∙ ap (λ l. taken c' h ++ l) (sym unsent_same);
   told_is = ap (λ n. delivered n h) c_is ∙ was.told_is ∙ ap (λ (x : Talk). x.told ++ held) (sym t_is) ∙ ap (λ l. t'.told ++ l) (sym held_same);
   out_is = ap (λ (x : Talk). x.out) t_is ∙ was.out_is ∙ sym out_same;
   awaits_is = ap (λ (x : Talk). x.awaits) t_is ∙ was.awaits_is ∙ sym awaits_same;
+  dialect_is = ap (λ (x : Talk). x.dialect) t_is ∙ was.dialect_is ∙ sym dialect_same;
 }
 
 -- a link that has this connection
-pub has_conn : (at : ℕ) (past : List Step) (h : List Event) (y : Link) (d : Conn) → y.conn ≡ Some d → ConnAgrees at past h y d d.held.items → AreCalled past at y.waiting.items → LineAgrees at past h y
+pub has_conn : (at : ℕ) (past : List Step) (h : List Event) (y : Link) (d : Conn) → y.conn ≡ Some d → ConnAgrees at past h y d d.held.items → MayAllGo past at y.waiting.items → LineAgrees at past h y
 has_conn at past h y d is agrees waiting = record { conn = λ conn there. subst (λ (z : Conn). ConnAgrees at past h y z z.held.items) (same_some (sym is ∙ there)) agrees; waiting = waiting }
 
 -- and one that has none
-pub has_none : (at : ℕ) (past : List Step) (h : List Event) (y : Link) → y.conn ≡ None → AreCalled past at y.waiting.items → LineAgrees at past h y
+pub has_none : (at : ℕ) (past : List Step) (h : List Event) (y : Link) → y.conn ≡ None → MayAllGo past at y.waiting.items → LineAgrees at past h y
 has_none at past h y is waiting = record { conn = λ conn there. absurd (none_some (sym is ∙ there)); waiting = waiting }
 
 pub as_lost : (at : ℕ) (past : List Step) (h : List Event) (x : Link) → LineAgrees at past h x → LineLost at past h x
@@ -92,6 +93,7 @@ losing at past x a = (
   record {
     orderly = a.orderly;
     clients = a.clients;
+    told = a.told;
     links = λ j link other there. a.links j link there;
     this = λ link there. as_lost at past x.history link (a.links at link there);
     gone = a.gone;
@@ -141,23 +143,23 @@ line_then {P} {Q} {R} {Is} {at} {a} {b} {c} {h} {h'} {h''} {x} {y} {z} g k = rec
 
 -- ---- a link that has the same
 
-abbrev OfConn : ℕ → List Step → List Event → List ℕ → List SaidAsk → Bool → Option (ℕ × List ℕ × List ℕ) → Type 0
-OfConn at past h text out awaits None = Unit {0}
-OfConn at past h text out awaits (Some e) = TalkAgrees h at text (talk_in past at) e.0 e.1 e.2 out awaits
+abbrev OfConn : ℕ → List Step → List Event → List ℕ → List SaidAsk → Bool → Dialect → Option (ℕ × List ℕ × List ℕ) → Type 0
+OfConn at past h text out awaits dialect None = Unit {0}
+OfConn at past h text out awaits dialect (Some e) = TalkAgrees h at text (talk_in past at) e.0 e.1 e.2 out awaits dialect
 
 abbrev OfLine : ℕ → List Step → List Event → LineState → Type 0
-OfLine at past h s = OfConn at past h s.0 s.2 s.4 s.1 × AreCalled past at s.3
+OfLine at past h s = OfConn at past h s.0 s.2 s.4 s.5 s.1 × MayAllGo past at s.3
 
 to_line : (at : ℕ) (past : List Step) (h : List Event) (x : Link) → LineAgrees at past h x → OfLine at past h (line_of x)
 to_line at past h x a = (by x.conn refl, a.waiting)
   where
-    by : (o : Option Conn) → x.conn ≡ o → OfConn at past h x.text.items (said_asks x.calls.sent.items) x.awaits_dialect (option_map (λ (c : Conn). (c.number, c.held.items, bytes_of c.unsent)) o)
+    by : (o : Option Conn) → x.conn ≡ o → OfConn at past h x.text.items (said_asks x.calls.sent.items) x.awaits_dialect x.dialect (option_map (λ (c : Conn). (c.number, c.held.items, bytes_of c.unsent)) o)
     by None e = tt
     by (Some c) e = a.conn c e
 
 from_line : (at : ℕ) (past : List Step) (h : List Event) (y : Link) → OfLine at past h (line_of y) → LineAgrees at past h y
 from_line at past h y o = record {
-  conn = λ conn is. subst (λ (q : Option Conn). OfConn at past h y.text.items (said_asks y.calls.sent.items) y.awaits_dialect (option_map (λ (c : Conn). (c.number, c.held.items, bytes_of c.unsent)) q)) is o.0;
+  conn = λ conn is. subst (λ (q : Option Conn). OfConn at past h y.text.items (said_asks y.calls.sent.items) y.awaits_dialect y.dialect (option_map (λ (c : Conn). (c.number, c.held.items, bytes_of c.unsent)) q)) is o.0;
   waiting = o.1;
 }
 
@@ -171,14 +173,16 @@ line_keeps {at = at} {h = h} {h' = h'} {x = x} {y = y} still same =
     line_moves refl (ap (λ (s : LineState). s.0) same)
     (λ past a. (same_line at past h' x y same (line_stays h h' at [] past x (λ conn is. still conn.number) refl a), all_kept (1, at) h h' still))
 
--- of five parts
-of_five : {A B C D E : Type 0} {a a' : A} {b b' : B} {c c' : C} {d d' : D} {e e' : E} → a' ≡ a → b' ≡ b → c' ≡ c → d' ≡ d → e' ≡ e → ◌≡◌ {A = A × B × C × D × E} (a', b', c', d', e') (a, b, c, d, e)
-of_five {a = a} {a' = a'} {b = b} {b' = b'} {c = c} {c' = c'} {d = d} {d' = d'} {e = e} {e' = e'} p q r s t =
-    ap (λ x. (x, b', c', d', e')) p ∙ ap (λ x. (a, x, c', d', e')) q ∙ ap (λ x. (a, b, x, d', e')) r ∙ ap (λ x. (a, b, c, x, e')) s ∙ ap (λ x. (a, b, c, d, x)) t
+-- of six parts
+of_six :
+    {A B C D E F : Type 0} {a a' : A} {b b' : B} {c c' : C} {d d' : D} {e e' : E} {f f' : F} → a' ≡ a → b' ≡ b → c' ≡ c → d' ≡ d → e' ≡ e → f' ≡ f
+    → ◌≡◌ {A = A × B × C × D × E × F} (a', b', c', d', e', f') (a, b, c, d, e, f)
+of_six {a = a} {a' = a'} {b = b} {b' = b'} {c = c} {c' = c'} {d = d} {d' = d'} {e = e} {e' = e'} {f = f} {f' = f'} p q r s t u =
+    ap (λ x. (x, b', c', d', e', f')) p ∙ ap (λ x. (a, x, c', d', e', f')) q ∙ ap (λ x. (a, b, x, d', e', f')) r ∙ ap (λ x. (a, b, c, x, e', f')) s ∙ ap (λ x. (a, b, c, d, x, f')) t ∙ ap (λ x. (a, b, c, d, e, x)) u
 
 -- what a link's own functions leave as it was
 pub keeps_line : (x y : Link) → KeepsLines x y → line_of y ≡ line_of x
-keeps_line x y k = of_five (ap (λ t. t.items) k.text) (conns x.conn y.conn k.conn) (ap (λ c. said_asks c.sent.items) k.calls) (ap (λ w. w.items) k.waiting) k.awaits
+keeps_line x y k = of_six (ap (λ t. t.items) k.text) (conns x.conn y.conn k.conn) (ap (λ c. said_asks c.sent.items) k.calls) (ap (λ w. w.items) k.waiting) k.awaits k.dialect
   where
     ends : (c d : Conn) → d.number ≡ c.number → d.held.items ≡ c.held.items → bytes_of d.unsent ≡ bytes_of c.unsent → ◌≡◌ {A = ℕ × List ℕ × List ℕ} (d.number, d.held.items, bytes_of d.unsent) (c.number, c.held.items, bytes_of c.unsent)
     ends c d n l u =
@@ -195,15 +199,16 @@ keeps_line x y k = of_five (ap (λ t. t.items) k.text) (conns x.conn y.conn k.co
 -- ---- reads and writes
 
 talk_reads :
-    (h h' : List Event) (at : ℕ) (text : List ℕ) (t : Talk) (c : ℕ) (held held' unsent : List ℕ) (out : List SaidAsk) (awaits : Bool) → ReadsOn c held held' h h' → TalkAgrees h at text t c held unsent out awaits
-    → TalkAgrees h' at text t c held' unsent out awaits
-talk_reads h h' at text t c held held' unsent out awaits r was = record {
+    (h h' : List Event) (at : ℕ) (text : List ℕ) (t : Talk) (c : ℕ) (held held' unsent : List ℕ) (out : List SaidAsk) (awaits : Bool) (dialect : Dialect) → ReadsOn c held held' h h' → TalkAgrees h at text t c held unsent out awaits dialect
+    → TalkAgrees h' at text t c held' unsent out awaits dialect
+talk_reads h h' at text t c held held' unsent out awaits dialect r was = record {
   is_to = r.same_role ∙ was.is_to;
   address = r.same_address ∙ was.address;
   sent_is = was.sent_is ∙ ap (λ l. l ++ unsent) (sym r.same_went);
   told_is = r.came ∙ ap (λ l. l ++ r.bytes) was.told_is ∙ append_assoc t.told held r.bytes ∙ ap (λ l. t.told ++ l) (sym r.held_is);
   out_is = was.out_is;
   awaits_is = was.awaits_is;
+  dialect_is = was.dialect_is;
 }
 
 -- what came is held
@@ -216,19 +221,20 @@ line_reads {at = at} {h = h} {h' = h'} x y c d was is number unsent r =
     agrees : (past : List Step) → LineAgrees at past h x → LineAgrees at past h' y
     agrees past a =
         let out = said_asks x.calls.sent.items in
-        let now = talk_reads h h' at x.text.items (talk_in past at) c.number c.held.items d.held.items (bytes_of c.unsent) out x.awaits_dialect r (a.conn c was) in
-        subst (λ z. LineAgrees at past h' z) (sym is) (has_conn at past h' (record x { conn = Some d }) d refl (talk_as refl refl number refl unsent refl refl now) a.waiting)
+        let now = talk_reads h h' at x.text.items (talk_in past at) c.number c.held.items d.held.items (bytes_of c.unsent) out x.awaits_dialect x.dialect r (a.conn c was) in
+        subst (λ z. LineAgrees at past h' z) (sym is) (has_conn at past h' (record x { conn = Some d }) d refl (talk_as refl refl number refl unsent refl refl refl now) a.waiting)
 
 talk_sends :
-    (h h' : List Event) (at : ℕ) (text : List ℕ) (t : Talk) (c : ℕ) (held unsent unsent' : List ℕ) (out : List SaidAsk) (awaits : Bool) → SendsOn c unsent unsent' h h' → TalkAgrees h at text t c held unsent out awaits
-    → TalkAgrees h' at text t c held unsent' out awaits
-talk_sends h h' at text t c held unsent unsent' out awaits s was = record {
+    (h h' : List Event) (at : ℕ) (text : List ℕ) (t : Talk) (c : ℕ) (held unsent unsent' : List ℕ) (out : List SaidAsk) (awaits : Bool) (dialect : Dialect) → SendsOn c unsent unsent' h h' → TalkAgrees h at text t c held unsent out awaits dialect
+    → TalkAgrees h' at text t c held unsent' out awaits dialect
+talk_sends h h' at text t c held unsent unsent' out awaits dialect s was = record {
   is_to = s.same_role ∙ was.is_to;
   address = s.same_address ∙ was.address;
   sent_is = was.sent_is ∙ s.went;
   told_is = s.same_came ∙ was.told_is;
   out_is = was.out_is;
   awaits_is = was.awaits_is;
+  dialect_is = was.dialect_is;
 }
 
 -- what is to be sent goes out, as far as it is taken
@@ -241,19 +247,22 @@ line_sends {at = at} {h = h} {h' = h'} x y c d was is number held s =
     agrees : (past : List Step) → LineAgrees at past h x → LineAgrees at past h' y
     agrees past a =
         let out = said_asks x.calls.sent.items in
-        let now = talk_sends h h' at x.text.items (talk_in past at) c.number c.held.items (bytes_of c.unsent) (bytes_of d.unsent) out x.awaits_dialect s (a.conn c was) in
-        subst (λ z. LineAgrees at past h' z) (sym is) (has_conn at past h' (record x { conn = Some d }) d refl (talk_as refl refl number held refl refl refl now) a.waiting)
+        let now = talk_sends h h' at x.text.items (talk_in past at) c.number c.held.items (bytes_of c.unsent) (bytes_of d.unsent) out x.awaits_dialect x.dialect s (a.conn c was) in
+        subst (λ z. LineAgrees at past h' z) (sym is) (has_conn at past h' (record x { conn = Some d }) d refl (talk_as refl refl number held refl refl refl refl now) a.waiting)
 
 -- ---- a new connection
 
-first_agrees : (h : List Event) (at number : ℕ) (text first : List ℕ) (awaits : Bool) → IsNew number h → TalkAgrees (connects number at text ∷ h) at text (first_talk first awaits) number [] first [] awaits
-first_agrees h at number text first awaits new = record {
+first_agrees :
+    (h : List Event) (at number : ℕ) (text : List ℕ) (dialect : ServerDialect) → IsNew number h
+    → TalkAgrees (connects number at text ∷ h) at text (first_talk dialect) number [] (first_asked_of dialect) [] (awaits_first dialect) (first_dialect dialect)
+first_agrees h at number text dialect new = record {
   is_to = ap (λ b. if b then Some (1, at) else role number h) (equal number);
   address = address_begins h text at number;
-  sent_is = ap (λ l. l ++ first) (sym new.none_went);
+  sent_is = ap (λ l. l ++ first_asked_of dialect) (sym new.none_went);
   told_is = new.none_came;
   out_is = refl;
   awaits_is = refl;
+  dialect_is = refl;
 }
 
 -- a new connection is this server's only
@@ -280,11 +289,11 @@ begins at core h h' x y dialect number new noted has = record {
     by : (past : List Step) → LineAgrees at past h x → (o : Option Conn) → y.conn ≡ o → IsNewEnd number dialect o → LineAgrees at (Linked at dialect ∷ past) h' y
     by past a None e end = absurd end
     by past a (Some d) e end =
-        let talk = ap (λ b. if b then first_talk (first_asked_of dialect) (awaits_first dialect) else talk_in past at) (equal at) in
+        let talk = ap (λ b. if b then first_talk dialect else talk_in past at) (equal at) in
         let none : said_asks y.calls.sent.items ≡ [] = ap (λ c. said_asks c.sent.items) has.calls ∙ ap said_asks has.none_out in
-        let first = subst (λ k. TalkAgrees k at x.text.items (first_talk (first_asked_of dialect) (awaits_first dialect)) number [] (first_asked_of dialect) [] (awaits_first dialect)) (sym noted) (first_agrees h at number x.text.items (first_asked_of dialect) (awaits_first dialect) new) in
-        has_conn at (Linked at dialect ∷ past) h' y d e (talk_as (ap (λ t. t.items) has.text) talk end.0 end.1 end.2 none has.awaits first)
-        (calls_later (Linked at dialect ∷ []) past at y.waiting.items (subst (λ w. AreCalled past at w) (sym (ap (λ w. w.items) has.waiting)) a.waiting))
+        let first = subst (λ k. TalkAgrees k at x.text.items (first_talk dialect) number [] (first_asked_of dialect) [] (awaits_first dialect) (first_dialect dialect)) (sym noted) (first_agrees h at number x.text.items dialect new) in
+        has_conn at (Linked at dialect ∷ past) h' y d e (talk_as (ap (λ t. t.items) has.text) talk end.0 end.1 end.2 none has.awaits has.speaks first)
+        (calls_later (Linked at dialect ∷ []) past at y.waiting.items (subst (λ w. MayAllGo past at w) (sym (ap (λ w. w.items) has.waiting)) a.waiting))
 
 only_closed : (c : ℕ) (h h' : List Event) → Closes c h h' → TouchesOnly c h h'
 only_closed c h h' (inl closed) = subst (TouchesOnly c h) (sym closed) (only_closes c h)
@@ -314,49 +323,53 @@ line_opens {at} {core} {h} {h'} x y dialect opening.NoMemory opens = begins_in_v
 
 -- ---- what the server tells of its dialects
 
-talk_greets : (h : List Event) (at : ℕ) (text : List ℕ) (t : Talk) (c : ℕ) (bytes held unsent : List ℕ) (out : List SaidAsk) (awaits : Bool) → TalkAgrees h at text t c (bytes ++ held) unsent out awaits → TalkAgrees h at text (greeted bytes t) c held unsent out false
-talk_greets h at text t c bytes held unsent out awaits was = record {
+talk_greets :
+    (h : List Event) (at : ℕ) (text : List ℕ) (t : Talk) (c : ℕ) (bytes held unsent : List ℕ) (out : List SaidAsk) (awaits : Bool) (old dialect : Dialect) → TalkAgrees h at text t c (bytes ++ held) unsent out awaits old
+    → TalkAgrees h at text (greeted dialect bytes t) c held unsent out false dialect
+talk_greets h at text t c bytes held unsent out awaits old dialect was = record {
   is_to = was.is_to;
   address = was.address;
   sent_is = was.sent_is;
   told_is = was.told_is ∙ sym (append_assoc t.told bytes held);
   out_is = was.out_is;
   awaits_is = refl;
+  dialect_is = refl;
 }
 
 -- it is taken from the front of what is held, where it is awaited
 pub line_learns : {at : ℕ} {core : ServedCore} {h : List Event} (x y : Link) (can : Bool) → x.awaits_dialect ≡ true → Learns can x y → LineGoes IsOfTurn at core h x core h y
 line_learns {at} {core} {h} x y can on l = by l.told
   where
-    learned : (c d : Conn) → x.conn ≡ Some c → y.conn ≡ Some d → UsesSome (Some c) (Some d) → y.awaits_dialect ≡ false → LineGoes IsOfTurn at core h x core h y
-    learned c d was is uses off = record {
-      steps = Greeted at uses.0 ∷ [];
+    learned : (c d : Conn) → x.conn ≡ Some c → y.conn ≡ Some d → TakesGreeting y.dialect (Some c) (Some d) → HasLearnt x y → LineGoes IsOfTurn at core h x core h y
+    learned c d was is takes learnt = record {
+      steps = step ∷ [];
       kinds = (tt, tt);
       own = (refl, tt);
       walks = (core, refl, refl);
-      agrees = λ past o a. (((a.conn c was).awaits_is ∙ on, o), agreed past a, all_kept (1, at) h h (quiet h));
-      text = ap (λ (z : Link). z.text.items) l.rest;
+      agrees = λ past o a. ((((a.conn c was).awaits_is ∙ on, takes.2), o), agreed past a, all_kept (1, at) h h (quiet h));
+      text = ap (λ (z : Link). z.text.items) learnt.rest;
     }
       where
-        agreed : (past : List Step) → LineAgrees at past h x → LineAgrees at (Greeted at uses.0 ∷ past) h y
+        step : Step
+        step = Greeted at y.dialect takes.0
+
+        agreed : (past : List Step) → LineAgrees at past h x → LineAgrees at (step ∷ past) h y
         agreed past a =
-            let talk = ap (λ b. if b then greeted uses.0 (talk_in past at) else talk_in past at) (equal at) in
-            let before = talk_as refl refl refl (sym uses.1) refl refl refl (a.conn c was) in
-            let now = talk_greets h at x.text.items (talk_in past at) c.number uses.0 d.held.items (bytes_of c.unsent) (said_asks x.calls.sent.items) x.awaits_dialect before in
-            has_conn at (Greeted at uses.0 ∷ past) h y d is
-            (talk_as (ap (λ (z : Link). z.text.items) l.rest) talk (ap (λ (z : Conn). z.number) uses.2) refl (ap (λ (z : Conn). bytes_of z.unsent) uses.2) (ap (λ (z : Link). said_asks z.calls.sent.items) l.rest) off now)
-            (calls_later (Greeted at uses.0 ∷ []) past at y.waiting.items (subst (λ w. AreCalled past at w) (sym (ap (λ (z : Link). z.waiting.items) l.rest)) a.waiting))
+            let talk = ap (λ b. if b then greeted y.dialect takes.0 (talk_in past at) else talk_in past at) (equal at) in
+            let before = talk_as refl refl refl (sym takes.1) refl refl refl refl (a.conn c was) in
+            let now = talk_greets h at x.text.items (talk_in past at) c.number takes.0 d.held.items (bytes_of c.unsent) (said_asks x.calls.sent.items) x.awaits_dialect x.dialect y.dialect before in
+            has_conn at (step ∷ past) h y d is
+            (talk_as (ap (λ (z : Link). z.text.items) learnt.rest) talk (ap (λ (z : Conn). z.number) takes.3) refl (ap (λ (z : Conn). bytes_of z.unsent) takes.3) (ap (λ (z : Link). said_asks z.calls.sent.items) learnt.rest) learnt.told refl now)
+            (calls_later (step ∷ []) past at y.waiting.items (subst (λ w. MayAllGo past at w) (sym (ap (λ (z : Link). z.waiting.items) learnt.rest)) a.waiting))
 
-    by_conns : (o p : Option Conn) → x.conn ≡ o → y.conn ≡ p → UsesSome o p → y.awaits_dialect ≡ false → LineGoes IsOfTurn at core h x core h y
-    by_conns None p was is uses off =
-        line_moves refl (ap (λ (z : Link). z.text.items) l.rest)
-        (λ past a. (has_none at past h y (is ∙ uses) (subst (λ w. AreCalled past at w) (sym (ap (λ (z : Link). z.waiting.items) l.rest)) a.waiting), all_kept (1, at) h h (quiet h)))
-    by_conns (Some c) None was is uses off = absurd uses
-    by_conns (Some c) (Some d) was is uses off = learned c d was is uses off
+    by_conns : (o p : Option Conn) → x.conn ≡ o → y.conn ≡ p → TakesGreeting y.dialect o p → HasLearnt x y → LineGoes IsOfTurn at core h x core h y
+    by_conns None p was is takes learnt = absurd takes
+    by_conns (Some c) None was is takes learnt = absurd takes
+    by_conns (Some c) (Some d) was is takes learnt = learned c d was is takes learnt
 
-    by : (y ≡ x) ⊎ (y.awaits_dialect ≡ false) → LineGoes IsOfTurn at core h x core h y
+    by : (y ≡ x) ⊎ HasLearnt x y → LineGoes IsOfTurn at core h x core h y
     by (inl same) = line_keeps (quiet h) (ap line_of same)
-    by (inr off) = by_conns x.conn y.conn refl refl l.uses off
+    by (inr learnt) = by_conns x.conn y.conn refl refl learnt.takes learnt
 
 -- ---- calls
 
@@ -365,22 +378,24 @@ one_said [] call = refl
 one_said (first ∷ calls) call = ap (λ (l : List SaidAsk). (first.ticket.number, first.dialect, first.ticket.ask) ∷ l) (one_said calls call)
 
 talk_asks :
-    (h : List Event) (at : ℕ) (text : List ℕ) (t : Talk) (c : ℕ) (held unsent : List ℕ) (out : List SaidAsk) (awaits : Bool) (number : ℕ) (dialect : Dialect) (ask : Ask) → TalkAgrees h at text t c held unsent out awaits
-    → TalkAgrees h at text (with_ask number dialect ask t) c held (unsent ++ spelling_of (asked_in dialect ask)) (out ++ (number, dialect, ask) ∷ []) awaits
-talk_asks h at text t c held unsent out awaits number dialect ask was = record {
+    (h : List Event) (at : ℕ) (text : List ℕ) (t : Talk) (c : ℕ) (held unsent : List ℕ) (out : List SaidAsk) (awaits : Bool) (speaks : Dialect) (number : ℕ) (dialect : Dialect) (ask : Ask)
+    → TalkAgrees h at text t c held unsent out awaits speaks
+    → TalkAgrees h at text (with_ask number dialect ask t) c held (unsent ++ spelling_of (asked_in dialect ask)) (out ++ (number, dialect, ask) ∷ []) awaits speaks
+talk_asks h at text t c held unsent out awaits speaks number dialect ask was = record {
   is_to = was.is_to;
   address = was.address;
   sent_is = ap (λ l. l ++ spelling_of (asked_in dialect ask)) was.sent_is ∙ append_assoc (taken c h) unsent (spelling_of (asked_in dialect ask));
   told_is = was.told_is;
   out_is = ap (λ (l : List SaidAsk). l ++ (number, dialect, ask) ∷ []) was.out_is;
   awaits_is = was.awaits_is;
+  dialect_is = was.dialect_is;
 }
 
 -- a call that the core gave out for its server is asked
 pub line_asks :
     {at : ℕ} {core : ServedCore} {h : List Event} (x y : Link) (c d : Conn) (call : SentCall) → x.conn ≡ Some c → y ≡ record x { calls = y.calls; conn = Some d } → d ≡ record c { unsent = d.unsent }
     → y.calls.sent.items ≡ x.calls.sent.items ++ call ∷ [] → bytes_of d.unsent ≡ bytes_of c.unsent ++ spelling_of (asked_in call.dialect call.ticket.ask)
-    → LineGoesFrom (LineCalled call.ticket.number call.ticket.ask) LineAgrees IsSending at core h x core h y
+    → LineGoesFrom (LineCalled call) LineAgrees IsSending at core h x core h y
 line_asks {at} {core} {h} x y c d call was is same more unsent = record {
   steps = step ∷ [];
   kinds = (tt, tt);
@@ -396,16 +411,16 @@ line_asks {at} {core} {h} x y c d call was is same more unsent = record {
     agreed : (past : List Step) → LineAgrees at past h x → LineAgrees at (step ∷ past) h y
     agreed past a =
         let talk = ap (λ b. if b then with_ask call.ticket.number call.dialect call.ticket.ask (talk_in past at) else talk_in past at) (equal at) in
-        let now = talk_asks h at x.text.items (talk_in past at) c.number c.held.items (bytes_of c.unsent) (said_asks x.calls.sent.items) x.awaits_dialect call.ticket.number call.dialect call.ticket.ask (a.conn c was) in
+        let now = talk_asks h at x.text.items (talk_in past at) c.number c.held.items (bytes_of c.unsent) (said_asks x.calls.sent.items) x.awaits_dialect x.dialect call.ticket.number call.dialect call.ticket.ask (a.conn c was) in
         has_conn at (step ∷ past) h y d (ap (λ (z : Link). z.conn) is)
-        (talk_as (ap (λ (z : Link). z.text.items) is) talk (ap (λ (z : Conn). z.number) same) (ap (λ (z : Conn). z.held.items) same) unsent (ap said_asks more ∙ one_said x.calls.sent.items call) (ap (λ (z : Link). z.awaits_dialect) is) now)
-        (calls_later (step ∷ []) past at y.waiting.items (subst (λ w. AreCalled past at w) (sym (ap (λ (z : Link). z.waiting.items) is)) a.waiting))
+        (talk_as (ap (λ (z : Link). z.text.items) is) talk (ap (λ (z : Conn). z.number) same) (ap (λ (z : Conn). z.held.items) same) unsent (ap said_asks more ∙ one_said x.calls.sent.items call) (ap (λ (z : Link). z.awaits_dialect) is) (ap (λ (z : Link). z.dialect) is) now)
+        (calls_later (step ∷ []) past at y.waiting.items (subst (λ w. MayAllGo past at w) (sym (ap (λ (z : Link). z.waiting.items) is)) a.waiting))
 
 -- a link that has another list of calls that wait
-waits_with : (at : ℕ) (past : List Step) (h : List Event) (x y : Link) → y ≡ record x { waiting = y.waiting } → LineAgrees at past h x → AreCalled past at y.waiting.items → LineAgrees at past h y
+waits_with : (at : ℕ) (past : List Step) (h : List Event) (x y : Link) → y ≡ record x { waiting = y.waiting } → LineAgrees at past h x → MayAllGo past at y.waiting.items → LineAgrees at past h y
 waits_with at past h x y is a waiting = record {
   conn = λ conn there.
-      talk_as (ap (λ (z : Link). z.text.items) is) refl refl refl refl (ap (λ (z : Link). said_asks z.calls.sent.items) is) (ap (λ (z : Link). z.awaits_dialect) is)
+      talk_as (ap (λ (z : Link). z.text.items) is) refl refl refl refl (ap (λ (z : Link). said_asks z.calls.sent.items) is) (ap (λ (z : Link). z.awaits_dialect) is) (ap (λ (z : Link). z.dialect) is)
       (a.conn conn (sym (ap (λ (z : Link). z.conn) is) ∙ there));
   waiting = waiting;
 }
@@ -413,40 +428,41 @@ waits_with at past h x y is a waiting = record {
 -- it waits
 pub line_waits :
     {Is : Step → Type 0} {at : ℕ} {core : ServedCore} {h : List Event} (x y : Link) (call : SentCall) → y ≡ record x { waiting = y.waiting } → y.waiting.items ≡ x.waiting.items ++ call ∷ []
-    → LineGoesFrom (LineCalled call.ticket.number call.ticket.ask) LineAgrees Is at core h x core h y
+    → LineGoesFrom (LineCalled call) LineAgrees Is at core h x core h y
 line_waits {at = at} {h = h} x y call is more =
     line_moves refl (ap (λ (z : Link). z.text.items) is)
-    (λ past a. (waits_with at past h x y is a.0 (subst (λ w. AreCalled past at w) (sym more) (one_more past at x.waiting.items call a.0.waiting a.1)), all_kept (1, at) h h (quiet h)))
+    (λ past a. (waits_with at past h x y is a.0 (subst (λ w. MayAllGo past at w) (sym more) (one_more past at x.waiting.items call a.0.waiting a.1)), all_kept (1, at) h h (quiet h)))
 
 -- the first that waits is taken
 pub line_takes :
     {Is : Step → Type 0} {at : ℕ} {core : ServedCore} {h : List Event} (x y : Link) (call : SentCall) → y ≡ record x { waiting = y.waiting } → x.waiting.items ≡ call ∷ y.waiting.items
-    → LineGoesFrom LineAgrees (LineCalled call.ticket.number call.ticket.ask) Is at core h x core h y
+    → LineGoesFrom LineAgrees (LineCalled call) Is at core h x core h y
 line_takes {at = at} {h = h} x y call is first =
     line_moves refl (ap (λ (z : Link). z.text.items) is)
-    (λ past a. let all = subst (λ w. AreCalled past at w) first a.waiting in ((waits_with at past h x y is a all.1, all.0), all_kept (1, at) h h (quiet h)))
+    (λ past a. let all = subst (λ w. MayAllGo past at w) first a.waiting in ((waits_with at past h x y is a all.1, all.0), all_kept (1, at) h h (quiet h)))
 
 -- ---- answers
 
 talk_answers :
-    (h : List Event) (at : ℕ) (text : List ℕ) (t : Talk) (c : ℕ) (spelled held unsent : List ℕ) (out out' : List SaidAsk) (awaits : Bool) → TalkAgrees h at text t c (spelled ++ held) unsent out awaits
-    → TalkAgrees h at text (record t { told = t.told ++ spelled; out = out' }) c held unsent out' awaits
-talk_answers h at text t c spelled held unsent out out' awaits was = record {
+    (h : List Event) (at : ℕ) (text : List ℕ) (t : Talk) (c : ℕ) (spelled held unsent : List ℕ) (out out' : List SaidAsk) (awaits : Bool) (dialect : Dialect) → TalkAgrees h at text t c (spelled ++ held) unsent out awaits dialect
+    → TalkAgrees h at text (record t { told = t.told ++ spelled; out = out' }) c held unsent out' awaits dialect
+talk_answers h at text t c spelled held unsent out out' awaits dialect was = record {
   is_to = was.is_to;
   address = was.address;
   sent_is = was.sent_is;
   told_is = was.told_is ∙ sym (append_assoc t.told spelled held);
   out_is = refl;
   awaits_is = was.awaits_is;
+  dialect_is = was.dialect_is;
 }
 
 -- the answers in front of what is held settle calls, and this is left of it
 settles_to :
     {After : ℕ → List Step → List Event → Link → Type 0} {at : ℕ} {core core' : ServedCore} {h : List Event} (x y : Link) (c d : Conn) (rest : List ℕ) → x.conn ≡ Some c → x.awaits_dialect ≡ false
-    → y.text.items ≡ x.text.items → y.waiting.items ≡ x.waiting.items → y.awaits_dialect ≡ x.awaits_dialect → d.number ≡ c.number → bytes_of d.unsent ≡ bytes_of c.unsent
-    → ((past : List Step) → ConnAgrees at past h y d rest → AreCalled past at y.waiting.items → After at past h y)
+    → y.text.items ≡ x.text.items → y.waiting.items ≡ x.waiting.items → y.awaits_dialect ≡ x.awaits_dialect → y.dialect ≡ x.dialect → d.number ≡ c.number → bytes_of d.unsent ≡ bytes_of c.unsent
+    → ((past : List Step) → ConnAgrees at past h y d rest → MayAllGo past at y.waiting.items → After at past h y)
     → SettlesSome x.calls.sent.items c.held.items core y.calls.sent.items rest core' → LineGoesFrom LineAgrees After IsOfTurn at core h x core' h y
-settles_to {After} {at} {core} {core'} {h} x y c d rest was off text waiting awaits number unsent after s = record {
+settles_to {After} {at} {core} {core'} {h} x y c d rest was off text waiting awaits speaks number unsent after s = record {
   steps = g.steps;
   kinds = g.kinds;
   own = g.own;
@@ -460,25 +476,25 @@ settles_to {After} {at} {core} {core'} {h} x y c d rest was off text waiting awa
 
     agreed : (past : List Step) → LineAgrees at past h x → talk_in (g.steps ++ past) at ≡ record (talk_in past at) { told = (talk_in past at).told ++ g.spelled; out = said_asks y.calls.sent.items } → After at (g.steps ++ past) h y
     agreed past a talk =
-        let before = talk_as refl refl refl (sym g.whole) refl refl refl (a.conn c was) in
-        let now = talk_answers h at x.text.items (talk_in past at) c.number g.spelled rest (bytes_of c.unsent) (said_asks x.calls.sent.items) (said_asks y.calls.sent.items) x.awaits_dialect before in
-        after (g.steps ++ past) (talk_as text talk number refl unsent refl awaits now) (calls_later g.steps past at y.waiting.items (subst (λ w. AreCalled past at w) (sym waiting) a.waiting))
+        let before = talk_as refl refl refl (sym g.whole) refl refl refl refl (a.conn c was) in
+        let now = talk_answers h at x.text.items (talk_in past at) c.number g.spelled rest (bytes_of c.unsent) (said_asks x.calls.sent.items) (said_asks y.calls.sent.items) x.awaits_dialect x.dialect before in
+        after (g.steps ++ past) (talk_as text talk number refl unsent refl awaits speaks now) (calls_later g.steps past at y.waiting.items (subst (λ w. MayAllGo past at w) (sym waiting) a.waiting))
 
 -- what is left of it is held
 pub line_settles :
     {at : ℕ} {core core' : ServedCore} {h : List Event} (x y : Link) (c d : Conn) → x.conn ≡ Some c → y.conn ≡ Some d → x.awaits_dialect ≡ false → y.text.items ≡ x.text.items → y.waiting.items ≡ x.waiting.items
-    → y.awaits_dialect ≡ x.awaits_dialect → d.number ≡ c.number → bytes_of d.unsent ≡ bytes_of c.unsent → SettlesSome x.calls.sent.items c.held.items core y.calls.sent.items d.held.items core'
+    → y.awaits_dialect ≡ x.awaits_dialect → y.dialect ≡ x.dialect → d.number ≡ c.number → bytes_of d.unsent ≡ bytes_of c.unsent → SettlesSome x.calls.sent.items c.held.items core y.calls.sent.items d.held.items core'
     → LineGoes IsOfTurn at core h x core' h y
-line_settles {at} {core} {core'} {h} x y c d was is off text waiting awaits number unsent s =
-    settles_to x y c d d.held.items was off text waiting awaits number unsent (λ past agrees called. has_conn at past h y d is agrees called) s
+line_settles {at} {core} {core'} {h} x y c d was is off text waiting awaits speaks number unsent s =
+    settles_to x y c d d.held.items was off text waiting awaits speaks number unsent (λ past agrees called. has_conn at past h y d is agrees called) s
 
 -- or it is lost
 pub line_loses :
     {at : ℕ} {core core' : ServedCore} {h : List Event} (x y : Link) (c d : Conn) (rest : List ℕ) → x.conn ≡ Some c → y.conn ≡ Some d → x.awaits_dialect ≡ false → y.text.items ≡ x.text.items
-    → y.waiting.items ≡ x.waiting.items → y.awaits_dialect ≡ x.awaits_dialect → d.number ≡ c.number → bytes_of d.unsent ≡ bytes_of c.unsent → SettlesSome x.calls.sent.items c.held.items core y.calls.sent.items rest core'
+    → y.waiting.items ≡ x.waiting.items → y.awaits_dialect ≡ x.awaits_dialect → y.dialect ≡ x.dialect → d.number ≡ c.number → bytes_of d.unsent ≡ bytes_of c.unsent → SettlesSome x.calls.sent.items c.held.items core y.calls.sent.items rest core'
     → LineGoesFrom LineAgrees LineLost IsOfTurn at core h x core' h y
-line_loses {at} {core} {core'} {h} x y c d rest was is off text waiting awaits number unsent s =
-    settles_to x y c d rest was off text waiting awaits number unsent
+line_loses {at} {core} {core'} {h} x y c d rest was is off text waiting awaits speaks number unsent s =
+    settles_to x y c d rest was off text waiting awaits speaks number unsent
     (λ past agrees called. record { conn = λ conn there. subst (λ (z : Conn). (held : List ℕ) × ConnAgrees at past h y z held) (same_some (sym is ∙ there)) (rest, agrees); waiting = called }) s
 
 -- ---- the end of a connection
@@ -488,7 +504,7 @@ pub line_closes :
     {Is : Step → Type 0} {at : ℕ} {core : ServedCore} {h h' : List Event} (x y : Link) (r : Option ℕ) → r ≡ option_map (λ (z : Conn). z.number) x.conn → IfSome r (λ c. Closes c h h') → (r ≡ None → h' ≡ h) → y.conn ≡ None
     → y.text.items ≡ x.text.items → y.waiting.items ≡ x.waiting.items → LineGoesFrom LineLost LineAgrees Is at core h x core h' y
 line_closes {at = at} {h = h} {h' = h'} x y r r_is some none closed text waiting =
-    line_moves refl text (λ past a. (has_none at past h' y closed (subst (λ w. AreCalled past at w) (sym waiting) a.waiting), keeps past a x.conn refl))
+    line_moves refl text (λ past a. (has_none at past h' y closed (subst (λ w. MayAllGo past at w) (sym waiting) a.waiting), keeps past a x.conn refl))
   where
     keeps : (past : List Step) → LineLost at past h x → (o : Option Conn) → x.conn ≡ o → KeepsOthers (1, at) h h'
     keeps past a None e = all_kept (1, at) h h' (λ d. subst (IsUntouched d h) (sym (none (r_is ∙ ap (option_map (λ (z : Conn). z.number)) e))) (untouched d h))
@@ -505,7 +521,7 @@ line_shuts {at = at} {h' = h'} {z = z} g closed text waiting = record {
   kinds = g.kinds;
   own = g.own;
   walks = g.walks;
-  agrees = λ past o was. let r = g.agrees past o was in (r.0, has_none at (g.steps ++ past) h' z closed (subst (λ w. AreCalled (g.steps ++ past) at w) (sym waiting) r.1.waiting), r.2);
+  agrees = λ past o was. let r = g.agrees past o was in (r.0, has_none at (g.steps ++ past) h' z closed (subst (λ w. MayAllGo (g.steps ++ past) at w) (sym waiting) r.1.waiting), r.2);
   text = text ∙ g.text;
 }
 
@@ -520,13 +536,14 @@ failed_own at (Stopped client fault ∷ steps) kinds = absurd kinds.0
 failed_own at (Gave client bytes ∷ steps) kinds = absurd kinds.0
 failed_own at (Closed client ∷ steps) kinds = absurd kinds.0
 failed_own at (LeftLine client ∷ steps) kinds = absurd kinds.0
+failed_own at (Broke client ∷ steps) kinds = absurd kinds.0
 failed_own at (Loaded configuration generation ∷ steps) kinds = absurd kinds.0
 failed_own at (Linked a dialect ∷ steps) kinds = absurd kinds.0
 failed_own at (Asked a number dialect ask ∷ steps) kinds = absurd kinds.0
-failed_own at (Greeted a bytes ∷ steps) kinds = absurd kinds.0
+failed_own at (Greeted a dialect bytes ∷ steps) kinds = absurd kinds.0
 failed_own at (Spelled a number ask answer bytes ∷ steps) kinds = absurd kinds.0
 
-last_called : (past : List Step) (at : ℕ) (first later : List SentCall) → AreCalled past at (first ++ later) → AreCalled past at later
+last_called : (past : List Step) (at : ℕ) (first later : List SentCall) → MayAllGo past at (first ++ later) → MayAllGo past at later
 last_called past at [] later are = are
 last_called past at (call ∷ first) later are = last_called past at first later are.1
 
@@ -543,7 +560,7 @@ line_fails {at} {core} {core'} {h} x y gone f none text waiting =
       walks = f.walks;
       agrees = λ past o a. (
         plain_orderly f.steps own.1 past o,
-        has_none at (f.steps ++ past) h y none (calls_later f.steps past at y.waiting.items (last_called past at gone y.waiting.items (subst (λ w. AreCalled past at w) waiting a.waiting))),
+        has_none at (f.steps ++ past) h y none (calls_later f.steps past at y.waiting.items (last_called past at gone y.waiting.items (subst (λ w. MayAllGo past at w) waiting a.waiting))),
         all_kept (1, at) h h (quiet h),
       );
       text = text;

@@ -1,9 +1,10 @@
 -- How the ends of a proxy go on, one after another.
-use Rattle.std.proofs.Common.{◌≡◌, ◌≢◌, ◌⊎◌, ℕ, Bool, true, false, List, [], ◌∷◌, ◌++◌, Option, Some, None, refl, sym, ap, ◌∙◌, subst, inl, inr, append_assoc}
+use Rattle.std.proofs.Common.{◌≡◌, ◌≢◌, ◌⊎◌, ℕ, Bool, true, false, List, [], ◌∷◌, ◌++◌, Option, Some, None, refl, sym, ap, ◌∙◌, subst, inl, inr, append_assoc, append-nil}
 use Rattle.std.specs.Prelude.{IfSome, nat_eq, slice_get}
 use Rattle.std.specs.Option.{option_map}
 use Rattle.std.proofs.lemmas.Bool.{cases_Bool, eq-eqb, eqb-true}
 use Rattle.mc_types.specs.declared.ask.Ask.{Ask}
+use Rattle.mc_types.specs.declared.ask.Dialect.{Dialect}
 use Rattle.wire_parts.specs.Sending.{bytes_of}
 use Rattle.serve_wire.specs.Events.{Event, role, delivered, taken}
 use Rattle.serve_wire.specs.Agreement.{ClientLost, IsUntouched}
@@ -14,11 +15,12 @@ use Rattle.serve_clients.specs.declared.clients.Clients.{Clients}
 use Rattle.serve_clients.specs.Agrees.{EndAgrees, AllAgree}
 use Rattle.serve_clients.proofs.Agreeing.{its, state_stays, client_lost}
 use Rattle.serve_clients.specs.Marks.{client_of}
+use Rattle.serve_links.specs.declared.calls.calls.SentCall.{SentCall}
 use Rattle.serve_links.specs.declared.link.Link.{Link}
 use Rattle.serve_links.specs.CoreSteps.{Step, Closed, Opened, AreOf}
 use Rattle.serve_links.specs.Talks.{SaidAsk, Talk, talk_in}
-use Rattle.serve_links.specs.Story.{fed_in, gave_in, AgreesWith, IsGone, HasOrHad, TalkAgrees, said_asks, LineAgrees, LinesAgree, texts_of, OneGoes, LineGoesFrom, LineGoes, AnEnd, Agrees, AgreesBut, AgreesCalled, AllGoFrom, AllGo, StoriesGoOn}
-use Rattle.serve_links.proofs.Talking.{called_later, calls_later, IsPlain, clients_plain, plain_talk, plain_orderly, server_tells_none, talk_elsewhere}
+use Rattle.serve_links.specs.Story.{fed_in, gave_in, is_open_in, is_broken_in, AgreesWith, IsTold, AreTold, TellsNone, TookAll, EndsBy, IsGone, HasOrHad, TalkAgrees, said_asks, LineAgrees, LinesAgree, texts_of, OneGoes, LineGoesFrom, LineGoes, AnEnd, Agrees, AgreesBut, AgreesCalled, AllGoFrom, AllGo, StoriesGoOn, AgreesSent}
+use Rattle.serve_links.proofs.Talking.{called_later, calls_later, IsPlain, clients_plain, plain_talk, plain_orderly, server_tells_none, talk_elsewhere, go_later}
 use Rattle.serve_links.proofs.Walked.{walked, of_both}
 
 -- ---- one end
@@ -49,17 +51,36 @@ each_client h input output clients each id = by (client_of clients id) refl
     by None e = tt
     by (Some x) e = each id x e
 
+-- how an end stands is told still where nothing more was told of it
+pub told_still : (past steps : List Step) (id : ℕ) (x y : Client) → TellsNone id past steps → y.is_broken ≡ x.is_broken → IsTold past id x → IsTold (steps ++ past) id y
+told_still past steps id x y none same was = (none.2 ∙ was.0, none.3 ∙ was.1 ∙ sym same)
+
+pub at_told : (past : List Step) (clients : Clients) (id : ℕ) (x : Client) → client_of clients id ≡ Some x → AreTold past clients → IsTold past id x
+at_told past clients id x is all = subst (λ o. IfSome o (IsTold past id)) is (all id)
+
+pub each_told : (past : List Step) (clients : Clients) → ((id : ℕ) (x : Client) → client_of clients id ≡ Some x → IsTold past id x) → AreTold past clients
+each_told past clients each id = by (client_of clients id) refl
+  where
+    by : (o : Option Client) → client_of clients id ≡ o → IfSome o (IsTold past id)
+    by None e = tt
+    by (Some x) e = each id x e
+
+-- of all, where nothing more was told of any
+pub all_told : (past steps : List Step) (clients : Clients) → ((j : ℕ) → TellsNone j past steps) → AreTold past clients → AreTold (steps ++ past) clients
+all_told past steps clients none was = each_told (steps ++ past) clients (λ j z there. told_still past steps j z z (none j) refl (at_told past clients j z there was))
+
 -- a connection that nothing touched, and of which nothing more was told
 pub talk_stays :
-    (h h' : List Event) (at : ℕ) (text : List ℕ) (t t' : Talk) (c : ℕ) (held unsent : List ℕ) (out : List SaidAsk) (awaits : Bool) → IsUntouched c h h' → t' ≡ t
-    → TalkAgrees h at text t c held unsent out awaits → TalkAgrees h' at text t' c held unsent out awaits
-talk_stays h h' at text t t' c held unsent out awaits same e was = record {
+    (h h' : List Event) (at : ℕ) (text : List ℕ) (t t' : Talk) (c : ℕ) (held unsent : List ℕ) (out : List SaidAsk) (awaits : Bool) (dialect : Dialect) → IsUntouched c h h' → t' ≡ t
+    → TalkAgrees h at text t c held unsent out awaits dialect → TalkAgrees h' at text t' c held unsent out awaits dialect
+talk_stays h h' at text t t' c held unsent out awaits dialect same e was = record {
   is_to = same.same_role ∙ was.is_to;
   address = same.same_address ∙ was.address;
   sent_is = ap (λ (x : Talk). x.sent) e ∙ was.sent_is ∙ ap (λ l. l ++ unsent) (sym same.same_went);
   told_is = same.same_came ∙ was.told_is ∙ ap (λ (x : Talk). x.told ++ held) (sym e);
   out_is = ap (λ (x : Talk). x.out) e ∙ was.out_is;
   awaits_is = ap (λ (x : Talk). x.awaits) e ∙ was.awaits_is;
+  dialect_is = ap (λ (x : Talk). x.dialect) e ∙ was.dialect_is;
 }
 
 -- a link whose connection nothing touched, and of whose server nothing more was told
@@ -68,7 +89,7 @@ pub line_stays :
     → LineAgrees at past h link → LineAgrees at (steps ++ past) h' link
 line_stays h h' at steps past link same told was = record {
   conn = λ conn is.
-      talk_stays h h' at link.text.items (talk_in past at) (talk_in (steps ++ past) at) conn.number conn.held.items (bytes_of conn.unsent) (said_asks link.calls.sent.items) link.awaits_dialect (same conn is) told (was.conn conn is);
+      talk_stays h h' at link.text.items (talk_in past at) (talk_in (steps ++ past) at) conn.number conn.held.items (bytes_of conn.unsent) (said_asks link.calls.sent.items) link.awaits_dialect link.dialect (same conn is) told (was.conn conn is);
   waiting = calls_later steps past at link.waiting.items was.waiting;
 }
 
@@ -90,13 +111,22 @@ lost_told h h' input output id conn same was = record {
   output_is = was.output_is ∙ ap (λ l. l ++ was.unsent) (sym same.2);
 }
 
+-- all was taken still
+took_told : (past : List Step) (h h' : List Event) (id conn : ℕ) → TellsSame conn h h' → TookAll past h id conn → TookAll past h' id conn
+took_told past h h' id conn same (inl all) = inl (all ∙ sym same.2)
+took_told past h h' id conn same (inr broken) = inr broken
+
+ends_told : (last : Step) (past : List Step) (h h' : List Event) (id conn : ℕ) → TellsSame conn h h' → EndsBy last past h id conn → EndsBy last past h' id conn
+ends_told last past h h' id conn same (inl closed) = inl (closed.0, closed.1, took_told past h h' id conn same closed.2)
+ends_told last past h h' id conn same (inr opened) = inr opened
+
 -- what is known of one that is gone stays known
 pub gone_stays : (past steps : List Step) (h h' : List Event) (id conn : ℕ) → TellsSame conn h h' → IsGone past h id conn → IsGone (steps ++ past) h' id conn
 gone_stays past steps h h' id conn same gone = record {
   later = steps ++ gone.later;
   last = gone.last;
-  ends = gone.ends;
   earlier = gone.earlier;
+  ends = ends_told gone.last gone.earlier h h' id conn same gone.ends;
   parts = ap (λ l. steps ++ l) gone.parts ∙ sym (append_assoc steps gone.later (gone.last ∷ gone.earlier));
   lost = lost_told h h' (fed_in gone.earlier) (gave_in gone.earlier) id conn same gone.lost;
 }
@@ -109,15 +139,23 @@ end_lost h input output id x was = by x.is_broken refl
     by false e = client_lost h input output id x.conn.number x.conn.held.items (bytes_of x.conn.unsent) (was.stands e)
     by true e = was.lost e
 
+-- where nothing is unsent, all was taken, or the end is broken off
+pub took_all : (past : List Step) (h : List Event) (id : ℕ) (x : Client) → AgreesWith past h id x → IsTold past id x → bytes_of x.conn.unsent ≡ [] → TookAll past h id x.conn.number
+took_all past h id x was told none = by x.is_broken refl
+  where
+    by : (b : Bool) → x.is_broken ≡ b → TookAll past h id x.conn.number
+    by false e = inl ((was.stands e).output_is ∙ ap (λ l. taken x.conn.number h ++ l) none ∙ append-nil (taken x.conn.number h))
+    by true e = inr (told.1 ∙ e)
+
 -- the client whose end this was is gone by this call
 pub end_gone :
-    (past steps : List Step) (last : Step) (h h' : List Event) (id conn : ℕ) (x : Client) → (last ≡ Closed id) ⊎ (last ≡ Opened id) → AgreesWith past h id x → x.conn.number ≡ conn → TellsSame conn h h'
+    (past steps : List Step) (last : Step) (h h' : List Event) (id conn : ℕ) (x : Client) → EndsBy last past h id conn → AgreesWith past h id x → x.conn.number ≡ conn → TellsSame conn h h'
     → IsGone (steps ++ last ∷ past) h' id conn
 end_gone past steps last h h' id conn x ends was is same = record {
   later = steps;
   last = last;
-  ends = ends;
   earlier = past;
+  ends = ends_told last past h h' id conn same ends;
   parts = refl;
   lost = lost_told h h' (fed_in past) (gave_in past) id conn same (subst (λ c. ClientLost h (fed_in past) (gave_in past) id c) is (end_lost h (fed_in past) (gave_in past) id x was));
 }
@@ -159,11 +197,11 @@ same_client i j e = ap (λ (p : ℕ × ℕ). p.1) (same_some (0, i) (0, j) e)
 -- ---- one end among all
 
 -- one client's end goes on, and the others are as they were
-pub one_of_all :
+pub one_agrees :
     {Is : Step → Type 0} (id : ℕ) (old new : AnEnd) (x y : Client) → client_of old.clients id ≡ Some x → client_of new.clients id ≡ Some y
     → ((j : ℕ) → nat_eq id j ≡ false → client_of new.clients j ≡ client_of old.clients j) → new.links ≡ old.links
-    → OneGoes Is id old.core old.history x new.core new.history y → AllGo Is old new
-one_of_all {Is} id old new x y was is others links g = record { steps = g.steps; kinds = g.kinds; walks = g.walks; agree = agree; texts = ap texts_of links }
+    → (g : OneGoes Is id old.core old.history x new.core new.history y) (past : List Step) → Agrees past old → Agrees (g.steps ++ past) new
+one_agrees {Is} id old new x y was is others links g = agree
   where
     h : List Event
     h = old.history
@@ -187,6 +225,14 @@ one_of_all {Is} id old new x y was is others links g = record { steps = g.steps;
             let mine_was = was_of past a id x was in let was_z = was_of past a j z (sym (others j e) ∙ there) in let told = g.others past j e in
             let apart_is = apart x.conn.number z.conn.number h (0, id) (0, j) (its h (fed_in past) (gave_in past) id x mine_was) (its h (fed_in past) (gave_in past) j z was_z) (λ same. client_apart id j e (sym same)) in
             end_stays h h' (fed_in past) (gave_in past) (fed_in (g.steps ++ past)) (gave_in (g.steps ++ past)) j z (g.only z.conn.number apart_is) told.0 told.1 was_z
+
+    told : (past : List Step) → Agrees past old → (j : ℕ) (z : Client) → client_of new.clients j ≡ Some z → IsTold (g.steps ++ past) j z
+    told past a j z there = elim (cases_Bool (nat_eq id j)) [ inl e ↦ mine (eqb-true id j e) | inr e ↦ told_still past g.steps j z z (g.others past j e) refl (at_told past old.clients j z (sym (others j e) ∙ there) a.told) ]
+      where
+        mine : id ≡ j → IsTold (g.steps ++ past) j z
+        mine e =
+            let z_is : y ≡ z = same_some y z (sym is ∙ ap (client_of new.clients) e ∙ there) in
+            subst (λ k. IsTold (g.steps ++ past) k z) e (subst (λ c. IsTold (g.steps ++ past) id c) z_is (g.told past (at_told past old.clients id x was a.told)))
 
     plain : AreOf IsPlain g.steps
     plain = clients_plain g.steps g.own
@@ -223,9 +269,16 @@ one_of_all {Is} id old new x y was is others links g = record { steps = g.steps;
     agree past a = record {
       orderly = plain_orderly g.steps plain past a.orderly;
       clients = each_client h' (fed_in (g.steps ++ past)) (gave_in (g.steps ++ past)) new.clients (client past a);
+      told = each_told (g.steps ++ past) new.clients (told past a);
       links = lines past a;
       gone = gone past a;
     }
+
+pub one_of_all :
+    {Is : Step → Type 0} (id : ℕ) (old new : AnEnd) (x y : Client) → client_of old.clients id ≡ Some x → client_of new.clients id ≡ Some y
+    → ((j : ℕ) → nat_eq id j ≡ false → client_of new.clients j ≡ client_of old.clients j) → new.links ≡ old.links
+    → OneGoes Is id old.core old.history x new.core new.history y → AllGo Is old new
+one_of_all id old new x y was is others links g = record { steps = g.steps; kinds = g.kinds; walks = g.walks; agree = one_agrees id old new x y was is others links g; texts = ap texts_of links }
 
 -- one link's end goes on, and the others are as they were
 pub line_among :
@@ -261,6 +314,7 @@ line_among {Before} {After} {Is} at old new x y was is others texts clients_are 
     agree past a = let goes = g.agrees past a.orderly (a.this x was) in record {
       orderly = goes.0;
       clients = each_client h' (fed_in (g.steps ++ past)) (gave_in (g.steps ++ past)) new.clients (client past a);
+      told = each_told (g.steps ++ past) new.clients (λ j z there. told_still past g.steps j z z (server_tells_none at g.steps g.own past j) refl (at_told past old.clients j z (sym (clients_are j) ∙ there) a.told));
       links = other past a;
       this = λ link there. subst (After at (g.steps ++ past) h') (same_some y link (sym is ∙ there)) goes.1;
       gone = gone past a;
@@ -268,20 +322,20 @@ line_among {Before} {After} {Is} at old new x y was is others texts clients_are 
 
 -- where the link at one place agrees like the others, all agree
 pub but_all : (at : ℕ) (past : List Step) (x : AnEnd) → AgreesBut LineAgrees at past x → Agrees past x
-but_all at past x a = record { orderly = a.orderly; clients = a.clients; links = λ j link there. elim (cases_Bool (nat_eq at j)) [ inl e ↦ mine j link there (eqb-true at j e) | inr e ↦ a.links j link e there ]; gone = a.gone }
+but_all at past x a = record { orderly = a.orderly; clients = a.clients; told = a.told; links = λ j link there. elim (cases_Bool (nat_eq at j)) [ inl e ↦ mine j link there (eqb-true at j e) | inr e ↦ a.links j link e there ]; gone = a.gone }
   where
     mine : (j : ℕ) (link : Link) → slice_get x.links j ≡ Some link → at ≡ j → LineAgrees j past x.history link
     mine j link there e = subst (λ k. LineAgrees k past x.history link) e (a.this link (ap (slice_get x.links) e ∙ there))
 
 -- and where none is there
 pub but_none : {This : ℕ → List Step → List Event → Link → Type 0} (at : ℕ) (past : List Step) (x : AnEnd) → slice_get x.links at ≡ None → AgreesBut This at past x → Agrees past x
-but_none at past x none a = record { orderly = a.orderly; clients = a.clients; links = λ j link there. elim (cases_Bool (nat_eq at j)) [ inl e ↦ absurd (nobody (sym none ∙ ap (slice_get x.links) (eqb-true at j e) ∙ there)) | inr e ↦ a.links j link e there ]; gone = a.gone }
+but_none at past x none a = record { orderly = a.orderly; clients = a.clients; told = a.told; links = λ j link there. elim (cases_Bool (nat_eq at j)) [ inl e ↦ absurd (nobody (sym none ∙ ap (slice_get x.links) (eqb-true at j e) ∙ there)) | inr e ↦ a.links j link e there ]; gone = a.gone }
   where
     nobody : {link : Link} → None ≡ Some link → ⊥
     nobody e = cc
 
 pub all_but : (at : ℕ) (past : List Step) (x : AnEnd) → Agrees past x → AgreesBut LineAgrees at past x
-all_but at past x a = record { orderly = a.orderly; clients = a.clients; links = λ j link e there. a.links j link there; this = λ link there. a.links at link there; gone = a.gone }
+all_but at past x a = record { orderly = a.orderly; clients = a.clients; told = a.told; links = λ j link e there. a.links j link there; this = λ link there. a.links at link there; gone = a.gone }
 
 -- what is wanted before is there, and what is there after is more than is wanted
 pub go_between :
@@ -317,6 +371,10 @@ all_then a b c g k = from_then a b c g k
 -- what the core gave out for a server stays so
 pub still_called : {Is : Step → Type 0} {a b : AnEnd} (number at : ℕ) (ask : Ask) → AllGo Is a b → AllGoFrom (AgreesCalled number at ask) (AgreesCalled number at ask) Is a b
 still_called number at ask g = record { steps = g.steps; kinds = g.kinds; walks = g.walks; agree = λ past was. (g.agree past was.0, called_later g.steps past number at ask was.1); texts = g.texts }
+
+-- and so does what may be asked
+pub still_sent : {Is : Step → Type 0} {a b : AnEnd} (at : ℕ) (call : SentCall) → AllGo Is a b → AllGoFrom (AgreesSent at call) (AgreesSent at call) Is a b
+still_sent at call g = record { steps = g.steps; kinds = g.kinds; walks = g.walks; agree = λ past was. (g.agree past was.0, go_later g.steps past at call was.1); texts = g.texts }
 
 -- the laws, by calls of any kind
 pub stories_go_on : (Is : Step → Type 0) → StoriesGoOn Is

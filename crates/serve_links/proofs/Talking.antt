@@ -5,10 +5,9 @@ use Rattle.mc_types.specs.declared.ask.Ask.{Ask}
 use Rattle.mc_types.specs.declared.call.Outcome.TheVariants.{Failed}
 use Rattle.core_proxy.specs.declared.note.Poll.TheVariants as polls
 use Rattle.serve_links.specs.declared.calls.calls.SentCall.{SentCall}
-use Rattle.serve_links.specs.Lines.{first_asked_of, awaits_first}
-use Rattle.serve_links.specs.CoreSteps.{Step, Opened, NotOpened, Fed, Polled, Stopped, Settled, Gave, Closed, LeftLine, Loaded, Linked, Asked, Greeted, Spelled, AreOf}
-use Rattle.serve_links.specs.Talks.{first_talk, with_ask, greeted, with_answer, talk_in, IsCalledIn, ComesBy, MayFollow, IsOrderly, IsOfClients, IsOfServer}
-use Rattle.serve_links.specs.Story.{TellsNone, AreCalled}
+use Rattle.serve_links.specs.CoreSteps.{Step, Opened, NotOpened, Fed, Polled, Stopped, Settled, Gave, Closed, LeftLine, Broke, Loaded, Linked, Asked, Greeted, Spelled, AreOf}
+use Rattle.serve_links.specs.Talks.{first_talk, with_ask, greeted, with_answer, talk_in, IsCalledIn, MayBeAsked, ComesBy, MayFollow, IsOrderly, IsOfClients, IsOfServer}
+use Rattle.serve_links.specs.Story.{TellsNone, MayGo, MayAllGo}
 
 -- ---- calls that the core gave out
 
@@ -24,11 +23,14 @@ called_later later past number at ask c = record {
   was = ap (λ l. later ++ l) c.was ∙ sym (append_assoc later c.later (Polled c.client (polls.Call c.ticket) ∷ c.earlier));
 }
 
-pub calls_later : (later past : List Step) (at : ℕ) (calls : List SentCall) → AreCalled past at calls → AreCalled (later ++ past) at calls
-calls_later later past at [] are = tt
-calls_later later past at (call ∷ calls) are = (called_later later past call.ticket.number at call.ticket.ask are.0, calls_later later past at calls are.1)
+pub go_later : (later past : List Step) (at : ℕ) (call : SentCall) → MayGo past at call → MayGo (later ++ past) at call
+go_later later past at call m = record { later = later ++ m.later; earlier = m.earlier; parts = ap (λ l. later ++ l) m.parts ∙ sym (append_assoc later m.later m.earlier); called = m.called; speaks = m.speaks }
 
-pub one_more : (past : List Step) (at : ℕ) (calls : List SentCall) (call : SentCall) → AreCalled past at calls → IsCalledIn past call.ticket.number at call.ticket.ask → AreCalled past at (calls ++ call ∷ [])
+pub calls_later : (later past : List Step) (at : ℕ) (calls : List SentCall) → MayAllGo past at calls → MayAllGo (later ++ past) at calls
+calls_later later past at [] are = tt
+calls_later later past at (call ∷ calls) are = (go_later later past at call are.0, calls_later later past at calls are.1)
+
+pub one_more : (past : List Step) (at : ℕ) (calls : List SentCall) (call : SentCall) → MayAllGo past at calls → MayGo past at call → MayAllGo past at (calls ++ call ∷ [])
 one_more past at [] call are is = (is, tt)
 one_more past at (first ∷ calls) call are is = (are.0, one_more past at calls call are.1 is)
 
@@ -44,10 +46,11 @@ IsPlain (Stopped client fault) = Unit {0}
 IsPlain (Gave client bytes) = Unit {0}
 IsPlain (Closed client) = Unit {0}
 IsPlain (LeftLine client) = Unit {0}
+IsPlain (Broke client) = Unit {0}
 IsPlain (Loaded configuration generation) = Unit {0}
 IsPlain (Linked at dialect) = ⊥
 IsPlain (Asked at number dialect ask) = ⊥
-IsPlain (Greeted at bytes) = ⊥
+IsPlain (Greeted at dialect bytes) = ⊥
 IsPlain (Spelled at number ask answer bytes) = ⊥
 
 pub clients_plain : (steps : List Step) → AreOf IsOfClients steps → AreOf IsPlain steps
@@ -64,10 +67,11 @@ clients_plain (step ∷ steps) kinds = (plain step kinds.0, clients_plain steps 
     plain (Gave client bytes) is = tt
     plain (Closed client) is = tt
     plain (LeftLine client) is = tt
+    plain (Broke client) is = tt
     plain (Loaded configuration generation) is = tt
     plain (Linked at dialect) is = is
     plain (Asked at number dialect ask) is = is
-    plain (Greeted at bytes) is = is
+    plain (Greeted at dialect bytes) is = is
     plain (Spelled at number ask answer bytes) is = is
 
 -- nothing is told of servers
@@ -82,10 +86,11 @@ plain_talk (Stopped client fault ∷ steps) kinds past j = plain_talk steps kind
 plain_talk (Gave client bytes ∷ steps) kinds past j = plain_talk steps kinds.1 past j
 plain_talk (Closed client ∷ steps) kinds past j = plain_talk steps kinds.1 past j
 plain_talk (LeftLine client ∷ steps) kinds past j = plain_talk steps kinds.1 past j
+plain_talk (Broke client ∷ steps) kinds past j = plain_talk steps kinds.1 past j
 plain_talk (Loaded configuration generation ∷ steps) kinds past j = plain_talk steps kinds.1 past j
 plain_talk (Linked at dialect ∷ steps) kinds past j = absurd kinds.0
 plain_talk (Asked at number dialect ask ∷ steps) kinds past j = absurd kinds.0
-plain_talk (Greeted at bytes ∷ steps) kinds past j = absurd kinds.0
+plain_talk (Greeted at dialect bytes ∷ steps) kinds past j = absurd kinds.0
 plain_talk (Spelled at number ask answer bytes ∷ steps) kinds past j = absurd kinds.0
 
 -- and they may come at any time
@@ -103,21 +108,22 @@ plain_orderly (step ∷ steps) kinds past o = (follows step (steps ++ past) kind
     follows (Gave client bytes) before is = tt
     follows (Closed client) before is = tt
     follows (LeftLine client) before is = tt
+    follows (Broke client) before is = tt
     follows (Loaded configuration generation) before is = tt
     follows (Linked at dialect) before is = absurd is
     follows (Asked at number dialect ask) before is = absurd is
-    follows (Greeted at bytes) before is = absurd is
+    follows (Greeted at dialect bytes) before is = absurd is
     follows (Spelled at number ask answer bytes) before is = absurd is
 
 -- ---- steps of one server
 
 -- nothing is told of clients
 pub server_tells_none : (at : ℕ) (steps : List Step) → AreOf (IsOfServer at) steps → (past : List Step) (j : ℕ) → TellsNone j past steps
-server_tells_none at [] own past j = (refl, refl)
+server_tells_none at [] own past j = (refl, refl, refl, refl)
 server_tells_none at (Settled number outcome ∷ steps) own past j = server_tells_none at steps own.1 past j
 server_tells_none at (Linked a dialect ∷ steps) own past j = server_tells_none at steps own.1 past j
 server_tells_none at (Asked a number dialect ask ∷ steps) own past j = server_tells_none at steps own.1 past j
-server_tells_none at (Greeted a bytes ∷ steps) own past j = server_tells_none at steps own.1 past j
+server_tells_none at (Greeted a dialect bytes ∷ steps) own past j = server_tells_none at steps own.1 past j
 server_tells_none at (Spelled a number ask answer bytes ∷ steps) own past j = server_tells_none at steps own.1 past j
 server_tells_none at (Opened client ∷ steps) own past j = absurd own.0
 server_tells_none at (NotOpened fault ∷ steps) own past j = absurd own.0
@@ -127,6 +133,7 @@ server_tells_none at (Stopped client fault ∷ steps) own past j = absurd own.0
 server_tells_none at (Gave client bytes ∷ steps) own past j = absurd own.0
 server_tells_none at (Closed client ∷ steps) own past j = absurd own.0
 server_tells_none at (LeftLine client ∷ steps) own past j = absurd own.0
+server_tells_none at (Broke client ∷ steps) own past j = absurd own.0
 server_tells_none at (Loaded configuration generation ∷ steps) own past j = absurd own.0
 
 -- nor of other servers
@@ -134,11 +141,11 @@ pub talk_elsewhere : (at : ℕ) (steps : List Step) → AreOf (IsOfServer at) st
 talk_elsewhere at [] own past j other = refl
 talk_elsewhere at (Settled number outcome ∷ steps) own past j other = talk_elsewhere at steps own.1 past j other
 talk_elsewhere at (Linked a dialect ∷ steps) own past j other =
-    ap (λ b. if b then first_talk (first_asked_of dialect) (awaits_first dialect) else talk_in (steps ++ past) j) (ap (λ n. nat_eq n j) own.0 ∙ other) ∙ talk_elsewhere at steps own.1 past j other
+    ap (λ b. if b then first_talk dialect else talk_in (steps ++ past) j) (ap (λ n. nat_eq n j) own.0 ∙ other) ∙ talk_elsewhere at steps own.1 past j other
 talk_elsewhere at (Asked a number dialect ask ∷ steps) own past j other =
     ap (λ b. if b then with_ask number dialect ask (talk_in (steps ++ past) j) else talk_in (steps ++ past) j) (ap (λ n. nat_eq n j) own.0 ∙ other) ∙ talk_elsewhere at steps own.1 past j other
-talk_elsewhere at (Greeted a bytes ∷ steps) own past j other =
-    ap (λ b. if b then greeted bytes (talk_in (steps ++ past) j) else talk_in (steps ++ past) j) (ap (λ n. nat_eq n j) own.0 ∙ other) ∙ talk_elsewhere at steps own.1 past j other
+talk_elsewhere at (Greeted a dialect bytes ∷ steps) own past j other =
+    ap (λ b. if b then greeted dialect bytes (talk_in (steps ++ past) j) else talk_in (steps ++ past) j) (ap (λ n. nat_eq n j) own.0 ∙ other) ∙ talk_elsewhere at steps own.1 past j other
 talk_elsewhere at (Spelled a number ask answer bytes ∷ steps) own past j other =
     ap (λ b. if b then with_answer bytes (talk_in (steps ++ past) j) else talk_in (steps ++ past) j) (ap (λ n. nat_eq n j) own.0 ∙ other) ∙ talk_elsewhere at steps own.1 past j other
 talk_elsewhere at (Opened client ∷ steps) own past j other = absurd own.0
@@ -149,4 +156,5 @@ talk_elsewhere at (Stopped client fault ∷ steps) own past j other = absurd own
 talk_elsewhere at (Gave client bytes ∷ steps) own past j other = absurd own.0
 talk_elsewhere at (Closed client ∷ steps) own past j other = absurd own.0
 talk_elsewhere at (LeftLine client ∷ steps) own past j other = absurd own.0
+talk_elsewhere at (Broke client ∷ steps) own past j other = absurd own.0
 talk_elsewhere at (Loaded configuration generation ∷ steps) own past j other = absurd own.0

@@ -1,5 +1,5 @@
 -- Walks of a core, one after another, and each call of it as a walk.
-use Rattle.std.proofs.Common.{◌≡◌, ℕ, List, [], ◌∷◌, ◌++◌, Option, Some, None, Result, Ok, Err, refl, sym, ap, ◌∙◌, subst, inl, inr}
+use Rattle.std.proofs.Common.{◌≡◌, ℕ, List, [], ◌∷◌, ◌++◌, Option, Some, None, Result, Ok, Err, ◌⊎◌, refl, sym, ap, ◌∙◌, subst, inl, inr}
 use Rattle.std.specs.Prelude.{IfOk, IfErr, OnOk, Box, option_map}
 use Rattle.mc_types.specs.declared.call.Outcome.{Outcome}
 use Rattle.mc_types.specs.declared.call.Outcome.TheVariants.{Answered, Failed}
@@ -12,17 +12,19 @@ use Rattle.core_proxy.specs.CoreState.{Opens, Feeds, Gives, Closes, LeavesLine, 
 use Rattle.core_proxy.specs.Polls.{Polls, PollFault, Then, Perhaps, BeginsOne, IsPolled}
 use Rattle.route_json.specs.Configuration.{Configuration}
 use Rattle.core_accepted.specs.declared.served.ServedCore.{ServedCore}
-use Rattle.core_accepted.specs.Logs.{LogsGoBy, IsAccepted, fed}
+use Rattle.core_accepted.specs.Logs.{LogsGoBy, IsAccepted, IsAcceptedSince, fed}
 use Rattle.core_accepted.specs.Results.{PollStops, SettleStops}
 use Rattle.serve_links.specs.declared.calls.calls.SentCall.{SentCall}
 use Rattle.serve_links.specs.declared.calls.calls.Next.{Next}
 use Rattle.serve_links.specs.declared.calls.calls.Next.TheVariants as nexts
 use Rattle.core_accepted.specs.Results.{IsSettled}
+use Rattle.core_accepted.specs.declared.beginnings.Beginnings.{Beginnings}
 use Rattle.core_accepted.specs.Begun.{any_begun}
 use Rattle.core_accepted.specs.Known.{Known, more}
 use Rattle.core_accepted.specs.Loading.{IsLoaded}
 use Rattle.serve_links.specs.Calls.{SettlesFirst, SettlesNext}
-use Rattle.serve_links.specs.CoreSteps.{Step, Opened, NotOpened, Fed, Polled, Stopped, Settled, Gave, Closed, LeftLine, Loaded, Linked, Asked, Greeted, Spelled, Does, Walks, AreOf, GoesBy, IsOfTurn, IsSettlement, IsFailure, GoesOn, Fails, WalksKeep}
+use Rattle.serve_links.specs.CoreSteps.{WalksKeepSince}
+use Rattle.serve_links.specs.CoreSteps.{Step, Opened, NotOpened, Fed, Polled, Stopped, Settled, Gave, Closed, LeftLine, Broke, Loaded, Linked, Asked, Greeted, Spelled, Does, Walks, AreOf, GoesBy, IsOfTurn, IsSettlement, IsFailure, GoesOn, Fails, WalksKeep}
 
 pub walked : (later first : List Step) (a b c : ServedCore) → Walks first a b → Walks later b c → Walks (later ++ first) a c
 walked [] first a b c w v = subst (λ x. Walks first a x) (sym v) w
@@ -79,10 +81,11 @@ each_of_turn (step ∷ steps) each = (of_turn step each.0, each_of_turn steps ea
     of_turn (Gave client bytes) is = tt
     of_turn (Closed client) is = tt
     of_turn (LeftLine client) is = tt
+    of_turn (Broke client) is = tt
     of_turn (Loaded configuration generation) is = is
     of_turn (Linked at dialect) is = tt
     of_turn (Asked at number dialect ask) is = tt
-    of_turn (Greeted at bytes) is = tt
+    of_turn (Greeted at dialect bytes) is = tt
     of_turn (Spelled at number ask answer bytes) is = tt
 
 pub failed : {a b : ServedCore} → Fails a b → GoesOn a b
@@ -103,10 +106,11 @@ each_settled (step ∷ steps) each = (of_turn step each.0, each_settled steps ea
     of_turn (Gave client bytes) is = tt
     of_turn (Closed client) is = tt
     of_turn (LeftLine client) is = tt
+    of_turn (Broke client) is = tt
     of_turn (Loaded configuration generation) is = is
     of_turn (Linked at dialect) is = tt
     of_turn (Asked at number dialect ask) is = tt
-    of_turn (Greeted at bytes) is = tt
+    of_turn (Greeted at dialect bytes) is = tt
     of_turn (Spelled at number ask answer bytes) is = tt
 
 pub settled : {a b : ServedCore} → GoesBy IsSettlement a b → GoesOn a b
@@ -168,10 +172,10 @@ by_settle_next sent bytes nexts.Foreign sent' a b is = still is.1
 -- ---- what all walks keep
 
 abbrev IsWordKept : ServedCore → ServedCore → Type 0
-IsWordKept a b = (IsAccepted a → IsAccepted b) × (IsAccepted b → IsAccepted a)
+IsWordKept a b = (b.accepted ≡ a.accepted) ⊎ ((configuration : Configuration) × (b.accepted ≡ option_map (more configuration) a.accepted))
 
 by_word : (a b : ServedCore) → b.accepted ≡ a.accepted → IsWordKept a b
-by_word a b same = (λ is. (is.0, same ∙ is.1, is.2), λ is. (is.0, sym same ∙ is.1, is.2))
+by_word a b same = inl same
 
 as_it_was : (a b : ServedCore) → b ≡ a → IsWordKept a b
 as_it_was a b same = by_word a b (ap (λ (x : ServedCore). x.accepted) same)
@@ -204,8 +208,7 @@ one_fewer (Some k) now config known e is any = (k, refl, (let same = sym e ∙ i
 one_fewer None now config known e is any = absurd (let none = sym e ∙ is in cc none)
 
 loaded_keeps : (configuration : Configuration) (generation : ℕ) (a b : ServedCore) → IsLoaded a configuration generation b → IsWordKept a b
-loaded_keeps configuration generation a b loaded =
-    (λ is. (more configuration is.0, loaded.word ∙ ap (option_map (more configuration)) is.1, is.2), λ is. one_fewer a.accepted b.accepted configuration is.0 loaded.word is.1 is.2)
+loaded_keeps configuration generation a b loaded = inr (configuration, loaded.word)
 
 does_keep : (step : Step) (a b : ServedCore) → Does step a b → IsWordKept a b
 does_keep (Opened client) a b does = by_word a b does.2.word
@@ -217,15 +220,29 @@ does_keep (Settled number outcome) a b does = settled_keeps number outcome a b d
 does_keep (Gave client bytes) a b does = by_word a b does.1.word
 does_keep (Closed client) a b does = by_word a b does.2.word
 does_keep (LeftLine client) a b does = by_word a b does.1.word
+does_keep (Broke client) a b does = as_it_was a b does
 does_keep (Loaded configuration generation) a b does = loaded_keeps configuration generation a b does
 does_keep (Linked at dialect) a b does = as_it_was a b does
 does_keep (Asked at number dialect ask) a b does = as_it_was a b does
-does_keep (Greeted at bytes) a b does = as_it_was a b does
+does_keep (Greeted at dialect bytes) a b does = as_it_was a b does
 does_keep (Spelled at number ask answer bytes) a b does = as_it_was a b does.0
 
+accepted_keeps : (a b : ServedCore) → IsWordKept a b → (IsAccepted a → IsAccepted b) × (IsAccepted b → IsAccepted a)
+accepted_keeps a b (inl same) = (λ is. (is.0, same ∙ is.1, is.2), λ is. (is.0, sym same ∙ is.1, is.2))
+accepted_keeps a b (inr loaded) = (λ is. (more loaded.0 is.0, loaded.1 ∙ ap (option_map (more loaded.0)) is.1, is.2), λ is. one_fewer a.accepted b.accepted loaded.0 is.0 loaded.1 is.1 is.2)
+
+since_keeps : (first : Configuration) (begun : Beginnings) (a b : ServedCore) → IsWordKept a b → IsAcceptedSince first begun a → IsAcceptedSince first begun b
+since_keeps first begun a b (inl same) is = (is.0, same ∙ is.1)
+since_keeps first begun a b (inr loaded) is = (is.0 ++ loaded.0 ∷ [], loaded.1 ∙ ap (option_map (more loaded.0)) is.1)
+
 pub walks_keep : WalksKeep
-walks_keep [] a b same = as_it_was a b same
+walks_keep [] a b same = accepted_keeps a b (as_it_was a b same)
 walks_keep (step ∷ steps) a b walks =
     let before = walks_keep steps a walks.0 walks.1 in
-    let last = does_keep step walks.0 b walks.2 in
+    let last = accepted_keeps walks.0 b (does_keep step walks.0 b walks.2) in
     (λ is. last.0 (before.0 is), λ is. before.1 (last.1 is))
+
+pub walks_keep_since : WalksKeepSince
+walks_keep_since [] a b same first begun is = since_keeps first begun a b (as_it_was a b same) is
+walks_keep_since (step ∷ steps) a b walks first begun is =
+    since_keeps first begun walks.0 b (does_keep step walks.0 b walks.2) (walks_keep_since steps a walks.0 walks.1 first begun is)

@@ -13,15 +13,16 @@ use Rattle.core_proxy.specs.Faults.{CanOpen, CanFeed, CanClose, OpenFault}
 use Rattle.core_proxy.specs.CoreState.{Opens, Feeds, Gives, Closes, LeavesLine, client_at, dropped_by}
 use Rattle.core_proxy.specs.Settles as of_calls
 use Rattle.core_proxy.specs.Polls.{Polls, PollFault, Then, Perhaps, BeginsOne, IsPolled}
-use Rattle.core_accepted.specs.Logs.{LogsGoBy, IsAccepted, fed}
+use Rattle.core_accepted.specs.declared.beginnings.Beginnings.{Beginnings}
+use Rattle.core_accepted.specs.Logs.{LogsGoBy, IsAccepted, IsAcceptedSince, fed}
 use Rattle.core_accepted.specs.Results.{PollStops}
 use Rattle.core_accepted.specs.declared.served.ServedCore.{ServedCore}
 use Rattle.core_accepted.specs.Results.{IsSettled}
 use Rattle.core_accepted.specs.Loading.{IsLoaded}
 use Rattle.serve_links.specs.declared.settings.ServerDialect.{ServerDialect}
 
--- one call of a core that changes it, and what came of it; or what was done at a server's connection, which changes no core: a new one was begun, a call's ask is to be sent, what the server told
--- of its dialects was taken from its bytes, or they spell the answer to a call
+-- one call of a core that changes it, and what came of it; or what was done at a connection, which changes no core: a client was broken off, as its connection failed or memory was refused for its bytes; or at a
+-- server's a new one was begun, a call's ask is to be sent, what the server told of its dialects was taken from its bytes, or they spell the answer to a call
 pub data Step : Type 0 where
   Opened : (client : ℕ) → Step
   NotOpened : (fault : CoreFault) → Step
@@ -32,10 +33,11 @@ pub data Step : Type 0 where
   Gave : (client : ℕ) (bytes : List ℕ) → Step
   Closed : (client : ℕ) → Step
   LeftLine : (client : ℕ) → Step
+  Broke : (client : ℕ) → Step
   Loaded : (configuration : Configuration) (generation : ℕ) → Step
   Linked : (at : ℕ) (dialect : ServerDialect) → Step
   Asked : (at number : ℕ) (dialect : Dialect) (ask : Ask) → Step
-  Greeted : (at : ℕ) (bytes : List ℕ) → Step
+  Greeted : (at : ℕ) (dialect : Dialect) (bytes : List ℕ) → Step
   Spelled : (at number : ℕ) (ask : Ask) (answer : Answer) (bytes : List ℕ) → Step
 
 -- a core goes from one state to another by this call: as the core's own call of that name goes, and with each log that may have led to it. By what was done at a connection it stays; where bytes
@@ -52,10 +54,11 @@ Does (Settled number outcome) old new = IsSettled old number outcome new
 Does (Gave client bytes) old new = Gives old.core client bytes new.core × LogsGoBy old (λ entries. entries ≡ log.Gives client bytes ∷ []) new
 Does (Closed client) old new = CanClose old.core client × Closes old.core client new.core × LogsGoBy old (λ entries. entries ≡ log.Resets client ∷ []) new
 Does (LeftLine client) old new = LeavesLine old.core client new.core × LogsGoBy old (λ entries. entries ≡ []) new
+Does (Broke client) old new = new ≡ old
 Does (Loaded configuration generation) old new = IsLoaded old configuration generation new
 Does (Linked at dialect) old new = new ≡ old
 Does (Asked at number dialect ask) old new = new ≡ old
-Does (Greeted at bytes) old new = new ≡ old
+Does (Greeted at dialect bytes) old new = new ≡ old
 Does (Spelled at number ask answer bytes) old new = (new ≡ old) × (of_calls.asked old.core number ≡ Some ask)
 
 -- these calls, the latest first, lead from one state to the other
@@ -90,9 +93,10 @@ IsOfTurn (Settled number outcome) = Unit {0}
 IsOfTurn (Gave client bytes) = Unit {0}
 IsOfTurn (Closed client) = Unit {0}
 IsOfTurn (LeftLine client) = Unit {0}
+IsOfTurn (Broke client) = Unit {0}
 IsOfTurn (Linked at dialect) = Unit {0}
 IsOfTurn (Asked at number dialect ask) = Unit {0}
-IsOfTurn (Greeted at bytes) = Unit {0}
+IsOfTurn (Greeted at dialect bytes) = Unit {0}
 IsOfTurn (Spelled at number ask answer bytes) = Unit {0}
 
 -- a call of a server has an outcome
@@ -106,10 +110,11 @@ IsSettlement (Stopped client fault) = ⊥
 IsSettlement (Gave client bytes) = ⊥
 IsSettlement (Closed client) = ⊥
 IsSettlement (LeftLine client) = ⊥
+IsSettlement (Broke client) = ⊥
 IsSettlement (Loaded configuration generation) = ⊥
 IsSettlement (Linked at dialect) = ⊥
 IsSettlement (Asked at number dialect ask) = ⊥
-IsSettlement (Greeted at bytes) = ⊥
+IsSettlement (Greeted at dialect bytes) = ⊥
 IsSettlement (Spelled at number ask answer bytes) = ⊥
 
 -- a call of a server has failed
@@ -123,10 +128,11 @@ IsFailure (Stopped client fault) = ⊥
 IsFailure (Gave client bytes) = ⊥
 IsFailure (Closed client) = ⊥
 IsFailure (LeftLine client) = ⊥
+IsFailure (Broke client) = ⊥
 IsFailure (Loaded configuration generation) = ⊥
 IsFailure (Linked at dialect) = ⊥
 IsFailure (Asked at number dialect ask) = ⊥
-IsFailure (Greeted at bytes) = ⊥
+IsFailure (Greeted at dialect bytes) = ⊥
 IsFailure (Spelled at number ask answer bytes) = ⊥
 
 -- a call of a server is to be sent, over a connection that was there or a new one, or has failed
@@ -142,8 +148,9 @@ IsSending (Stopped client fault) = ⊥
 IsSending (Gave client bytes) = ⊥
 IsSending (Closed client) = ⊥
 IsSending (LeftLine client) = ⊥
+IsSending (Broke client) = ⊥
 IsSending (Loaded configuration generation) = ⊥
-IsSending (Greeted at bytes) = ⊥
+IsSending (Greeted at dialect bytes) = ⊥
 IsSending (Spelled at number ask answer bytes) = ⊥
 
 -- it goes on by calls of it alone, and keeps its configuration
@@ -157,3 +164,7 @@ Fails old new = GoesBy IsFailure old new
 -- a law of all walks: a core whose trees the gate accepted stays one, and so does one on other trees
 abbrev pub WalksKeep : Type 0
 WalksKeep = (steps : List Step) (old new : ServedCore) → Walks steps old new → (IsAccepted old → IsAccepted new) × (IsAccepted new → IsAccepted old)
+
+-- a law of all walks: where the gate accepted a configuration at first, it only accepted others after it, and what is said of how servers began stays
+abbrev pub WalksKeepSince : Type 0
+WalksKeepSince = (steps : List Step) (old new : ServedCore) → Walks steps old new → (first : Configuration) (begun : Beginnings) → IsAcceptedSince first begun old → IsAcceptedSince first begun new

@@ -1,11 +1,14 @@
 -- What a link's connection has to do with the wire. Source: mcgate's own; what a server is asked for its dialects is of memcached's protocol.txt, "Meta No-Op".
 use Rattle.std.specs.Prelude.{◌≡◌, ◌⊎◌, ℕ, Bool, true, false, List, [], ◌∷◌, ◌++◌, codes, Option, Some, None}
+use Rattle.mc_types.specs.declared.ask.Dialect.{Dialect}
+use Rattle.mc_types.specs.declared.ask.Dialect.TheVariants.{Classic, Meta}
 use Rattle.wire_parts.specs.Sending.{bytes_of}
 use Rattle.serve_wire.specs.Events.{Event, connects, IsNew}
 use Rattle.serve_wire.specs.Calls.{Closes}
 use Rattle.serve_wire.specs.declared.conn.conn.Conn.{Conn}
 use Rattle.serve_links.specs.declared.settings.ServerDialect.{ServerDialect}
 use Rattle.serve_links.specs.declared.settings.ServerDialect.TheVariants as asks
+use Rattle.serve_links.specs.Dialects.{IsGreeting}
 use Rattle.serve_links.specs.declared.link.Opening.{Opening}
 use Rattle.serve_links.specs.declared.link.Opening.TheVariants as opening
 use Rattle.serve_links.specs.declared.link.Link.{Link}
@@ -22,6 +25,12 @@ awaits_first asks.Auto = true
 awaits_first asks.Classic = false
 awaits_first asks.Meta = false
 
+-- in which dialect calls are asked over it until that answer has come
+abbrev pub first_dialect : ServerDialect → Dialect
+first_dialect asks.Auto = Classic
+first_dialect asks.Classic = Classic
+first_dialect asks.Meta = Meta
+
 -- an end has the number, the held bytes and the unsent ones that it had
 pub record SameEnd (x y : Conn) : Type 0 where
   pub number : y.number ≡ x.number
@@ -34,20 +43,21 @@ SameLine None y = y ≡ None
 SameLine (Some x) None = ⊥
 SameLine (Some x) (Some y) = SameEnd x y
 
--- a link is to the server that it was to, has the connection that it had, with the same bytes, and the same calls, and awaits of its server's dialects what it did
+-- a link is to the server that it was to, has the connection that it had, with the same bytes, and the same calls, asks in the same dialect, and awaits of its server's dialects what it did
 pub record KeepsLines (old new : Link) : Type 0 where
   pub text : new.text ≡ old.text
   pub conn : SameLine old.conn new.conn
   pub calls : new.calls ≡ old.calls
   pub waiting : new.waiting ≡ old.waiting
   pub awaits : new.awaits_dialect ≡ old.awaits_dialect
+  pub dialect : new.dialect ≡ old.dialect
 
 -- it has this end: nothing came over it, and what is asked first is to be sent
 abbrev pub IsNewEnd : ℕ → ServerDialect → Option Conn → Type 0
 IsNewEnd number dialect None = ⊥
 IsNewEnd number dialect (Some x) = (x.number ≡ number) × (x.held.items ≡ []) × (bytes_of x.unsent ≡ first_asked_of dialect)
 
--- no call is out over it yet, and what the server tells of its dialects is awaited where it is asked for that
+-- no call is out over it yet, calls are asked in the first dialect, and what the server tells of its dialects is awaited where it is asked for that
 pub record HasNewEnd (number : ℕ) (dialect : ServerDialect) (old new : Link) : Type 0 where
   pub text : new.text ≡ old.text
   pub conn : IsNewEnd number dialect new.conn
@@ -55,6 +65,7 @@ pub record HasNewEnd (number : ℕ) (dialect : ServerDialect) (old new : Link) :
   pub calls : new.calls ≡ old.calls
   pub waiting : new.waiting ≡ old.waiting
   pub awaits : new.awaits_dialect ≡ awaits_first dialect
+  pub speaks : new.dialect ≡ first_dialect dialect
 
 -- a new connection to this server was begun, at the address that the link's text names; and where memory was refused for its end it was closed
 abbrev pub OpensBy : ℕ → ServerDialect → Opening → Link → Link → List Event → List Event → Type 0
@@ -63,15 +74,19 @@ OpensBy server dialect opening.NoAddress old new h h' = (h' ≡ h) × KeepsLines
 OpensBy server dialect opening.Failed old new h h' = (h' ≡ h) × KeepsLines old new
 OpensBy server dialect opening.NoMemory old new h h' = (number : ℕ) × IsNew number h × Closes number (connects number server old.text.items ∷ h) h' × KeepsLines old new
 
--- of a link's end the first bytes are held no more, and nothing else has changed
-abbrev pub UsesSome : Option Conn → Option Conn → Type 0
-UsesSome None y = y ≡ None
-UsesSome (Some x) None = ⊥
-UsesSome (Some x) (Some y) = (bytes : List ℕ) × (x.held.items ≡ bytes ++ y.held.items) × (y ≡ record x { held = y.held })
+-- of a link's end the first bytes are held no more, by which a server tells this dialect, and nothing else has changed
+abbrev pub TakesGreeting : Dialect → Option Conn → Option Conn → Type 0
+TakesGreeting dialect None y = ⊥
+TakesGreeting dialect (Some x) None = ⊥
+TakesGreeting dialect (Some x) (Some y) = (bytes : List ℕ) × (x.held.items ≡ bytes ++ y.held.items) × IsGreeting dialect bytes × (y ≡ record x { held = y.held })
 
--- what a server tells of its dialects is taken from the front of what is held, and nothing else; where it can't be that, all stays
-pub record Learns (can : Bool) (old new : Link) : Type 0 where
-  pub uses : UsesSome old.conn new.conn
-  pub none : can ≡ false → new ≡ old
-  pub told : (new ≡ old) ⊎ (new.awaits_dialect ≡ false)
+-- calls are asked in the dialect that the server told, and what told it is held no more
+pub record HasLearnt (old new : Link) : Type 0 where
+  pub takes : TakesGreeting new.dialect old.conn new.conn
+  pub told : new.awaits_dialect ≡ false
   pub rest : new ≡ record old { conn = new.conn; dialect = new.dialect; awaits_dialect = new.awaits_dialect }
+
+-- what a server tells of its dialects is taken from the front of what is held, and nothing else; where it isn't whole, or can't be that, all stays
+pub record Learns (can : Bool) (old new : Link) : Type 0 where
+  pub none : can ≡ false → new ≡ old
+  pub told : (new ≡ old) ⊎ HasLearnt old new

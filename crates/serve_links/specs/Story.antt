@@ -1,6 +1,7 @@
 -- What a walk of a core tells of its clients, and how the ends of clients and links on a wire go on with it. Source: mcgate's own.
-use Rattle.std.specs.Prelude.{◌≡◌, ◌≢◌, ℕ, Bool, false, List, [], ◌∷◌, ◌++◌, Option, Some, map as each, if◌then◌else◌, nat_eq, slice_get, ◌⊎◌}
+use Rattle.std.specs.Prelude.{◌≡◌, ◌≢◌, ℕ, IfSome, Bool, true, false, List, [], ◌∷◌, ◌++◌, Option, Some, map as each, if◌then◌else◌, nat_eq, slice_get, ◌⊎◌}
 use Rattle.mc_types.specs.declared.ask.Ask.{Ask}
+use Rattle.mc_types.specs.declared.ask.Dialect.{Dialect}
 use Rattle.wire_parts.specs.Sending.{bytes_of}
 use Rattle.serve_wire.specs.Events.{Event, role, delivered, taken}
 use Rattle.serve_wire.specs.Agreement.{AddressAgrees, IsUntouched, ClientLost, TouchesOnly}
@@ -12,8 +13,8 @@ use Rattle.serve_clients.specs.Agrees.{EndAgrees, AllAgree}
 use Rattle.serve_clients.specs.Marks.{client_of}
 use Rattle.serve_links.specs.declared.calls.calls.SentCall.{SentCall}
 use Rattle.serve_links.specs.declared.link.Link.{Link}
-use Rattle.serve_links.specs.CoreSteps.{Step, Opened, NotOpened, Fed, Polled, Stopped, Settled, Gave, Closed, LeftLine, Loaded, Linked, Asked, Greeted, Spelled, Walks, AreOf}
-use Rattle.serve_links.specs.Talks.{SaidAsk, Talk, talk_in, IsCalledIn, IsOrderly, IsOfClients, IsOfServer}
+use Rattle.serve_links.specs.CoreSteps.{Step, Opened, NotOpened, Fed, Polled, Stopped, Settled, Gave, Closed, LeftLine, Broke, Loaded, Linked, Asked, Greeted, Spelled, Walks, AreOf}
+use Rattle.serve_links.specs.Talks.{SaidAsk, Talk, talk_in, IsCalledIn, MayBeAsked, IsOrderly, IsOfClients, IsOfServer}
 use Rattle.std.specs.Option.{option_map}
 
 -- all that the core was fed for this client since it was opened, by the calls of a walk, the latest first
@@ -28,10 +29,11 @@ fed_in (Settled number outcome ∷ steps) i = fed_in steps i
 fed_in (Gave client bytes ∷ steps) i = fed_in steps i
 fed_in (Closed client ∷ steps) i = fed_in steps i
 fed_in (LeftLine client ∷ steps) i = fed_in steps i
+fed_in (Broke client ∷ steps) i = fed_in steps i
 fed_in (Loaded configuration generation ∷ steps) i = fed_in steps i
 fed_in (Linked at dialect ∷ steps) i = fed_in steps i
 fed_in (Asked at number dialect ask ∷ steps) i = fed_in steps i
-fed_in (Greeted at bytes ∷ steps) i = fed_in steps i
+fed_in (Greeted at dialect bytes ∷ steps) i = fed_in steps i
 fed_in (Spelled at number ask answer bytes ∷ steps) i = fed_in steps i
 
 -- all that the core gave for this client since it was opened
@@ -46,15 +48,61 @@ gave_in (Settled number outcome ∷ steps) i = gave_in steps i
 gave_in (Gave client bytes ∷ steps) i = if nat_eq client i then gave_in steps i ++ bytes else gave_in steps i
 gave_in (Closed client ∷ steps) i = gave_in steps i
 gave_in (LeftLine client ∷ steps) i = gave_in steps i
+gave_in (Broke client ∷ steps) i = gave_in steps i
 gave_in (Loaded configuration generation ∷ steps) i = gave_in steps i
 gave_in (Linked at dialect ∷ steps) i = gave_in steps i
 gave_in (Asked at number dialect ask ∷ steps) i = gave_in steps i
-gave_in (Greeted at bytes ∷ steps) i = gave_in steps i
+gave_in (Greeted at dialect bytes ∷ steps) i = gave_in steps i
 gave_in (Spelled at number ask answer bytes ∷ steps) i = gave_in steps i
+
+-- whether this client was opened, and not closed since
+abbrev pub is_open_in : List Step → ℕ → Bool
+is_open_in [] i = false
+is_open_in (Opened client ∷ steps) i = if nat_eq client i then true else is_open_in steps i
+is_open_in (NotOpened fault ∷ steps) i = is_open_in steps i
+is_open_in (Fed client piece ∷ steps) i = is_open_in steps i
+is_open_in (Polled client poll ∷ steps) i = is_open_in steps i
+is_open_in (Stopped client fault ∷ steps) i = is_open_in steps i
+is_open_in (Settled number outcome ∷ steps) i = is_open_in steps i
+is_open_in (Gave client bytes ∷ steps) i = is_open_in steps i
+is_open_in (Closed client ∷ steps) i = if nat_eq client i then false else is_open_in steps i
+is_open_in (LeftLine client ∷ steps) i = is_open_in steps i
+is_open_in (Broke client ∷ steps) i = is_open_in steps i
+is_open_in (Loaded configuration generation ∷ steps) i = is_open_in steps i
+is_open_in (Linked at dialect ∷ steps) i = is_open_in steps i
+is_open_in (Asked at number dialect ask ∷ steps) i = is_open_in steps i
+is_open_in (Greeted at dialect bytes ∷ steps) i = is_open_in steps i
+is_open_in (Spelled at number ask answer bytes ∷ steps) i = is_open_in steps i
+
+-- whether it was broken off since it was opened
+abbrev pub is_broken_in : List Step → ℕ → Bool
+is_broken_in [] i = false
+is_broken_in (Opened client ∷ steps) i = if nat_eq client i then false else is_broken_in steps i
+is_broken_in (NotOpened fault ∷ steps) i = is_broken_in steps i
+is_broken_in (Fed client piece ∷ steps) i = is_broken_in steps i
+is_broken_in (Polled client poll ∷ steps) i = is_broken_in steps i
+is_broken_in (Stopped client fault ∷ steps) i = is_broken_in steps i
+is_broken_in (Settled number outcome ∷ steps) i = is_broken_in steps i
+is_broken_in (Gave client bytes ∷ steps) i = is_broken_in steps i
+is_broken_in (Closed client ∷ steps) i = is_broken_in steps i
+is_broken_in (LeftLine client ∷ steps) i = is_broken_in steps i
+is_broken_in (Broke client ∷ steps) i = if nat_eq client i then true else is_broken_in steps i
+is_broken_in (Loaded configuration generation ∷ steps) i = is_broken_in steps i
+is_broken_in (Linked at dialect ∷ steps) i = is_broken_in steps i
+is_broken_in (Asked at number dialect ask ∷ steps) i = is_broken_in steps i
+is_broken_in (Greeted at dialect bytes ∷ steps) i = is_broken_in steps i
+is_broken_in (Spelled at number ask answer bytes ∷ steps) i = is_broken_in steps i
 
 -- a client's end agrees with what was fed and given for it by these calls
 abbrev pub AgreesWith : List Step → List Event → ℕ → Client → Type 0
 AgreesWith steps h id client = EndAgrees h (fed_in steps) (gave_in steps) id client
+
+-- these steps tell how the client's end stands: it was opened, and is broken off where they say so
+abbrev pub IsTold : List Step → ℕ → Client → Type 0
+IsTold steps id client = (is_open_in steps id ≡ true) × (is_broken_in steps id ≡ client.is_broken)
+
+abbrev pub AreTold : List Step → Clients → Type 0
+AreTold steps clients = (id : ℕ) → IfSome (client_of clients id) (IsTold steps id)
 
 -- each client's end agrees with what was fed and given for it by these calls
 abbrev pub AgreeWith : List Step → List Event → Clients → Type 0
@@ -62,14 +110,29 @@ AgreeWith steps h clients = AllAgree h (fed_in steps) (gave_in steps) clients
 
 -- of this client the calls tell nothing more
 abbrev pub TellsNone : ℕ → List Step → List Step → Type 0
-TellsNone j past steps = (fed_in (steps ++ past) j ≡ fed_in past j) × (gave_in (steps ++ past) j ≡ gave_in past j)
+TellsNone j past steps =
+    (fed_in (steps ++ past) j ≡ fed_in past j) × (gave_in (steps ++ past) j ≡ gave_in past j) × (is_open_in (steps ++ past) j ≡ is_open_in past j) × (is_broken_in (steps ++ past) j ≡ is_broken_in past j)
 
--- the client whose connection this was is gone: the core closed it, or opened it anew, and until then its connection delivered what was fed for it, and more perhaps, and took the first of what was given for it
+-- a connection took all that the core gave for its client by these calls, or the client was broken off
+abbrev pub TookAll : List Step → List Event → ℕ → ℕ → Type 0
+TookAll steps h id conn = (gave_in steps id ≡ taken conn h) ⊎ (is_broken_in steps id ≡ true)
+
+-- the last of these calls was that the core gave all that it had for this client
+pub record IsJustGiven (id : ℕ) (steps : List Step) : Type 0 where
+  pub bytes : List ℕ
+  pub earlier : List Step
+  pub last : steps ≡ Gave id bytes ∷ earlier
+
+-- a client ends by this step: the core closes it once it gave all that it had for it and the connection took that, or opens it anew though it is open
+abbrev pub EndsBy : Step → List Step → List Event → ℕ → ℕ → Type 0
+EndsBy last steps h id conn = ((last ≡ Closed id) × IsJustGiven id steps × TookAll steps h id conn) ⊎ ((last ≡ Opened id) × (is_open_in steps id ≡ true))
+
+-- the client whose connection this was is gone by this last step: until then the connection delivered what was fed for it, and more perhaps, and took what was given for it, or where it was broken off the first of that
 pub record IsGone (past : List Step) (h : List Event) (id conn : ℕ) : Type 0 where
   pub later : List Step
   pub last : Step
-  pub ends : (last ≡ Closed id) ⊎ (last ≡ Opened id)
   pub earlier : List Step
+  pub ends : EndsBy last earlier h id conn
   pub parts : past ≡ later ++ last ∷ earlier
   pub lost : ClientLost h (fed_in earlier) (gave_in earlier) id conn
 
@@ -85,50 +148,55 @@ HasOrHad past h clients id conn = (option_map (λ x. x.conn.number) (client_of c
 abbrev pub said_asks : List SentCall → List SaidAsk
 said_asks calls = each (λ call. (call.ticket.number, call.dialect, call.ticket.ask)) calls
 
--- the core gave out each of these calls for this server
-abbrev pub AreCalled : List Step → ℕ → List SentCall → Type 0
-AreCalled past at [] = Unit {0}
-AreCalled past at (call ∷ calls) = IsCalledIn past call.ticket.number at call.ticket.ask × AreCalled past at calls
+-- the core gave out this call for this server, and it may be asked in its dialect
+abbrev pub MayGo : List Step → ℕ → SentCall → Type 0
+MayGo past at call = MayBeAsked past call.ticket.number at call.dialect call.ticket.ask
+
+-- so it is with each of these calls
+abbrev pub MayAllGo : List Step → ℕ → List SentCall → Type 0
+MayAllGo past at [] = Unit {0}
+MayAllGo past at (call ∷ calls) = MayGo past at call × MayAllGo past at calls
 
 -- a connection agrees with what was said over it: it is to this server, and was begun at the address that this text names; what was to be sent is what it took, and then what is unsent; what it delivered told all
--- that was told, and is else held; these calls are out, and what the server tells of its dialects is awaited or not
-pub record TalkAgrees (h : List Event) (at : ℕ) (text : List ℕ) (talk : Talk) (c : ℕ) (held unsent : List ℕ) (out : List SaidAsk) (awaits : Bool) : Type 0 where
+-- that was told, and is else held; these calls are out, what the server tells of its dialects is awaited or not, and calls are asked in this dialect
+pub record TalkAgrees (h : List Event) (at : ℕ) (text : List ℕ) (talk : Talk) (c : ℕ) (held unsent : List ℕ) (out : List SaidAsk) (awaits : Bool) (dialect : Dialect) : Type 0 where
   pub is_to : role c h ≡ Some (1, at)
   pub address : AddressAgrees h text c
   pub sent_is : talk.sent ≡ taken c h ++ unsent
   pub told_is : delivered c h ≡ talk.told ++ held
   pub out_is : talk.out ≡ out
   pub awaits_is : talk.awaits ≡ awaits
+  pub dialect_is : talk.dialect ≡ dialect
 
 -- so does that of a link, if it has one, where so much of it is held
 abbrev pub ConnAgrees : ℕ → List Step → List Event → Link → Conn → List ℕ → Type 0
-ConnAgrees at past h link conn held = TalkAgrees h at link.text.items (talk_in past at) conn.number held (bytes_of conn.unsent) (said_asks link.calls.sent.items) link.awaits_dialect
+ConnAgrees at past h link conn held = TalkAgrees h at link.text.items (talk_in past at) conn.number held (bytes_of conn.unsent) (said_asks link.calls.sent.items) link.awaits_dialect link.dialect
 
--- a link agrees with these calls, and the core gave out all calls that wait for it
+-- a link agrees with these calls, and all calls that wait for it may go there
 pub record LineAgrees (at : ℕ) (past : List Step) (h : List Event) (link : Link) : Type 0 where
   pub conn : (conn : Conn) → link.conn ≡ Some conn → ConnAgrees at past h link conn conn.held.items
-  pub waiting : AreCalled past at link.waiting.items
+  pub waiting : MayAllGo past at link.waiting.items
 
 -- the same of a link whose bytes were lost: it agrees but for what it holds
 pub record LineLost (at : ℕ) (past : List Step) (h : List Event) (link : Link) : Type 0 where
   pub conn : (conn : Conn) → link.conn ≡ Some conn → (held : List ℕ) × ConnAgrees at past h link conn held
-  pub waiting : AreCalled past at link.waiting.items
+  pub waiting : MayAllGo past at link.waiting.items
 
--- a link agrees, and the core gave out this call for its server
-abbrev pub LineCalled : ℕ → Ask → (at : ℕ) → List Step → List Event → Link → Type 0
-LineCalled number ask at past h link = LineAgrees at past h link × IsCalledIn past number at ask
+-- a link agrees, and this call may go there
+abbrev pub LineCalled : SentCall → (at : ℕ) → List Step → List Event → Link → Type 0
+LineCalled call at past h link = LineAgrees at past h link × MayGo past at call
 
 -- each link agrees with these calls
 abbrev pub LinesAgree : List Step → List Event → List Link → Type 0
 LinesAgree past h links = (at : ℕ) (link : Link) → slice_get links at ≡ Some link → LineAgrees at past h link
 
 -- all that a link has to do with its connection and its calls: what names its server's address, the connection's number, what is held of it and what is to be sent, the calls that are out, those that wait, and
--- whether its server is to tell of its dialects
+-- whether its server is to tell of its dialects, and in which dialect calls are asked
 abbrev pub LineState : Type 0
-LineState = List ℕ × Option (ℕ × List ℕ × List ℕ) × List SaidAsk × List SentCall × Bool
+LineState = List ℕ × Option (ℕ × List ℕ × List ℕ) × List SaidAsk × List SentCall × Bool × Dialect
 
 abbrev pub line_of : Link → LineState
-line_of link = (link.text.items, option_map (λ (x : Conn). (x.number, x.held.items, bytes_of x.unsent)) link.conn, said_asks link.calls.sent.items, link.waiting.items, link.awaits_dialect)
+line_of link = (link.text.items, option_map (λ (x : Conn). (x.number, x.held.items, bytes_of x.unsent)) link.conn, said_asks link.calls.sent.items, link.waiting.items, link.awaits_dialect, link.dialect)
 
 -- all connections that were or are of others than this one are as they were
 abbrev pub KeepsOthers : ℕ × ℕ → List Event → List Event → Type 0
@@ -141,6 +209,7 @@ pub record OneGoes (Is : Step → Type 0) (id : ℕ) (core : ServedCore) (h : Li
   pub own : AreOf IsOfClients steps
   pub walks : Walks steps core core'
   pub agrees : (past : List Step) → AgreesWith past h id client → AgreesWith (steps ++ past) h' id client'
+  pub told : (past : List Step) → IsTold past id client → IsTold (steps ++ past) id client'
   pub number : client'.conn.number ≡ client.conn.number
   pub only : TouchesOnly client.conn.number h h'
   pub others : (past : List Step) (j : ℕ) → nat_eq id j ≡ false → TellsNone j past steps
@@ -174,6 +243,7 @@ texts_of links = each (λ link. link.text.items) links
 pub record Agrees (past : List Step) (x : AnEnd) : Type 0 where
   pub orderly : IsOrderly past
   pub clients : AgreeWith past x.history x.clients
+  pub told : AreTold past x.clients
   pub links : LinesAgree past x.history x.links
   pub gone : (conn id : ℕ) → role conn x.history ≡ Some (0, id) → HasOrHad past x.history x.clients id conn
 
@@ -181,13 +251,22 @@ pub record Agrees (past : List Step) (x : AnEnd) : Type 0 where
 pub record AgreesBut (This : ℕ → List Step → List Event → Link → Type 0) (at : ℕ) (past : List Step) (x : AnEnd) : Type 0 where
   pub orderly : IsOrderly past
   pub clients : AgreeWith past x.history x.clients
+  pub told : AreTold past x.clients
   pub links : (j : ℕ) (link : Link) → nat_eq at j ≡ false → slice_get x.links j ≡ Some link → LineAgrees j past x.history link
   pub this : (link : Link) → slice_get x.links at ≡ Some link → This at past x.history link
   pub gone : (conn id : ℕ) → role conn x.history ≡ Some (0, id) → HasOrHad past x.history x.clients id conn
 
+-- all agree, and the core just gave all that it had for this client
+abbrev pub AgreesGiven : ℕ → List Step → AnEnd → Type 0
+AgreesGiven id past x = Agrees past x × IsJustGiven id past
+
 -- all agree, and the core gave out this call for this server
 abbrev pub AgreesCalled : ℕ → ℕ → Ask → List Step → AnEnd → Type 0
 AgreesCalled number at ask past x = Agrees past x × IsCalledIn past number at ask
+
+-- all agree, and this call may go to this server
+abbrev pub AgreesSent : ℕ → SentCall → List Step → AnEnd → Type 0
+AgreesSent at call past x = Agrees past x × MayGo past at call
 
 -- all agree, but that what one link holds may be lost
 abbrev pub AgreesLosing : List Step → AnEnd → Type 0

@@ -2,27 +2,30 @@
 use Rattle.std.specs.Prelude.{◌≡◌, ℕ, Bool, true, false, List, [], ◌∷◌, ◌++◌, nat_eq, length, if◌then◌else◌}
 use Rattle.mc_types.specs.declared.ask.Ask.{Ask}
 use Rattle.mc_types.specs.declared.ask.Dialect.{Dialect}
+use Rattle.mc_types.specs.declared.ask.Dialect.TheVariants.{Classic}
 use Rattle.mc_types.specs.declared.answer.Answer.{Answer}
 use Rattle.mc_types.specs.declared.call.Outcome.{Outcome}
 use Rattle.mc_types.specs.declared.call.Outcome.TheVariants.{Answered, Failed}
 use Rattle.wire_stream.specs.Spelling.{spelling_of}
 use Rattle.core_commands.specs.declared.ticket.Ticket.{Ticket}
 use Rattle.core_proxy.specs.declared.note.Poll.TheVariants as polls
-use Rattle.serve_links.specs.Dialects.{asked_in, SpellsIn}
-use Rattle.serve_links.specs.Lines.{first_asked_of, awaits_first}
-use Rattle.serve_links.specs.CoreSteps.{Step, Opened, NotOpened, Fed, Polled, Stopped, Settled, Gave, Closed, LeftLine, Loaded, Linked, Asked, Greeted, Spelled}
+use Rattle.serve_links.specs.Dialects.{asked_in, SpellsIn, IsGreeting}
+use Rattle.serve_links.specs.declared.settings.ServerDialect.{ServerDialect}
+use Rattle.serve_links.specs.Lines.{first_asked_of, awaits_first, first_dialect}
+use Rattle.serve_links.specs.CoreSteps.{Step, Opened, NotOpened, Fed, Polled, Stopped, Settled, Gave, Closed, LeftLine, Broke, Loaded, Linked, Asked, Greeted, Spelled}
 
 -- a call that a server was asked: its number, in which dialect it was asked, and its ask
 abbrev pub SaidAsk : Type 0
 SaidAsk = ℕ × Dialect × Ask
 
--- of a server's connection: what was to be sent over it, which bytes that came over it told something, the calls that are out there, the one that was asked first in front, and whether the server is still
--- to tell of its dialects, before it answers any call
+-- of a server's connection: what was to be sent over it, which bytes that came over it told something, the calls that are out there, the one that was asked first in front, whether the server is still
+-- to tell of its dialects, before it answers any call, and in which dialect calls are asked there from now on
 pub record Talk : Type 0 where
   pub sent : List ℕ
   pub told : List ℕ
   pub out : List SaidAsk
   pub awaits : Bool
+  pub dialect : Dialect
 
 -- without the first
 abbrev pub behind : List SaidAsk → List SaidAsk
@@ -31,19 +34,19 @@ behind (ask ∷ asks) = asks
 
 -- where there was no connection yet
 abbrev pub no_talk : Talk
-no_talk = record { sent = []; told = []; out = []; awaits = false }
+no_talk = record { sent = []; told = []; out = []; awaits = false; dialect = Classic }
 
--- a new connection, over which this is asked first
-abbrev pub first_talk : List ℕ → Bool → Talk
-first_talk first awaits = record { sent = first; told = []; out = []; awaits = awaits }
+-- a new connection, to a server that is asked so
+abbrev pub first_talk : ServerDialect → Talk
+first_talk dialect = record { sent = first_asked_of dialect; told = []; out = []; awaits = awaits_first dialect; dialect = first_dialect dialect }
 
 -- one more call is asked in its dialect
 abbrev pub with_ask : ℕ → Dialect → Ask → Talk → Talk
 with_ask number dialect ask talk = record talk { sent = talk.sent ++ spelling_of (asked_in dialect ask); out = talk.out ++ (number, dialect, ask) ∷ [] }
 
--- the server told of its dialects
-abbrev pub greeted : List ℕ → Talk → Talk
-greeted bytes talk = record talk { told = talk.told ++ bytes; awaits = false }
+-- the server told this dialect
+abbrev pub greeted : Dialect → List ℕ → Talk → Talk
+greeted dialect bytes talk = record talk { told = talk.told ++ bytes; awaits = false; dialect = dialect }
 
 -- the first call is out no more
 abbrev pub with_answer : List ℕ → Talk → Talk
@@ -51,9 +54,9 @@ with_answer bytes talk = record talk { told = talk.told ++ bytes; out = behind t
 
 -- what a step adds to what was said over the connection of the server of this number
 abbrev pub talk_after : Step → ℕ → Talk → Talk
-talk_after (Linked at dialect) i talk = if nat_eq at i then first_talk (first_asked_of dialect) (awaits_first dialect) else talk
+talk_after (Linked at dialect) i talk = if nat_eq at i then first_talk dialect else talk
 talk_after (Asked at number dialect ask) i talk = if nat_eq at i then with_ask number dialect ask talk else talk
-talk_after (Greeted at bytes) i talk = if nat_eq at i then greeted bytes talk else talk
+talk_after (Greeted at dialect bytes) i talk = if nat_eq at i then greeted dialect bytes talk else talk
 talk_after (Spelled at number ask answer bytes) i talk = if nat_eq at i then with_answer bytes talk else talk
 talk_after (Opened client) i talk = talk
 talk_after (NotOpened fault) i talk = talk
@@ -64,6 +67,7 @@ talk_after (Settled number outcome) i talk = talk
 talk_after (Gave client bytes) i talk = talk
 talk_after (Closed client) i talk = talk
 talk_after (LeftLine client) i talk = talk
+talk_after (Broke client) i talk = talk
 talk_after (Loaded configuration generation) i talk = talk
 
 -- what was said over it by these steps, the latest first
@@ -81,6 +85,14 @@ pub record IsCalledIn (steps : List Step) (number at : ℕ) (ask : Ask) : Type 0
   pub later : List Step
   pub earlier : List Step
   pub was : steps ≡ later ++ Polled client (polls.Call ticket) ∷ earlier
+
+-- the core gave out this call, and then, or later, this was the dialect in which calls were to be asked over the connection of its server
+pub record MayBeAsked (steps : List Step) (number at : ℕ) (dialect : Dialect) (ask : Ask) : Type 0 where
+  pub later : List Step
+  pub earlier : List Step
+  pub parts : steps ≡ later ++ earlier
+  pub called : IsCalledIn earlier number at ask
+  pub speaks : (talk_in earlier at).dialect ≡ dialect
 
 -- the call that was asked first of those that are out has this number, nothing else is told before its answer, and these bytes, whatever follows them, spell this answer to the ask, in the dialect in which it was asked
 pub record IsNextAnswer (number : ℕ) (ask : Ask) (answer : Answer) (bytes : List ℕ) (talk : Talk) : Type 0 where
@@ -105,10 +117,10 @@ abbrev pub ComesBy : ℕ → Outcome → List Step → Type 0
 ComesBy number (Answered answer) past = IsJustSpelled number answer past
 ComesBy number Failed past = Unit {0}
 
--- after these steps this one may come: a server is asked what the core gave out for it, tells of its dialects where it is asked for that, and then answers its calls in their order; and a call is settled by its answer
+-- after these steps this one may come: a server is asked what the core gave out for it, in a dialect that it speaks; tells of its dialects where it is asked for that, and then answers its calls in their order; and a call is settled by its answer
 abbrev pub MayFollow : Step → List Step → Type 0
-MayFollow (Asked at number dialect ask) past = IsCalledIn past number at ask
-MayFollow (Greeted at bytes) past = (talk_in past at).awaits ≡ true
+MayFollow (Asked at number dialect ask) past = MayBeAsked past number at dialect ask
+MayFollow (Greeted at dialect bytes) past = ((talk_in past at).awaits ≡ true) × IsGreeting dialect bytes
 MayFollow (Spelled at number ask answer bytes) past = IsNextAnswer number ask answer bytes (talk_in past at)
 MayFollow (Settled number outcome) past = ComesBy number outcome past
 MayFollow (Linked at dialect) past = Unit {0}
@@ -120,6 +132,7 @@ MayFollow (Stopped client fault) past = Unit {0}
 MayFollow (Gave client bytes) past = Unit {0}
 MayFollow (Closed client) past = Unit {0}
 MayFollow (LeftLine client) past = Unit {0}
+MayFollow (Broke client) past = Unit {0}
 MayFollow (Loaded configuration generation) past = Unit {0}
 
 -- so it is with each of them, after those before it
@@ -137,11 +150,12 @@ IsOfClients (Stopped client fault) = Unit {0}
 IsOfClients (Gave client bytes) = Unit {0}
 IsOfClients (Closed client) = Unit {0}
 IsOfClients (LeftLine client) = Unit {0}
+IsOfClients (Broke client) = Unit {0}
 IsOfClients (Loaded configuration generation) = Unit {0}
 IsOfClients (Settled number outcome) = ⊥
 IsOfClients (Linked at dialect) = ⊥
 IsOfClients (Asked at number dialect ask) = ⊥
-IsOfClients (Greeted at bytes) = ⊥
+IsOfClients (Greeted at dialect bytes) = ⊥
 IsOfClients (Spelled at number ask answer bytes) = ⊥
 
 -- a step tells of this server, or settles a call
@@ -149,7 +163,7 @@ abbrev pub IsOfServer : ℕ → Step → Type 0
 IsOfServer i (Settled number outcome) = Unit {0}
 IsOfServer i (Linked at dialect) = at ≡ i
 IsOfServer i (Asked at number dialect ask) = at ≡ i
-IsOfServer i (Greeted at bytes) = at ≡ i
+IsOfServer i (Greeted at dialect bytes) = at ≡ i
 IsOfServer i (Spelled at number ask answer bytes) = at ≡ i
 IsOfServer i (Opened client) = ⊥
 IsOfServer i (NotOpened fault) = ⊥
@@ -159,4 +173,5 @@ IsOfServer i (Stopped client fault) = ⊥
 IsOfServer i (Gave client bytes) = ⊥
 IsOfServer i (Closed client) = ⊥
 IsOfServer i (LeftLine client) = ⊥
+IsOfServer i (Broke client) = ⊥
 IsOfServer i (Loaded configuration generation) = ⊥

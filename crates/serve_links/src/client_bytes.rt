@@ -1,6 +1,6 @@
 //! A client's bytes: read, given to the core, shown by it and sent.
 
-ghost use Rattle.std.specs.Prelude.{◌≡◌, ◌++◌, false, OnOk, OnErr};
+ghost use Rattle.std.specs.Prelude.{◌≡◌, ◌++◌, true, false, OnOk, OnErr};
 ghost use Rattle.wire_parts.specs.Sending.{bytes_of};
 ghost use Rattle.core_proxy.specs.CoreState.{client_at, output_by};
 ghost use Rattle.serve_links.specs.CoreSteps.{Gave, Does, GoesOn};
@@ -24,6 +24,7 @@ pub fn read_once<W: Wire>(client: &mut Client, wire: &mut W, tally: &mut Tally)
     ensures agrees { GoesOnAgreeing (W.history wire.old) (W.history wire.new) client.old client.new }
     ensures elsewhere { TouchesOnly client.old.conn.number (W.history wire.old) (W.history wire.new) }
     ensures number { client.new.conn.number ≡ client.old.conn.number }
+    ensures broken { client.old.is_broken ≡ true → client.new.is_broken ≡ true }
 {
     let room = client.read_room();
     match client.conn.read_once(wire, room).unwrap_or(Got::Failed) {
@@ -43,6 +44,7 @@ fn send_unsent<W: Wire>(client: &mut Client, wire: &mut W)
     ensures agrees { GoesOnAgreeing (W.history wire.old) (W.history wire.new) client.old client.new }
     ensures elsewhere { TouchesOnly client.old.conn.number (W.history wire.old) (W.history wire.new) }
     ensures number { client.new.conn.number ≡ client.old.conn.number }
+    ensures broken { client.old.is_broken ≡ true → client.new.is_broken ≡ true }
 {
     if client.is_broken {
         client.break_off();
@@ -62,6 +64,7 @@ pub fn send_once<W: Wire>(core: &ServedCore, id: usize, client: &mut Client, wir
     ensures agrees { GoesOnAgreeing (W.history wire.old) (W.history wire.new) client.old client.new }
     ensures elsewhere { TouchesOnly client.old.conn.number (W.history wire.old) (W.history wire.new) }
     ensures number { client.new.conn.number ≡ client.old.conn.number }
+    ensures broken { client.old.is_broken ≡ true → client.new.is_broken ≡ true }
 {
     client.has_output = false;
     let was_full = !client.has_room();

@@ -1,9 +1,10 @@
 //! One server's link: its connection, if it has one, and the calls that are out.
 
 ghost use Rattle.std.specs.Prelude.{◌≡◌, ◌+◌, ◌<◌, ◌++◌, false, ◌∷◌, [], None, length, MatchOption, IfOk, IfErr, OnOk, OnErr, option_map};
+ghost use Rattle.mc_types.specs.declared.ask.Dialect.TheVariants.{Classic};
 ghost use Rattle.serve_links.specs.Links.{IsDown};
 ghost use Rattle.wire_parts.specs.Sending.{bytes_of};
-ghost use Rattle.serve_links.specs.Lines.{first_asked_of, awaits_first, KeepsLines, HasNewEnd, OpensBy, Learns};
+ghost use Rattle.serve_links.specs.Lines.{first_asked_of, awaits_first, first_dialect, KeepsLines, HasNewEnd, OpensBy, Learns};
 
 use crate::calls::{LinkCalls, SentCall};
 use crate::news::{Cause, LinkNews};
@@ -41,7 +42,9 @@ fn unconnected(cause: Cause) -> Cause {
 }
 
 // In which dialect the first calls go out.
-fn first_dialect(dialect: ServerDialect) -> Dialect {
+fn first_dialect(dialect: ServerDialect) -> Dialect
+    ensures { result ≡ first_dialect dialect }
+{
     match dialect {
         ServerDialect::Auto | ServerDialect::Classic => Dialect::Classic,
         ServerDialect::Meta => Dialect::Meta,
@@ -143,6 +146,7 @@ impl Link {
     pub fn new(alloc: Global, text: &[u8]) -> Result<Link, AllocError>
         ensures down { IfOk result IsDown }
         ensures awaits { IfOk result (λ link. link.awaits_dialect ≡ false) }
+        ensures dialect { IfOk result (λ link. link.dialect ≡ Classic) }
         ensures text { IfOk result (λ link. link.text.items ≡ text.now) }
     {
         let text = text.to_vec(alloc)?;
@@ -152,6 +156,7 @@ impl Link {
     fn of(alloc: Global, text: Vec<u8>) -> Link
         ensures down { IsDown result }
         ensures awaits { result.awaits_dialect ≡ false }
+        ensures dialect { result.dialect ≡ Classic }
         ensures text { result.text ≡ text }
     {
         Link {

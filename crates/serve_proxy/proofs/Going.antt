@@ -1,7 +1,7 @@
 -- How the ends of a proxy go on, by what is done to one of them or by calls of the core alone.
 use Rattle.std.proofs.Common.{◌≡◌, ◌≢◌, inl, inr, ℕ, zero, suc, ◌<◌, Bool, true, false, if◌then◌else◌, List, [], ◌∷◌, ◌++◌, length, get_or, Option, Some, None, Result, Ok, Err, refl, sym, ap, ◌∙◌, subst, append_assoc, append-nil, arith}
 use Rattle.std.proofs.Math.ListN.{set}
-use Rattle.std.proofs.lemmas.Bool.{eq-eqb}
+use Rattle.std.proofs.lemmas.Bool.{cases_Bool, eq-eqb, eqb-true}
 use Rattle.std.proofs.lemmas.Option.{slice_get_read}
 use Rattle.std.specs.Prelude.{slice_get, nat_eq, IfSome, IfOk, IfErr, OnOk, OnErr, map as each}
 use Rattle.std.specs.Option.{option_map}
@@ -28,17 +28,18 @@ use Rattle.serve_clients.specs.Marks.{client_of}
 use Rattle.serve_clients.specs.Agrees.{said_of, Breaks, StateAgrees, EndAgrees, GoesOnAgreeing, AllAgree}
 use Rattle.serve_clients.specs.Lending.{with_client}
 use Rattle.serve_clients.proofs.Agreeing.{state_stays, agree_still}
+use Rattle.serve_links.specs.declared.calls.calls.SentCall.{SentCall}
 use Rattle.serve_links.specs.declared.link.Link.{Link}
-use Rattle.serve_links.specs.CoreSteps.{Step, Opened, NotOpened, Fed, Polled, Stopped, Settled, Gave, Closed, LeftLine, Loaded, Linked, Asked, Greeted, Spelled, Does, Walks, AreOf, GoesBy, IsOfTurn, IsFailure, IsSending, Fails}
+use Rattle.serve_links.specs.CoreSteps.{Step, Opened, NotOpened, Fed, Polled, Stopped, Settled, Gave, Closed, LeftLine, Broke, Loaded, Linked, Asked, Greeted, Spelled, Does, Walks, AreOf, GoesBy, IsOfTurn, IsFailure, IsSending, Fails}
 use Rattle.serve_links.specs.Talks.{IsOfClients}
 use Rattle.serve_links.specs.Pieces.{FeedsHeld}
-use Rattle.serve_links.specs.Story.{fed_in, gave_in, AgreesWith, TellsNone, HasOrHad, LineState, line_of, LineAgrees, LineLost, LineCalled, LinesAgree, OneGoes, LineGoesFrom, LineGoes, AnEnd, Agrees, AgreesBut, AgreesCalled, AgreesLosing, AllGoFrom, AllGo, texts_of}
+use Rattle.serve_links.specs.Story.{fed_in, gave_in, is_open_in, is_broken_in, AgreesWith, IsTold, AreTold, TellsNone, HasOrHad, LineState, line_of, LineAgrees, LineLost, LineCalled, LinesAgree, OneGoes, LineGoesFrom, LineGoes, AnEnd, Agrees, AgreesGiven, AgreesBut, AgreesCalled, AgreesLosing, AllGoFrom, AllGo, texts_of, AgreesSent}
 use Rattle.serve_links.proofs.Reading.{breaks_now}
 use Rattle.serve_links.proofs.Talking.{IsPlain, plain_talk, plain_orderly}
-use Rattle.serve_links.proofs.Story.{same_told, had_stays, one_of_all, line_among, line_stays, all_still, from_then, go_between, all_but, but_all}
+use Rattle.serve_links.proofs.Story.{one_agrees, at_told, each_told, all_told, same_told, had_stays, one_of_all, line_among, line_stays, all_still, from_then, go_between, all_but, but_all}
 use Rattle.serve_links.proofs.LinkGoes.{same_line, as_lost, losing}
 use Rattle.serve_links.proofs.Walked.{walked, of_both}
-use Rattle.serve_proxy.specs.Ends.{lines_of, EndsStay, EndsGoFrom, EndsGo, LineStands}
+use Rattle.serve_proxy.specs.Ends.{lines_of, IsClosing, OneGives, EndsStay, EndsGoFrom, EndsGo, LineStands}
 use Rattle.serve_proxy.proofs.Lent.{lent_here, lent_others}
 
 -- ---- all ends, one after another
@@ -97,6 +98,16 @@ numbers_kept (Some x) None e = absurd (none_some e)
 numbers_kept None (Some y) e = absurd (none_some (sym e))
 numbers_kept (Some x) (Some y) e = ap (λ (s : ℕ × List ℕ × List ℕ × Bool × Bool). Some s.0) (same_some e)
 
+-- how ends stand that are as they were
+pub told_kept : (past : List Step) (cs cs' : Clients) → ((id : ℕ) → option_map said_of (client_of cs' id) ≡ option_map said_of (client_of cs id)) → AreTold past cs → AreTold past cs'
+told_kept past cs cs' keeps was id = by (client_of cs id) (client_of cs' id) (keeps id) (was id)
+  where
+    by : (o o' : Option Client) → option_map said_of o' ≡ option_map said_of o → IfSome o (IsTold past id) → IfSome o' (IsTold past id)
+    by None None e told = tt
+    by (Some x) None e told = tt
+    by None (Some y) e told = absurd (none_some (sym e))
+    by (Some x) (Some y) e told = (told.0, told.1 ∙ sym (ap (λ (s : ℕ × List ℕ × List ℕ × Bool × Bool). s.3) (same_some e)))
+
 -- what is known of a connection that nothing touched
 pub had_quiet :
     (past steps : List Step) (h h' : List Event) (cs cs' : Clients) (id conn : ℕ) → IsUntouched conn h h' → option_map (λ (x : Client). x.conn.number) (client_of cs' id) ≡ option_map (λ (x : Client). x.conn.number) (client_of cs id)
@@ -113,6 +124,7 @@ stays {Is} {h} {h'} {cs} {cs'} {ls} {ls'} core s =
       walks = refl;
       agree = λ past a. record {
         clients = clients_quiet h h' (fed_in past) (gave_in past) cs' s.quiet (agree_still h (fed_in past) (gave_in past) cs cs' s.clients a.clients);
+        told = told_kept past cs cs' s.clients a.told;
         orderly = a.orderly;
         links = lines_stay h h' past ls ls' s.quiet s.links a.links;
         gone = λ conn id is. had_quiet past [] h h' cs cs' id conn (s.quiet conn) (numbers_kept (client_of cs id) (client_of cs' id) (s.clients id)) is a.gone;
@@ -135,7 +147,7 @@ go_stay a s = λ core. and_then (a core) (stays core s)
 
 -- ---- one link among all
 
-set_here : {A : Type 0} (xs : List A) (i : ℕ) (x : A) → i < length xs → slice_get (set xs i x) i ≡ Some x
+pub set_here : {A : Type 0} (xs : List A) (i : ℕ) (x : A) → i < length xs → slice_get (set xs i x) i ≡ Some x
 set_here [] i x within = absurd (omega arith)
 set_here (y ∷ xs) zero x within = refl
 set_here (y ∷ xs) (suc i) x within = set_here xs i x (omega arith)
@@ -158,38 +170,43 @@ true_false e = cc
 pub not_same : (i j : ℕ) → nat_eq i j ≡ false → j ≢ i
 not_same i j other e = true_false (sym (eq-eqb i j (sym e)) ∙ other)
 
+pub same_client : (id : ℕ) → nat_eq id id ≡ true
+same_client id = eq-eqb id id refl
+
 -- calls of a core that tell nothing of clients and of servers
 abbrev pub IsSilent : Step → Type 0
 IsSilent (NotOpened fault) = Unit {0}
 IsSilent (Polled client poll) = Unit {0}
 IsSilent (Stopped client fault) = Unit {0}
 IsSilent (Settled number outcome) = outcome ≡ Failed
-IsSilent (Closed client) = Unit {0}
+IsSilent (Closed client) = ⊥
 IsSilent (LeftLine client) = Unit {0}
+IsSilent (Broke client) = ⊥
 IsSilent (Opened client) = ⊥
 IsSilent (Fed client piece) = ⊥
 IsSilent (Gave client bytes) = ⊥
 IsSilent (Loaded configuration generation) = ⊥
 IsSilent (Linked at dialect) = ⊥
 IsSilent (Asked at number dialect ask) = ⊥
-IsSilent (Greeted at bytes) = ⊥
+IsSilent (Greeted at dialect bytes) = ⊥
 IsSilent (Spelled at number ask answer bytes) = ⊥
 
 pub tells_none : (steps : List Step) → AreOf IsSilent steps → (past : List Step) (j : ℕ) → TellsNone j past steps
-tells_none [] kinds past j = (refl, refl)
+tells_none [] kinds past j = (refl, refl, refl, refl)
 tells_none (NotOpened fault ∷ steps) kinds past j = tells_none steps kinds.1 past j
 tells_none (Polled client poll ∷ steps) kinds past j = tells_none steps kinds.1 past j
 tells_none (Stopped client fault ∷ steps) kinds past j = tells_none steps kinds.1 past j
 tells_none (Settled number outcome ∷ steps) kinds past j = tells_none steps kinds.1 past j
-tells_none (Closed client ∷ steps) kinds past j = tells_none steps kinds.1 past j
+tells_none (Closed client ∷ steps) kinds past j = absurd kinds.0
 tells_none (LeftLine client ∷ steps) kinds past j = tells_none steps kinds.1 past j
+tells_none (Broke client ∷ steps) kinds past j = absurd kinds.0
 tells_none (Opened client ∷ steps) kinds past j = absurd kinds.0
 tells_none (Fed client piece ∷ steps) kinds past j = absurd kinds.0
 tells_none (Gave client bytes ∷ steps) kinds past j = absurd kinds.0
 tells_none (Loaded configuration generation ∷ steps) kinds past j = absurd kinds.0
 tells_none (Linked at dialect ∷ steps) kinds past j = absurd kinds.0
 tells_none (Asked at number dialect ask ∷ steps) kinds past j = absurd kinds.0
-tells_none (Greeted at bytes ∷ steps) kinds past j = absurd kinds.0
+tells_none (Greeted at dialect bytes ∷ steps) kinds past j = absurd kinds.0
 tells_none (Spelled at number ask answer bytes ∷ steps) kinds past j = absurd kinds.0
 
 pub silent_turn : (steps : List Step) → AreOf IsSilent steps → AreOf IsOfTurn steps
@@ -203,13 +220,14 @@ silent_turn (step ∷ steps) kinds = (of_turn step kinds.0, silent_turn steps ki
     of_turn (Settled number outcome) is = tt
     of_turn (Closed client) is = tt
     of_turn (LeftLine client) is = tt
+    of_turn (Broke client) is = tt
     of_turn (Opened client) is = tt
     of_turn (Fed client piece) is = tt
     of_turn (Gave client bytes) is = tt
     of_turn (Loaded configuration generation) is = is
     of_turn (Linked at dialect) is = tt
     of_turn (Asked at number dialect ask) is = tt
-    of_turn (Greeted at bytes) is = tt
+    of_turn (Greeted at dialect bytes) is = tt
     of_turn (Spelled at number ask answer bytes) is = tt
 
 pub silent_plain : (steps : List Step) → AreOf IsSilent steps → AreOf IsPlain steps
@@ -223,13 +241,14 @@ silent_plain (step ∷ steps) kinds = (plain step kinds.0, silent_plain steps ki
     plain (Stopped client fault) is = tt
     plain (Closed client) is = tt
     plain (LeftLine client) is = tt
+    plain (Broke client) is = tt
     plain (Opened client) is = tt
     plain (Fed client piece) is = tt
     plain (Gave client bytes) is = tt
     plain (Loaded configuration generation) is = tt
     plain (Linked at dialect) is = is
     plain (Asked at number dialect ask) is = is
-    plain (Greeted at bytes) is = is
+    plain (Greeted at dialect bytes) is = is
     plain (Spelled at number ask answer bytes) is = is
 
 fails_silent : (steps : List Step) → AreOf IsFailure steps → AreOf IsSilent steps
@@ -241,15 +260,16 @@ fails_silent (step ∷ steps) kinds = (silent step kinds.0, fails_silent steps k
     silent (NotOpened fault) is = tt
     silent (Polled client poll) is = tt
     silent (Stopped client fault) is = tt
-    silent (Closed client) is = tt
+    silent (Closed client) is = is
     silent (LeftLine client) is = tt
+    silent (Broke client) is = is
     silent (Opened client) is = is
     silent (Fed client piece) is = is
     silent (Gave client bytes) is = is
     silent (Loaded configuration generation) is = is
     silent (Linked at dialect) is = is
     silent (Asked at number dialect ask) is = is
-    silent (Greeted at bytes) is = is
+    silent (Greeted at dialect bytes) is = is
     silent (Spelled at number ask answer bytes) is = is
 
 fails_send : (steps : List Step) → AreOf IsFailure steps → AreOf IsSending steps
@@ -263,13 +283,14 @@ fails_send (step ∷ steps) kinds = (sends step kinds.0, fails_send steps kinds.
     sends (Stopped client fault) is = is
     sends (Closed client) is = is
     sends (LeftLine client) is = is
+    sends (Broke client) is = is
     sends (Opened client) is = is
     sends (Fed client piece) is = is
     sends (Gave client bytes) is = is
     sends (Loaded configuration generation) is = is
     sends (Linked at dialect) is = tt
     sends (Asked at number dialect ask) is = tt
-    sends (Greeted at bytes) is = is
+    sends (Greeted at dialect bytes) is = is
     sends (Spelled at number ask answer bytes) is = is
 
 sends_turn : (steps : List Step) → AreOf IsSending steps → AreOf IsOfTurn steps
@@ -283,14 +304,30 @@ sends_turn (step ∷ steps) kinds = (of_turn step kinds.0, sends_turn steps kind
     of_turn (Stopped client fault) is = tt
     of_turn (Closed client) is = tt
     of_turn (LeftLine client) is = tt
+    of_turn (Broke client) is = tt
     of_turn (Opened client) is = tt
     of_turn (Fed client piece) is = tt
     of_turn (Gave client bytes) is = tt
     of_turn (Loaded configuration generation) is = is
     of_turn (Linked at dialect) is = tt
     of_turn (Asked at number dialect ask) is = tt
-    of_turn (Greeted at bytes) is = tt
+    of_turn (Greeted at dialect bytes) is = tt
     of_turn (Spelled at number ask answer bytes) is = tt
+
+all_of : {Is Is' : Step → Type 0} → ((step : Step) → Is step → Is' step) → (steps : List Step) → AreOf Is steps → AreOf Is' steps
+all_of more [] kinds = tt
+all_of more (step ∷ steps) kinds = (more step kinds.0, all_of more steps kinds.1)
+
+-- what is closed goes on, and so does what is broken off
+pub closing : {P Q : List Step → AnEnd → Type 0} {id : ℕ} {a b : AnEnd} → AllGoFrom P Q (IsClosing id) a b → AllGoFrom P Q IsOfTurn a b
+closing {id = id} g = record { steps = g.steps; kinds = all_of of_turn g.steps g.kinds; walks = g.walks; agree = g.agree; texts = g.texts }
+  where
+    of_turn : (step : Step) → IsClosing id step → IsOfTurn step
+    of_turn step (inl gave) = subst IsOfTurn (sym gave.1) tt
+    of_turn step (inr closed) = subst IsOfTurn (sym closed) tt
+
+pub breaking : {P Q : List Step → AnEnd → Type 0} {id : ℕ} {a b : AnEnd} → AllGoFrom P Q (λ step. step ≡ Broke id) a b → AllGoFrom P Q IsOfTurn a b
+breaking g = record { steps = g.steps; kinds = all_of (λ step is. subst IsOfTurn (sym is) tt) g.steps g.kinds; walks = g.walks; agree = g.agree; texts = g.texts }
 
 -- what fails and goes out goes on
 pub failing : {P Q : List Step → AnEnd → Type 0} {a b : AnEnd} → AllGoFrom P Q IsSending a b → AllGoFrom P Q IsOfTurn a b
@@ -309,7 +346,7 @@ lost_some at g = go_between (λ past was. was) (λ past was. (at, was)) g
 
 losing_at : (at : ℕ) (past : List Step) (x : AnEnd) → Agrees past x → AgreesBut LineLost at past x
 losing_at at past x a =
-    record { orderly = a.orderly; clients = a.clients; links = λ j link other there. a.links j link there; this = λ link there. as_lost at past x.history link (a.links at link there); gone = a.gone }
+    record { orderly = a.orderly; clients = a.clients; told = a.told; links = λ j link other there. a.links j link there; this = λ link there. as_lost at past x.history link (a.links at link there); gone = a.gone }
 
 pub may_lose_at : {P : List Step → AnEnd → Type 0} {Is : Step → Type 0} {a b : AnEnd} (at : ℕ) → AllGoFrom P Agrees Is a b → AllGoFrom P (AgreesBut LineLost at) Is a b
 may_lose_at {b = b} at g = go_between (λ past was. was) (λ past was. losing_at at past b was) g
@@ -321,6 +358,10 @@ gives_up {a = a} at g = go_between (λ past was. losing_at at past a was) (λ pa
 -- what is handed a call goes on without it
 pub without_call : {Q : List Step → AnEnd → Type 0} {Is : Step → Type 0} {a b : AnEnd} (number at : ℕ) (ask : Ask) → AllGoFrom Agrees Q Is a b → AllGoFrom (AgreesCalled number at ask) Q Is a b
 without_call number at ask g = go_between (λ past was. was.0) (λ past was. was) g
+
+-- or one that may be asked
+pub without_sent : {Q : List Step → AnEnd → Type 0} {Is : Step → Type 0} {a b : AnEnd} (at : ℕ) (call : SentCall) → AllGoFrom Agrees Q Is a b → AllGoFrom (AgreesSent at call) Q Is a b
+without_sent at call g = go_between (λ past was. was.0) (λ past was. was) g
 
 pub agree_told : (h : List Event) (input output input' output' : ℕ → List ℕ) (cs : Clients) → ((j : ℕ) → (input' j ≡ input j) × (output' j ≡ output j)) → AllAgree h input output cs → AllAgree h input' output' cs
 agree_told h input output input' output' cs told was id = by (client_of cs id) (was id)
@@ -341,7 +382,8 @@ calls_agree :
     → Agrees (steps ++ past) (record { core = b; history = h; clients = cs; links = ls })
 calls_agree {h} {cs} {ls} a b past steps silent was = record {
   orderly = plain_orderly steps (silent_plain steps silent) past was.orderly;
-  clients = agree_told h (fed_in past) (gave_in past) (fed_in (steps ++ past)) (gave_in (steps ++ past)) cs (tells_none steps silent past) was.clients;
+  clients = agree_told h (fed_in past) (gave_in past) (fed_in (steps ++ past)) (gave_in (steps ++ past)) cs (λ j. let t = tells_none steps silent past j in (t.0, t.1)) was.clients;
+  told = all_told past steps cs (tells_none steps silent past) was.told;
   links = lines_told h steps past ls (silent_plain steps silent) was.links;
   gone = λ conn id is. had_quiet past steps h h cs cs id conn (untouched conn h) refl is was.gone;
 }
@@ -395,11 +437,28 @@ by_poll client (Err fault) a b ok err fresh stops = by_one (Stopped client fault
 pub by_leave : (client : ℕ) (a b : ServedCore) → LeavesLine a.core client b.core → LogsGoBy a (λ entries. entries ≡ []) b → GoesBy IsSilent a b
 by_leave client a b left fresh = by_one (LeftLine client) a b tt (left, fresh)
 
-pub by_close :
-    (client : ℕ) (r : Result (Unit {0}) CoreFault) (a b : ServedCore) → OnOk r (CanClose a.core client × ClosesIn a.core client b.core)
-    → IfErr r (λ fault. CloseFault a.core client fault × (b ≡ a)) → OnOk r (LogsGoBy a (λ entries. entries ≡ log.Resets client ∷ []) b) → GoesBy IsSilent a b
-by_close client (Ok done) a b ok err fresh = by_one (Closed client) a b tt (ok.0, ok.1, fresh)
-by_close client (Err fault) a b ok err fresh = record { steps = []; kinds = tt; walks = err.1 }
+-- the core closed a client whose end isn't there, or did nothing
+pub close_none :
+    {h : List Event} {cs : Clients} {ls : List Link} (client : ℕ) (r : Result (Unit {0}) CoreFault) (a b : ServedCore) → client_of cs client ≡ None → OnOk r (CanClose a.core client × ClosesIn a.core client b.core)
+    → IfErr r (λ fault. CloseFault a.core client fault × (b ≡ a)) → OnOk r (LogsGoBy a (λ entries. entries ≡ log.Resets client ∷ []) b)
+    → AllGo IsOfTurn (record { core = a; history = h; clients = cs; links = ls }) (record { core = b; history = h; clients = cs; links = ls })
+close_none {h} {cs} {ls} client (Ok done) a b nobody ok err fresh = record {
+  steps = Closed client ∷ [];
+  kinds = (tt, tt);
+  walks = (a, refl, (ok.0, ok.1, fresh));
+  agree = λ past was. record {
+    orderly = (tt, was.orderly);
+    clients = agree_told h (fed_in past) (gave_in past) (fed_in (Closed client ∷ past)) (gave_in (Closed client ∷ past)) cs (λ j. (refl, refl)) was.clients;
+    told = each_told (Closed client ∷ past) cs (λ j z there. told past j z there (at_told past cs j z there was.told));
+    links = lines_told h (Closed client ∷ []) past ls (tt, tt) was.links;
+    gone = λ conn id is. had_quiet past (Closed client ∷ []) h h cs cs id conn (untouched conn h) refl is was.gone;
+  };
+  texts = refl;
+}
+  where
+    told : (past : List Step) (j : ℕ) (z : Client) → client_of cs j ≡ Some z → IsTold past j z → IsTold (Closed client ∷ past) j z
+    told past j z there was = elim (cases_Bool (nat_eq client j)) [ inl e ↦ absurd (none_some (sym nobody ∙ ap (client_of cs) (eqb-true client j e) ∙ there)) | inr e ↦ (ap (λ (t : Bool). if t then false else is_open_in past j) e ∙ was.0, was.1) ]
+close_none {h} {cs} {ls} client (Err fault) a b nobody ok err fresh = same_core err.1
 
 pub by_not_opened : (fault : CoreFault) (a b : ServedCore) → OpenFault a.core fault b.core → LogsGoBy a (λ entries. entries ≡ []) b → GoesBy IsSilent a b
 by_not_opened fault a b err fresh = by_one (NotOpened fault) a b tt (err, fresh)
@@ -436,31 +495,29 @@ line_given_up {h = h} {h' = h'} {cs = cs} {a = a} {b = b} links at x y within wa
 
 -- it took over a call
 pub line_took :
-    {Is : Step → Type 0} {h h' : List Event} {cs : Clients} {a b : ServedCore} (links : List Link) (at : ℕ) (x y : Link) (number : ℕ) (ask : Ask) → at < length links → x ≡ get_or links at x
-    → LineGoesFrom (LineCalled number ask) LineAgrees Is at a h x b h' y
-    → AllGoFrom (AgreesCalled number at ask) Agrees Is (record { core = a; history = h; clients = cs; links = links }) (record { core = b; history = h'; clients = cs; links = set links at y })
-line_took {h = h} {h' = h'} {cs = cs} {a = a} {b = b} links at x y number ask within was g =
+    {Is : Step → Type 0} {h h' : List Event} {cs : Clients} {a b : ServedCore} (links : List Link) (at : ℕ) (x y : Link) (call : SentCall) → at < length links → x ≡ get_or links at x → LineGoesFrom (LineCalled call) LineAgrees Is at a h x b h' y
+    → AllGoFrom (AgreesSent at call) Agrees Is (record { core = a; history = h; clients = cs; links = links }) (record { core = b; history = h'; clients = cs; links = set links at y })
+line_took {h = h} {h' = h'} {cs = cs} {a = a} {b = b} links at x y call within was g =
     go_between (λ past was. with_call past was) (λ past was. but_all at past (record { core = b; history = h'; clients = cs; links = set links at y }) was) (line_lends links at x y within was g)
   where
     with_call :
-        (past : List Step) → AgreesCalled number at ask past (record { core = a; history = h; clients = cs; links = links }) → AgreesBut (LineCalled number ask) at past (record { core = a; history = h; clients = cs; links = links })
+        (past : List Step) → AgreesSent at call past (record { core = a; history = h; clients = cs; links = links }) → AgreesBut (LineCalled call) at past (record { core = a; history = h; clients = cs; links = links })
     with_call past was =
-        record { orderly = was.0.orderly; clients = was.0.clients; links = λ j link other there. was.0.links j link there; this = λ link there. (was.0.links at link there, was.1); gone = was.0.gone }
+        record { orderly = was.0.orderly; clients = was.0.clients; told = was.0.told; links = λ j link other there. was.0.links j link there; this = λ link there. (was.0.links at link there, was.1); gone = was.0.gone }
 
 -- one that waited was taken from it
 pub line_gave :
-    {Is : Step → Type 0} {h h' : List Event} {cs : Clients} {a b : ServedCore} (links : List Link) (at : ℕ) (x y : Link) (number : ℕ) (ask : Ask) → at < length links → x ≡ get_or links at x
-    → LineGoesFrom LineAgrees (LineCalled number ask) Is at a h x b h' y
-    → AllGoFrom Agrees (AgreesCalled number at ask) Is (record { core = a; history = h; clients = cs; links = links }) (record { core = b; history = h'; clients = cs; links = set links at y })
-line_gave {h = h} {h' = h'} {cs = cs} {a = a} {b = b} links at x y number ask within was g =
+    {Is : Step → Type 0} {h h' : List Event} {cs : Clients} {a b : ServedCore} (links : List Link) (at : ℕ) (x y : Link) (call : SentCall) → at < length links → x ≡ get_or links at x → LineGoesFrom LineAgrees (LineCalled call) Is at a h x b h' y
+    → AllGoFrom Agrees (AgreesSent at call) Is (record { core = a; history = h; clients = cs; links = links }) (record { core = b; history = h'; clients = cs; links = set links at y })
+line_gave {h = h} {h' = h'} {cs = cs} {a = a} {b = b} links at x y call within was g =
     go_between (λ past was. all_but at past (record { core = a; history = h; clients = cs; links = links }) was) (λ past was. with_call past was) (line_lends links at x y within was g)
   where
     with_call :
-        (past : List Step) → AgreesBut (LineCalled number ask) at past (record { core = b; history = h'; clients = cs; links = set links at y })
-        → AgreesCalled number at ask past (record { core = b; history = h'; clients = cs; links = set links at y })
+        (past : List Step) → AgreesBut (LineCalled call) at past (record { core = b; history = h'; clients = cs; links = set links at y })
+        → AgreesSent at call past (record { core = b; history = h'; clients = cs; links = set links at y })
     with_call past was = (
       but_all at past (record { core = b; history = h'; clients = cs; links = set links at y })
-          (record { orderly = was.orderly; clients = was.clients; links = was.links; this = λ link there. (was.this link there).0; gone = was.gone }),
+          (record { orderly = was.orderly; clients = was.clients; told = was.told; links = was.links; this = λ link there. (was.this link there).0; gone = was.gone }),
       (was.this y (set_here links at y within)).1,
     )
 
@@ -480,21 +537,76 @@ same_agrees h x y same = λ input output id was. subst (of_said h input output i
 
 -- it goes on without a call of the core
 pub one_touched :
-    {Is : Step → Type 0} {id : ℕ} {a b : ServedCore} {h h' : List Event} {x y : Client} → b ≡ a → GoesOnAgreeing h h' x y → y.conn.number ≡ x.conn.number → TouchesOnly x.conn.number h h' → OneGoes Is id a h x b h' y
-one_touched {Is} {id} {a} {b} {h} {h'} {x} {y} same goes number only =
-    record { steps = []; kinds = tt; own = tt; walks = same; agrees = λ past was. goes (fed_in past) (gave_in past) id was; number = number; only = only; others = λ past j other. (refl, refl) }
+    {Is : Step → Type 0} {id : ℕ} {a b : ServedCore} {h h' : List Event} {x y : Client} → b ≡ a → GoesOnAgreeing h h' x y → y.conn.number ≡ x.conn.number → TouchesOnly x.conn.number h h' → y.is_broken ≡ x.is_broken → OneGoes Is id a h x b h' y
+one_touched {Is} {id} {a} {b} {h} {h'} {x} {y} same goes number only broken =
+    record {
+      steps = [];
+      kinds = tt;
+      own = tt;
+      walks = same;
+      agrees = λ past was. goes (fed_in past) (gave_in past) id was;
+      told = λ past was. (was.0, was.1 ∙ sym broken);
+      number = number;
+      only = only;
+      others = λ past j other. (refl, refl, refl, refl);
+    }
+
+-- it is broken off
+pub one_broken :
+    {Is : Step → Type 0} {id : ℕ} {a b : ServedCore} {h h' : List Event} {x y : Client} → Is (Broke id) → b ≡ a → GoesOnAgreeing h h' x y → y.conn.number ≡ x.conn.number → TouchesOnly x.conn.number h h' → y.is_broken ≡ true
+    → OneGoes Is id a h x b h' y
+one_broken {Is} {id} {a} {b} {h} {h'} {x} {y} kind same goes number only broken =
+    record {
+      steps = Broke id ∷ [];
+      kinds = (kind, tt);
+      own = (tt, tt);
+      walks = (a, refl, same);
+      agrees = λ past was. goes (fed_in past) (gave_in past) id was;
+      told = λ past was. (was.0, ap (λ (t : Bool). if t then true else is_broken_in past id) (same_client id) ∙ sym broken);
+      number = number;
+      only = only;
+      others = λ past j other. (refl, refl, refl, ap (λ (t : Bool). if t then true else is_broken_in past j) other);
+    }
+
+-- it is, or isn't; and who was is so still
+pub one_may_break :
+    {Is : Step → Type 0} {id : ℕ} {a : ServedCore} {h h' : List Event} {x y : Client} → Is (Broke id) → GoesOnAgreeing h h' x y → y.conn.number ≡ x.conn.number → TouchesOnly x.conn.number h h' → (x.is_broken ≡ true → y.is_broken ≡ true)
+    → OneGoes Is id a h x a h' y
+one_may_break {Is} {id} {a} {h} {h'} {x} {y} kind goes number only still = by y.is_broken x.is_broken refl refl
+  where
+    by : (now was : Bool) → y.is_broken ≡ now → x.is_broken ≡ was → OneGoes Is id a h x a h' y
+    by true was e f = one_broken kind refl goes number only e
+    by false false e f = one_touched refl goes number only (e ∙ sym f)
+    by false true e f = absurd (true_false (sym (still f) ∙ e))
 
 pub number_said : (x y : Client) → said_of y ≡ said_of x → y.conn.number ≡ x.conn.number
 number_said x y same = ap (λ (s : ℕ × List ℕ × List ℕ × Bool × Bool). s.0) same
+
+pub broken_said : (x y : Client) → said_of y ≡ said_of x → y.is_broken ≡ x.is_broken
+broken_said x y same = ap (λ (s : ℕ × List ℕ × List ℕ × Bool × Bool). s.3) same
 
 pub number_broken : (x y : Client) → Breaks x y → y.conn.number ≡ x.conn.number
 number_broken x y breaks = ap (λ (z : Client). z.conn.number) breaks.rest
 
 pub one_same : {Is : Step → Type 0} {id : ℕ} {a : ServedCore} {h : List Event} (x y : Client) → said_of y ≡ said_of x → OneGoes Is id a h x a h y
-one_same {h = h} x y same = one_touched refl (same_agrees h x y same) (number_said x y same) (λ d other. untouched d h)
+one_same {h = h} x y same = one_touched refl (same_agrees h x y same) (number_said x y same) (λ d other. untouched d h) (broken_said x y same)
 
-pub one_breaks : {Is : Step → Type 0} {id : ℕ} {a : ServedCore} {h : List Event} (x y : Client) → Breaks x y → OneGoes Is id a h x a h y
-one_breaks {h = h} x y breaks = one_touched refl (breaks_now h x y breaks) (number_broken x y breaks) (λ d other. untouched d h)
+pub one_breaks : {id : ℕ} {a b : ServedCore} {h : List Event} (x y : Client) → b ≡ a → Breaks x y → OneGoes IsOfTurn id a h x b h y
+one_breaks {h = h} x y same breaks = one_broken tt same (breaks_now h x y breaks) (number_broken x y breaks) (λ d other. untouched d h) (ap (λ (z : Client). z.is_broken) breaks.rest)
+
+-- what is only broken off goes on
+pub one_breaking : {id : ℕ} {a b : ServedCore} {h h' : List Event} {x y : Client} → OneGoes (λ step. step ≡ Broke id) id a h x b h' y → OneGoes IsOfTurn id a h x b h' y
+one_breaking g = record {
+  steps = g.steps;
+  kinds = all_of (λ step is. subst IsOfTurn (sym is) tt) g.steps g.kinds;
+  own = g.own;
+  walks = g.walks;
+  agrees = g.agrees;
+  told = g.told;
+  number = g.number;
+  only = g.only;
+  others = g.others;
+}
 
 -- one after another
 pub one_then :
@@ -507,12 +619,32 @@ one_then {Is} {id} {a} {b} {c} {h} {h'} {h''} {x} {y} {z} g k =
       walks = walked k.steps g.steps a b c g.walks k.walks;
       agrees = λ past was.
           subst (λ l. AgreesWith l h'' id z) (sym (append_assoc k.steps g.steps past)) (k.agrees (g.steps ++ past) (g.agrees past was));
+      told = λ past was. subst (λ l. IsTold l id z) (sym (append_assoc k.steps g.steps past)) (k.told (g.steps ++ past) (g.told past was));
       number = k.number ∙ g.number;
       only = only_twice x.conn.number h h' h'' g.only (subst (λ c. TouchesOnly c h' h'') g.number k.only);
       others = λ past j other.
           let p = g.others past j other in
           let q = k.others (g.steps ++ past) j other in
-          (ap (λ l. fed_in l j) (append_assoc k.steps g.steps past) ∙ q.0 ∙ p.0, ap (λ l. gave_in l j) (append_assoc k.steps g.steps past) ∙ q.1 ∙ p.1);
+          let e = append_assoc k.steps g.steps past in
+          (ap (λ l. fed_in l j) e ∙ q.0 ∙ p.0, ap (λ l. gave_in l j) e ∙ q.1 ∙ p.1, ap (λ l. is_open_in l j) e ∙ q.2 ∙ p.2, ap (λ l. is_broken_in l j) e ∙ q.3 ∙ p.3);
+    }
+
+-- it is done to one among all, to which the core gave all that it had
+pub one_given :
+    {h h' : List Event} {ls : List Link} {a b : ServedCore} (id : ℕ) (s n : Clients) (x y : Client) → client_of s id ≡ Some x → n ≡ with_client s id y → OneGives id a h x b h' y
+    → AllGoFrom Agrees (AgreesGiven id) (IsClosing id) (record { core = a; history = h; clients = s; links = ls }) (record { core = b; history = h'; clients = n; links = ls })
+one_given {h} {h'} {ls} {a} {b} id s n x y was is given =
+    let g = given.0 in
+    record {
+      steps = g.steps;
+      kinds = g.kinds;
+      walks = g.walks;
+      agree = λ past agreed. (
+        one_agrees id (record { core = a; history = h; clients = s; links = ls }) (record { core = b; history = h'; clients = n; links = ls })
+            x y was (lent_here s n id x y was is) (λ j other. lent_others s n id j y (not_same id j other) is) refl g past agreed,
+        record { bytes = given.1; earlier = past; last = ap (λ l. l ++ past) given.2 },
+      );
+      texts = refl;
     }
 
 -- it is done to one among all
@@ -524,9 +656,6 @@ one_goes {Is} {h} {h'} {ls} {a} {b} id s n x y was is g =
     x y was (lent_here s n id x y was is) (λ j other. lent_others s n id j y (not_same id j other) is) refl g
 
 -- ---- what is fed and given
-
-pub same_client : (id : ℕ) → nat_eq id id ≡ true
-same_client id = eq-eqb id id refl
 
 -- all that was held was fed
 fed_state :
@@ -567,27 +696,46 @@ one_fed {id} {a} {b} {h} x y (inl fed) =
       agrees = λ past was.
           subst (of_said h (fed_in (Fed id piece ∷ past)) (gave_in past) id) (sym said)
           (fed_state h (fed_in past) (fed_in (Fed id piece ∷ past)) (gave_in past) id x.conn.number piece (bytes_of x.conn.unsent) x.is_broken x.is_ended (ap (λ (t : Bool). if t then fed_in past id ++ piece else fed_in past id) (same_client id)) was);
+      told = λ past was. (was.0, was.1 ∙ sym (ap (λ (s : ℕ × List ℕ × List ℕ × Bool × Bool). s.3) said));
       number = ap (λ (s : ℕ × List ℕ × List ℕ × Bool × Bool). s.0) said;
       only = λ d other. untouched d h;
-      others = λ past j other. (ap (λ (t : Bool). if t then fed_in past j ++ piece else fed_in past j) other, refl);
+      others = λ past j other. (ap (λ (t : Bool). if t then fed_in past j ++ piece else fed_in past j) other, refl, refl, refl);
     }
-one_fed {id} {a} {b} {h} x y (inr (core, inl same)) = one_touched core (same_agrees h x y (ap said_of same)) (ap (λ (z : Client). z.conn.number) same) (λ d other. untouched d h)
-one_fed {id} {a} {b} {h} x y (inr (core, inr breaks)) = one_touched core (breaks_now h x y breaks) (number_broken x y breaks) (λ d other. untouched d h)
+one_fed {id} {a} {b} {h} x y (inr (core, inl same)) = one_touched core (same_agrees h x y (ap said_of same)) (ap (λ (z : Client). z.conn.number) same) (λ d other. untouched d h) (ap (λ (z : Client). z.is_broken) same)
+one_fed {id} {a} {b} {h} x y (inr (core, inr breaks)) = one_breaks x y core breaks
 
 -- the core gave what it had for the client
 pub gave_one :
-    {id : ℕ} {a b : ServedCore} {h : List Event} (x y : Client) (bytes : List ℕ) → Does (Gave id bytes) a b → y.conn.number ≡ x.conn.number
+    {id : ℕ} {a b : ServedCore} {h : List Event} (x y : Client) (bytes : List ℕ) → Does (Gave id bytes) a b → y.conn.number ≡ x.conn.number → y.is_broken ≡ x.is_broken
     → ((past : List Step) → AgreesWith past h id x → AgreesWith (Gave id bytes ∷ past) h id y) → OneGoes IsOfTurn id a h x b h y
-gave_one {id} {a} {b} {h} x y bytes does number goes =
+gave_one {id} {a} {b} {h} x y bytes does number broken goes =
     record {
       steps = Gave id bytes ∷ [];
       kinds = (tt, tt);
       own = (tt, tt);
       walks = (a, refl, does);
       agrees = goes;
+      told = λ past was. (was.0, was.1 ∙ sym broken);
       number = number;
       only = λ d other. untouched d h;
-      others = λ past j other. (refl, ap (λ (t : Bool). if t then gave_in past j ++ bytes else gave_in past j) other);
+      others = λ past j other. (refl, ap (λ (t : Bool). if t then gave_in past j ++ bytes else gave_in past j) other, refl, refl);
+    }
+
+-- and then its end was broken off
+pub gave_broken :
+    {id : ℕ} {a b : ServedCore} {h : List Event} (x y : Client) (bytes : List ℕ) → Does (Gave id bytes) a b → y.conn.number ≡ x.conn.number → y.is_broken ≡ true
+    → ((past : List Step) → AgreesWith past h id x → AgreesWith (Gave id bytes ∷ past) h id y) → OneGoes IsOfTurn id a h x b h y
+gave_broken {id} {a} {b} {h} x y bytes does number broken goes =
+    record {
+      steps = Broke id ∷ Gave id bytes ∷ [];
+      kinds = (tt, (tt, tt));
+      own = (tt, (tt, tt));
+      walks = (b, (a, refl, does), refl);
+      agrees = goes;
+      told = λ past was. (was.0, ap (λ (t : Bool). if t then true else is_broken_in past id) (same_client id) ∙ sym broken);
+      number = number;
+      only = λ d other. untouched d h;
+      others = λ past j other. (refl, ap (λ (t : Bool). if t then gave_in past j ++ bytes else gave_in past j) other, refl, ap (λ (t : Bool). if t then true else is_broken_in past j) other);
     }
 
 pub more_given : (past : List Step) (id : ℕ) (bytes : List ℕ) → gave_in (Gave id bytes ∷ past) id ≡ gave_in past id ++ bytes
@@ -601,8 +749,38 @@ pub one_shown :
 one_shown {id} {a} {b} {h} x y (Ok shown) gives same more kept rest =
     let bytes = output_by (client_at a.core id) in
     let said : said_of y ≡ (x.conn.number, x.conn.held.items, bytes_of x.conn.unsent ++ bytes, x.is_broken, x.is_ended) = ap said_of rest ∙ ap (λ l. (x.conn.number, x.conn.held.items, l, x.is_broken, x.is_ended)) more in
-    gave_one x y bytes gives (ap (λ (s : ℕ × List ℕ × List ℕ × Bool × Bool). s.0) said) (λ past was.
+    gave_one x y bytes gives (ap (λ (s : ℕ × List ℕ × List ℕ × Bool × Bool). s.0) said) (ap (λ (s : ℕ × List ℕ × List ℕ × Bool × Bool). s.3) said) (λ past was.
     subst (of_said h (fed_in past) (gave_in (Gave id bytes ∷ past)) id) (sym said)
     (gave_state h (fed_in past) (gave_in past) (gave_in (Gave id bytes ∷ past)) id x.conn.number x.conn.held.items (bytes_of x.conn.unsent) bytes x.is_broken x.is_ended (more_given past id bytes) was))
 one_shown {id} {a} {b} {h} x y (Err fault) gives same more kept rest =
-    one_touched same (same_agrees h x y (ap said_of rest ∙ ap (λ l. (x.conn.number, x.conn.held.items, l, x.is_broken, x.is_ended)) kept)) (ap (λ (z : Client). z.conn.number) rest) (λ d other. untouched d h)
+    one_touched same (same_agrees h x y (ap said_of rest ∙ ap (λ l. (x.conn.number, x.conn.held.items, l, x.is_broken, x.is_ended)) kept)) (ap (λ (z : Client). z.conn.number) rest) (λ d other. untouched d h) (ap (λ (z : Client). z.is_broken) rest)
+
+-- the core gave all that it had, and that is all that was done
+pub one_gives :
+    {id : ℕ} {a b : ServedCore} {h : List Event} (x y : Client) → Does (Gave id (output_by (client_at a.core id))) a b → bytes_of y.conn.unsent ≡ bytes_of x.conn.unsent ++ output_by (client_at a.core id)
+    → y ≡ record x { conn = record x.conn { unsent = y.conn.unsent } } → OneGives id a h x b h y
+one_gives {id} {a} {b} {h} x y gives more rest =
+    let bytes = output_by (client_at a.core id) in
+    let said : said_of y ≡ (x.conn.number, x.conn.held.items, bytes_of x.conn.unsent ++ bytes, x.is_broken, x.is_ended) = ap said_of rest ∙ ap (λ l. (x.conn.number, x.conn.held.items, l, x.is_broken, x.is_ended)) more in (
+      record {
+        steps = Gave id bytes ∷ [];
+        kinds = (inl (bytes, refl), tt);
+        own = (tt, tt);
+        walks = (a, refl, gives);
+        agrees = λ past was.
+            subst (of_said h (fed_in past) (gave_in (Gave id bytes ∷ past)) id) (sym said)
+            (gave_state h (fed_in past) (gave_in past) (gave_in (Gave id bytes ∷ past)) id x.conn.number x.conn.held.items (bytes_of x.conn.unsent) bytes x.is_broken x.is_ended (more_given past id bytes) was);
+        told = λ past was. (was.0, was.1 ∙ sym (ap (λ (s : ℕ × List ℕ × List ℕ × Bool × Bool). s.3) said));
+        number = ap (λ (s : ℕ × List ℕ × List ℕ × Bool × Bool). s.0) said;
+        only = λ d other. untouched d h;
+        others = λ past j other. (refl, ap (λ (t : Bool). if t then gave_in past j ++ bytes else gave_in past j) other, refl, refl);
+      },
+      bytes,
+      refl,
+    )
+
+-- or nothing
+pub one_kept :
+    {Is : Step → Type 0} {id : ℕ} {a b : ServedCore} {h : List Event} (x y : Client) → b ≡ a → bytes_of y.conn.unsent ≡ bytes_of x.conn.unsent → y ≡ record x { conn = record x.conn { unsent = y.conn.unsent } } → OneGoes Is id a h x b h y
+one_kept {h = h} x y same kept rest =
+    one_touched same (same_agrees h x y (ap said_of rest ∙ ap (λ l. (x.conn.number, x.conn.held.items, l, x.is_broken, x.is_ended)) kept)) (ap (λ (z : Client). z.conn.number) rest) (λ d other. untouched d h) (ap (λ (z : Client). z.is_broken) rest)

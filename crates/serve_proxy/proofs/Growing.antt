@@ -2,6 +2,8 @@
 use Rattle.std.proofs.Common.{◌≡◌, ◌⊎◌, inl, inr, ℕ, zero, suc, Bool, false, List, [], ◌∷◌, ◌++◌, Option, Some, None, refl, sym, ap, ◌∙◌, subst, append_assoc, append-nil}
 use Rattle.std.specs.Prelude.{slice_get, IfSome, map as each}
 use Rattle.std.specs.Option.{option_map, option_flatten}
+use Rattle.mc_types.specs.declared.ask.Dialect.{Dialect}
+use Rattle.mc_types.specs.declared.ask.Dialect.TheVariants.{Classic}
 use Rattle.route_json.specs.Configuration.{Configuration}
 use Rattle.core_accepted.specs.declared.served.ServedCore.{ServedCore}
 use Rattle.core_accepted.specs.Loading.{IsLoaded}
@@ -17,7 +19,7 @@ use Rattle.serve_links.specs.declared.calls.calls.SentCall.{SentCall}
 use Rattle.serve_links.specs.declared.link.Link.{Link}
 use Rattle.serve_links.specs.Links.{IsDown}
 use Rattle.serve_links.specs.CoreSteps.{Step, Loaded}
-use Rattle.serve_links.specs.Story.{fed_in, gave_in, said_asks, AreCalled, LineState, line_of, LineAgrees, LinesAgree, AnEnd, Agrees, AllGoFrom, texts_of}
+use Rattle.serve_links.specs.Story.{fed_in, gave_in, IsTold, said_asks, LineState, line_of, LineAgrees, LinesAgree, AnEnd, Agrees, AllGoFrom, texts_of, MayAllGo}
 use Rattle.serve_links.proofs.Walked.{walked, of_both}
 use Rattle.serve_proxy.specs.Ends.{lines_of, down_line, AddsLines, AllGrowFrom, AllGrow, IsLoadOf, HasNoClients}
 use Rattle.serve_proxy.proofs.Going.{agree_told, had_quiet, lines_told, get_line, texts_by_lines}
@@ -29,20 +31,20 @@ pub adds_none : (old new : List Link) → new ≡ old → AddsLines old new
 adds_none old new same = ([], ap lines_of same ∙ sym (append-nil (lines_of old)))
 
 -- the line of a link that is down
-down_of : (link : Link) → IsDown link → link.awaits_dialect ≡ false → line_of link ≡ down_line link.text.items
-down_of link down off =
-    ap (λ (o : Option Conn). let s : LineState = (link.text.items, option_map (λ (x : Conn). (x.number, x.held.items, bytes_of x.unsent)) o, said_asks link.calls.sent.items, link.waiting.items, link.awaits_dialect) in s) down.closed
-    ∙ ap (λ (l : List SentCall). let s : LineState = (link.text.items, None, said_asks l, link.waiting.items, link.awaits_dialect) in s) down.sent
-    ∙ ap (λ (l : List SentCall). let s : LineState = (link.text.items, None, [], l, link.awaits_dialect) in s) down.waiting
-    ∙ ap (λ (b : Bool). let s : LineState = (link.text.items, None, [], [], b) in s) off
+down_of : (link : Link) → IsDown link → link.awaits_dialect ≡ false → link.dialect ≡ Classic → line_of link ≡ down_line link.text.items
+down_of link down off classic =
+    ap (λ (o : Option Conn). let s : LineState = (link.text.items, option_map (λ (x : Conn). (x.number, x.held.items, bytes_of x.unsent)) o, said_asks link.calls.sent.items, link.waiting.items, link.awaits_dialect, link.dialect) in s) down.closed
+    ∙ ap (λ (l : List SentCall). let s : LineState = (link.text.items, None, said_asks l, link.waiting.items, link.awaits_dialect, link.dialect) in s) down.sent
+    ∙ ap (λ (l : List SentCall). let s : LineState = (link.text.items, None, [], l, link.awaits_dialect, link.dialect) in s) down.waiting
+    ∙ ap (λ (b : Bool). let s : LineState = (link.text.items, None, [], [], b, link.dialect) in s) off ∙ ap (λ (d : Dialect). let s : LineState = (link.text.items, None, [], [], false, d) in s) classic
 
 lines_more : (links : List Link) (link : Link) → lines_of (links ++ link ∷ []) ≡ lines_of links ++ line_of link ∷ []
 lines_more [] link = refl
 lines_more (x ∷ links) link = ap (λ l. line_of x ∷ l) (lines_more links link)
 
 -- one without a connection
-pub adds_one : (old new : List Link) (link : Link) → new ≡ old ++ link ∷ [] → IsDown link → link.awaits_dialect ≡ false → AddsLines old new
-adds_one old new link more down off = (link.text.items ∷ [], ap lines_of more ∙ lines_more old link ∙ ap (λ (s : LineState). lines_of old ++ s ∷ []) (down_of link down off))
+pub adds_one : (old new : List Link) (link : Link) → new ≡ old ++ link ∷ [] → IsDown link → link.awaits_dialect ≡ false → link.dialect ≡ Classic → AddsLines old new
+adds_one old new link more down off classic = (link.text.items ∷ [], ap lines_of more ∙ lines_more old link ∙ ap (λ (s : LineState). lines_of old ++ s ∷ []) (down_of link down off classic))
 
 down_both : (xs ys : List (List ℕ)) → each down_line (xs ++ ys) ≡ each down_line xs ++ each down_line ys
 down_both [] ys = refl
@@ -84,7 +86,7 @@ lines_grow h past ls ls' adds was at link there = by (in_both (lines_of ls) (eac
 
     by : (slice_get (lines_of ls) at ≡ Some (line_of link)) ⊎ ((k : ℕ) × (slice_get (each down_line adds.0) k ≡ Some (line_of link))) → LineAgrees at past h link
     by (inl old) = of_old (slice_get ls at) refl (get_line ls at ∙ old)
-    by (inr new) = let down = is_down adds.0 new.0 (line_of link) new.1 in has_none at past h link (no_conn link.conn down.0) (subst (λ w. AreCalled past at w) (sym down.1) tt)
+    by (inr new) = let down = is_down adds.0 new.0 (line_of link) new.1 in has_none at past h link (no_conn link.conn down.0) (subst (λ w. MayAllGo past at w) (sym down.1) tt)
 
 texts_both : (lines : List LineState) (texts : List (List ℕ)) → each (λ (p : LineState). p.0) (lines ++ each down_line texts) ≡ each (λ (p : LineState). p.0) lines ++ texts
 texts_both [] [] = refl
@@ -117,7 +119,7 @@ pub links_grow :
     {Is : Step → Type 0} {h : List Event} {cs : Clients} {ls ls' : List Link} (core : ServedCore) → AddsLines ls ls'
     → AllGrow Is (record { core = core; history = h; clients = cs; links = ls }) (record { core = core; history = h; clients = cs; links = ls' })
 links_grow {h = h} {ls = ls} {ls' = ls'} core adds =
-    record { steps = []; kinds = tt; walks = refl; agree = λ past was. record { orderly = was.orderly; clients = was.clients; links = lines_grow h past ls ls' adds was.links; gone = was.gone }; texts = (adds.0, texts_grow ls ls' adds) }
+    record { steps = []; kinds = tt; walks = refl; agree = λ past was. record { orderly = was.orderly; clients = was.clients; told = was.told; links = lines_grow h past ls ls' adds was.links; gone = was.gone }; texts = (adds.0, texts_grow ls ls' adds) }
 
 -- a configuration was loaded, which tells nothing of clients
 pub load_grows :
@@ -128,14 +130,14 @@ load_grows {h} {cs} {ls} configuration generation a b loaded =
       steps = Loaded configuration generation ∷ [];
       kinds = ((generation, refl), tt);
       walks = (a, refl, loaded);
-      agree = λ past was. record { orderly = (tt, was.orderly); clients = agree_told h (fed_in past) (gave_in past) (fed_in (Loaded configuration generation ∷ past)) (gave_in (Loaded configuration generation ∷ past)) cs (λ j. (refl, refl)) was.clients; links = lines_told h (Loaded configuration generation ∷ []) past ls (tt, tt) was.links; gone = λ conn id is. had_quiet past (Loaded configuration generation ∷ []) h h cs cs id conn (untouched conn h) refl is was.gone };
+      agree = λ past was. record { orderly = (tt, was.orderly); clients = agree_told h (fed_in past) (gave_in past) (fed_in (Loaded configuration generation ∷ past)) (gave_in (Loaded configuration generation ∷ past)) cs (λ j. (refl, refl)) was.clients; told = was.told; links = lines_told h (Loaded configuration generation ∷ []) past ls (tt, tt) was.links; gone = λ conn id is. had_quiet past (Loaded configuration generation ∷ []) h h cs cs id conn (untouched conn h) refl is was.gone };
       texts = ([], sym (append-nil (texts_of ls)));
     }
 
 -- it was, or it is as it was
 pub same_grows :
     {Is : Step → Type 0} {h : List Event} {cs : Clients} {ls : List Link} (a b : ServedCore) → b ≡ a → AllGrow Is (record { core = a; history = h; clients = cs; links = ls }) (record { core = b; history = h; clients = cs; links = ls })
-same_grows {Is} {h} {cs} {ls} a b same = record { steps = []; kinds = tt; walks = same; agree = λ past was. record { orderly = was.orderly; clients = was.clients; links = was.links; gone = was.gone }; texts = ([], sym (append-nil (texts_of ls))) }
+same_grows {Is} {h} {cs} {ls} a b same = record { steps = []; kinds = tt; walks = same; agree = λ past was. record { orderly = was.orderly; clients = was.clients; told = was.told; links = was.links; gone = was.gone }; texts = ([], sym (append-nil (texts_of ls))) }
 
 -- from a core that is the same
 pub grow_from :
@@ -147,7 +149,7 @@ grow_from {Is} {h} {cs} {ls} {a} {x} {b} same g = subst (λ y. AllGrow Is (recor
 
 -- no client is there, and no link has a connection
 pub new_agrees : (h : List Event) (core : ServedCore) (cs : Clients) (ls : List Link) → cs.all.items ≡ [] → AddsLines [] ls → HasNoClients h → Agrees [] (record { core = core; history = h; clients = cs; links = ls })
-new_agrees h core cs ls none adds new = record { orderly = tt; clients = λ id. subst (λ o. IfSome o (EndAgrees h (fed_in []) (gave_in []) id)) (sym (nobody id)) tt; links = lines_grow h [] [] ls adds (λ at link there. absurd (none_some there)); gone = λ conn id is. absurd (new conn id is) }
+new_agrees h core cs ls none adds new = record { orderly = tt; clients = λ id. subst (λ o. IfSome o (EndAgrees h (fed_in []) (gave_in []) id)) (sym (nobody id)) tt; told = λ id. subst (λ o. IfSome o (IsTold [] id)) (sym (nobody id)) tt; links = lines_grow h [] [] ls adds (λ at link there. absurd (none_some there)); gone = λ conn id is. absurd (new conn id is) }
   where
     nobody : (id : ℕ) → client_of cs id ≡ None
     nobody id = ap (λ (xs : List (Option Client)). option_flatten (slice_get xs id)) none

@@ -1,10 +1,12 @@
 -- What is done at one link, by what its own functions say, and how that goes on among all.
 use Rattle.std.proofs.Common.{◌≡◌, ℕ, ◌<◌, zero, suc, Bool, true, false, List, [], ◌∷◌, ◌++◌, length, get_or, Option, Some, None, Result, Ok, Err, refl, sym, ap, ◌∙◌, subst, arith}
 use Rattle.std.proofs.Math.ListN.{set}
-use Rattle.std.specs.Prelude.{MatchOption, IfOk, slice_get}
+use Rattle.std.specs.Prelude.{MatchOption, IfOk, IsSome, slice_get}
 use Rattle.std.specs.Option.{option_map}
 use Rattle.std.specs.Result.{IsErr}
 use Rattle.mc_types.specs.declared.ask.Ask.{Ask}
+use Rattle.mc_types.specs.declared.ask.Dialect.{Dialect}
+use Rattle.mc_types.specs.declared.ask.Dialect.TheVariants.{Classic}
 use Rattle.wire_parts.specs.Sending.{bytes_of}
 use Rattle.wire_stream.specs.Spelling.{spelling_of}
 use Rattle.serve_wire.specs.Events.{Event}
@@ -23,16 +25,21 @@ use Rattle.serve_clients.specs.Marks.{client_of}
 use Rattle.serve_clients.specs.Agrees.{KeepsEnds}
 use Rattle.serve_clients.proofs.Agreeing.{agree_still}
 use Rattle.serve_links.specs.declared.calls.calls.SentCall.{SentCall}
+use Rattle.serve_links.specs.declared.settings.ServerDialect.{ServerDialect}
+use Rattle.serve_links.specs.declared.link.Opening.{Opening}
+use Rattle.serve_links.specs.declared.link.Opening.TheVariants as opening
 use Rattle.serve_links.specs.declared.link.Link.{Link}
 use Rattle.serve_links.specs.CoreSteps.{Step, Polled, Does, IsOfTurn, GoesOn}
 use Rattle.serve_links.specs.Dialects.{asked_in}
 use Rattle.serve_links.specs.Settled.{SettlesSome, SettlesFront}
-use Rattle.serve_links.specs.Talks.{SaidAsk}
-use Rattle.serve_links.specs.Story.{LineState, line_of, said_asks, LineAgrees, LineLost, LineGoesFrom, LineGoes, AnEnd, AgreesBut, AgreesCalled, AllGoFrom, fed_in, gave_in}
+use Rattle.serve_links.specs.Lines.{IsNewEnd, OpensBy}
+use Rattle.serve_links.specs.Talks.{SaidAsk, talk_in, IsCalledIn}
+use Rattle.serve_links.specs.Story.{LineState, line_of, said_asks, MayGo, LineAgrees, LineLost, LineGoesFrom, LineGoes, AnEnd, Agrees, AgreesBut, AgreesCalled, AgreesSent, AllGoFrom, fed_in, gave_in}
 use Rattle.serve_links.proofs.LinkGoes.{as_lost, line_between, line_settles, line_loses, line_asks, line_waits, line_takes}
-use Rattle.serve_proxy.specs.Ends.{lines_of, LinksTake, LinksGive, LineTakes, AllGoOn, AllGoBut, AllGoLosing, AllGoOr, AllGoUnless}
+use Rattle.serve_links.proofs.Story.{go_between}
+use Rattle.serve_proxy.specs.Ends.{lines_of, LinksTake, LinksGive, LineTakes, IsOpenAt, AsksIn, AllGoOn, AllGoBut, AllGoLosing, AllGoOr, AllGoUnless}
 use Rattle.serve_proxy.specs.declared.sockets.Sockets.{Sockets}
-use Rattle.serve_proxy.proofs.Going.{and_then, core_of, may_lose, may_lose_at, line_took, line_gave, had_quiet, numbers_kept}
+use Rattle.serve_proxy.proofs.Going.{and_then, core_of, may_lose, may_lose_at, line_took, line_gave, had_quiet, numbers_kept, told_kept, set_here}
 use Rattle.serve_proxy.proofs.Staying.{line_lent}
 
 -- ---- lines
@@ -46,9 +53,10 @@ same_state c d number held unsent =
     ∙ ap (λ (l : List ℕ). let s : ℕ × List ℕ × List ℕ = (c.number, c.held.items, l) in s) unsent
 
 line_parts :
-    {t t' : List ℕ} {o o' : Option (ℕ × List ℕ × List ℕ)} {a a' : List SaidAsk} (w : List SentCall) (b : Bool) → t' ≡ t → o' ≡ o → a' ≡ a → ◌≡◌ {A = LineState} (t', o', a', w, b) (t, o, a, w, b)
-line_parts {t} {t'} {o} {o'} {a} {a'} w b p q r =
-    ap (λ (x : List ℕ). let s : LineState = (x, o', a', w, b) in s) p ∙ ap (λ (x : Option (ℕ × List ℕ × List ℕ)). let s : LineState = (t, x, a', w, b) in s) q ∙ ap (λ (x : List SaidAsk). let s : LineState = (t, o, x, w, b) in s) r
+    {t t' : List ℕ} {o o' : Option (ℕ × List ℕ × List ℕ)} {a a' : List SaidAsk} (w : List SentCall) (b : Bool) (l : Dialect) → t' ≡ t → o' ≡ o → a' ≡ a → ◌≡◌ {A = LineState} (t', o', a', w, b, l) (t, o, a, w, b, l)
+line_parts {t} {t'} {o} {o'} {a} {a'} w b l p q r =
+    ap (λ (x : List ℕ). let s : LineState = (x, o', a', w, b, l) in s) p ∙ ap (λ (x : Option (ℕ × List ℕ × List ℕ)). let s : LineState = (t, x, a', w, b, l) in s) q
+    ∙ ap (λ (x : List SaidAsk). let s : LineState = (t, o, x, w, b, l) in s) r
 
 -- a link whose end and calls are others, with the same in them
 pub line_same :
@@ -56,16 +64,16 @@ pub line_same :
     → line_of y ≡ line_of x
 line_same x y c d was is number held unsent sent =
     ap line_of is
-    ∙ line_parts x.waiting.items x.awaits_dialect refl (ap (λ (s : ℕ × List ℕ × List ℕ). Some s) (same_state c d number held unsent) ∙ sym (ap (option_map {U = ℕ × List ℕ × List ℕ} conn_state) was)) (ap said_asks sent)
+    ∙ line_parts x.waiting.items x.awaits_dialect x.dialect refl (ap (λ (s : ℕ × List ℕ × List ℕ). Some s) (same_state c d number held unsent) ∙ sym (ap (option_map {U = ℕ × List ℕ × List ℕ} conn_state) was)) (ap said_asks sent)
 
 -- so has one that has the same calls in others
 pub line_calls : (x y : Link) → y ≡ record x { calls = y.calls } → y.calls.sent.items ≡ x.calls.sent.items → line_of y ≡ line_of x
-line_calls x y is sent = ap line_of is ∙ line_parts x.waiting.items x.awaits_dialect refl refl (ap said_asks sent)
+line_calls x y is sent = ap line_of is ∙ line_parts x.waiting.items x.awaits_dialect x.dialect refl refl (ap said_asks sent)
 
 -- and one for which as many calls wait
 pub line_waiting : (x y : Link) → y ≡ record x { waiting = y.waiting } → y.waiting.items ≡ x.waiting.items → line_of y ≡ line_of x
 line_waiting x y is waiting =
-    ap line_of is ∙ ap (λ (w : List SentCall). let s : LineState = (x.text.items, option_map {U = ℕ × List ℕ × List ℕ} conn_state x.conn, said_asks x.calls.sent.items, w, x.awaits_dialect) in s) waiting
+    ap line_of is ∙ ap (λ (w : List SentCall). let s : LineState = (x.text.items, option_map {U = ℕ × List ℕ × List ℕ} conn_state x.conn, said_asks x.calls.sent.items, w, x.awaits_dialect, x.dialect) in s) waiting
 
 -- ---- calls that are handed over
 
@@ -87,7 +95,7 @@ waits x y call is more = λ at h core. line_waits x y call is more
 
 -- so do all links
 pub taken : (links : List Link) (at : ℕ) (x y : Link) (call : SentCall) → at < length links → x ≡ get_or links at x → LineTakes call x y → LinksTake at call links (set links at y)
-taken links at x y call within was takes = λ h cs core. line_took links at x y call.ticket.number call.ticket.ask within was (takes at h core)
+taken links at x y call within was takes = λ h cs core. line_took links at x y call within was (takes at h core)
 
 pub not_taken :
     (links : List Link) (at : ℕ) (x y : Link) (call given : SentCall) → x ≡ get_or links at x → (given ≡ call) × (line_of y ≡ line_of x) → (given ≡ call) × (lines_of (set links at y) ≡ lines_of links)
@@ -99,7 +107,7 @@ pub given :
     → MatchOption r (y.waiting.items ≡ x.waiting.items) (λ call. x.waiting.items ≡ call ∷ y.waiting.items)
     → MatchOption r (lines_of (set links at y) ≡ lines_of links) (λ call. LinksGive at call links (set links at y))
 given links at x y None within was is did = line_lent links at x y was (line_waiting x y is did)
-given links at x y (Some call) within was is did = λ h cs core. line_gave links at x y call.ticket.number call.ticket.ask within was (line_takes x y call is did)
+given links at x y (Some call) within was is did = λ h cs core. line_gave links at x y call within was (line_takes x y call is did)
 
 -- the core gave one out
 pub polled_call :
@@ -108,10 +116,42 @@ pub polled_call :
 polled_call client ticket r a b is ok fresh =
     (subst (λ (q : Result Poll CoreFault). IfOk q (λ poll. Polls a.core client poll b.core)) is ok, subst (λ (q : Result Poll CoreFault). IfOk q (λ poll. LogsGoBy a (Then (Perhaps (BeginsOne client)) (IsPolled client poll)) b)) is fresh)
 
--- the same call, for a server of the same number
+-- the link at a place stands there still
+pub open_still : (at : ℕ) (ls ls' : List Link) → ls' ≡ ls → IsOpenAt at ls → IsOpenAt at ls'
+open_still at ls ls' same there = subst (IsOpenAt at) (sym same) there
+
+pub open_set : (links : List Link) (at : ℕ) (y : Link) → at < length links → IsSome y.conn → IsOpenAt at (set links at y)
+open_set links at y within some = (y, set_here links at y within, some)
+
+pub begun_open : (at : ℕ) (dialect : ServerDialect) (x y : Link) (h h' : List Event) (what : Opening) → OpensBy at dialect what x y h h' → what ≡ opening.Begun → IsSome y.conn
+begun_open at dialect x y h h' opening.Begun opens is = has y.conn opens.3.conn
+  where
+    has : (o : Option Conn) → IsNewEnd opens.0 dialect o → IsSome o
+    has None end = absurd end
+    has (Some c) end = refl
+begun_open at dialect x y h h' opening.NoAddress opens is = absurd cc
+begun_open at dialect x y h h' opening.Failed opens is = absurd cc
+begun_open at dialect x y h h' opening.NoMemory opens is = absurd cc
+
+none_isnt_some : (A : Type 0) → IsSome {T = A} None → ⊥
+none_isnt_some A e = cc
+
+-- a call that the core gave out for this server may be asked in the dialect in which the link there asks
+may_go : (past : List Step) (x : AnEnd) (at : ℕ) (call : SentCall) → IsOpenAt at x.links → AsksIn call.dialect at x.links → Agrees past x → IsCalledIn past call.ticket.number at call.ticket.ask → MayGo past at call
+may_go past x at call there asks was called = record { later = []; earlier = past; parts = refl; called = called; speaks = by there.0.conn refl there.2 }
+  where
+    same : call.dialect ≡ there.0.dialect
+    same = subst (λ o. MatchOption o (call.dialect ≡ Classic) (λ (link : Link). call.dialect ≡ link.dialect)) there.1 asks
+
+    by : (o : Option Conn) → there.0.conn ≡ o → IsSome o → (talk_in past at).dialect ≡ call.dialect
+    by None e some = absurd (none_isnt_some Conn some)
+    by (Some c) e some = ((was.links at there.0 there.1).conn c e).dialect_is ∙ sym same
+
+-- so it goes, where that link stands at the number of its server
 pub called_at :
-    {Q : List Step → AnEnd → Type 0} {Is : Step → Type 0} {a b : AnEnd} (number : ℕ) (ask : Ask) {at at' : ℕ} → at ≡ at' → AllGoFrom (AgreesCalled number at ask) Q Is a b → AllGoFrom (AgreesCalled number at' ask) Q Is a b
-called_at {Q} {Is} {a} {b} number ask same g = subst (λ n. AllGoFrom (AgreesCalled number n ask) Q Is a b) same g
+    {Q : List Step → AnEnd → Type 0} {Is : Step → Type 0} {a b : AnEnd} (at : ℕ) (call : SentCall) → call.ticket.server ≡ at → IsOpenAt at a.links → AsksIn call.dialect at a.links → AllGoFrom (AgreesSent at call) Q Is a b
+    → AllGoFrom (AgreesCalled call.ticket.number call.ticket.server call.ticket.ask) Q Is a b
+called_at {a = a} at call same there asks g = go_between (λ past was. (was.0, may_go past a at call there asks was.0 (subst (λ n. IsCalledIn past call.ticket.number n call.ticket.ask) same was.1))) (λ past was. was) g
 
 -- ---- answers
 
@@ -123,17 +163,17 @@ line_may_lose {at = at} {h' = h'} {y = y} g = line_between (λ past was. was) (�
 -- answers settled calls, and what is left is held
 pub settled :
     {at : ℕ} {core core' : ServedCore} {h : List Event} (x y : Link) (c d : Conn) (sent : List SentCall) → x.conn ≡ Some c → x.awaits_dialect ≡ false → y.conn ≡ Some d → y.text.items ≡ x.text.items → y.waiting.items ≡ x.waiting.items
-    → y.awaits_dialect ≡ x.awaits_dialect → y.calls.sent.items ≡ sent → HoldsAnew c d → SettlesSome x.calls.sent.items c.held.items core sent d.held.items core' → LineGoes IsOfTurn at core h x core' h y
-settled {core = core} {core' = core'} x y c d sent was off is text waiting awaits same holds s =
-    line_settles x y c d was is off text waiting awaits (ap (λ (z : Conn). z.number) holds) (ap (λ (z : Conn). bytes_of z.unsent) holds)
+    → y.awaits_dialect ≡ x.awaits_dialect → y.dialect ≡ x.dialect → y.calls.sent.items ≡ sent → HoldsAnew c d → SettlesSome x.calls.sent.items c.held.items core sent d.held.items core' → LineGoes IsOfTurn at core h x core' h y
+settled {core = core} {core' = core'} x y c d sent was off is text waiting awaits speaks same holds s =
+    line_settles x y c d was is off text waiting awaits speaks (ap (λ (z : Conn). z.number) holds) (ap (λ (z : Conn). bytes_of z.unsent) holds)
     (subst (λ (l : List SentCall). SettlesSome x.calls.sent.items c.held.items core l d.held.items core') (sym same) s)
 
 -- or may be lost
 pub settled_some :
     {at : ℕ} {core core' : ServedCore} {h : List Event} (x y : Link) (c d : Conn) (sent : List SentCall) → x.conn ≡ Some c → x.awaits_dialect ≡ false → y.conn ≡ Some d → y.text.items ≡ x.text.items → y.waiting.items ≡ x.waiting.items
-    → y.awaits_dialect ≡ x.awaits_dialect → y.calls.sent.items ≡ sent → HoldsAnew c d → SettlesFront x.calls.sent.items c.held.items core sent core' → LineGoesFrom LineAgrees LineLost IsOfTurn at core h x core' h y
-settled_some {core = core} {core' = core'} x y c d sent was off is text waiting awaits same holds s =
-    line_loses x y c d s.0 was is off text waiting awaits (ap (λ (z : Conn). z.number) holds) (ap (λ (z : Conn). bytes_of z.unsent) holds)
+    → y.awaits_dialect ≡ x.awaits_dialect → y.dialect ≡ x.dialect → y.calls.sent.items ≡ sent → HoldsAnew c d → SettlesFront x.calls.sent.items c.held.items core sent core' → LineGoesFrom LineAgrees LineLost IsOfTurn at core h x core' h y
+settled_some {core = core} {core' = core'} x y c d sent was off is text waiting awaits speaks same holds s =
+    line_loses x y c d s.0 was is off text waiting awaits speaks (ap (λ (z : Conn). z.number) holds) (ap (λ (z : Conn). bytes_of z.unsent) holds)
     (subst (λ (l : List SentCall). SettlesSome x.calls.sent.items c.held.items core l s.0 core') (sym same) s.1)
 
 -- ---- what came of a read
@@ -199,6 +239,7 @@ but_clients {core = core} {h = h} {ls = ls} at cs cs' g keeps = record { steps =
     kept past was = record {
       orderly = was.orderly;
       clients = agree_still h (fed_in past) (gave_in past) cs cs' keeps was.clients;
+      told = told_kept past cs cs' keeps was.told;
       links = was.links;
       this = was.this;
       gone = λ conn id is. had_quiet past [] h h cs cs' id conn (untouched conn h) (numbers_kept (client_of cs id) (client_of cs' id) (keeps id)) is was.gone;

@@ -1,7 +1,7 @@
 -- Clients' ends that begin and end, and what the core gave for one.
 use Rattle.std.proofs.Common.{◌≡◌, ◌≢◌, ◌⊎◌, inl, inr, ℕ, zero, suc, Bool, true, false, if◌then◌else◌, List, [], ◌∷◌, ◌++◌, length, Option, Some, None, Result, Ok, Err, refl, sym, ap, ◌∙◌, subst, append_assoc, append-nil, arith}
 use Rattle.std.proofs.lemmas.Bool.{cases_eq, cases_Bool, eqb-true}
-use Rattle.std.specs.Prelude.{nat_eq, IfSome, IfErr, OnOk, slice_get, slice_set}
+use Rattle.std.specs.Prelude.{◌==◌, ◌||◌, nat_eq, IfSome, IfErr, OnOk, slice_get, slice_set}
 use Rattle.std.specs.Option.{option_map, option_flatten}
 use Rattle.fresh_runs.specs.Overlap as log
 use Rattle.wire_parts.specs.Sending.{bytes_of}
@@ -22,14 +22,13 @@ use Rattle.serve_clients.proofs.Agreeing.{its, keeps_none, state_stays, state_br
 use Rattle.serve_clients.proofs.Marked.{kept}
 use Rattle.serve_links.specs.declared.link.Link.{Link}
 use Rattle.serve_links.specs.CoreSteps.{Step, Opened, Gave, Closed, Does, AreOf, GoesBy, IsOfTurn}
-use Rattle.serve_links.specs.Story.{fed_in, gave_in, IsGone, IsUnused, HasOrHad, LinesAgree, OneGoes, Agrees, AllGo}
-use Rattle.serve_links.proofs.Reading.{breaks_now}
+use Rattle.serve_links.specs.Story.{fed_in, gave_in, is_open_in, is_broken_in, IsTold, AreTold, TookAll, IsJustGiven, IsGone, IsUnused, HasOrHad, LinesAgree, OneGoes, Agrees, AgreesGiven, AllGoFrom, AllGo}
 use Rattle.serve_links.proofs.Talking.{IsPlain, plain_talk, plain_orderly}
-use Rattle.serve_links.proofs.Story.{TellsSame, same_told, gone_stays, end_gone, had_stays, line_stays}
+use Rattle.serve_links.proofs.Story.{at_told, all_told, took_all, TellsSame, same_told, gone_stays, end_gone, had_stays, line_stays}
 use Rattle.serve_links.proofs.Walked.{walked, of_both}
-use Rattle.serve_proxy.specs.Ends.{EndsStay, EndsGo}
+use Rattle.serve_proxy.specs.Ends.{EndsStay, EndsGo, IsAllSent, IsAllSentTo, IsClosing}
 use Rattle.serve_proxy.proofs.Staying.{quiet}
-use Rattle.serve_proxy.proofs.Going.{IsSilent, tells_none, silent_turn, silent_plain, lines_told, agree_told, had_quiet, gave_one, gave_state, more_given, one_touched, same_agrees, same_client}
+use Rattle.serve_proxy.proofs.Going.{IsSilent, tells_none, silent_turn, silent_plain, lines_told, agree_told, had_quiet, gave_one, gave_broken, gave_state, more_given, one_touched, one_breaks, same_agrees, same_client}
 
 -- ---- what happened on no connection
 
@@ -80,6 +79,7 @@ new_touched {h} {h'} {cs} {ls} c none same only = λ core. record {
   agree = λ past was. record {
     clients = λ j. if_moved h h' (fed_in past) (gave_in past) (fed_in past) (gave_in past) j (client_of cs j) (λ d of_d. only d (new_apart c d h (0, j) of_d none)) refl refl (was.clients j);
     orderly = was.orderly;
+    told = was.told;
     links = lines_new c h h' [] past ls none only tt was.links;
     gone = λ conn id is. had_quiet past [] h h' cs cs id conn (only conn (new_apart c conn h' (0, id) is (same ∙ none))) refl is was.gone;
   };
@@ -95,14 +95,15 @@ number_is e = cc
 -- a client was opened under this id, and its end has begun, or is not there
 pub opened_go :
     {h h' : List Event} {cs cs' : Clients} {ls : List Link} (id c : ℕ) (b last : ServedCore) → role c h ≡ None → TouchesOnly c h h' → IsUnused c h' → ((j : ℕ) → j ≢ id → client_of cs' j ≡ client_of cs j)
-    → IfSome (client_of cs' id) (EndAgrees h' (λ j. []) (λ j. []) id) → GoesBy IsSilent b last → (before : ServedCore) → Does (Opened id) before b
+    → IfSome (client_of cs' id) (EndAgrees h' (λ j. []) (λ j. []) id) → IfSome (client_of cs' id) (λ x. x.is_broken ≡ false) → GoesBy IsSilent b last → (before : ServedCore) → Does (Opened id) before b
     → AllGo IsOfTurn (record { core = before; history = h; clients = cs; links = ls }) (record { core = last; history = h'; clients = cs'; links = ls })
-opened_go {h} {h'} {cs} {cs'} {ls} id c b last none only unused others begun q before does = record {
+opened_go {h} {h'} {cs} {cs'} {ls} id c b last none only unused others begun stood q before does = record {
   steps = q.steps ++ Opened id ∷ [];
   kinds = of_both IsOfTurn q.steps (Opened id ∷ []) (silent_turn q.steps q.kinds) (tt, tt);
   walks = walked q.steps (Opened id ∷ []) before b last (before, refl, does) q.walks;
   agree = λ past was. subst (λ l. Agrees l (record { core = last; history = h'; clients = cs'; links = ls })) (sym (append_assoc q.steps (Opened id ∷ []) past)) (record {
-    clients = agree_told h' (fed_in (Opened id ∷ past)) (gave_in (Opened id ∷ past)) (fed_in (q.steps ++ Opened id ∷ past)) (gave_in (q.steps ++ Opened id ∷ past)) cs' (tells_none q.steps q.kinds (Opened id ∷ past)) (mid past was.clients);
+    clients = agree_told h' (fed_in (Opened id ∷ past)) (gave_in (Opened id ∷ past)) (fed_in (q.steps ++ Opened id ∷ past)) (gave_in (q.steps ++ Opened id ∷ past)) cs' (λ j. let t = tells_none q.steps q.kinds (Opened id ∷ past) j in (t.0, t.1)) (mid past was.clients);
+    told = all_told (Opened id ∷ past) q.steps cs' (tells_none q.steps q.kinds (Opened id ∷ past)) (told_mid past was.told);
     orderly = plain_orderly q.steps (silent_plain q.steps q.kinds) (Opened id ∷ past) (tt, was.orderly);
     links = lines_told h' q.steps (Opened id ∷ past) ls (silent_plain q.steps q.kinds) (lines_new c h h' (Opened id ∷ []) past ls none only (tt, tt) was.links);
     gone = gone past was;
@@ -125,7 +126,7 @@ opened_go {h} {h'} {cs} {cs'} {ls} id c b last none only unused others begun q b
             of_opened : (o : Option Client) → client_of cs j ≡ o → j ≡ id → HasOrHad past h cs j conn → HasOrHad (q.steps ++ Opened id ∷ past) h' cs' j conn
             of_opened None e here (inl now) = absurd (none_is (sym (ap (option_map (λ (x : Client). x.conn.number)) e) ∙ now))
             of_opened (Some x) e here (inl now) =
-                inr (inr (end_gone past q.steps (Opened id) h h' j conn x (inr (ap (λ k. Opened k) (sym here))) (subst (λ o. IfSome o (EndAgrees h (fed_in past) (gave_in past) j)) e (was.clients j)) (number_is (sym (ap (option_map (λ (x : Client). x.conn.number)) e) ∙ now)) told))
+                inr (inr (end_gone past q.steps (Opened id) h h' j conn x (inr (ap (λ k. Opened k) (sym here), (subst (λ o. IfSome o (IsTold past j)) e (was.told j)).0)) (subst (λ o. IfSome o (EndAgrees h (fed_in past) (gave_in past) j)) e (was.clients j)) (number_is (sym (ap (option_map (λ (x : Client). x.conn.number)) e) ∙ now)) told))
             of_opened o e here (inr (inl none)) = inr (inl (told.1 ∙ none.0, told.2 ∙ none.1))
             of_opened o e here (inr (inr more)) = inr (inr (subst (λ l. IsGone l h' j conn) (append_assoc q.steps (Opened id ∷ []) past) (gone_stays past (q.steps ++ Opened id ∷ []) h h' j conn told more)))
 
@@ -134,6 +135,21 @@ opened_go {h} {h'} {cs} {cs'} {ls} id c b last none only unused others begun q b
             by (inr other) =
                 subst (λ l. HasOrHad l h' cs' j conn) (append_assoc q.steps (Opened id ∷ []) past)
                 (had_stays past (q.steps ++ Opened id ∷ []) h h' cs cs' j conn told (ap (option_map (λ (x : Client). x.conn.number)) (others j other)) was_known)
+
+    told_mid : (past : List Step) → AreTold past cs → AreTold (Opened id ∷ past) cs'
+    told_mid past was j = by (cases_eq j id)
+      where
+        of_new : (o : Option Client) → IfSome o (λ x. x.is_broken ≡ false) → IfSome o (IsTold (Opened id ∷ past) id)
+        of_new None is = tt
+        of_new (Some x) is = (ap (λ (t : Bool). if t then true else is_open_in past id) (same_client id), ap (λ (t : Bool). if t then false else is_broken_in past id) (same_client id) ∙ sym is)
+
+        of_other : nat_eq id j ≡ false → (o : Option Client) → IfSome o (IsTold past j) → IfSome o (IsTold (Opened id ∷ past) j)
+        of_other e None told = tt
+        of_other e (Some x) told = (ap (λ (t : Bool). if t then true else is_open_in past j) e ∙ told.0, ap (λ (t : Bool). if t then false else is_broken_in past j) e ∙ told.1)
+
+        by : (j ≡ id) ⊎ (j ≢ id) → IfSome (client_of cs' j) (IsTold (Opened id ∷ past) j)
+        by (inl here) = subst (λ k. IfSome (client_of cs' k) (IsTold (Opened id ∷ past) k)) (sym here) (of_new (client_of cs' id) stood)
+        by (inr other) = subst (λ o. IfSome o (IsTold (Opened id ∷ past) j)) (sym (others j other)) (of_other (unequal id j (λ e. other (sym e))) (client_of cs j) (was j))
 
     mid : (past : List Step) → AllAgree h (fed_in past) (gave_in past) cs → AllAgree h' (fed_in (Opened id ∷ past)) (gave_in (Opened id ∷ past)) cs'
     mid past was j = by (cases_eq j id)
@@ -179,6 +195,17 @@ begun_agrees h h' id c (Some x) new is said =
 pub none_agrees : (h : List Event) (id : ℕ) (o : Option Client) → o ≡ None → IfSome o (EndAgrees h (λ j. []) (λ j. []) id)
 none_agrees h id o none = subst (λ p. IfSome p (EndAgrees h (λ j. []) (λ j. []) id)) (sym none) tt
 
+-- a new end isn't broken off
+pub begun_stands : (c : ℕ) (o : Option Client) → option_map said_of o ≡ Some (c, [], [], false, false) → IfSome o (λ x. x.is_broken ≡ false)
+begun_stands c None said = tt
+begun_stands c (Some x) said = ap (λ (s : ℕ × List ℕ × List ℕ × Bool × Bool). s.3) (same_some said)
+  where
+    same_some : {x y : ℕ × List ℕ × List ℕ × Bool × Bool} → ◌≡◌ {A = Option (ℕ × List ℕ × List ℕ × Bool × Bool)} (Some x) (Some y) → x ≡ y
+    same_some e = cc
+
+pub none_stands : (o : Option Client) → o ≡ None → IfSome o (λ x. x.is_broken ≡ false)
+none_stands o none = subst (λ p. IfSome p (λ x. x.is_broken ≡ false)) (sym none) tt
+
 pub only_closed : (c : ℕ) (h h' : List Event) → Closes c h h' → TouchesOnly c h h'
 only_closed c h h' (inl closed) = subst (TouchesOnly c h) (sym closed) (only_closes c h)
 only_closed c h h' (inr same) = subst (TouchesOnly c h) (sym same) (λ d other. untouched d h)
@@ -219,18 +246,19 @@ closed_tells c d h h' (inr same) = (ap (role d) same, ap (delivered d) same, ap 
 -- one was closed by the core, and is gone, and its connection was closed
 pub gone_go :
     {h h' : List Event} {cs cs' : Clients} {ls : List Link} (id : ℕ) (r : Option ℕ) → r ≡ option_map (λ x. x.conn.number) (client_of cs id) → cs'.all.items ≡ slice_set cs.all.items id None
-    → IfSome r (λ c. Closes c h h') → (r ≡ None → h' ≡ h) → (before core : ServedCore) → Does (Closed id) before core
-    → AllGo IsOfTurn (record { core = before; history = h; clients = cs; links = ls }) (record { core = core; history = h'; clients = cs'; links = ls })
-gone_go {h} {h'} {cs} {cs'} {ls} id r is gone some none before core does = record {
+    → IfSome r (λ c. Closes c h h') → (r ≡ None → h' ≡ h) → (before core : ServedCore) → Does (Closed id) before core → IsAllSentTo id cs
+    → AllGoFrom (AgreesGiven id) Agrees (IsClosing id) (record { core = before; history = h; clients = cs; links = ls }) (record { core = core; history = h'; clients = cs'; links = ls })
+gone_go {h} {h'} {cs} {cs'} {ls} id r is gone some none before core does sent = record {
   steps = Closed id ∷ [];
-  kinds = (tt, tt);
+  kinds = (inr refl, tt);
   walks = (before, refl, does);
-  agree = λ past was. record {
+  agree = λ past given. let was = given.0 in record {
     clients = λ j. clients past was.clients j (cases_eq j id);
+    told = λ j. still_told past was.told j (cases_eq j id);
     orderly = (tt, was.orderly);
     links = λ at link there.
         line_stays h h' at (Closed id ∷ []) past link (λ conn c. touched past was.clients conn.number (1, at) ((was.links at link there).conn conn c).is_to (λ e. one_zero (ap (λ (p : ℕ × ℕ). p.0) e))) refl (was.links at link there);
-    gone = gone_of past was;
+    gone = gone_of past was given.1;
   };
   texts = refl;
 }
@@ -254,8 +282,24 @@ gone_go {h} {h'} {cs} {cs'} {ls} id r is gone some none before core does = recor
         by None e = let same = none e in (ap (role d) same, ap (delivered d) same, ap (taken d) same)
         by (Some c) e = closed_tells c d h h' (subst (λ o. IfSome o (λ c. Closes c h h')) e some)
 
-    gone_of : (past : List Step) → Agrees past (record { core = before; history = h; clients = cs; links = ls }) → (conn j : ℕ) → role conn h' ≡ Some (0, j) → HasOrHad (Closed id ∷ past) h' cs' j conn
-    gone_of past was conn j now = by (cases_eq j id)
+    took :
+        (past : List Step) → Agrees past (record { core = before; history = h; clients = cs; links = ls }) → (j conn : ℕ) (x : Client) → client_of cs j ≡ Some x → j ≡ id → x.conn.number ≡ conn → TookAll past h j conn
+    took past was j conn x e here is_conn = subst (λ c. TookAll past h j c) is_conn (by (subst (λ o. IfSome o IsAllSent) (ap (client_of cs) (sym here) ∙ e) sent))
+      where
+        by : IsAllSent x → TookAll past h j x.conn.number
+        by (inl none) = took_all past h j x (subst (λ o. IfSome o (EndAgrees h (fed_in past) (gave_in past) j)) e (was.clients j)) (at_told past cs j x e was.told) none
+        by (inr broken) = inr ((at_told past cs j x e was.told).1 ∙ broken)
+
+    still_told : (past : List Step) → AreTold past cs → (j : ℕ) → (j ≡ id) ⊎ (j ≢ id) → IfSome (client_of cs' j) (IsTold (Closed id ∷ past) j)
+    still_told past was j (inl here) = subst (λ o. IfSome o (IsTold (Closed id ∷ past) j)) (sym (ap (client_of cs') here ∙ gone_here cs cs' id gone)) tt
+    still_told past was j (inr other) = subst (λ o. IfSome o (IsTold (Closed id ∷ past) j)) (sym (gone_others cs cs' id gone j other)) (by (client_of cs j) (was j))
+      where
+        by : (o : Option Client) → IfSome o (IsTold past j) → IfSome o (IsTold (Closed id ∷ past) j)
+        by None told = tt
+        by (Some x) told = (ap (λ (t : Bool). if t then false else is_open_in past j) (unequal id j (λ e. other (sym e))) ∙ told.0, told.1)
+
+    gone_of : (past : List Step) → Agrees past (record { core = before; history = h; clients = cs; links = ls }) → IsJustGiven id past → (conn j : ℕ) → role conn h' ≡ Some (0, j) → HasOrHad (Closed id ∷ past) h' cs' j conn
+    gone_of past was given conn j now = by (cases_eq j id)
       where
         was_known : HasOrHad past h cs j conn
         was_known = was.gone conn j (sym (told conn).0 ∙ now)
@@ -263,7 +307,7 @@ gone_go {h} {h'} {cs} {cs'} {ls} id r is gone some none before core does = recor
         of_closed : (o : Option Client) → client_of cs j ≡ o → j ≡ id → HasOrHad past h cs j conn → HasOrHad (Closed id ∷ past) h' cs' j conn
         of_closed None e here (inl its_end) = absurd (none_is (sym (ap (option_map (λ (x : Client). x.conn.number)) e) ∙ its_end))
         of_closed (Some x) e here (inl its_end) =
-            inr (inr (end_gone past [] (Closed id) h h' j conn x (inl (ap (λ k. Closed k) (sym here))) (subst (λ o. IfSome o (EndAgrees h (fed_in past) (gave_in past) j)) e (was.clients j)) (number_is (sym (ap (option_map (λ (x : Client). x.conn.number)) e) ∙ its_end)) (told conn)))
+            inr (inr (end_gone past [] (Closed id) h h' j conn x (inl (ap (λ k. Closed k) (sym here), subst (λ k. IsJustGiven k past) (sym here) given, took past was j conn x e here (number_is (sym (ap (option_map (λ (x : Client). x.conn.number)) e) ∙ its_end)))) (subst (λ o. IfSome o (EndAgrees h (fed_in past) (gave_in past) j)) e (was.clients j)) (number_is (sym (ap (option_map (λ (x : Client). x.conn.number)) e) ∙ its_end)) (told conn)))
         of_closed o e here (inr (inl unused)) = inr (inl ((told conn).1 ∙ unused.0, (told conn).2 ∙ unused.1))
         of_closed o e here (inr (inr more)) = inr (inr (gone_stays past (Closed id ∷ []) h h' j conn (told conn) more))
 
@@ -291,12 +335,12 @@ pub one_lost :
     → Breaks x y → OneGoes IsOfTurn id a h x b h y
 one_lost {id} {a} {b} {h} x y (Ok done) ok err fresh breaks =
     let bytes = output_by (client_at a.core id) in
-    gave_one x y bytes (ok, fresh) (ap (λ (z : Client). z.conn.number) breaks.rest) (λ past was.
+    gave_broken x y bytes (ok, fresh) (ap (λ (z : Client). z.conn.number) breaks.rest) (ap (λ (z : Client). z.is_broken) breaks.rest) (λ past was.
     state_breaks h x.conn.number y.conn.number x.conn.held.items (bytes_of x.conn.unsent ++ bytes) y.conn.held.items (bytes_of y.conn.unsent) x.is_broken y.is_broken x.is_ended y.is_ended
     (ap (λ (z : Client). z.conn.number) breaks.rest) breaks.none_held (ap (λ (z : Client). z.is_broken) breaks.rest) (ap (λ (z : Client). z.is_ended) breaks.rest)
     (fed_in past) (gave_in (Gave id bytes ∷ past)) id
     (gave_state h (fed_in past) (gave_in past) (gave_in (Gave id bytes ∷ past)) id x.conn.number x.conn.held.items (bytes_of x.conn.unsent) bytes x.is_broken x.is_ended (more_given past id bytes) was))
-one_lost {id} {a} {b} {h} x y (Err fault) ok err fresh breaks = one_touched err.1 (breaks_now h x y breaks) (ap (λ (z : Client). z.conn.number) breaks.rest) (λ d other. untouched d h)
+one_lost {id} {a} {b} {h} x y (Err fault) ok err fresh breaks = one_breaks x y err.1 breaks
 
 -- the core gave nothing, as nothing stands where that would
 pub one_empty :
@@ -306,15 +350,23 @@ pub one_empty :
 one_empty {id} {a} {b} {h} x (Ok done) out out' ok err fresh more none =
     let bytes = output_by (client_at a.core id) in
     let nothing : bytes ≡ [] = no_rest out bytes (sym more ∙ none) in
-    gave_one x x bytes (ok, fresh) refl (λ past was.
+    gave_one x x bytes (ok, fresh) refl refl (λ past was.
     end_moved h h (fed_in past) (gave_in past) (fed_in (Gave id bytes ∷ past)) (gave_in (Gave id bytes ∷ past)) id x (untouched x.conn.number h) refl
     (more_given past id bytes ∙ ap (λ l. gave_in past id ++ l) nothing ∙ append-nil (gave_in past id)) was)
   where
     no_rest : (l m : List ℕ) → l ++ m ≡ [] → m ≡ []
     no_rest [] m e = e
     no_rest (n ∷ l) m e = absurd cc
-one_empty {id} {a} {b} {h} x (Err fault) out out' ok err fresh more none = one_touched err.1 (same_agrees h x x refl) refl (λ d other. untouched d h)
+one_empty {id} {a} {b} {h} x (Err fault) out out' ok err fresh more none = one_touched err.1 (same_agrees h x x refl) refl (λ d other. untouched d h) refl
 
 pub no_length : (l : List ℕ) → length l ≡ 0 → l ≡ []
 no_length [] e = refl
 no_length (n ∷ l) e = absurd (omega arith)
+
+-- all is sent, by a test
+pub all_sent : (x : Client) (r : Bool) → r ≡ (x.is_broken || (length (bytes_of x.conn.unsent) == 0)) → r ≡ true → IsAllSent x
+all_sent x r is all = by x.is_broken refl
+  where
+    by : (b : Bool) → x.is_broken ≡ b → IsAllSent x
+    by true e = inr e
+    by false e = inl (no_length (bytes_of x.conn.unsent) (eqb-true _ _ (ap (λ b. b || (length (bytes_of x.conn.unsent) == 0)) (sym e) ∙ sym is ∙ all)))

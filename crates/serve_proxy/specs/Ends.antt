@@ -1,17 +1,22 @@
 -- What a proxy's end has on its wire, and how that stays or goes on. Source: mcgate's own.
-use Rattle.std.specs.Prelude.{◌≡◌, ◌≢◌, ℕ, List, [], ◌++◌, Option, Some, None, Result, Ok, Err, false, map as each}
+use Rattle.std.specs.Prelude.{◌≡◌, ◌≢◌, ℕ, List, [], ◌∷◌, ◌++◌, Option, Some, None, Result, Ok, Err, true, false, ◌⊎◌, IfSome, map as each, slice_get, IsSome, MatchOption}
+use Rattle.wire_parts.specs.Sending.{bytes_of}
+use Rattle.mc_types.specs.declared.ask.Dialect.{Dialect}
+use Rattle.mc_types.specs.declared.ask.Dialect.TheVariants.{Classic}
 use Rattle.serve_wire.specs.Events.{Event, role}
 use Rattle.serve_wire.specs.Agreement.{IsUntouched}
 use Rattle.core_commands.specs.declared.ticket.Ticket.{Ticket}
 use Rattle.route_json.specs.Configuration.{Configuration}
 use Rattle.core_accepted.specs.declared.served.ServedCore.{ServedCore}
+use Rattle.serve_clients.specs.declared.clients.Client.{Client}
 use Rattle.serve_clients.specs.declared.clients.Clients.{Clients}
+use Rattle.serve_clients.specs.Marks.{client_of}
 use Rattle.serve_clients.specs.Agrees.{KeepsEnds}
 use Rattle.serve_links.specs.declared.calls.calls.SentCall.{SentCall}
 use Rattle.serve_links.specs.declared.link.Link.{Link}
-use Rattle.serve_links.specs.CoreSteps.{Step, Opened, Closed, Loaded, Does, Walks, AreOf, IsOfTurn, IsFailure, IsSending}
+use Rattle.serve_links.specs.CoreSteps.{Step, Opened, Gave, Closed, Broke, Loaded, Does, Walks, AreOf, IsOfTurn, IsFailure, IsSending}
 use Rattle.serve_proxy.specs.declared.sockets.Sockets.{Sockets}
-use Rattle.serve_links.specs.Story.{LineState, line_of, LineAgrees, LineLost, LineCalled, LineGoesFrom, LineGoes, AnEnd, Agrees, AgreesBut, AgreesCalled, AgreesLosing, AllGoFrom, AllGo, texts_of}
+use Rattle.serve_links.specs.Story.{LineState, line_of, LineAgrees, LineLost, LineCalled, LineGoesFrom, LineGoes, OneGoes, AnEnd, Agrees, AgreesGiven, AgreesBut, AgreesCalled, AgreesSent, AgreesLosing, AllGoFrom, AllGo, texts_of}
 
 -- what each link has to do with its connection and its calls
 abbrev pub lines_of : List Link → List LineState
@@ -36,13 +41,17 @@ abbrev pub EndsGo : (h h' : List Event) (cs cs' : Clients) (ls ls' : List Link) 
 EndsGo = EndsGoFrom Agrees Agrees
 
 -- the ends agree, and the core gave out this call for this server
-abbrev pub AgreesSent : ℕ → SentCall → List Step → AnEnd → Type 0
-AgreesSent at call = AgreesCalled call.ticket.number at call.ticket.ask
-
 abbrev pub AgreesTicket : Ticket → List Step → AnEnd → Type 0
 AgreesTicket ticket = AgreesCalled ticket.number ticket.server ticket.ask
 
--- of links alone: this call that the core gave out for this server was taken over by its link; or it was taken from there
+-- the link at this place has a connection; and in this dialect calls are asked over it
+abbrev pub IsOpenAt : ℕ → List Link → Type 0
+IsOpenAt at links = (link : Link) × (slice_get links at ≡ Some link) × IsSome link.conn
+
+abbrev pub AsksIn : Dialect → ℕ → List Link → Type 0
+AsksIn dialect at links = MatchOption (slice_get links at) (dialect ≡ Classic) (λ link. dialect ≡ link.dialect)
+
+-- of links alone: this call, which may go to this server, was taken over by its link; or it was taken from there
 abbrev pub LinksTake : ℕ → SentCall → List Link → List Link → Type 0
 LinksTake at call ls ls' = (h : List Event) (cs : Clients) → EndsGoFrom (AgreesSent at call) Agrees h h cs cs ls ls'
 
@@ -53,9 +62,9 @@ LinksGive at call ls ls' = (h : List Event) (cs : Clients) → EndsGoFrom Agrees
 abbrev pub LineStands : ℕ → List Event → List Event → Link → Link → Type 0
 LineStands at h h' old new = (core : ServedCore) → LineGoes IsSending at core h old core h' new
 
--- wherever it stands, a link takes over this call, which the core gave out for its server
+-- wherever it stands, a link takes over this call, which may go to its server
 abbrev pub LineTakes : SentCall → Link → Link → Type 0
-LineTakes call old new = (at : ℕ) (h : List Event) (core : ServedCore) → LineGoesFrom (LineCalled call.ticket.number call.ticket.ask) LineAgrees IsSending at core h old core h new
+LineTakes call old new = (at : ℕ) (h : List Event) (core : ServedCore) → LineGoesFrom (LineCalled call) LineAgrees IsSending at core h old core h new
 
 -- wherever it stands, a link's end goes on by calls of the core; or so that what it holds may be lost
 abbrev pub LineGoesOn : ServedCore → Link → ServedCore → Link → Type 0
@@ -114,9 +123,37 @@ AllGoUnless at (Err refused) history core sockets core' sockets' = AllGoBut at h
 abbrev pub AllGoOpened : {W : Type 0} → (W → List Event) → (id : ℕ) → ServedCore → Sockets W → ServedCore → Sockets W → Type 0
 AllGoOpened history id core sockets core' sockets' = (before : ServedCore) → Does (Opened id) before core → AllGoOn history before sockets core' sockets'
 
--- whatever core has closed a client of this id, all go on from before that
+-- nothing is to be sent to a client, or it is broken off
+abbrev pub IsAllSent : Client → Type 0
+IsAllSent x = (bytes_of x.conn.unsent ≡ []) ⊎ (x.is_broken ≡ true)
+
+-- so it is with the client of this id, if there is one
+abbrev pub IsAllSentTo : ℕ → Clients → Type 0
+IsAllSentTo id clients = IfSome (client_of clients id) IsAllSent
+
+-- the core gives what it has for this client, or closes it
+abbrev pub IsClosing : ℕ → Step → Type 0
+IsClosing id step = ((bytes : List ℕ) × (step ≡ Gave id bytes)) ⊎ (step ≡ Closed id)
+
+-- nothing else is done with the core, and the ends go on with that
+abbrev pub AllClose : {W : Type 0} → (W → List Event) → (id : ℕ) → ServedCore → Sockets W → ServedCore → Sockets W → Type 0
+AllClose history id core sockets core' sockets' = AllGo (IsClosing id) (end_of history core sockets) (end_of history core' sockets')
+
+-- the core gave all that it had for this client, and nothing else is done with it
+abbrev pub AllGiven : {W : Type 0} → (W → List Event) → (id : ℕ) → ServedCore → Sockets W → ServedCore → Sockets W → Type 0
+AllGiven history id core sockets core' sockets' = AllGoFrom Agrees (AgreesGiven id) (IsClosing id) (end_of history core sockets) (end_of history core' sockets')
+
+-- so it is with one client's end
+abbrev pub OneGives : ℕ → ServedCore → List Event → Client → ServedCore → List Event → Client → Type 0
+OneGives id core h x core' h' y = (g : OneGoes (IsClosing id) id core h x core' h' y) × (bytes : List ℕ) × (g.steps ≡ Gave id bytes ∷ [])
+
+-- whatever core has closed a client of this id, all go on from before that, where it just gave all that it had for it, and all was sent
 abbrev pub AllGoClosed : {W : Type 0} → (W → List Event) → (id : ℕ) → Sockets W → Sockets W → Type 0
-AllGoClosed history id sockets sockets' = (before core : ServedCore) → Does (Closed id) before core → AllGoOn history before sockets core sockets'
+AllGoClosed history id sockets sockets' = (before core : ServedCore) → Does (Closed id) before core → IsAllSentTo id sockets.clients → AllGoFrom (AgreesGiven id) Agrees (IsClosing id) (end_of history before sockets) (end_of history core sockets')
+
+-- nothing is done with the core; the client of this id may be broken off, and the ends go on with that
+abbrev pub AllGoBreaking : {W : Type 0} → (W → List Event) → (id : ℕ) → Sockets W → Sockets W → Type 0
+AllGoBreaking history id sockets sockets' = (core : ServedCore) → AllGo (λ step. step ≡ Broke id) (end_of history core sockets) (end_of history core sockets')
 
 -- no connection is a client's
 abbrev pub HasNoClients : List Event → Type 0
@@ -124,7 +161,7 @@ HasNoClients h = (conn id : ℕ) → role conn h ≢ Some (0, id)
 
 -- the line of a link to the server whose address this text names, without a connection, and without calls
 abbrev pub down_line : List ℕ → LineState
-down_line text = (text, None, [], [], false)
+down_line text = (text, None, [], [], false, Classic)
 
 -- behind the links that were there, which have the lines that they had, come links to these texts, without a connection
 abbrev pub AddsLines : List Link → List Link → Type 0

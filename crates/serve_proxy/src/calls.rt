@@ -1,6 +1,7 @@
 //! A call that the core makes goes to its server's link: it is written there, waits there, or has failed.
 
-ghost use Rattle.serve_proxy.specs.Ends.{AgreesTicket, AgreesSent, AllSendFrom, AllFailOn};
+ghost use Rattle.serve_links.specs.Story.{AgreesSent};
+ghost use Rattle.serve_proxy.specs.Ends.{AgreesTicket, AllSendFrom, AllFailOn};
 
 use crate::failing::look_at_idle;
 use crate::sockets::Sockets;

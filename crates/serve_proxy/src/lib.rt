@@ -37,6 +37,7 @@ mod sockets;
 mod texts;
 mod worklist;
 
+pub use core_accepted::{Beginning, Beginnings};
 pub use proxy::ProxyEnd;
 pub use serve_links::{Cause, LinkNews, ServerDialect, Settings, Tally};
 pub use texts::text_at;

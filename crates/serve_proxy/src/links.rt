@@ -1,11 +1,11 @@
 //! The links to the servers, by their numbers: which of them are to be read and written, when they are late, and what there is to tell
 //! of them. Nothing here knows the core.
 
-ghost use Rattle.std.specs.Prelude.{◌≡◌, ◌↔◌, [], ◌∷◌, ◌++◌, drop, length, IsTrue, IfOk, IfErr, OnOk, MatchOption};
+ghost use Rattle.std.specs.Prelude.{◌≡◌, ◌↔◌, true, [], ◌∷◌, ◌++◌, drop, length, IsTrue, IsSome, IfOk, IfErr, OnOk, MatchOption};
 ghost use Rattle.serve_clients.specs.declared.clients.Clients.{Clients};
 ghost use Rattle.serve_links.specs.Links.{calls_out};
 ghost use Rattle.serve_links.specs.Story.{line_of, texts_of};
-ghost use Rattle.serve_proxy.specs.Ends.{lines_of, LinksTake, LinksGive, LineStands, LineTakes, EndsGo, AddsLines};
+ghost use Rattle.serve_proxy.specs.Ends.{lines_of, LinksTake, LinksGive, LineStands, LineTakes, IsOpenAt, AsksIn, EndsGo, AddsLines};
 
 use crate::clock::earlier;
 use crate::texts::text_at;
@@ -46,6 +46,7 @@ fn begin<W: Wire, N: Net>(
     settings: &Settings,
 ) -> Opening
     ensures stands { LineStands at (W.history wire.old) (W.history wire.new) link.old link.new }
+    ensures conn { result ≡ Opening.Begun → IsSome link.new.conn }
 {
     match link.connect(alloc, net, wire, at, time, settings.server_dialect) {
         Opening::Failed => {
@@ -285,6 +286,7 @@ impl Links {
     /// Whether a call may go out on the link: it has a connection, or one could be begun, and it isn't held back.
     pub fn is_open<W: Wire, N: Net>(&mut self, net: &N, wire: &mut W, at: usize, time: u64) -> bool
         ensures ends { (clients : Clients) → EndsGo (W.history wire.old) (W.history wire.new) clients clients self.old.all.items self.new.all.items }
+        ensures there { result ≡ true → IsOpenAt at self.new.all.items }
     {
         let Some(link) = self.all.get_mut(at) else {
             return false;
@@ -309,7 +311,9 @@ impl Links {
     }
 
     /// In which dialect its server is asked from now on.
-    pub fn dialect_of(&self, at: usize) -> Dialect {
+    pub fn dialect_of(&self, at: usize) -> Dialect
+        ensures { AsksIn result at self.now.all.items }
+    {
         match self.all.get(at) {
             Some(link) => link.dialect,
             None => Dialect::Classic,
@@ -371,6 +375,7 @@ impl Links {
 
     /// The link may be late before the others, by what happened to it: it was opened, or stands, or calls went out.
     pub fn note_limit(&mut self, at: usize)
+        ensures all { self.new.all ≡ self.old.all }
         ensures lines { lines_of self.new.all.items ≡ lines_of self.old.all.items }
     {
         if let Some(link) = self.all.get(at) {

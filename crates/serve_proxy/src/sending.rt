@@ -1,7 +1,7 @@
 //! What is to be sent goes out: calls to servers, and replies to clients. Each end is written once.
 
 ghost use Rattle.std.specs.Prelude.{ℕ};
-ghost use Rattle.serve_proxy.specs.Ends.{Stay, GoAlone, LineStands, AllGoOn, AllFailOn};
+ghost use Rattle.serve_proxy.specs.Ends.{Stay, GoAlone, LineStands, AllGoOn, AllFailOn, AllGoBreaking};
 
 use crate::calls::begin_waiting;
 use crate::failing::fail_link;
@@ -85,7 +85,7 @@ fn send_client<W: Wire>(
 
 // The client is written, if it is there: whether it is to be served for that, and whether it has spare room then.
 fn write_client<W: Wire>(core: &ServedCore, sockets: &mut Sockets<W>, id: usize) -> (bool, bool)
-    ensures ends { GoAlone W.history sockets.old sockets.new }
+    ensures ends { AllGoBreaking W.history id sockets.old sockets.new }
 {
     match sockets.clients.get_mut(id) {
         Some(client) => {

@@ -1,12 +1,12 @@
 //! Clients are served: what came of them goes to the core, their commands begin and go on, and their replies are shown.
 
-ghost use Rattle.std.specs.Prelude.{◌≡◌, List};
+ghost use Rattle.std.specs.Prelude.{◌≡◌, ◌==◌, ◌||◌, ℕ, List, true, length};
+ghost use Rattle.wire_parts.specs.Sending.{bytes_of};
 ghost use Rattle.serve_wire.specs.Events.{Event};
-ghost use Rattle.serve_wire.specs.Agreement.{TouchesOnly};
-ghost use Rattle.serve_clients.specs.Agrees.{GoesOnAgreeing};
-ghost use Rattle.serve_links.specs.CoreSteps.{IsOfTurn};
+ghost use Rattle.core_accepted.specs.declared.served.ServedCore.{ServedCore};
+ghost use Rattle.serve_links.specs.CoreSteps.{IsOfTurn, Broke};
 ghost use Rattle.serve_links.specs.Story.{OneGoes};
-ghost use Rattle.serve_proxy.specs.Ends.{Stay, AllGoOn};
+ghost use Rattle.serve_proxy.specs.Ends.{Stay, AllGoOn, AllClose, AllGiven, OneGives, IsClosing, IsAllSent, IsAllSentTo};
 
 use crate::accepting::Accepting;
 use crate::calls::send_call;
@@ -18,7 +18,7 @@ use crate::sockets::Sockets;
 use core_accepted::ServedCore;
 use core_proxy::{CoreFault, Poll as Polled};
 use serve_clients::Client;
-use serve_links::{Tally, feed_held, read_once};
+use serve_links::{Tally, feed_held, read_once, show};
 use serve_wire::Wire;
 use std::alloc::AllocError;
 use std::io;
@@ -155,9 +155,7 @@ fn read_client<W: Wire>(core: &mut ServedCore, sockets: &mut Sockets<W>, id: usi
 
 // One read of it, if it may give something, into room that is lent for that.
 fn read_end<W: Wire>(client: &mut Client, wire: &mut W, rooms: &mut Rooms, tally: &mut Tally)
-    ensures agrees { GoesOnAgreeing (W.history wire.old) (W.history wire.new) client.old client.new }
-    ensures elsewhere { TouchesOnly client.old.conn.number (W.history wire.old) (W.history wire.new) }
-    ensures number { client.new.conn.number ≡ client.old.conn.number }
+    ensures one { (id : ℕ) (core : ServedCore) → OneGoes (λ step. step ≡ Broke id) id core (W.history wire.old) client.old core (W.history wire.new) client.new }
 {
     if client.can_read() {
         rooms.lend_input(&mut client.conn.held);
@@ -241,11 +239,14 @@ fn poll_once<W: Wire, N: Net>(
     }
 }
 
-// A client that has ended, for which nothing is left to do and to send, is gone.
+// A client that has ended, for which nothing is left to do, is gone once all was sent to it.
 fn close_client<W: Wire>(core: &mut ServedCore, sockets: &mut Sockets<W>, id: usize, rest: Rest)
-    ensures ends { AllGoOn W.history core.old sockets.old core.new sockets.new }
+    ensures ends { AllClose W.history id core.old sockets.old core.new sockets.new }
 {
     if !is_over(core, sockets, id, rest) {
+        return;
+    }
+    if !has_all(core, sockets, id) {
         return;
     }
     match core.close(id) {
@@ -257,7 +258,7 @@ fn close_client<W: Wire>(core: &mut ServedCore, sockets: &mut Sockets<W>, id: us
     }
 }
 
-// Whether that is so of a client.
+// Whether it has ended, and nothing is left to do for it.
 fn is_over<W: Wire>(core: &ServedCore, sockets: &mut Sockets<W>, id: usize, rest: Rest) -> bool
     ensures ends { Stay W.history sockets.old sockets.new }
 {
@@ -267,10 +268,41 @@ fn is_over<W: Wire>(core: &ServedCore, sockets: &mut Sockets<W>, id: usize, rest
     }
 }
 
-// Whether it is so of a client with this end.
+// The same of its end.
 fn is_done(core: &ServedCore, id: usize, client: &Client, rest: Rest) -> bool {
     let is_ended = client.is_ended || core.is_closed(id);
     // Bytes that were left unread would take the last replies with them when the socket is closed.
     let is_read = client.is_ended || !client.conn.readable;
-    rest == Rest::Idle && is_ended && is_read && client.conn.unsent.is_empty()
+    rest == Rest::Idle && is_ended && is_read
+}
+
+// Whether the core has no more for it, and all was sent to it.
+fn has_all<W: Wire>(core: &mut ServedCore, sockets: &mut Sockets<W>, id: usize) -> bool
+    ensures ends { AllClose W.history id core.old sockets.old core.new sockets.new }
+    ensures given { result ≡ true → AllGiven W.history id core.old sockets.old core.new sockets.new }
+    ensures sent { result ≡ true → IsAllSentTo id sockets.new.clients }
+{
+    match sockets.clients.get_mut(id) {
+        Some(client) => end_has_all(core, id, client),
+        None => false,
+    }
+}
+
+// The same of its end.
+fn end_has_all(core: &mut ServedCore, id: usize, client: &mut Client) -> bool
+    ensures one { (h : List Event) → OneGoes (IsClosing id) id core.old h client.old core.new h client.new }
+    ensures given { result ≡ true → (h : List Event) → OneGives id core.old h client.old core.new h client.new }
+    ensures sent { result ≡ true → IsAllSent client.new }
+{
+    match show(core, id, client) {
+        Ok(_) => is_all_sent(client),
+        Err(_) => false,
+    }
+}
+
+// Whether nothing is to be sent to it, or it is broken off.
+fn is_all_sent(client: &Client) -> bool
+    ensures { result ≡ (client.now.is_broken || (length (bytes_of client.now.conn.unsent) == 0)) }
+{
+    client.is_broken || client.conn.unsent.is_empty()
 }

@@ -13,7 +13,7 @@ returns-in_err-answers-clause-lost c =
     let x = c.args.link.now in
     let k = c.in-Some.conn.now in
     let d = c.settle_held.new.conn in
-    λ at h. settled_some x (record x { calls = c.settle_held.new.calls; conn = Some d }) k d c.settle_held.new.calls.sent.items (sym c.in-Some.ensures.value) c.requires refl refl refl refl refl c.settle_held.ensures.rest c.settle_held.ensures.front
+    λ at h. settled_some x (record x { calls = c.settle_held.new.calls; conn = Some d }) k d c.settle_held.new.calls.sent.items (sym c.in-Some.ensures.value) c.requires refl refl refl refl refl refl c.settle_held.ensures.rest c.settle_held.ensures.front
 
 pub returns-in_err-answers-clause-ends : goal.returns-in_err-answers-clause-ends
 returns-in_err-answers-clause-ends c = c.settle_held.ensures.ends
@@ -25,7 +25,7 @@ returns-then-not-answers c =
     let d = c.settle_held.new.conn in
     record {
       kept = λ none. absurd (let no = none in cc no);
-      lost = λ at h. settled_some x c.has_read-has_failed.new.self k d c.settle_held.new.calls.sent.items (sym c.in-Some.ensures.value) c.requires (ap (λ (z : Link). z.conn) c.has_read-has_failed.ensures) (ap (λ (z : Link). z.text.items) c.has_read-has_failed.ensures) (ap (λ (z : Link). z.waiting.items) c.has_read-has_failed.ensures) (ap (λ (z : Link). z.awaits_dialect) c.has_read-has_failed.ensures) (ap (λ (z : Link). z.calls.sent.items) c.has_read-has_failed.ensures) c.settle_held.ensures.rest c.settle_held.ensures.front;
+      lost = λ at h. settled_some x c.has_read-has_failed.new.self k d c.settle_held.new.calls.sent.items (sym c.in-Some.ensures.value) c.requires (ap (λ (z : Link). z.conn) c.has_read-has_failed.ensures) (ap (λ (z : Link). z.text.items) c.has_read-has_failed.ensures) (ap (λ (z : Link). z.waiting.items) c.has_read-has_failed.ensures) (ap (λ (z : Link). z.awaits_dialect) c.has_read-has_failed.ensures) (ap (λ (z : Link). z.dialect) c.has_read-has_failed.ensures) (ap (λ (z : Link). z.calls.sent.items) c.has_read-has_failed.ensures) c.settle_held.ensures.rest c.settle_held.ensures.front;
       ends = c.settle_held.ensures.ends;
     }
 
@@ -35,7 +35,7 @@ returns c =
     let k = c.in-Some.conn.now in
     let d = c.settle_held.new.conn in
     record {
-      kept = λ none. λ at h. settled x c.has_read-has_failed.new.self k d c.settle_held.new.calls.sent.items (sym c.in-Some.ensures.value) c.requires (ap (λ (z : Link). z.conn) c.has_read-has_failed.ensures) (ap (λ (z : Link). z.text.items) c.has_read-has_failed.ensures) (ap (λ (z : Link). z.waiting.items) c.has_read-has_failed.ensures) (ap (λ (z : Link). z.awaits_dialect) c.has_read-has_failed.ensures) (ap (λ (z : Link). z.calls.sent.items) c.has_read-has_failed.ensures) c.settle_held.ensures.rest (c.in_ok-answers.ensures.settled c.if-not-answers.false);
-      lost = λ at h. settled_some x c.has_read-has_failed.new.self k d c.settle_held.new.calls.sent.items (sym c.in-Some.ensures.value) c.requires (ap (λ (z : Link). z.conn) c.has_read-has_failed.ensures) (ap (λ (z : Link). z.text.items) c.has_read-has_failed.ensures) (ap (λ (z : Link). z.waiting.items) c.has_read-has_failed.ensures) (ap (λ (z : Link). z.awaits_dialect) c.has_read-has_failed.ensures) (ap (λ (z : Link). z.calls.sent.items) c.has_read-has_failed.ensures) c.settle_held.ensures.rest c.settle_held.ensures.front;
+      kept = λ none. λ at h. settled x c.has_read-has_failed.new.self k d c.settle_held.new.calls.sent.items (sym c.in-Some.ensures.value) c.requires (ap (λ (z : Link). z.conn) c.has_read-has_failed.ensures) (ap (λ (z : Link). z.text.items) c.has_read-has_failed.ensures) (ap (λ (z : Link). z.waiting.items) c.has_read-has_failed.ensures) (ap (λ (z : Link). z.awaits_dialect) c.has_read-has_failed.ensures) (ap (λ (z : Link). z.dialect) c.has_read-has_failed.ensures) (ap (λ (z : Link). z.calls.sent.items) c.has_read-has_failed.ensures) c.settle_held.ensures.rest (c.in_ok-answers.ensures.settled c.if-not-answers.false);
+      lost = λ at h. settled_some x c.has_read-has_failed.new.self k d c.settle_held.new.calls.sent.items (sym c.in-Some.ensures.value) c.requires (ap (λ (z : Link). z.conn) c.has_read-has_failed.ensures) (ap (λ (z : Link). z.text.items) c.has_read-has_failed.ensures) (ap (λ (z : Link). z.waiting.items) c.has_read-has_failed.ensures) (ap (λ (z : Link). z.awaits_dialect) c.has_read-has_failed.ensures) (ap (λ (z : Link). z.dialect) c.has_read-has_failed.ensures) (ap (λ (z : Link). z.calls.sent.items) c.has_read-has_failed.ensures) c.settle_held.ensures.rest c.settle_held.ensures.front;
       ends = c.settle_held.ensures.ends;
     }

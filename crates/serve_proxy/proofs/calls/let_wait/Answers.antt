@@ -1,5 +1,5 @@
 use Rattle.serve_clients.proofs.Agreeing.{waits_keeps}
-use Rattle.serve_proxy.proofs.Going.{and_then, stays, without_call}
+use Rattle.serve_proxy.proofs.Going.{and_then, stays, without_sent}
 use Rattle.serve_proxy.proofs.Staying.{stay_clients, stay_links}
 use Rattle.serve_proxy.proofs.calls.let_wait.Goals as goal
 
@@ -7,4 +7,4 @@ pub returns-in-Ok : goal.returns-in-Ok
 returns-in-Ok g c = record { ends = and_then (c.in-Ok.ensures.ok (g.W.Wire.history c.args.sockets.now.wire) c.args.sockets.now.clients c.args.core.now) (stays c.args.core.now (stay_clients _ _ _ _ (waits_keeps c.args.call.client c.args.sockets.now.clients c.mark_waiting.new.self c.mark_waiting.ensures.client))) }
 
 pub returns-in-Err : goal.returns-in-Err
-returns-in-Err g c = record { ends = without_call c.args.call.ticket.number c.args.at c.args.call.ticket.ask (and_then (stays c.args.core.now (stay_links _ _ _ _ c.in-Err.ensures.err.1)) c.refuse_call.ensures.ends) }
+returns-in-Err g c = record { ends = without_sent c.args.at c.args.call (and_then (stays c.args.core.now (stay_links _ _ _ _ c.in-Err.ensures.err.1)) c.refuse_call.ensures.ends) }

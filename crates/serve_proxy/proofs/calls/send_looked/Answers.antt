@@ -1,3 +1,5 @@
+use Rattle.std.proofs.Common.{sym}
+use Rattle.serve_links.specs.declared.calls.calls.SentCall.{SentCall}
 use Rattle.serve_links.proofs.Story.{still_called}
 use Rattle.serve_proxy.proofs.Going.{and_then, stays, without_call}
 use Rattle.serve_proxy.proofs.Staying.{stay_links}
@@ -8,10 +10,27 @@ pub returns-then-not-is_open : goal.returns-then-not-is_open
 returns-then-not-is_open g c = record { ends = without_call c.args.ticket.number c.args.ticket.server c.args.ticket.ask (and_then (c.is_open.ensures.ends c.args.sockets.now.clients c.args.core.now) c.refuse_call.ensures.ends) }
 
 pub returns-then-is_full : goal.returns-then-is_full
-returns-then-is_full g c = record { ends = and_then (still_called c.args.ticket.number c.args.ticket.server c.args.ticket.ask (c.is_open.ensures.ends c.args.sockets.now.clients c.args.core.now)) (called_at c.args.ticket.number c.args.ticket.ask c.number-at.ensures c.let_wait.ensures.ends) }
+returns-then-is_full g c =
+    let call : SentCall = record { ticket = c.args.ticket; client = c.args.id; since = c.args.sockets.now.time; dialect = c.dialect_of.result } in
+    record {
+      ends = and_then (still_called c.args.ticket.number c.args.ticket.server c.args.ticket.ask (c.is_open.ensures.ends c.args.sockets.now.clients c.args.core.now))
+          (called_at c.number-at.result call (sym c.number-at.ensures) (c.is_open.ensures.there c.if-not-is_open.false) c.dialect_of.ensures c.let_wait.ensures.ends);
+    }
 
 pub returns-in_err-begin_call : goal.returns-in_err-begin_call
-returns-in_err-begin_call g c = record { ends = and_then (still_called c.args.ticket.number c.args.ticket.server c.args.ticket.ask (c.is_open.ensures.ends c.args.sockets.now.clients c.args.core.now)) (called_at c.args.ticket.number c.args.ticket.ask c.number-at.ensures c.begin_call.ensures.ends) }
+returns-in_err-begin_call g c =
+    let call : SentCall = record { ticket = c.args.ticket; client = c.args.id; since = c.args.sockets.now.time; dialect = c.dialect_of.result } in
+    record {
+      ends = and_then (still_called c.args.ticket.number c.args.ticket.server c.args.ticket.ask (c.is_open.ensures.ends c.args.sockets.now.clients c.args.core.now))
+          (called_at c.number-at.result call (sym c.number-at.ensures) (c.is_open.ensures.there c.if-not-is_open.false) c.dialect_of.ensures c.begin_call.ensures.ends);
+    }
 
 pub returns : goal.returns
-returns g c = record { ends = and_then (and_then (still_called c.args.ticket.number c.args.ticket.server c.args.ticket.ask (c.is_open.ensures.ends c.args.sockets.now.clients c.args.core.now)) (called_at c.args.ticket.number c.args.ticket.ask c.number-at.ensures c.begin_call.ensures.ends)) (stays c.begin_call.new.core (stay_links _ _ _ _ c.mark_output.ensures.lines)) }
+returns g c =
+    let call : SentCall = record { ticket = c.args.ticket; client = c.args.id; since = c.args.sockets.now.time; dialect = c.dialect_of.result } in
+    record {
+      ends = and_then
+          (and_then (still_called c.args.ticket.number c.args.ticket.server c.args.ticket.ask (c.is_open.ensures.ends c.args.sockets.now.clients c.args.core.now))
+          (called_at c.number-at.result call (sym c.number-at.ensures) (c.is_open.ensures.there c.if-not-is_open.false) c.dialect_of.ensures c.begin_call.ensures.ends))
+          (stays c.begin_call.new.core (stay_links _ _ _ _ c.mark_output.ensures.lines));
+    }

@@ -1,10 +1,17 @@
 use Rattle.std.proofs.Common.{ap}
 use Rattle.serve_links.specs.declared.link.Opening.TheVariants as opening
 use Rattle.serve_proxy.proofs.Staying.{line_opens, line_opens_not}
+use Rattle.serve_proxy.proofs.Linking.{begun_open}
 use Rattle.serve_proxy.proofs.links.begin.Goals as goal
 
 pub returns-in-Failed : goal.returns-in-Failed
-returns-in-Failed g c = record { stands = line_opens_not c.args.at c.args.settings.now.server_dialect opening.Failed _ _ c.args.link.now c.connect.new.self c.close.new.self c.in-Failed.ensures.opens c.close.ensures.conn (ap (λ t. t.items) c.close.ensures.text) (ap (λ w. w.items) c.close.ensures.waiting) }
+returns-in-Failed g c = record {
+  stands = line_opens_not c.args.at c.args.settings.now.server_dialect opening.Failed _ _ c.args.link.now c.connect.new.self c.close.new.self c.in-Failed.ensures.opens c.close.ensures.conn (ap (λ t. t.items) c.close.ensures.text) (ap (λ w. w.items) c.close.ensures.waiting);
+  conn = λ begun. absurd (let no = begun in cc no);
+}
 
 pub returns-in_default : goal.returns-in_default
-returns-in_default g c = record { stands = line_opens c.args.at c.args.settings.now.server_dialect c.connect.result _ _ c.args.link.now c.connect.new.self c.connect.ensures.opens }
+returns-in_default g c = record {
+  stands = line_opens c.args.at c.args.settings.now.server_dialect c.connect.result _ _ c.args.link.now c.connect.new.self c.connect.ensures.opens;
+  conn = begun_open c.args.at c.args.settings.now.server_dialect c.args.link.now c.connect.new.self _ _ c.connect.result c.connect.ensures.opens;
+}

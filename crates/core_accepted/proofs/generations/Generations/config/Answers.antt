@@ -5,4 +5,4 @@ use Rattle.core_accepted.specs.Known.{Known, is_arbitrary}
 use Rattle.core_accepted.proofs.generations.Generations.config.Goals as goal
 
 pub returns-clause-sound : goal.returns-clause-sound
-returns-clause-sound c = subst (λ (k : Known). AreSoundSince (is_arbitrary k) (trees_of k.configs)) c.self.view_is c.self.invariant.kept.sound
+returns-clause-sound c = subst (λ (k : Known). AreSoundSince (is_arbitrary k) (trees_of k.configs)) c.self.view_is c.self.invariant.sound

@@ -1,10 +1,14 @@
-use Rattle.std.proofs.Common.{◌∙◌, subst}
+use Rattle.std.proofs.Common.{◌∙◌, ap, subst}
 use Rattle.route_tree.specs.Route.{Route}
+use Rattle.route_json.specs.Configuration.{Configuration}
 use Rattle.core_proxy.specs.CoreState.{IsFresh}
+use Rattle.core_accepted.proofs.Growing.{same_last}
 use Rattle.core_accepted.proofs.Keeping.{new_is_led}
 use Rattle.core_accepted.proofs.served.ServedCore.new_from.Goals as goal
 
 pub returns : goal.returns
 returns c =
-    new_is_led c.args.accepted c.config-config.result.now c.args.begun c.args.limits c.unchecked.result c.in_ok-generations.generations c.config-config.ensures.config c.in_ok-generations.ensures
-    (subst (λ (t : Route). IsFresh t c.args.limits c.unchecked.result) (c.in_ok-tree.ensures ∙ c.tree.ensures.tree) c.unchecked.ensures)
+    let g = c.in_ok-generations.ensures in
+    let same = same_last c.args.accepted c.config.result.now g.0 c.config.ensures.config g.1 in
+    new_is_led c.args.accepted g.0 c.args.begun c.args.limits c.unchecked.result c.in_ok-generations.generations g.1 g.2
+    (subst (λ (t : Route). IsFresh t c.args.limits c.unchecked.result) (c.in_ok-tree.ensures ∙ c.tree.ensures.tree ∙ ap (λ (k : Configuration). k.tree) same) c.unchecked.ensures)

@@ -1,0 +1,7 @@
+use Rattle.std.proofs.Common.{◌≡◌, Some, map, take}
+use Rattle.serde_json.specs.View.{items_view}
+use Rattle.gate_certificate.specs.Format.{each_in, run_in, run_row}
+use Rattle.gate_certificate.proofs.reading.read_runs.Given as goal
+
+abbrev pub invariant-loop-index : goal.invariant-loop-index
+invariant-loop-index l = each_in run_in (items_view (take l.index l.items)) ≡ Some (map run_row l.runs.items)

@@ -1,0 +1,3 @@
+pub mod Format
+pub mod Testing
+pub mod Verdict
