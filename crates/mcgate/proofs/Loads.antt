@@ -1,6 +1,6 @@
 -- How an end begins, a turn and a load as what may be done to it, and what its core stays.
-use Rattle.std.proofs.Common.{◌≡◌, ℕ, true, false, List, [], ◌∷◌, Result, Ok, Err, refl, sym, ap, subst, append-nil, Option, Some, None, ◌++◌, ◌∙◌, ⊎_elim}
-use Rattle.std.specs.Prelude.{IfOk}
+use Rattle.std.proofs.Common.{◌≡◌, ℕ, Bool, true, false, List, [], ◌∷◌, Result, Ok, Err, refl, sym, ap, subst, append-nil, Option, Some, None, ◌++◌, ◌∙◌, ⊎_elim, inl, inr, ◌⊎◌}
+use Rattle.std.specs.Prelude.{IfOk, IsTrue}
 use Rattle.std.specs.Result.{IsErr}
 use Rattle.route_json.specs.Servers.{Addresses}
 use Rattle.route_json.specs.Configuration.{Configuration}
@@ -32,7 +32,12 @@ use Rattle.mcgate.specs.declared.serve.Servable.{Servable}
 use Rattle.mcgate.specs.declared.serve.Servable.TheVariants as servables
 use Rattle.mcgate.specs.Sharing.{sharing_for}
 use Rattle.mcgate.specs.declared.serving.Serving.{Serving}
+use Rattle.mcgate.specs.declared.remembering.Kept.{Kept}
+use Rattle.mcgate.specs.Remembers.{StandsIn, StandsIfLoaded}
 use Rattle.mcgate.specs.Serves.{HasTree, HasServers, BeginsBy, Begins, BeginsServing, SaysAfter, IsServed, history_of, proxy_of, Serves, AgreesTo, ServesTo, GoFreshly, HasServed, StaysFresh}
+
+false_true : false ≡ true → ⊥
+false_true e = cc
 
 -- an end that began by these settings but for its sharing, which is that of its tree
 pub begins_on :
@@ -89,9 +94,6 @@ pub turned : {P Q : List Step → AnEnd → Type 0} {a b : AnEnd} → AllGoFrom 
 turned g = grows (record { steps = g.steps; kinds = each_of_turn g.steps g.kinds; walks = g.walks; agree = g.agree; texts = g.texts })
 
 -- what came of it
-false_true : false ≡ true → ⊥
-false_true e = cc
-
 pub to_err : {A E : Type 0} (r : Result A E) (old new : ProxyEnd Sockets) → IsErr r → AllGrowFrom Agrees AgreesLosing IsServed (proxy_of old) (proxy_of new) → ServesTo r old new
 to_err (Ok done) old new is g = absurd (false_true is)
 to_err (Err fault) old new is g = g
@@ -120,6 +122,15 @@ from_end r old mid new same g = subst (λ x. ServesTo r x new) same g
 -- it wasn't loaded
 pub not_loaded : (old mid new : ServedCore) (configuration : Configuration) (fault : LoadFault) → mid ≡ old → LoadStops mid configuration fault new → (fault ≡ Refused NoMemory → ⊥) → new ≡ old
 not_loaded old mid new configuration fault same stops other = ⊎_elim (λ e. e ∙ same) (λ h. absurd (other h.0)) stops
+
+-- the text stands in the history's file, also after a load that leaves the history as it was
+pub stands_still : (a b : ServedCore) (memory after : Option Kept) (text : List ℕ) → after ≡ memory → StandsIn memory text → StandsIfLoaded a b after text
+stands_still a b memory after text same stands = inr (subst (λ (m : Option Kept). StandsIn m text) (sym same) stands)
+
+-- it wasn't loaded
+pub stands_unused : (a b : ServedCore) (memory : Option Kept) (text : List ℕ) (used : Bool) → used ≡ false → IsTrue used ⊎ (b ≡ a) → StandsIfLoaded a b memory text
+stands_unused a b memory text false none or = ⊎_elim (λ e. absurd (false_true e)) (λ e. inl e) or
+stands_unused a b memory text true none or = absurd (false_true (sym none))
 
 -- a load of what a text says
 pub loaded : (servers : Addresses) (text : List ℕ) (configuration : Configuration) {a b : AnEnd} → SaysAfter servers text configuration → AllGrow (IsLoadOf configuration) a b → AllGrow IsServed a b

@@ -438,6 +438,7 @@ impl Serving {
     }
 
     // Loads the configuration of a text that stands there. What isn't loaded is forgotten.
+    #[tactic(auto, using(crate::proofs::Loads::stands_still, crate::proofs::Loads::stands_unused))]
     fn load_remembered<R: Files + Net + AllocGlobal + Eprint, W: Write>(
         &mut self,
         rt: &R,
