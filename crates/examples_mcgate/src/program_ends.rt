@@ -42,6 +42,11 @@ mcgate check --fleet --dot f => refused, told
 mcgate check --fleet --explain => refused, told
 mcgate certify => certify of standard input
 mcgate certify f => certify of f
+mcgate check --history h => check of standard input after h
+mcgate check c --history h => check of c after h
+mcgate check --history h --explain => refused, told
+mcgate history h => history h
+mcgate history => refused, told
 mcgate where --config c k => where 1 in c
 mcgate where --config c  => no key
 mcgate cache --listen a:1 --capacity 5 => cache 5
@@ -50,6 +55,8 @@ mcgate loopback => loopback of standard input
 mcgate loopback f => loopback of f
 mcgate serve --listen a:1 --config c => serve - fail-limit 3 auto
 mcgate serve --any --listen a:1 --config c --reload-every 4 --reload-ms 5 --fail-limit 6 => serve any reload-every 4 reload-ms 5 fail-limit 6 auto
+mcgate serve --listen a:1 --config c --history h => serve - after h fail-limit 3 auto
+mcgate serve --listen a:1 --config c --history h --any => refused, told
 mcgate serve --listen a:1 --config c --server-dialect auto => serve - fail-limit 3 auto
 mcgate serve --listen a:1 --config c --server-dialect classic => serve - fail-limit 3 classic
 mcgate serve --listen a:1 --config c --server-dialect meta => serve - fail-limit 3 meta
@@ -142,6 +149,9 @@ fn push_serve(out: &mut String, job: &ServeJob<'_>) -> Result<(), AllocError> {
     if let Some(certificate) = job.certificate {
         write!(out, " by {certificate}")?;
     }
+    if let Some(history) = job.history {
+        write!(out, " after {history}")?;
+    }
     push_number(out, "reload-every", job.reload_every)?;
     push_number(out, "reload-ms", job.reload_ms)?;
     push_number(out, "fail-limit", Some(job.settings.fail_limit))?;
@@ -162,6 +172,10 @@ fn push_job(out: &mut String, job: &Job<'_>) -> Result<(), AllocError> {
         Job::Run { task, file } => {
             write!(out, "{} of {}", task_words(*task), file_word(file))?;
         }
+        Job::CheckAfter { history, file } => {
+            write!(out, "check of {} after {history}", file_word(file))?;
+        }
+        Job::History { file } => write!(out, "history {file}")?,
         Job::RunOver { any, config, file } => {
             write!(out, "replay {} over {config}", any_word(*any))?;
             write!(out, " of {}", file_word(file))?;
@@ -244,6 +258,7 @@ mcgate -h => mcgate sends
 mcgate help => mcgate sends
 mcgate help where => usage: mcgate where 
 mcgate help serve => usage: mcgate serve 
+mcgate history -h => usage: mcgate history 
 mcgate cache -h => usage: mcgate cache 
 mcgate check --help => usage: mcgate check 
 mcgate replay --help => usage: mcgate replay 

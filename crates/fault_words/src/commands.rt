@@ -22,20 +22,22 @@ pub enum Command {
     Serve,
     Cache,
     Loopback,
+    History,
     Help,
 }
 
 /// The names of the commands.
-pub const COMMANDS: [&str; 8] = [
-    "check", "certify", "replay", "where", "serve", "cache", "loopback", "help",
+pub const COMMANDS: [&str; 9] = [
+    "check", "certify", "replay", "where", "serve", "cache", "loopback", "history", "help",
 ];
 
-const SERVE_FLAGS: [&str; 20] = [
+const SERVE_FLAGS: [&str; 21] = [
     "help",
     "check",
     "config",
     "listen",
     "any",
+    "history",
     "certificate",
     "clients",
     "client-window",
@@ -62,7 +64,7 @@ pub const TOP_FLAGS: [&str; 2] = ["help", "version"];
 pub fn takes_of(flag: &str) -> Takes {
     match flag {
         "help" | "version" | "any" | "check" | "explain" | "dot" | "fleet" => Takes::Nothing,
-        "config" | "certificate" | "with" => Takes::File,
+        "config" | "certificate" | "with" | "history" => Takes::File,
         "listen" => Takes::Address,
         "server-dialect" | "opened" | "new-servers" => Takes::Word,
         _ => Takes::Count,
@@ -108,6 +110,7 @@ impl Command {
             "serve" => Some(Command::Serve),
             "cache" => Some(Command::Cache),
             "loopback" => Some(Command::Loopback),
+            "history" => Some(Command::History),
             "help" => Some(Command::Help),
             _ => None,
         }
@@ -123,6 +126,7 @@ impl Command {
             Command::Serve => "serve",
             Command::Cache => "cache",
             Command::Loopback => "loopback",
+            Command::History => "history",
             Command::Help => "help",
         }
     }
@@ -130,7 +134,9 @@ impl Command {
     /// Its words, as a usage line has them.
     pub fn usage(self) -> &'static str {
         match self {
-            Command::Check => "mcgate check [--explain | --dot | --fleet [--with FILE ..]] [FILE]",
+            Command::Check => {
+                "mcgate check [--explain | --dot | --history FILE | --fleet [--with FILE ..]] [FILE]"
+            }
             Command::Certify => "mcgate certify [FILE]",
             Command::Replay => "mcgate replay [--any] [--config FILE] [SCRIPT]",
             Command::Where => "mcgate where --config FILE KEY..",
@@ -139,6 +145,7 @@ impl Command {
             }
             Command::Cache => "mcgate cache --listen HOST:PORT --capacity C [--turns N]",
             Command::Loopback => "mcgate loopback [SCRIPT]",
+            Command::History => "mcgate history FILE",
             Command::Help => "mcgate help [COMMAND]",
         }
     }
@@ -146,12 +153,12 @@ impl Command {
     /// The names of its flags.
     pub fn flags(self) -> &'static [&'static str] {
         match self {
-            Command::Check => &["help", "explain", "dot", "fleet", "with"],
+            Command::Check => &["help", "explain", "dot", "fleet", "with", "history"],
             Command::Replay => &["help", "any", "config"],
             Command::Where => &["help", "config"],
             Command::Serve => &SERVE_FLAGS,
             Command::Cache => &CACHE_FLAGS,
-            Command::Certify | Command::Loopback | Command::Help => &["help"],
+            Command::Certify | Command::Loopback | Command::History | Command::Help => &["help"],
         }
     }
 
@@ -172,6 +179,7 @@ impl Command {
             | Command::Certify
             | Command::Replay
             | Command::Loopback
+            | Command::History
             | Command::Help => 1,
             Command::Where => usize::MAX,
             Command::Serve | Command::Cache => 0,
@@ -181,7 +189,7 @@ impl Command {
     /// How many of those it takes at least.
     pub fn least_words(self) -> usize {
         match self {
-            Command::Where => 1,
+            Command::Where | Command::History => 1,
             _ => 0,
         }
     }
@@ -189,7 +197,7 @@ impl Command {
     /// What those words are.
     pub fn word(self) -> &'static str {
         match self {
-            Command::Check | Command::Certify => "FILE",
+            Command::Check | Command::Certify | Command::History => "FILE",
             Command::Replay | Command::Loopback => "SCRIPT",
             Command::Where => "KEY",
             Command::Serve | Command::Cache => "",

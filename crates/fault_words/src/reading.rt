@@ -171,6 +171,11 @@ impl Reader {
         self.apart("explain", "dot")
             .or(self.apart("fleet", "explain"))
             .or(self.apart("fleet", "dot"))
+            .or(self.apart("fleet", "history"))
+            .or(self.apart("explain", "history"))
+            .or(self.apart("dot", "history"))
+            .or(self.apart("any", "history"))
+            .or(self.apart("any", "certificate"))
     }
 
     // What is wrong once there are no more words.
@@ -185,7 +190,7 @@ impl Reader {
             return Some(Cause::Missing(flag));
         }
         if self.words < self.command.least_words() {
-            return Some(Cause::NoWord);
+            return Some(Cause::NoWord(self.command.word()));
         }
         None
     }

@@ -4,17 +4,21 @@
 mod cache;
 mod certified;
 mod descriptors;
+mod histories;
 mod lines;
+mod remembering;
 mod serve;
 mod serving;
 mod sharing;
 mod special;
+mod started;
 mod warnings;
 
 use cache::serve_cache;
 use certified::judge_text_by;
 use descriptors::within_descriptors;
 use fault_words::script::BadLine;
+use histories::{run_after, run_history};
 use lines::Lines;
 use mc_types::Key;
 use mcgate_args::arguments::{Job, Task, read_arguments};
@@ -28,10 +32,12 @@ use mcgate_args::fleets::{FleetFile, FleetJob, run_fleet};
 use mcgate_args::input::text_noting;
 use mcgate_args::input_text::InputFault;
 use mcgate_args::serve_arguments::ServeJob;
+use mcgate_check::Form;
 use mcgate_check::status::{BAD_INPUT, DONE, REFUSED};
 use route_json::Config;
 use serve::{Judged, Servable, judge_text, look_up_only, serve_to_end};
 use special::{is_special, special_line};
+use started::{Begun, Started, begin, refused_after};
 use std::alloc::{AllocError, Global};
 use std::io;
 use std::io::{BufWriter, ErrorKind, Write};
@@ -116,6 +122,27 @@ fn run_task<R: Files + Input + AllocGlobal + Eprint, W: Write>(
         details.add_warnings(rt.alloc(), name_of(file), &input);
     }
     Ok(status)
+}
+
+/// Prints the gate's verdict on a configuration, and if that is accepted, whether it may follow a history.
+fn run_check_after<R: Files + Input + AllocGlobal + Eprint, W: Write>(
+    rt: &R,
+    history: &str,
+    file: Option<&str>,
+    out: &mut W,
+    details: &mut Details,
+) -> Result<u8, Stop> {
+    let task = Task::Check { form: Form::Lines };
+    let input = input_of(rt, file, details);
+    let status = run_input(rt.alloc(), task, &input, out)?;
+    tell_of_task(rt, task, file, &input, status, details);
+    if let (DONE | REFUSED) = status {
+        details.add_warnings(rt.alloc(), name_of(file), &input);
+    }
+    match (status, &input) {
+        (DONE, Ok(text)) => run_after(rt, history, text.as_str(), out, details),
+        _ => Ok(status),
+    }
 }
 
 /// The same of a script of events over a configuration.
@@ -287,11 +314,11 @@ fn serve_job<R: Files + Input + AllocGlobal + Net + Clock + Print + Eprint>(
     rt: &R,
     job: ServeJob<'_>,
     servable: Servable,
-    text: String,
+    started: Started,
     lines: Lines,
     details: &mut Details,
 ) -> Result<u8, Stop> {
-    match serve_to_end(rt, &job, servable, text, lines) {
+    match serve_to_end(rt, &job, servable, started, lines) {
         Ok((_serving, ended)) => ended,
         Err(error) => {
             details.add_listen(rt.alloc(), job.listen, &error);
@@ -317,6 +344,50 @@ fn judge_job<R: Files + Input + AllocGlobal, W: Write>(
             details.add_configuration(rt.alloc(), file, &Err(fault));
             Ok(Judged::Printed(decline(fault, out)?))
         }
+    }
+}
+
+/// Serves it after the history that is kept, if it may follow, or prints why not.
+fn begin_job<R: Files + Input + AllocGlobal + Net + Clock + Print + Eprint, W: Write>(
+    rt: &R,
+    job: ServeJob<'_>,
+    servable: Servable,
+    text: String,
+    lines: Lines,
+    out: &mut W,
+    details: &mut Details,
+) -> Result<u8, Stop> {
+    let mut lines = lines;
+    match begin(rt, &job, text, &mut lines, out, details) {
+        Ok(Begun::Started(started)) => {
+            let begun = started.begun;
+            serve_job(
+                rt,
+                ServeJob { begun, ..job },
+                servable,
+                started,
+                lines,
+                details,
+            )
+        }
+        Ok(Begun::Printed(status)) => Ok(status),
+        Err(stop) => Err(stop),
+    }
+}
+
+/// Tests whether it may be served after that history, and whether all addresses are known.
+fn check_job<R: Files + Input + AllocGlobal + Net + Eprint, W: Write>(
+    rt: &R,
+    job: ServeJob<'_>,
+    servable: &Servable,
+    text: &str,
+    lines: &mut Lines,
+    out: &mut W,
+    details: &mut Details,
+) -> Result<u8, Stop> {
+    match refused_after(rt, &job, text, lines, out, details)? {
+        Some(status) => Ok(status),
+        None => look_up_only(rt, job, servable, lines, details),
     }
 }
 
@@ -351,9 +422,9 @@ fn run_serve<R: Files + Input + AllocGlobal + Net + Clock + Print + Eprint, W: W
             say_warnings(rt, &mut lines, job.file, text.as_str());
             let job = within_descriptors(rt, &mut lines, job, servable.len());
             if job.check {
-                return look_up_only(rt, job, &servable, &mut lines, details);
+                return check_job(rt, job, &servable, text.as_str(), &mut lines, out, details);
             }
-            serve_job(rt, job, servable, text, lines, details)
+            begin_job(rt, job, servable, text, lines, out, details)
         }
     }
 }
@@ -374,6 +445,8 @@ fn run<R: Files + Input + AllocGlobal + Env + Net + Clock + Print + Eprint, W: W
     };
     match job {
         Job::Run { task, file } => run_task(rt, task, file, out, details),
+        Job::CheckAfter { history, file } => run_check_after(rt, history, file, out, details),
+        Job::History { file } => run_history(rt, file, out, details),
         Job::RunOver { any, config, file } => run_over(rt, any, config, file, out, details),
         Job::CheckFleet(job) => check_fleet(rt, &job, out, details),
         Job::Where { file, keys } => run_where(rt, file, &keys, out, details),

@@ -10,6 +10,8 @@ pub mod certifying;
 pub mod details;
 pub mod ends;
 pub mod fleets;
+pub mod histories;
+pub mod history_arguments;
 pub mod input;
 pub mod input_text;
 pub mod loopback_arguments;

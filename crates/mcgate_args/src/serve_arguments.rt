@@ -20,6 +20,8 @@ pub struct ServeJob<'a> {
     pub any: bool,
     /// The file of a certificate, by which the tree is accepted at the start.
     pub certificate: Option<&'a str>,
+    /// The file of what is remembered from one run to the next, if there is one.
+    pub history: Option<&'a str>,
     /// Nothing is served: it ends once all that is tested at the start was tested.
     pub check: bool,
     /// After so many turns the file is read again.
@@ -51,6 +53,8 @@ opens, fails or comes back.
   --reload-ms N          FILE is read again each N milliseconds; without it and the next one, it isn't
   --reload-every N       FILE is read again each N turns
   --turns N              ends after so many turns; without it, it doesn't end
+  --history FILE         the configurations that were accepted so far stand in FILE: the first one and each new text is judged after
+                         them, and written there before it is used; without it, what is promised begins with this start
   --any                  serves a tree that the gate refuses too: nothing is promised then
   --certificate FILE     at the start the tree is accepted by this certificate, as mcgate-verify tests it, or refused; not with --any
   --check                serves nothing: it tests the words, FILE, its tree, and that all addresses are known, and ends
@@ -84,6 +88,7 @@ pub fn serve_command<'a>(alloc: Global) -> Result<Command<'a>, AllocError> {
         .arg(option(alloc, "reload-every"))?
         .arg(option(alloc, "reload-ms"))?
         .arg(option(alloc, "turns"))?
+        .arg(option(alloc, "history"))?
         .arg(switch(alloc, "any"))?
         .arg(option(alloc, "certificate"))?
         .arg(switch(alloc, "check"))
@@ -131,6 +136,14 @@ fn settings_of(given: &ArgMatches<'_>) -> Result<Settings, ArgumentsFault> {
     })
 }
 
+// The file of what is remembered. Of trees that no gate accepted nothing is.
+fn history_of<'a>(given: &ArgMatches<'a>) -> Result<Option<&'a str>, ArgumentsFault> {
+    match given.get_str("history") {
+        Some(_) if given.get_flag("any") => Err(ArgumentsFault::Refused),
+        history => Ok(history),
+    }
+}
+
 /// What the arguments after `serve` ask for.
 pub fn serve_job<'a>(given: &ArgMatches<'a>) -> Result<Job<'a>, ArgumentsFault> {
     if given.get_flag("help") {
@@ -150,6 +163,7 @@ pub fn serve_job<'a>(given: &ArgMatches<'a>) -> Result<Job<'a>, ArgumentsFault> 
         begun: begun_of(given)?,
         any,
         certificate,
+        history: history_of(given)?,
         check: given.get_flag("check"),
         reload_every: count_of(given, "reload-every")?,
         reload_ms: count_of(given, "reload-ms")?,
