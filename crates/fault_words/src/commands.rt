@@ -22,20 +22,22 @@ pub enum Command {
     Serve,
     Cache,
     Loopback,
+    History,
     Help,
 }
 
 /// The names of the commands.
-pub const COMMANDS: [&str; 8] = [
-    "check", "certify", "replay", "where", "serve", "cache", "loopback", "help",
+pub const COMMANDS: [&str; 9] = [
+    "check", "certify", "replay", "where", "serve", "cache", "loopback", "history", "help",
 ];
 
-const SERVE_FLAGS: [&str; 20] = [
+const SERVE_FLAGS: [&str; 23] = [
     "help",
     "check",
     "config",
     "listen",
     "any",
+    "history",
     "certificate",
     "clients",
     "client-window",
@@ -45,6 +47,8 @@ const SERVE_FLAGS: [&str; 20] = [
     "fail-limit",
     "retry-ms",
     "polls",
+    "stall-ms",
+    "memory-mb",
     "server-dialect",
     "opened",
     "new-servers",
@@ -53,7 +57,7 @@ const SERVE_FLAGS: [&str; 20] = [
     "turns",
 ];
 
-const CACHE_FLAGS: [&str; 4] = ["help", "listen", "capacity", "turns"];
+const CACHE_FLAGS: [&str; 5] = ["help", "listen", "capacity", "memory-mb", "turns"];
 
 /// The flags that may stand before any command.
 pub const TOP_FLAGS: [&str; 2] = ["help", "version"];
@@ -61,12 +65,17 @@ pub const TOP_FLAGS: [&str; 2] = ["help", "version"];
 /// What follows the flag of this name.
 pub fn takes_of(flag: &str) -> Takes {
     match flag {
-        "help" | "version" | "any" | "check" | "explain" | "dot" => Takes::Nothing,
-        "config" | "certificate" => Takes::File,
+        "help" | "version" | "any" | "check" | "explain" | "dot" | "fleet" => Takes::Nothing,
+        "config" | "certificate" | "with" | "history" => Takes::File,
         "listen" => Takes::Address,
         "server-dialect" | "opened" | "new-servers" => Takes::Word,
         _ => Takes::Count,
     }
+}
+
+/// Whether a flag may stand there more than once.
+pub fn is_repeated(flag: &str) -> bool {
+    flag == "with"
 }
 
 /// The words of which one follows the flag of this name, where it takes one of a few.
@@ -103,6 +112,7 @@ impl Command {
             "serve" => Some(Command::Serve),
             "cache" => Some(Command::Cache),
             "loopback" => Some(Command::Loopback),
+            "history" => Some(Command::History),
             "help" => Some(Command::Help),
             _ => None,
         }
@@ -118,6 +128,7 @@ impl Command {
             Command::Serve => "serve",
             Command::Cache => "cache",
             Command::Loopback => "loopback",
+            Command::History => "history",
             Command::Help => "help",
         }
     }
@@ -125,15 +136,19 @@ impl Command {
     /// Its words, as a usage line has them.
     pub fn usage(self) -> &'static str {
         match self {
-            Command::Check => "mcgate check [--explain | --dot] [FILE]",
+            Command::Check => {
+                "mcgate check [--explain | --dot | --history FILE | --fleet [--with FILE ..]] [FILE]"
+            }
             Command::Certify => "mcgate certify [FILE]",
             Command::Replay => "mcgate replay [--any] [--config FILE] [SCRIPT]",
             Command::Where => "mcgate where --config FILE KEY..",
             Command::Serve => {
                 "mcgate serve --config FILE --listen HOST:PORT [--any] [--check] [FLAG N ..]"
             }
-            Command::Cache => "mcgate cache --listen HOST:PORT --capacity C [--turns N]",
+            Command::Cache =>
+                "mcgate cache --listen HOST:PORT --capacity C [--memory-mb N] [--turns N]",
             Command::Loopback => "mcgate loopback [SCRIPT]",
+            Command::History => "mcgate history FILE",
             Command::Help => "mcgate help [COMMAND]",
         }
     }
@@ -141,12 +156,12 @@ impl Command {
     /// The names of its flags.
     pub fn flags(self) -> &'static [&'static str] {
         match self {
-            Command::Check => &["help", "explain", "dot"],
+            Command::Check => &["help", "explain", "dot", "fleet", "with", "history"],
             Command::Replay => &["help", "any", "config"],
             Command::Where => &["help", "config"],
             Command::Serve => &SERVE_FLAGS,
             Command::Cache => &CACHE_FLAGS,
-            Command::Certify | Command::Loopback | Command::Help => &["help"],
+            Command::Certify | Command::Loopback | Command::History | Command::Help => &["help"],
         }
     }
 
@@ -167,6 +182,7 @@ impl Command {
             | Command::Certify
             | Command::Replay
             | Command::Loopback
+            | Command::History
             | Command::Help => 1,
             Command::Where => usize::MAX,
             Command::Serve | Command::Cache => 0,
@@ -176,7 +192,7 @@ impl Command {
     /// How many of those it takes at least.
     pub fn least_words(self) -> usize {
         match self {
-            Command::Where => 1,
+            Command::Where | Command::History => 1,
             _ => 0,
         }
     }
@@ -184,7 +200,7 @@ impl Command {
     /// What those words are.
     pub fn word(self) -> &'static str {
         match self {
-            Command::Check | Command::Certify => "FILE",
+            Command::Check | Command::Certify | Command::History => "FILE",
             Command::Replay | Command::Loopback => "SCRIPT",
             Command::Where => "KEY",
             Command::Serve | Command::Cache => "",

@@ -1,5 +1,5 @@
 -- How an end begins, a turn and a load as what may be done to it, and what its core stays.
-use Rattle.std.proofs.Common.{◌≡◌, ℕ, true, false, List, [], ◌∷◌, Result, Ok, Err, refl, sym, ap, subst, append-nil, Option, Some, None, ◌++◌}
+use Rattle.std.proofs.Common.{◌≡◌, ℕ, true, false, List, [], ◌∷◌, Result, Ok, Err, refl, sym, ap, subst, append-nil, Option, Some, None, ◌++◌, ◌∙◌, ⊎_elim}
 use Rattle.std.specs.Prelude.{IfOk}
 use Rattle.std.specs.Result.{IsErr}
 use Rattle.route_json.specs.Servers.{Addresses}
@@ -15,12 +15,16 @@ use Rattle.serve_links.specs.Story.{AnEnd, Agrees, AgreesLosing, AllGoFrom, text
 use Rattle.serve_links.proofs.LinkGoes.{losing}
 use Rattle.serve_links.proofs.Walked.{walks_keep_since}
 use Rattle.serve_proxy.specs.declared.proxy.ProxyEnd.{ProxyEnd}
+use Rattle.serve_proxy.specs.Beginning.{LoadStops}
 use Rattle.serve_proxy.specs.Ends.{Stay, AllGoOr, AllGrowFrom, AllGrow, IsLoadOf, HasNoClients}
 use Rattle.serve_proxy.proofs.Going.{still, and_then, stays, same_core}
 use Rattle.serve_proxy.proofs.Linking.{or_any}
 use Rattle.serve_proxy.proofs.Growing.{grows}
 use Rattle.serve_proxy.proofs.LogWalks.{walks_are_fresh}
 use Rattle.serve_proxy.proofs.Staying.{stay_still}
+use Rattle.gate_check.specs.declared.reloading.ReloadFault.TheVariants.{NoMemory}
+use Rattle.core_accepted.specs.declared.loading.LoadFault.{LoadFault}
+use Rattle.core_accepted.specs.declared.loading.LoadFault.TheVariants.{Refused}
 use Rattle.core_accepted.specs.declared.beginnings.Beginnings.{Beginnings}
 use Rattle.core_accepted.proofs.Keeping.{since_are_fresh}
 use Rattle.serve_proxy.specs.LogsGoOn.{LogsAreFresh}
@@ -112,6 +116,10 @@ goes_still r end = or_any history_of end.core.value end.sockets end.core.value e
 
 pub from_end : {A E : Type 0} (r : Result A E) (old mid new : ProxyEnd Sockets) → mid ≡ old → ServesTo r mid new → ServesTo r old new
 from_end r old mid new same g = subst (λ x. ServesTo r x new) same g
+
+-- it wasn't loaded
+pub not_loaded : (old mid new : ServedCore) (configuration : Configuration) (fault : LoadFault) → mid ≡ old → LoadStops mid configuration fault new → (fault ≡ Refused NoMemory → ⊥) → new ≡ old
+not_loaded old mid new configuration fault same stops other = ⊎_elim (λ e. e ∙ same) (λ h. absurd (other h.0)) stops
 
 -- a load of what a text says
 pub loaded : (servers : Addresses) (text : List ℕ) (configuration : Configuration) {a b : AnEnd} → SaysAfter servers text configuration → AllGrow (IsLoadOf configuration) a b → AllGrow IsServed a b

@@ -19,6 +19,9 @@ words: mcgate help check serve => mcgate help: one word too many: serve
 words: mcgate check f g => mcgate check: one word too many: g
 words: mcgate check --any => mcgate check: unknown flag --any
 words: mcgate check --explain --dot => mcgate check: --explain and --dot don't go together
+words: mcgate check --history h --dot => mcgate check: --dot and --history don't go together
+words: mcgate serve --any --history h => mcgate serve: --any and --history don't go together
+words: mcgate history => mcgate history: a FILE is missing
 words: mcgate check --explian => mcgate check: unknown flag --explian; did you mean --explain?
 words: mcgate replay --any --any => mcgate replay: --any stands there twice
 words: mcgate replay --any=yes => mcgate replay: --any takes no value
