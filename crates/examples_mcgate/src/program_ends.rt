@@ -51,12 +51,14 @@ mcgate where --config c k => where 1 in c
 mcgate where --config c  => no key
 mcgate cache --listen a:1 --capacity 5 => cache 5
 mcgate cache --capacity 4294967295 --turns 7 --listen a:1 => cache 4294967295 turns 7
+mcgate cache --listen a:1 --capacity 5 --memory-mb 6 => cache 5 memory-mb 6
 mcgate loopback => loopback of standard input
 mcgate loopback f => loopback of f
 mcgate serve --listen a:1 --config c => serve - fail-limit 3 auto
 mcgate serve --any --listen a:1 --config c --reload-every 4 --reload-ms 5 --fail-limit 6 => serve any reload-every 4 reload-ms 5 fail-limit 6 auto
 mcgate serve --listen a:1 --config c --history h => serve - after h fail-limit 3 auto
 mcgate serve --listen a:1 --config c --history h --any => refused, told
+mcgate serve --listen a:1 --config c --stall-ms 7 --memory-mb 8 => serve - fail-limit 3 stall-ms 7 memory 8388608 auto
 mcgate serve --listen a:1 --config c --server-dialect auto => serve - fail-limit 3 auto
 mcgate serve --listen a:1 --config c --server-dialect classic => serve - fail-limit 3 classic
 mcgate serve --listen a:1 --config c --server-dialect meta => serve - fail-limit 3 meta
@@ -86,6 +88,7 @@ mcgate cache --listen a:1 => refused, told
 mcgate serve --config c => refused, told
 mcgate cache --listen a:1 --capacity 0 => refused, told
 mcgate cache --listen a:1 --capacity 4294967296 => refused, told
+mcgate cache --listen a:1 --capacity 5 --memory-mb 0 => refused, told
 mcgate check f g => refused, told
 mcgate loopback --any => refused, told
 mcgate replay --any --any => refused, told
@@ -155,6 +158,9 @@ fn push_serve(out: &mut String, job: &ServeJob<'_>) -> Result<(), AllocError> {
     push_number(out, "reload-every", job.reload_every)?;
     push_number(out, "reload-ms", job.reload_ms)?;
     push_number(out, "fail-limit", Some(job.settings.fail_limit))?;
+    if job.stall_ms != 10_000 {
+        write!(out, " stall-ms {} memory {}", job.stall_ms, job.memory)?;
+    }
     write!(out, " {}", dialect_word(job.settings.server_dialect))?;
     push_beginning(out, "own", job.begun.opened)?;
     push_beginning(out, "empty", job.begun.added)
@@ -189,6 +195,7 @@ fn push_job(out: &mut String, job: &Job<'_>) -> Result<(), AllocError> {
         Job::Loopback { file } => write!(out, "loopback of {}", file_word(file))?,
         Job::Cache(job) => {
             write!(out, "cache {}", job.settings.capacity)?;
+            push_number(out, "memory-mb", job.memory_mb)?;
             push_number(out, "turns", job.turns)?;
         }
         Job::Serve(job) => push_serve(out, job)?,

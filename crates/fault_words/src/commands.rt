@@ -31,7 +31,7 @@ pub const COMMANDS: [&str; 9] = [
     "check", "certify", "replay", "where", "serve", "cache", "loopback", "history", "help",
 ];
 
-const SERVE_FLAGS: [&str; 21] = [
+const SERVE_FLAGS: [&str; 23] = [
     "help",
     "check",
     "config",
@@ -47,6 +47,8 @@ const SERVE_FLAGS: [&str; 21] = [
     "fail-limit",
     "retry-ms",
     "polls",
+    "stall-ms",
+    "memory-mb",
     "server-dialect",
     "opened",
     "new-servers",
@@ -55,7 +57,7 @@ const SERVE_FLAGS: [&str; 21] = [
     "turns",
 ];
 
-const CACHE_FLAGS: [&str; 4] = ["help", "listen", "capacity", "turns"];
+const CACHE_FLAGS: [&str; 5] = ["help", "listen", "capacity", "memory-mb", "turns"];
 
 /// The flags that may stand before any command.
 pub const TOP_FLAGS: [&str; 2] = ["help", "version"];
@@ -143,7 +145,8 @@ impl Command {
             Command::Serve => {
                 "mcgate serve --config FILE --listen HOST:PORT [--any] [--check] [FLAG N ..]"
             }
-            Command::Cache => "mcgate cache --listen HOST:PORT --capacity C [--turns N]",
+            Command::Cache =>
+                "mcgate cache --listen HOST:PORT --capacity C [--memory-mb N] [--turns N]",
             Command::Loopback => "mcgate loopback [SCRIPT]",
             Command::History => "mcgate history FILE",
             Command::Help => "mcgate help [COMMAND]",

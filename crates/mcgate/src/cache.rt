@@ -9,6 +9,16 @@ use std::io;
 use std::net::Net;
 use std::rt::Clock;
 
+const MIB: usize = 1_048_576;
+
+// How many bytes so many MiB are, if there is a bound.
+fn bytes_of(memory_mb: Option<u32>) -> Option<usize> {
+    match memory_mb {
+        Some(count) => Some((count as usize).saturating_mul(MIB)),
+        None => None,
+    }
+}
+
 // Turns the server, as often as is asked.
 fn turn_cache<R: Net + Clock + AllocGlobal>(
     rt: &R,
@@ -30,7 +40,8 @@ pub fn serve_cache<R: Net + Clock + AllocGlobal + Eprint>(
     job: CacheJob<'_>,
     details: &mut Details,
 ) -> Result<u8, Stop> {
-    let mut end = match CacheEnd::listen(rt, job.listen, job.settings) {
+    let memory = bytes_of(job.memory_mb);
+    let mut end = match CacheEnd::listen_within(rt, job.listen, job.settings, memory) {
         Ok(end) => end,
         Err(error) => {
             details.add_listen(rt.alloc(), job.listen, &error);

@@ -256,6 +256,7 @@ impl Serving {
     ) -> Result<u8, Stop>
         ensures ends { ServesTo result self.old.end self.new.end }
     {
+        self.end.bound_clients(job.stall_ms, job.memory);
         for _ in 0..job.turns.map_or(u64::MAX, u64::from) {
             self.turn(rt, job)?;
             self.tell_news(rt);
@@ -283,8 +284,28 @@ impl Serving {
         self.end.turn_within(rt, Duration::from_millis(rest))
     }
 
-    // Tells what happened to servers. Where it can't be told nothing else is done.
+    // Tells what happened to servers and clients. Where it can't be told nothing else is done.
     fn tell_news<R: Eprint>(&mut self, rt: &R)
+        ensures core { self.new.end.core ≡ self.old.end.core }
+        ensures ends { Stay history_of self.old.end.sockets self.new.end.sockets }
+    {
+        self.tell_links(rt);
+        self.tell_stalled(rt);
+    }
+
+    // Tells how many clients were closed, as they took nothing for too long.
+    fn tell_stalled<R: Eprint>(&mut self, rt: &R)
+        ensures core { self.new.end.core ≡ self.old.end.core }
+        ensures ends { Stay history_of self.old.end.sockets self.new.end.sockets }
+    {
+        if let Some(count) = self.end.next_stalled() {
+            let line = format_args!("mcgate: clients closed that took too little: {count}");
+            self.lines.tell(rt, line);
+        }
+    }
+
+    // Tells what happened to servers.
+    fn tell_links<R: Eprint>(&mut self, rt: &R)
         ensures core { self.new.end.core ≡ self.old.end.core }
         ensures ends { Stay history_of self.old.end.sockets self.new.end.sockets }
     {

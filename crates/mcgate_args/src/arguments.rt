@@ -403,7 +403,7 @@ fn plain_job<'a>(given: &ArgMatches<'a>) -> Job<'a> {
 
 /// What the arguments ask for, the program's name first: `check [--explain | --dot | --history HISTORY | --fleet [--with FILE ..]] [FILE]`,
 /// `certify [FILE]`, `replay [--any] [--config FILE] [SCRIPT]`, `where --config FILE KEY..`, `history FILE`,
-/// `cache --listen HOST:PORT --capacity C [--turns N]`, `loopback [SCRIPT]`, `serve` with its flags, or none
+/// `cache --listen HOST:PORT --capacity C [--memory-mb N] [--turns N]`, `loopback [SCRIPT]`, `serve` with its flags, or none
 /// at all after it, which is `replay`. Also `help [COMMAND]`, `-h` and `--help`, before or after a command, and `--version`.
 ///
 /// A KEY that is none is [`ArgumentsFault::Key`], and any other arguments are [`ArgumentsFault::Refused`].

@@ -24,6 +24,10 @@ pub struct ServeJob<'a> {
     pub history: Option<&'a str>,
     /// Nothing is served: it ends once all that is tested at the start was tested.
     pub check: bool,
+    /// A client is closed that takes nothing for so many milliseconds.
+    pub stall_ms: u64,
+    /// So many bytes are to be sent to all clients at most.
+    pub memory: usize,
     /// After so many turns the file is read again.
     pub reload_every: Option<u32>,
     /// After so many milliseconds the file is read again.
@@ -31,6 +35,14 @@ pub struct ServeJob<'a> {
     /// After so many turns it ends; without a number it doesn't.
     pub turns: Option<u32>,
 }
+
+// How many milliseconds a client may take nothing.
+const STALL_MS: u64 = 10_000;
+
+// How many MiB may be to be sent to all clients.
+const MEMORY_MB: usize = 1_024;
+
+const MIB: usize = 1_048_576;
 
 pub const SERVE_HELP: &str =
     "usage: mcgate serve --config FILE --listen HOST:PORT [--any] [--check] [FLAG N ..]
@@ -46,6 +58,8 @@ opens, fails or comes back.
   --fail-limit N         the calls of a server that failed so many times in a row fail at once, 3
   --retry-ms N           for so long, and then one call tries, 1000
   --polls N              after so many reads of a server in a row without a whole answer its calls have failed; without it, any number
+  --stall-ms N           a client that takes nothing for so many milliseconds, while more than 1 MiB is to be sent to it, is closed, 10000
+  --memory-mb N          where more than so many MiB are to be sent to all clients, the client to which most are is closed, 1024
   --server-dialect WORD  how servers are asked for classic gets: classic, meta, or auto, by what each answers to an mn; auto
   --opened WORD          what the servers of the first configuration held before: any, or own: of each key nothing but what its tree
                          may put on them; any
@@ -82,6 +96,8 @@ pub fn serve_command<'a>(alloc: Global) -> Result<Command<'a>, AllocError> {
         .arg(option(alloc, "fail-limit"))?
         .arg(option(alloc, "retry-ms"))?
         .arg(option(alloc, "polls"))?
+        .arg(option(alloc, "stall-ms"))?
+        .arg(option(alloc, "memory-mb"))?
         .arg(option(alloc, "server-dialect"))?
         .arg(option(alloc, "opened"))?
         .arg(option(alloc, "new-servers"))?
@@ -165,6 +181,8 @@ pub fn serve_job<'a>(given: &ArgMatches<'a>) -> Result<Job<'a>, ArgumentsFault> 
         certificate,
         history: history_of(given)?,
         check: given.get_flag("check"),
+        stall_ms: millis_of(given, "stall-ms", STALL_MS)?,
+        memory: size_of(given, "memory-mb", MEMORY_MB)?.saturating_mul(MIB),
         reload_every: count_of(given, "reload-every")?,
         reload_ms: count_of(given, "reload-ms")?,
         turns: count_of(given, "turns")?,

@@ -7,3 +7,5 @@ pub mod Lent
 pub mod Told
 pub mod Growing
 pub mod Linking
+pub mod Stalling
+pub mod Greatest

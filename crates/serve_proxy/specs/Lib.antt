@@ -2,3 +2,4 @@ pub mod Ends
 pub mod LogsGoOn
 pub mod Beginning
 pub mod Stillness
+pub mod Stalls

@@ -130,6 +130,9 @@ impl<W: Wire> Sockets<W> {
         ensures others { (other : ℕ) → other ≢ id → client_of self.new.clients other ≡ client_of self.old.clients other }
         ensures links { self.new.links ≡ self.old.links }
     {
+        if self.stalls.make_place(id).is_err() {
+            return false;
+        }
         match self.wire.admit(conn, id) {
             Ok(()) => self.insert_new(id, conn),
             Err(_) => false,

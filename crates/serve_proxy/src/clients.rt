@@ -35,11 +35,18 @@ fn end(client: &mut Client)
     client.is_ended = true;
 }
 
+// Whether one of its commands may go on, or begin. Of one that is broken off none begins, once all that have begun wait for answers.
+fn may_go_on(client: &Client, in_rounds: bool) -> bool {
+    let begins_none = client.is_broken && client.wants_more && client.settled == 0;
+    client.may_go_on() && (in_rounds || !begins_none)
+}
+
 // What its polls ended with, and whether more may be done for it. In rounds all is read as it comes.
 fn note_rest(client: &mut Client, rest: Rest, in_rounds: bool) -> bool
     ensures said { said_of client.new ≡ said_of client.old }
 {
-    client.wants_more = in_rounds || rest == Rest::Idle || rest == Rest::Waiting;
+    let is_left = rest == Rest::Full && client.is_broken && client.wants_more;
+    client.wants_more = in_rounds || rest == Rest::Idle || rest == Rest::Waiting || is_left;
     rest == Rest::More || client.can_read() || (rest == Rest::Idle && client.has_held())
 }
 
@@ -54,7 +61,7 @@ impl<W: Wire> Sockets<W> {
         ensures ends { Stay W.history self.old self.new }
     {
         match self.clients.get_mut(id) {
-            Some(client) => client.may_go_on(),
+            Some(client) => may_go_on(client, self.in_rounds),
             None => false,
         }
     }
@@ -164,6 +171,7 @@ impl<W: Wire> Sockets<W> {
         ensures ends { AllGoClosed W.history id self.old self.new }
     {
         let conn = self.clients.remove(id);
+        self.stalls.forget(id);
         close_if_any(&mut self.wire, conn);
     }
 

@@ -21,6 +21,7 @@ use crate::sending::{send_clients, send_links};
 use crate::serving::{serve_all, serve_asks};
 use crate::showing::give_back_room;
 use crate::sockets::Sockets;
+use crate::stalls::{end_stalled, shed};
 use core_accepted::laws::begun_core_is_fresh;
 use core_accepted::{Beginnings, LoadFault, ServedCore};
 use gate_check::{Accepted, ReloadFault};
@@ -69,7 +70,11 @@ fn run_turn<W: Wire, R: Net + Clock>(
     // Calls go out.
     send_links(core, sockets)?;
     // Replies go out.
-    send_clients(core, sockets)
+    send_clients(core, sockets)?;
+    // Clients are closed that take nothing.
+    end_stalled(core, sockets)?;
+    // So are those that hold most, if all hold too much.
+    Ok(shed(core, sockets)?)
 }
 
 impl<W: Wire + Drop> ProxyEnd<W> {
@@ -162,6 +167,23 @@ impl<W: Wire> ProxyEnd<W> {
         ensures ends { Stay W.history self.old.sockets self.new.sockets }
     {
         self.sockets.links.next_news(self.sockets.time)
+    }
+
+    /// A client is closed that takes nothing for so many milliseconds, while more than 1 MiB is to be sent to it; and where more bytes than these
+    /// are to be sent to all, the client to which most are. Without it, ten seconds and 1 GiB.
+    pub fn bound_clients(&mut self, ms: u64, most: usize)
+        ensures core { self.new.core ≡ self.old.core }
+        ensures ends { Stay W.history self.old.sockets self.new.sockets }
+    {
+        self.sockets.stalls.bound(ms, most);
+    }
+
+    /// How many clients were closed for that since it was told last. It is told once a second at most.
+    pub fn next_stalled(&mut self) -> Option<u64>
+        ensures core { self.new.core ≡ self.old.core }
+        ensures ends { Stay W.history self.old.sockets self.new.sockets }
+    {
+        self.sockets.stalls.next_closed(self.sockets.time)
     }
 
     /// Where the gate accepted its trees, each log that may have led to the core is fresh, if servers began as is said. A law: it does

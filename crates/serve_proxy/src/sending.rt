@@ -83,13 +83,16 @@ fn send_client<W: Wire>(
     Ok(())
 }
 
-// The client is written, if it is there: whether it is to be served for that, and whether it has spare room then.
-fn write_client<W: Wire>(core: &ServedCore, sockets: &mut Sockets<W>, id: usize) -> (bool, bool)
+/// The client is written, if it is there: whether it is to be served for that, and whether it has spare room then.
+pub fn write_client<W: Wire>(core: &ServedCore, sockets: &mut Sockets<W>, id: usize) -> (bool, bool)
     ensures ends { AllGoBreaking W.history id sockets.old sockets.new }
 {
     match sockets.clients.get_mut(id) {
         Some(client) => {
+            let before = client.conn.unsent.len();
             let is_more = send_once(core, id, client, &mut sockets.wire);
+            let after = client.conn.unsent.len();
+            sockets.stalls.note(id, before, after, sockets.time);
             (is_more, has_spare(&client.conn.unsent))
         }
         None => (false, false),

@@ -239,7 +239,8 @@ fn poll_once<W: Wire, N: Net>(
     }
 }
 
-// A client that has ended, for which nothing is left to do, is gone once all was sent to it.
+// A client that has ended, for which nothing is left to do, is gone once all was sent to it; so is one that is broken off, if no command of it is
+// under way.
 fn close_client<W: Wire>(core: &mut ServedCore, sockets: &mut Sockets<W>, id: usize, rest: Rest)
     ensures ends { AllClose W.history id core.old sockets.old core.new sockets.new }
 {
@@ -273,7 +274,7 @@ fn is_done(core: &ServedCore, id: usize, client: &Client, rest: Rest) -> bool {
     let is_ended = client.is_ended || core.is_closed(id);
     // Bytes that were left unread would take the last replies with them when the socket is closed.
     let is_read = client.is_ended || !client.conn.readable;
-    rest == Rest::Idle && is_ended && is_read
+    client.is_broken || (rest == Rest::Idle && is_ended && is_read)
 }
 
 // Whether the core has no more for it, and all was sent to it.

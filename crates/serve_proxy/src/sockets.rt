@@ -9,6 +9,7 @@ use crate::accepting::Accepting;
 use crate::clock::{earlier, until};
 use crate::links::Links;
 use crate::rooms::Rooms;
+use crate::stalls::Stalls;
 use crate::worklist::Worklist;
 use serve_clients::Clients;
 use serve_links::Tally;
@@ -29,6 +30,7 @@ pub struct Sockets<W: Wire> {
     pub clients: Clients,
     pub links: Links,
     pub rooms: Rooms,
+    pub stalls: Stalls,
     pub work: Worklist,
     /// Whether a key or a server became free since busy clients were served.
     pub is_freed: bool,
@@ -62,6 +64,7 @@ impl<W: Wire> Sockets<W> {
             clients: Clients::new(alloc),
             links,
             rooms: Rooms::new(alloc),
+            stalls: Stalls::new(alloc),
             work: Worklist::new(alloc),
             is_freed: false,
             in_rounds: false,
@@ -104,7 +107,8 @@ impl<W: Wire> Sockets<W> {
     // When something is to be done though nothing is ready.
     fn next_limit(&self) -> Option<u64> {
         let limit = earlier(self.links.next_limit(), self.accepting.limit());
-        earlier(limit, self.rooms.until)
+        let limit = earlier(limit, self.rooms.until);
+        earlier(limit, self.stalls.limit())
     }
 
     // The clock is looked at.

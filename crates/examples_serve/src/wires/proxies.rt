@@ -459,6 +459,42 @@ open 1 => no
 taken 9 => get a\r\nget b\r\n
 taken 2 => END\r\n
 
+Two clients take nothing after 300,000 bytes. One for whom much more is held is closed ten seconds later; one for whom little is stays.
+host 127.0.0.1:5001
+peer 9
+-- 9 * 8 + 21 * 9
+awaits 261
+sends «30 VALUE k# 0 100000\r\n<data>\r\nEND\r\n»
+-- 9 * 8
+awaits 333
+sends «9 VALUE k# 0 100000\r\n<data>\r\nEND\r\n»
+awaits 340
+sends END\r\n
+answers 127.0.0.1:5001
+peer 1
+room 300000
+sends «30 get k#\r\n»
+calls 0
+peer 2
+room 300000
+sends «9 get k#\r\n»
+calls 3000
+peer 3
+sends get b\r\n
+calls 9000
+proxy <one server>
+-- (those in which nothing comes wait for 100 ms)
+turn 115
+open 1 => yes
+taken 3 => nothing
+turn 30
+taken 3 => END\r\n
+open 1 => no
+turn 200
+open 2 => yes
+open 3 => yes
+news => server 0: connected; 1 stalled
+
 Megabytes of commands at once come to the server as they are, and as many of answers to the client, whatever is read and taken at once.
 host 127.0.0.1:5001
 peer 9
@@ -528,6 +564,14 @@ fn push_news(
         told.push_str("; ")?;
     }
     told.push_str(format!(in alloc; "server {server}: {news}")?.as_str())
+}
+
+// So many clients were closed, after the news before.
+fn push_stalled(alloc: Global, told: &mut String, count: u64) -> Result<(), AllocError> {
+    if !told.is_empty() {
+        told.push_str("; ")?;
+    }
+    told.push_str(format!(in alloc; "{count} stalled")?.as_str())
 }
 
 fn judged(alloc: Global, config: Config) -> Result<Accepted, Fail> {
@@ -699,6 +743,14 @@ impl Scripted<'_> {
         Ok(())
     }
 
+    // Who was closed after a turn, as nothing was taken.
+    fn note_stalled(&mut self) -> Result<(), Fail> {
+        if let Some(count) = self.proxy()?.next_stalled() {
+            push_stalled(self.rt.alloc(), &mut self.told, count)?;
+        }
+        Ok(())
+    }
+
     // The news since they were asked for.
     fn news(&mut self) -> String {
         let none = String::new(self.rt.alloc());
@@ -714,6 +766,7 @@ impl Scripted<'_> {
         for _ in 0..count {
             self.turn()?;
             self.note_news()?;
+            self.note_stalled()?;
         }
         Ok(())
     }

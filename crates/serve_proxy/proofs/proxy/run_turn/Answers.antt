@@ -23,5 +23,11 @@ returns-in_err-serve_all g c = record { ends = or_any g.W.Wire.history c.args.co
 pub returns-in_err-send_links : goal.returns-in_err-send_links
 returns-in_err-send_links g c = record { ends = or_any g.W.Wire.history c.args.core.now c.args.sockets.now _ _ c.from_residual-in_err-send_links.result (and_then (and_then (and_then (and_then (and_then (and_then (and_then ((stays c.args.core.now c.wait.ensures.ends)) c.give_back_room.ensures.ends) c.accept_ready.ensures.ends) c.serve_asks.ensures.ends) c.in_ok-read_links.ensures.ends) c.in_ok-fail_late.ensures.ends) c.serve_all.ensures.ends) (failing c.send_links.ensures.ends)) }
 
+pub returns-in_err-send_clients : goal.returns-in_err-send_clients
+returns-in_err-send_clients g c = record { ends = or_any g.W.Wire.history c.args.core.now c.args.sockets.now _ _ c.from_residual-in_err-send_clients.result (and_then (and_then (and_then (and_then (and_then (and_then (and_then (and_then ((stays c.args.core.now c.wait.ensures.ends)) c.give_back_room.ensures.ends) c.accept_ready.ensures.ends) c.serve_asks.ensures.ends) c.in_ok-read_links.ensures.ends) c.in_ok-fail_late.ensures.ends) c.serve_all.ensures.ends) (failing c.send_links.ensures.ends)) c.send_clients.ensures.ends) }
+
+pub returns-in_err-end_stalled : goal.returns-in_err-end_stalled
+returns-in_err-end_stalled g c = record { ends = or_any g.W.Wire.history c.args.core.now c.args.sockets.now _ _ c.from_residual-in_err-end_stalled.result (and_then (and_then (and_then (and_then (and_then (and_then (and_then (and_then (and_then ((stays c.args.core.now c.wait.ensures.ends)) c.give_back_room.ensures.ends) c.accept_ready.ensures.ends) c.serve_asks.ensures.ends) c.in_ok-read_links.ensures.ends) c.in_ok-fail_late.ensures.ends) c.serve_all.ensures.ends) (failing c.send_links.ensures.ends)) c.send_clients.ensures.ends) c.end_stalled.ensures.ends) }
+
 pub returns : goal.returns
-returns g c = record { ends = or_any g.W.Wire.history c.args.core.now c.args.sockets.now _ _ c.send_clients.result (and_then (and_then (and_then (and_then (and_then (and_then (and_then (and_then ((stays c.args.core.now c.wait.ensures.ends)) c.give_back_room.ensures.ends) c.accept_ready.ensures.ends) c.serve_asks.ensures.ends) c.in_ok-read_links.ensures.ends) c.in_ok-fail_late.ensures.ends) c.serve_all.ensures.ends) (failing c.send_links.ensures.ends)) c.send_clients.ensures.ends) }
+returns g c = record { ends = or_any g.W.Wire.history c.args.core.now c.args.sockets.now _ _ (Ok tt) (and_then (and_then (and_then (and_then (and_then (and_then (and_then (and_then (and_then ((stays c.args.core.now c.wait.ensures.ends)) c.give_back_room.ensures.ends) c.accept_ready.ensures.ends) c.serve_asks.ensures.ends) c.in_ok-read_links.ensures.ends) c.in_ok-fail_late.ensures.ends) c.serve_all.ensures.ends) (failing c.send_links.ensures.ends)) c.send_clients.ensures.ends) c.end_stalled.ensures.ends) }

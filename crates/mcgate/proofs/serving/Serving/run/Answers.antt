@@ -1,9 +1,9 @@
 use Rattle.serve_proxy.proofs.Growing.{then_grows}
-use Rattle.mcgate.proofs.Loads.{turned, stood, serves_still, to_any, to_err}
+use Rattle.mcgate.proofs.Loads.{turned, stood, to_any, to_err}
 use Rattle.mcgate.proofs.serving.Serving.run.Goals as goal
 
 pub loop-init : goal.loop-init
-loop-init g c = serves_still c.args.self.now.end
+loop-init g c = stood c.args.self.now.end c.bound_clients.new.self c.bound_clients.ensures.core c.bound_clients.ensures.ends
 
 pub returns-in_err-turn : goal.returns-in_err-turn
 returns-in_err-turn g c = record { ends = to_err c.from_residual.result c.args.self.now.end c.turn.new.self.end c.from_residual.ensures.0 (then_grows c.loop.invariant (turned c.in_err-turn.ensures.ends)) }

@@ -1,6 +1,12 @@
-use Rattle.std.proofs.Common.{ap, ◌∙◌}
+use Rattle.std.proofs.Common.{refl, ap, ◌∙◌}
 use Rattle.serve_proxy.proofs.Told.{only_same, only_admitted, unused_admitted, unused_same}
 use Rattle.serve_proxy.proofs.sockets.Sockets.insert_client.Goals as goal
+
+pub returns-then-is_err-clause-only : goal.returns-then-is_err-clause-only
+returns-then-is_err-clause-only g c = only_same c.args.conn _ _ refl
+
+pub returns-then-is_err-clause-unused : goal.returns-then-is_err-clause-unused
+returns-then-is_err-clause-unused g c = unused_same c.args.conn _ _ c.requires refl
 
 pub returns-in-Ok-clause-admitted : goal.returns-in-Ok-clause-admitted
 returns-in-Ok-clause-admitted g c = λ t. ap (λ s. g.W.Wire.history s.wire) c.insert_new.ensures.rest ∙ c.in-Ok.ensures.ok

@@ -1,0 +1,81 @@
+-- To which client most is to be sent.
+use Rattle.std.proofs.Common.{◌≡◌, ◌≢◌, ◌⊎◌, inl, inr, ℕ, ◌+◌, ◌-◌, ◌^◌, ◌<◌, ◌≤◌, min, Bool, List, true, false, if◌then◌else◌, Option, Some, None, length, refl, sym, ap, ◌∙◌, subst, arith}
+use Rattle.std.proofs.lemmas.Bool.{cases_eq}
+use Rattle.std.proofs.lemmas.Option.{slice_get_past}
+use Rattle.std.specs.Prelude.{nat_le, IfSome, slice_get}
+use Rattle.std.specs.Option.{option_map, option_flatten}
+use Rattle.serve_clients.specs.declared.clients.Client.{Client}
+use Rattle.serve_clients.specs.declared.clients.Clients.{Clients}
+use Rattle.serve_clients.specs.Marks.{client_of, AreAlike}
+use Rattle.serve_clients.specs.Agrees.{said_of, KeepsEnds}
+use Rattle.serve_proxy.specs.Stalls.{unsent_of, unsent_at, HasMost, OnlyMost, greater_of}
+
+-- of the clients below this number, one to which most is to be sent, and how much
+abbrev pub IsMostBelow : Clients → ℕ → Option (ℕ × ℕ) → Type 0
+IsMostBelow clients n None = n ≡ 0
+IsMostBelow clients n (Some best) = (best.1 ≡ unsent_at clients best.0) × ((other : ℕ) → other < n → unsent_at clients other ≤ best.1)
+
+none_some : {A : Type 0} {x : A} → None ≡ Some x → ⊥
+none_some e = cc
+
+same_some : {A : Type 0} {x y : A} → Some x ≡ Some y → x ≡ y
+same_some e = cc
+
+-- where its end is the one that it had, as much is to be sent to a client
+same_unsent : (o o' : Option Client) → option_map said_of o' ≡ option_map said_of o → unsent_of o' ≡ unsent_of o
+same_unsent None None e = refl
+same_unsent (Some x) None e = absurd (none_some e)
+same_unsent None (Some y) e = absurd (none_some (sym e))
+same_unsent (Some x) (Some y) e = ap (λ (s : ℕ × List ℕ × List ℕ × Bool × Bool). min (length s.2) (2 ^ 64 - 1)) (same_some e)
+
+-- and one more
+pub most_more :
+    (clients now : Clients) (n count : ℕ) (best best' : Option (ℕ × ℕ)) → KeepsEnds clients now → count ≡ unsent_at now n → best' ≡ greater_of best n count → IsMostBelow clients n best → IsMostBelow clients (n + 1) best'
+most_more clients now n count best best' keeps is new was = subst (IsMostBelow clients (n + 1)) (sym new) (by best was)
+  where
+    here : count ≡ unsent_at clients n
+    here = is ∙ same_unsent (client_of clients n) (client_of now n) (keeps n)
+
+    up_to : (most : ℕ) → count ≤ most → ((other : ℕ) → other < n → unsent_at clients other ≤ most) → (other : ℕ) → other < n + 1 → unsent_at clients other ≤ most
+    up_to most it others other below = split (cases_eq other n)
+      where
+        split : (other ≡ n) ⊎ (other ≢ n) → unsent_at clients other ≤ most
+        split (inl e) = subst (λ k. unsent_at clients k ≤ most) (sym e) (subst (λ k. k ≤ most) here it)
+        split (inr e) = others other (omega arith)
+
+    by : (best : Option (ℕ × ℕ)) → IsMostBelow clients n best → IsMostBelow clients (n + 1) (greater_of best n count)
+    by None none = (here, up_to count (omega arith) (λ other below. absurd (omega arith)))
+    by (Some best) some = if_more (nat_le count best.1) refl
+      where
+        if_more : (b : Bool) → nat_le count best.1 ≡ b → IsMostBelow clients (n + 1) (if b then Some best else Some (n, count))
+        if_more true e = (some.0, up_to best.1 (grind arith) some.1)
+        if_more false e = (here, up_to count (omega arith) (λ other below. omega (arith, some.1 other below, e)))
+
+-- all are below the number of places
+pub most_of_all : (clients : Clients) (n : ℕ) (best : Option (ℕ × ℕ)) → length clients.all.items ≤ n → IsMostBelow clients n best → IfSome best (λ found. HasMost clients found.0)
+most_of_all clients n None all was = tt
+most_of_all clients n (Some best) all was other = split (ℕ_cases n other)
+  where
+    split : (other < n) ⊎ (n ≤ other) → unsent_at clients other ≤ unsent_at clients best.0
+    split (inl below) = subst (λ k. unsent_at clients other ≤ k) was.0 (was.1 other below)
+    split (inr above) = subst (λ o. unsent_of (option_flatten o) ≤ unsent_at clients best.0) (sym (slice_get_past clients.all.items other (omega arith))) (omega arith)
+
+    ℕ_cases : (n other : ℕ) → (other < n) ⊎ (n ≤ other)
+    ℕ_cases n other = omega arith
+
+-- only it is broken off
+pub only_most :
+    (s g b n : Clients) (id : ℕ) → KeepsEnds s g → ((other : ℕ) → other ≢ id → client_of b other ≡ client_of g other) → KeepsEnds b n → HasMost s id → OnlyMost s n
+only_most s g b n id keeps others after most k = split (cases_eq k id)
+  where
+    split : (k ≡ id) ⊎ (k ≢ id) → (option_map said_of (client_of n k) ≡ option_map said_of (client_of s k)) ⊎ HasMost s k
+    split (inl here) = inr (subst (HasMost s) (sym here) most)
+    split (inr other) = inl (after k ∙ ap (option_map said_of) (others k other) ∙ keeps k)
+
+-- of an option that is there
+pub if_there : {A : Type 0} {P : A → Type 0} (r : Option A) (x : A) → r ≡ Some x → IfSome r P → P x
+if_there {A} {P} r x is p = subst (λ o. IfSome o P) is p
+
+-- where all clients are as they were, so is each
+pub same_there : (s n : Clients) (id : ℕ) → AreAlike s n → client_of n id ≡ client_of s id
+same_there s n id alike = ap (λ xs. option_flatten (slice_get xs id)) alike.clients

@@ -1,0 +1,17 @@
+use Rattle.serve_proxy.proofs.Going.{still, and_then}
+use Rattle.serve_proxy.proofs.stalls.shed.Goals as goal
+
+pub loop-init : goal.loop-init
+loop-init g c = still
+
+pub loop-preserved : goal.loop-preserved
+loop-preserved g c = and_then c.loop.invariant c.shed_one.ensures.ends
+
+pub returns-in_err-shed_one : goal.returns-in_err-shed_one
+returns-in_err-shed_one g c = record { ends = and_then c.loop.invariant c.shed_one.ensures.ends }
+
+pub returns-then-not-is_over : goal.returns-then-not-is_over
+returns-then-not-is_over g c = record { ends = c.loop.invariant }
+
+pub returns : goal.returns
+returns g c = record { ends = c.loop.invariant }

@@ -1,0 +1,407 @@
+//! Clients that take nothing of much that is to be sent to them: since when, and which are closed for that.
+
+ghost use Rattle.std.specs.Prelude.{IfSome, ◌≡◌, ◌≢◌, ◌↔◌, ℕ, ◌<◌, IsTrue, OnOk, None, length, slice_set};
+ghost use Rattle.serve_proxy.specs.Ends.{Stay, AllGoOn, AllGoBreaking};
+ghost use Rattle.serve_proxy.specs.Stalls.{since_of, since_by, HasStalled, OnlyStalled, unsent_at, HasMost, OnlyMost, greater_of};
+ghost use Rattle.serve_clients.specs.Marks.{client_of};
+
+use crate::clock::earlier;
+use crate::sending::write_client;
+use crate::sockets::Sockets;
+use core_accepted::ServedCore;
+use serve_clients::Client;
+use serve_wire::Wire;
+use std::alloc::{AllocError, Global};
+
+// More bytes than these are much.
+const MUCH: usize = 1_048_576;
+
+// How many milliseconds a client may take nothing, where nothing else is set.
+const USUAL_MS: u64 = 10_000;
+
+// How many bytes are to be sent to all clients at most, where nothing else is set.
+const USUAL_MOST: usize = 1_073_741_824;
+
+// What is to be told is told once in so many milliseconds at most.
+const QUIET_MS: u64 = 1_000;
+
+/// Since when clients take nothing of much that is to be sent to them.
+#[derive(Drop)]
+pub struct Stalls {
+    // How many milliseconds a client may take nothing.
+    ms: u64,
+    // By their ids, in milliseconds.
+    since: Vec<Option<u64>>,
+    // How many bytes were to be sent to each after its last write, and to all, and to all at most.
+    unsent: Vec<usize>,
+    all_unsent: usize,
+    most: usize,
+    // Nobody has stalled before this time.
+    late_from: Option<u64>,
+    // How many were closed and not told of.
+    closed: u64,
+    // Before this time nothing is told.
+    quiet_until: u64,
+}
+
+// Since when a client takes nothing of much, by a write of it now: so many bytes were to be sent before, and so many are after.
+fn since_after(before: usize, after: usize, now: u64, since: Option<u64>) -> Option<u64>
+    ensures { result ≡ since_by before after now since }
+{
+    if after <= MUCH {
+        return None;
+    }
+    if after < before {
+        return Some(now);
+    }
+    match since {
+        Some(from) => Some(from),
+        None => Some(now),
+    }
+}
+
+// Whether much is to be sent to the client, and it has taken nothing for so many milliseconds.
+fn has_stalled(client: &Client, since: Option<u64>, now: u64, ms: u64) -> bool
+    ensures { IsTrue result ↔ HasStalled ms now since client.now }
+{
+    match since {
+        Some(from) => client.conn.unsent.len() > MUCH && from <= now && ms <= now - from,
+        None => false,
+    }
+}
+
+impl Stalls {
+    /// Nobody is noted yet.
+    pub fn new(alloc: Global) -> Stalls {
+        Stalls {
+            ms: USUAL_MS,
+            since: Vec::new(alloc),
+            unsent: Vec::new(alloc),
+            all_unsent: 0,
+            most: USUAL_MOST,
+            late_from: None,
+            closed: 0,
+            quiet_until: 0,
+        }
+    }
+
+    /// A client that takes nothing of much for so many milliseconds has stalled, and so many bytes are to be sent to all at most.
+    pub fn bound(&mut self, ms: u64, most: usize)
+        ensures { self.new ≡ record self.old { ms = ms; most = most } }
+    {
+        self.ms = ms;
+        self.most = most;
+    }
+
+    /// A client of this id can be noted.
+    pub fn make_place(&mut self, id: usize) -> Result<(), AllocError>
+        ensures there { OnOk result (id < length self.new.since.items) }
+        ensures same { (other : ℕ) → since_of self.new other ≡ since_of self.old other }
+    {
+        self.make_unsent(id)?;
+        self.make_since(id)
+    }
+
+    fn make_unsent(&mut self, id: usize) -> Result<(), AllocError>
+        ensures { self.new ≡ record self.old { unsent = self.new.unsent } }
+    {
+        for _ in self.unsent.len()..=id {
+            self.unsent.push(0)?;
+        }
+        Ok(())
+    }
+
+    fn make_since(&mut self, id: usize) -> Result<(), AllocError>
+        ensures there { OnOk result (id < length self.new.since.items) }
+        ensures same { (other : ℕ) → since_of self.new other ≡ since_of self.old other }
+    {
+        for _ in self.since.len()..=id {
+            self.since.push(None)?;
+        }
+        Ok(())
+    }
+
+    // So many bytes are to be sent to the client.
+    fn note_unsent(&mut self, id: usize, count: usize)
+        ensures { self.new ≡ record self.old { unsent = self.new.unsent; all_unsent = self.new.all_unsent } }
+    {
+        if let Some(unsent) = self.unsent.get_mut(id) {
+            let others = self.all_unsent.saturating_sub(*unsent);
+            self.all_unsent = others.saturating_add(count);
+            *unsent = count;
+        }
+    }
+
+    // Nobody has stalled before this time, either.
+    fn note_late(&mut self, late_from: u64)
+        ensures { self.new ≡ record self.old { late_from = self.new.late_from } }
+    {
+        self.late_from = earlier(self.late_from, Some(late_from));
+    }
+
+    /// The client was written now, as far as it took something: so many bytes were to be sent before, and so many are after. It has stalled
+    /// when it took nothing for so long as is set.
+    pub fn note(&mut self, id: usize, before: usize, after: usize, now: u64)
+        ensures since { self.new.since.items ≡ slice_set self.old.since.items id (since_by before after now (since_of self.old id)) }
+    {
+        self.note_since(id, before, after, now);
+        self.note_unsent(id, after);
+        self.note_if_none(after > MUCH, now.saturating_add(self.ms));
+    }
+
+    // The same, but for when it has stalled.
+    fn note_since(&mut self, id: usize, before: usize, after: usize, now: u64)
+        ensures since { self.new.since.items ≡ slice_set self.old.since.items id (since_by before after now (since_of self.old id)) }
+    {
+        if let Some(since) = self.since.get_mut(id) {
+            *since = since_after(before, after, now, *since);
+        }
+    }
+
+    // If it is so, nobody has stalled before this time, unless somebody has before.
+    fn note_if_none(&mut self, is_so: bool, late_from: u64)
+        ensures { self.new ≡ record self.old { late_from = self.new.late_from } }
+    {
+        if is_so && self.late_from.is_none() {
+            self.late_from = Some(late_from);
+        }
+    }
+
+    /// The client is gone.
+    pub fn forget(&mut self, id: usize)
+        ensures since { self.new.since.items ≡ slice_set self.old.since.items id None }
+    {
+        self.note_unsent(id, 0);
+        if let Some(since) = self.since.get_mut(id) {
+            *since = None;
+        }
+    }
+
+    // Since when the client takes nothing of much.
+    fn since(&self, id: usize) -> Option<u64>
+        ensures { result ≡ since_of self.now id }
+    {
+        match self.since.get(id) {
+            Some(since) => *since,
+            None => None,
+        }
+    }
+
+    // Whether more bytes are to be sent to all than may be.
+    fn is_over(&self) -> bool {
+        self.all_unsent > self.most
+    }
+
+    // Whether somebody may have stalled by now.
+    fn may_be_late(&self, now: u64) -> bool {
+        match self.late_from {
+            Some(late_from) => late_from <= now,
+            None => false,
+        }
+    }
+
+    // When the client will have stalled is noted, if it hasn't by now.
+    fn note_later(&mut self, id: usize, now: u64)
+        ensures { self.new ≡ record self.old { late_from = self.new.late_from } }
+    {
+        if let Some(from) = self.since(id) {
+            let late_from = from.saturating_add(self.ms);
+            if late_from > now {
+                self.note_late(late_from);
+            }
+        }
+    }
+
+    // One more was closed, if it is so.
+    fn note_closed(&mut self, is_closed: bool)
+        ensures { self.new ≡ record self.old { closed = self.new.closed } }
+    {
+        if is_closed {
+            self.closed = self.closed.saturating_add(1);
+        }
+    }
+
+    /// When something is to be done or told.
+    pub fn limit(&self) -> Option<u64> {
+        if self.closed == 0 {
+            return self.late_from;
+        }
+        earlier(self.late_from, Some(self.quiet_until))
+    }
+
+    /// How many were closed since that was told, if some were and it may be told by now.
+    pub fn next_closed(&mut self, now: u64) -> Option<u64> {
+        if self.closed == 0 || now < self.quiet_until {
+            return None;
+        }
+        let closed = self.closed;
+        self.closed = 0;
+        self.quiet_until = now.saturating_add(QUIET_MS);
+        Some(closed)
+    }
+}
+
+/// Where more bytes are to be sent to all clients than are set, the client to which most are is broken off, until no more are than that.
+pub fn shed<W: Wire>(core: &ServedCore, sockets: &mut Sockets<W>) -> Result<(), AllocError>
+    ensures ends { AllGoOn W.history core.now sockets.old core.now sockets.new }
+{
+    for _ in 0..sockets.clients.len() {
+        if !sockets.stalls.is_over() {
+            return Ok(());
+        }
+        shed_one(core, sockets)?;
+    }
+    Ok(())
+}
+
+// The client to which most is to be sent is broken off.
+fn shed_one<W: Wire>(core: &ServedCore, sockets: &mut Sockets<W>) -> Result<(), AllocError>
+    ensures ends { AllGoOn W.history core.now sockets.old core.now sockets.new }
+    ensures only { OnlyMost sockets.old.clients sockets.new.clients }
+{
+    let Some(id) = sockets.greatest() else {
+        return Ok(());
+    };
+    sockets.break_client(id);
+    sockets.stalls.note_unsent(id, 0);
+    sockets.stalls.note_closed(true);
+    sockets.mark_ready_if(id, true)
+}
+
+// Of the client with the most bytes so far and this one with so many, that with more.
+fn greater(best: Option<(usize, usize)>, id: usize, count: usize) -> Option<(usize, usize)>
+    ensures { result ≡ greater_of best id count }
+{
+    match best {
+        Some(best) if count <= best.1 => Some(best),
+        _ => Some((id, count)),
+    }
+}
+
+/// Clients that have stalled are broken off. After all were written, it is looked whether one may have.
+pub fn end_stalled<W: Wire>(core: &ServedCore, sockets: &mut Sockets<W>) -> Result<(), AllocError>
+    ensures ends { AllGoOn W.history core.now sockets.old core.now sockets.new }
+{
+    if !sockets.stalls.may_be_late(sockets.time) {
+        return Ok(());
+    }
+    sockets.stalls.late_from = None;
+    for id in 0..sockets.clients.len() {
+        end_if_stalled(core, sockets, id)?;
+    }
+    Ok(())
+}
+
+fn end_if_stalled<W: Wire>(
+    core: &ServedCore,
+    sockets: &mut Sockets<W>,
+    id: usize,
+) -> Result<(), AllocError>
+    ensures ends { AllGoOn W.history core.now sockets.old core.now sockets.new }
+{
+    if sockets.may_have_stalled(id) {
+        write_again(core, sockets, id)?;
+    }
+    sockets.note_later(id);
+    Ok(())
+}
+
+// The client is written once more, as it may take something that the system didn't tell of before the clock was looked at. If it takes
+// nothing still it is broken off.
+fn write_again<W: Wire>(
+    core: &ServedCore,
+    sockets: &mut Sockets<W>,
+    id: usize,
+) -> Result<(), AllocError>
+    ensures ends { AllGoOn W.history core.now sockets.old core.now sockets.new }
+{
+    let (is_more, _) = write_client(core, sockets, id);
+    let is_broken = sockets.break_stalled(id);
+    sockets.stalls.note_closed(is_broken);
+    sockets.mark_ready_if(id, is_more || is_broken)
+}
+
+impl<W: Wire> Sockets<W> {
+    // How many bytes are to be sent to the client.
+    fn unsent_of(&mut self, id: usize) -> usize
+        ensures ends { Stay W.history self.old self.new }
+        ensures count { result ≡ unsent_at self.old.clients id }
+    {
+        match self.clients.get_mut(id) {
+            Some(client) => client.conn.unsent.len(),
+            None => 0,
+        }
+    }
+
+    // The client to which most bytes are to be sent.
+    fn greatest(&mut self) -> Option<usize>
+        ensures ends { Stay W.history self.old self.new }
+        ensures most { IfSome result (HasMost self.old.clients) }
+    {
+        match self.greatest_with() {
+            Some((id, _)) => Some(id),
+            None => None,
+        }
+    }
+
+    // The same, and how many.
+    fn greatest_with(&mut self) -> Option<(usize, usize)>
+        ensures ends { Stay W.history self.old self.new }
+        ensures most { IfSome result (λ found. HasMost self.old.clients found.0) }
+    {
+        let mut best = None;
+        for id in 0..self.clients.len() {
+            let count = self.unsent_of(id);
+            best = greater(best, id, count);
+        }
+        best
+    }
+
+    // The client is broken off, and no other.
+    fn break_client(&mut self, id: usize)
+        ensures ends { AllGoBreaking W.history id self.old self.new }
+        ensures others { (other : ℕ) → other ≢ id → client_of self.new.clients other ≡ client_of self.old.clients other }
+    {
+        if let Some(client) = self.clients.get_mut(id) {
+            client.break_off();
+        }
+    }
+
+    // Whether the client has stalled, by what the system told. If it has, the system is asked by the next write.
+    fn may_have_stalled(&mut self, id: usize) -> bool
+        ensures ends { Stay W.history self.old self.new }
+    {
+        let since = self.stalls.since(id);
+        let Some(client) = self.clients.get_mut(id) else {
+            return false;
+        };
+        if !has_stalled(client, since, self.time, self.stalls.ms) {
+            return false;
+        }
+        client.conn.writable = true;
+        true
+    }
+
+    // If the client has stalled it is broken off: whether it has.
+    fn break_stalled(&mut self, id: usize) -> bool
+        ensures ends { AllGoBreaking W.history id self.old self.new }
+        ensures only { OnlyStalled self.old.time self.old.stalls self.old.clients self.new.clients }
+    {
+        let since = self.stalls.since(id);
+        let Some(client) = self.clients.get_mut(id) else {
+            return false;
+        };
+        if !has_stalled(client, since, self.time, self.stalls.ms) {
+            return false;
+        }
+        client.break_off();
+        true
+    }
+
+    // When the client will have stalled is noted, if it hasn't by now.
+    fn note_later(&mut self, id: usize)
+        ensures ends { Stay W.history self.old self.new }
+    {
+        self.stalls.note_later(id, self.time);
+    }
+}
