@@ -1,86 +1,90 @@
--- Where no get comes to a warm-up by any key, no command may copy.
-use Rattle.std.proofs.Common.{◌≡◌, ℕ, Bool, true, false, cond, ◌||◌, ◌&&◌, List, Option, Some, None, refl, sym, ap, ◌∙◌}
+-- For which keys a get copies: what is left of a tree for a key is what is left for the longest of its prefixes that begins the key.
+use Rattle.std.proofs.Common.{◌≡◌, ℕ, ◌%◌, ◌<◌, ◌≤◌, Bool, true, false, ◌&&◌, List, [], ◌∷◌, length, Option, Some, None, inl, inr, nat_eq, refl, sym, ap, ap₂, ◌∙◌, subst, arith}
+use Rattle.std.proofs.lemmas.Bool.{eq-eqb}
+use Rattle.mc_types.specs.KeyText.{IsKey}
 use Rattle.mc_types.specs.declared.ask.Op.{Op}
 use Rattle.mc_types.specs.declared.ask.Op.TheVariants.{Get, Gat, Set, Add, Replace, Append, Prepend, Cas, Delete, Incr, Decr, Touch}
 use Rattle.route_tree.specs.Tag.{key_hash}
-use Rattle.route_tree.specs.Operation.{same_op}
-use Rattle.route_tree.specs.Plan.{Plan}
-use Rattle.route_tree.specs.Route.{Route, Routes, Policies, Prefixes, Pool, Server, Null, Failing, AllSync, Failover, MissFailover, WarmUp, ByOperation, ByPrefix, End, More, Otherwise, Policy, Wildcard, Prefix}
-use Rattle.route_tree.specs.At.{begins, is_longer, best_or, plain_for, plain_for_all, plain_for_policies, plain_for_prefixes, tree_at}
-use Rattle.route_tree.specs.Copies.{may_copy, may_copy_in, may_copy_by}
+use Rattle.route_tree.specs.Each.{Each, IsIn}
+use Rattle.route_tree.specs.Route.{Route, IsTree}
+use Rattle.route_tree.specs.At.{begins, plain_for, tree_at}
+use Rattle.route_tree.specs.Copies.{may_copy}
+use Rattle.route_tree.specs.Place.{sizes, prefixes, prefix_text, IsLongest}
 use Rattle.route_tree.proofs.Copies.{others_copy_nothing}
-use Rattle.core_fleets.specs.Copying.{ever_copies, ever_copies_in, ever_copies_by, ever_copies_at, NeverCopies}
+use Rattle.route_tree.proofs.Parts.{each_weaker}
+use Rattle.route_tree.proofs.Places.{alike, tests, no_front, prefixes_are_keys}
+use Rattle.gate_check.specs.Places.{IsClassOf}
+use Rattle.gate_check.proofs.Placing.{longest_of}
+use Rattle.gate_check.proofs.PlacesValidity.{each_in}
+use Rattle.core_fleets.specs.Copying.{CopiesNothing, CopiesKeys, CopiesText, LeavesText, IsFirstOf}
 
-or_left : (a b : Bool) → (a || b) ≡ false → a ≡ false
-or_left true b e = absurd (cc)
-or_left false b e = refl
+same_rest : (hash : ℕ) (ns : List ℕ) → Each (λ n. hash % n ≡ hash % n) ns
+same_rest hash [] = tt
+same_rest hash (n ∷ ns) = (refl, same_rest hash ns)
 
-or_right : (a b : Bool) → (a || b) ≡ false → b ≡ false
-or_right true b e = absurd (cc)
-or_right false b e = e
+some_text : (r : Route) → IsTree r → Each (λ p. 0 < length p) (prefixes r)
+some_text r is = each_weaker IsKey (λ p. 0 < length p) (prefixes r) (λ p k. k.some) (prefixes_are_keys r is)
 
-neither : (a b : Bool) → a ≡ false → b ≡ false → (a || b) ≡ false
-neither true b e f = absurd (cc)
-neither false b e f = f
+at_prefix : (r : Route) → IsTree r → (key : List ℕ) (o : Option (List ℕ)) → IsLongest (prefixes r) key o → tree_at r key ≡ plain_for (key_hash key) (prefix_text o) r
+at_prefix r is key o h = alike (key_hash key) (key_hash key) key (prefix_text o) r (same_rest (key_hash key) (sizes r)) (tests (prefixes r) key o (some_text r is) h)
 
--- the longest policy so far copies nothing
-abbrev BestIs : Option (List ℕ × Plan) → Type 0
-BestIs None = Unit {0}
-BestIs (Some best) = may_copy Get best.1 ≡ false
+pub copies_keys : (r : Route) → IsTree r → (o : Option (List ℕ)) → IsClassOf (prefixes r) o → CopiesText r (prefix_text o) → CopiesKeys r o
+copies_keys r is o known copies = record { known = known; copies = λ key h. ap (may_copy Get) (at_prefix r is key o h) ∙ copies (key_hash key) }
 
-best_copies : (other : Plan) (best : Option (List ℕ × Plan)) → may_copy Get other ≡ false → BestIs best → may_copy Get (best_or other best) ≡ false
-best_copies other None e h = e
-best_copies other (Some best) e h = h
+get_leaves : (r : Route) → IsTree r → LeavesText r [] → Each (LeavesText r) (prefixes r) → (key : List ℕ) → may_copy Get (tree_at r key) ≡ false
+get_leaves r is none each key =
+    let o = longest_of (prefixes r) key in
+    ap (may_copy Get) (at_prefix r is key o.0 o.1) ∙ leaves o.0 o.1 (key_hash key)
+  where
+    leaves : (o : Option (List ℕ)) → IsLongest (prefixes r) key o → LeavesText r (prefix_text o)
+    leaves None h = none
+    leaves (Some q) h = each_in (LeavesText r) (prefixes r) q each h.0
 
-better : (b : Bool) (text : List ℕ) (plan : Plan) (best : Option (List ℕ × Plan)) → may_copy Get plan ≡ false → BestIs best → BestIs (cond b (Some (text, plan)) best)
-better true text plan best e h = e
-better false text plan best e h = h
+pub copies_nothing : (r : Route) → IsTree r → LeavesText r [] → Each (LeavesText r) (prefixes r) → CopiesNothing r
+copies_nothing r is none each Get key = get_leaves r is none each key
+copies_nothing r is none each Gat key = others_copy_nothing Gat (tree_at r key) refl
+copies_nothing r is none each Set key = others_copy_nothing Set (tree_at r key) refl
+copies_nothing r is none each Add key = others_copy_nothing Add (tree_at r key) refl
+copies_nothing r is none each Replace key = others_copy_nothing Replace (tree_at r key) refl
+copies_nothing r is none each Append key = others_copy_nothing Append (tree_at r key) refl
+copies_nothing r is none each Prepend key = others_copy_nothing Prepend (tree_at r key) refl
+copies_nothing r is none each Cas key = others_copy_nothing Cas (tree_at r key) refl
+copies_nothing r is none each Delete key = others_copy_nothing Delete (tree_at r key) refl
+copies_nothing r is none each Incr key = others_copy_nothing Incr (tree_at r key) refl
+copies_nothing r is none each Decr key = others_copy_nothing Decr (tree_at r key) refl
+copies_nothing r is none each Touch key = others_copy_nothing Touch (tree_at r key) refl
 
-module _ (hash : ℕ) (text : List ℕ) where
-  mutual
-    never : (r : Route) → ever_copies r ≡ false → may_copy Get (plain_for hash text r) ≡ false
-    never (Pool servers) e = refl
-    never (Server s) e = refl
-    never Null e = refl
-    never Failing e = refl
-    never (AllSync rs) e = never_in rs e
-    never (Failover rs) e = never_in rs e
-    never (MissFailover rs) e = never_in rs e
-    never (WarmUp cold warm exptime) e = absurd (cc)
-    never (ByOperation ps) e = never_by ps e
-    never (ByPrefix ps) e = never_at ps None e tt
+pub first_after : (r : Route) (text : List ℕ) (texts : List (List ℕ)) (o : Option (List ℕ)) → LeavesText r text → IsFirstOf r texts o → IsFirstOf r (text ∷ texts) o
+first_after r text texts None leaves h = (leaves, h)
+first_after r text texts (Some other) leaves h = (inr h.0, h.1)
 
-    never_in : (rs : Routes) → ever_copies_in rs ≡ false → may_copy_in Get (plain_for_all hash text rs) ≡ false
-    never_in End e = refl
-    never_in (More r rs) e = neither (may_copy Get (plain_for hash text r)) (may_copy_in Get (plain_for_all hash text rs)) (never r (or_left (ever_copies r) (ever_copies_in rs) e)) (never_in rs (or_right (ever_copies r) (ever_copies_in rs) e))
+-- ---- the text of a prefix is itself a key of that prefix
 
-    never_by : (ps : Policies) → ever_copies_by ps ≡ false → may_copy_by Get (plain_for_policies hash text ps) ≡ false
-    never_by (Otherwise r) e = never r e
-    never_by (Policy op r ps) e =
-        (elim (same_op op Get) as (λ b. cond b (ever_copies r) (ever_copies_by ps) ≡ false → cond b (may_copy Get (plain_for hash text r)) (may_copy_by Get (plain_for_policies hash text ps)) ≡ false) [
-          | true ↦ λ f. never r f
-          | false ↦ λ f. never_by ps f
-        ]) e
+both_split : (a b : Bool) → (a && b) ≡ true → b ≡ true
+both_split true b h = h
+both_split false b h = absurd (cc)
 
-    never_at : (ps : Prefixes) (best : Option (List ℕ × Plan)) → ever_copies_at ps ≡ false → BestIs best → may_copy Get (plain_for_prefixes hash text ps best) ≡ false
-    never_at (Wildcard r) best e h = best_copies (plain_for hash text r) best (never r e) h
-    never_at (Prefix p r ps) best e h =
-        never_at ps (cond (begins p text && is_longer p best) (Some (p, plain_for hash text r)) best) (or_right (ever_copies r) (ever_copies_at ps) e)
-        (better (begins p text && is_longer p best) p (plain_for hash text r) best (never r (or_left (ever_copies r) (ever_copies_at ps) e)) h)
+begins_itself : (q : List ℕ) → begins q q ≡ true
+begins_itself [] = refl
+begins_itself (x ∷ q) = ap₂ (λ a b. a && b) (eq-eqb x x refl) (begins_itself q)
 
-never_any : (op : Op) (r : Route) (key : List ℕ) → ever_copies r ≡ false → may_copy op (tree_at r key) ≡ false
-never_any Get r key e = never (key_hash key) key r e
-never_any Gat r key e = others_copy_nothing Gat (tree_at r key) refl
-never_any Set r key e = others_copy_nothing Set (tree_at r key) refl
-never_any Add r key e = others_copy_nothing Add (tree_at r key) refl
-never_any Replace r key e = others_copy_nothing Replace (tree_at r key) refl
-never_any Append r key e = others_copy_nothing Append (tree_at r key) refl
-never_any Prepend r key e = others_copy_nothing Prepend (tree_at r key) refl
-never_any Cas r key e = others_copy_nothing Cas (tree_at r key) refl
-never_any Delete r key e = others_copy_nothing Delete (tree_at r key) refl
-never_any Incr r key e = others_copy_nothing Incr (tree_at r key) refl
-never_any Decr r key e = others_copy_nothing Decr (tree_at r key) refl
-never_any Touch r key e = others_copy_nothing Touch (tree_at r key) refl
+no_longer : (p q : List ℕ) → begins p q ≡ true → length p ≤ length q
+no_longer [] q h = omega arith
+no_longer (x ∷ p) [] h = absurd (cc)
+no_longer (x ∷ p) (y ∷ q) h = let k = no_longer p q (both_split (nat_eq x y) (begins p q) h) in omega (arith, k)
 
-pub never_copies : NeverCopies
-never_copies tree e op key = never_any op tree key e
+each_of : (P : List ℕ → Type 0) → ((p : List ℕ) → P p) → (ps : List (List ℕ)) → Each P ps
+each_of P f [] = tt
+each_of P f (p ∷ ps) = (f p, each_of P f ps)
+
+pub own_longest : (r : Route) → IsTree r → (o : Option (List ℕ)) → IsClassOf (prefixes r) o → IsLongest (prefixes r) (prefix_text o) o
+own_longest r is None h = each_weaker (λ p. 0 < length p) (λ p. begins p [] ≡ false) (prefixes r) no_front (some_text r is)
+own_longest r is (Some q) h = (h, begins_itself q, each_of (λ p. begins p q ≡ true → length p ≤ length q) (λ p. no_longer p q) (prefixes r))
+
+-- ---- of the tree's prefixes, as they were collected
+
+pub some_key : (r : Route) → IsTree r → (texts : List (List ℕ)) → texts ≡ prefixes r → (text : List ℕ) → IsFirstOf r texts (Some text) → CopiesKeys r (Some text)
+some_key r is texts e text h = copies_keys r is (Some text) (subst (IsIn text) e h.0) h.1
+
+pub no_key : (r : Route) → IsTree r → (texts : List (List ℕ)) → texts ≡ prefixes r → LeavesText r [] → IsFirstOf r texts None → CopiesNothing r
+no_key r is texts e none h = copies_nothing r is none (subst (Each (LeavesText r)) e h)

@@ -10,5 +10,6 @@ pub mod Weakest
 pub mod Mirror
 pub mod Rollout
 pub mod Copying
+pub mod FleetGate
 pub mod Logs
 pub mod Cores

@@ -1,41 +1,38 @@
--- Trees in which no get may copy, whatever its key: a test for the gate. Source: mcgate's own.
-use Rattle.std.specs.Prelude.{◌≡◌, ℕ, Bool, true, false, ◌||◌, if◌then◌else◌, List}
+-- For which keys a get copies by a tree. Source: mcgate's own.
+use Rattle.std.specs.Prelude.{◌≡◌, ℕ, true, false, List, Option, Some, None}
 use Rattle.mc_types.specs.declared.ask.Op.{Op}
 use Rattle.mc_types.specs.declared.ask.Op.TheVariants.{Get}
-use Rattle.route_tree.specs.Operation.{same_op}
-use Rattle.route_tree.specs.Route.{Route, Routes, Policies, Prefixes, Pool, Server, Null, Failing, AllSync, Failover, MissFailover, WarmUp, ByOperation, ByPrefix, End, More, Otherwise, Policy, Wildcard, Prefix}
-use Rattle.route_tree.specs.At.{tree_at}
+use Rattle.route_tree.specs.Each.{Each, IsIn}
+use Rattle.route_tree.specs.Route.{Route}
+use Rattle.route_tree.specs.At.{plain_for, tree_at}
 use Rattle.route_tree.specs.Copies.{may_copy}
+use Rattle.route_tree.specs.Place.{prefixes, IsLongest}
+use Rattle.gate_check.specs.Places.{IsClassOf}
+use Rattle.core_fleets.specs.declared.gates.copied.Copied.{Copied}
+use Rattle.core_fleets.specs.declared.gates.copied.Copied.TheVariants as kinds
 
-abbrev mutual
-  -- a get comes to a warm-up, by some key
-  pub ever_copies : Route → Bool
-  ever_copies (Pool servers) = false
-  ever_copies (Server s) = false
-  ever_copies Null = false
-  ever_copies Failing = false
-  ever_copies (AllSync rs) = ever_copies_in rs
-  ever_copies (Failover rs) = ever_copies_in rs
-  ever_copies (MissFailover rs) = ever_copies_in rs
-  ever_copies (WarmUp cold warm exptime) = true
-  ever_copies (ByOperation ps) = ever_copies_by ps
-  ever_copies (ByPrefix ps) = ever_copies_at ps
+-- no command of the tree may copy, whatever its key
+abbrev pub CopiesNothing : Route → Type 0
+CopiesNothing tree = (op : Op) (key : List ℕ) → may_copy op (tree_at tree key) ≡ false
 
-  -- to one of some children
-  pub ever_copies_in : Routes → Bool
-  ever_copies_in End = false
-  ever_copies_in (More r rs) = ever_copies r || ever_copies_in rs
+-- a get of each key copies for which this is the longest of the tree's prefixes that begins it, or none begins it
+pub record CopiesKeys (tree : Route) (prefix : Option (List ℕ)) : Type 0 where
+  pub known : IsClassOf (prefixes tree) prefix
+  pub copies : (key : List ℕ) → IsLongest (prefixes tree) key prefix → may_copy Get (tree_at tree key) ≡ true
 
-  -- by operations, to the child that gets have
-  pub ever_copies_by : Policies → Bool
-  ever_copies_by (Otherwise r) = ever_copies r
-  ever_copies_by (Policy op r ps) = if same_op op Get then ever_copies r else ever_copies_by ps
+-- no key, or some
+abbrev pub IsCopied : Route → Copied → Type 0
+IsCopied tree kinds.Nothing = CopiesNothing tree
+IsCopied tree (kinds.Keys prefix) = CopiesKeys tree prefix
 
-  -- by prefixes, to one of the children, whether or not a key comes to it
-  pub ever_copies_at : Prefixes → Bool
-  ever_copies_at (Wildcard r) = ever_copies r
-  ever_copies_at (Prefix text r ps) = ever_copies r || ever_copies_at ps
+-- whether a get copies by what is left of the tree for a text
+abbrev pub CopiesText : Route → List ℕ → Type 0
+CopiesText tree text = (hash : ℕ) → may_copy Get (plain_for hash text tree) ≡ true
 
--- then no command may
-abbrev pub NeverCopies : Type 0
-NeverCopies = (tree : Route) → ever_copies tree ≡ false → (op : Op) (key : List ℕ) → may_copy op (tree_at tree key) ≡ false
+abbrev pub LeavesText : Route → List ℕ → Type 0
+LeavesText tree text = (hash : ℕ) → may_copy Get (plain_for hash text tree) ≡ false
+
+-- one of the texts for which a get copies, or it does for none
+abbrev pub IsFirstOf : Route → List (List ℕ) → Option (List ℕ) → Type 0
+IsFirstOf tree texts None = Each (LeavesText tree) texts
+IsFirstOf tree texts (Some text) = IsIn text texts × CopiesText tree text

@@ -8,5 +8,6 @@ pub mod Weakest
 pub mod Mirror
 pub mod Rollout
 pub mod Copying
+pub mod FleetGate
 pub mod Grown
 pub mod Cores

@@ -13,7 +13,7 @@ use mcgate_args::input_text::InputFault;
 use mcgate_args::serve_arguments::ServeJob;
 use mcgate_check::{Form, RunFault};
 use route_json::Config;
-use serve_proxy::ServerDialect;
+use serve_proxy::{Beginning, ServerDialect};
 use std::alloc::{AllocError, Global};
 use std::io;
 use std::io::ErrorKind;
@@ -35,8 +35,18 @@ mcgate check f => check of f
 mcgate check --explain f => check explained of f
 mcgate check f --dot => check drawn of f
 mcgate check --explain --dot => refused, told
+mcgate check --fleet => check of a fleet with 0 and standard input
+mcgate check --fleet --with a --with=b f => check of a fleet with 2 and f
+mcgate check --with a f => refused, told
+mcgate check --fleet --dot f => refused, told
+mcgate check --fleet --explain => refused, told
 mcgate certify => certify of standard input
 mcgate certify f => certify of f
+mcgate check --history h => check of standard input after h
+mcgate check c --history h => check of c after h
+mcgate check --history h --explain => refused, told
+mcgate history h => history h
+mcgate history => refused, told
 mcgate where --config c k => where 1 in c
 mcgate where --config c  => no key
 mcgate cache --listen a:1 --capacity 5 => cache 5
@@ -46,12 +56,20 @@ mcgate loopback => loopback of standard input
 mcgate loopback f => loopback of f
 mcgate serve --listen a:1 --config c => serve - fail-limit 3 auto
 mcgate serve --any --listen a:1 --config c --reload-every 4 --reload-ms 5 --fail-limit 6 => serve any reload-every 4 reload-ms 5 fail-limit 6 auto
+mcgate serve --listen a:1 --config c --history h => serve - after h fail-limit 3 auto
+mcgate serve --listen a:1 --config c --history h --any => refused, told
 mcgate serve --listen a:1 --config c --stall-ms 7 --memory-mb 8 => serve - fail-limit 3 stall-ms 7 memory 8388608 auto
 mcgate serve --listen a:1 --config c --server-dialect auto => serve - fail-limit 3 auto
 mcgate serve --listen a:1 --config c --server-dialect classic => serve - fail-limit 3 classic
 mcgate serve --listen a:1 --config c --server-dialect meta => serve - fail-limit 3 meta
 mcgate serve --listen a:1 --config c --server-dialect old => refused, told
-mcgate serve --listen a:1 --config c --certificate d => serve - by d fail-limit 3 auto"
+mcgate serve --listen a:1 --config c --certificate d => serve - by d fail-limit 3 auto
+mcgate serve --listen a:1 --config c --opened own --new-servers empty => serve - fail-limit 3 auto own empty
+mcgate serve --listen a:1 --config c --opened any --new-servers any => serve - fail-limit 3 auto
+mcgate serve --listen a:1 --config c --opened own => serve - fail-limit 3 auto own
+mcgate serve --listen a:1 --config c --new-servers empty => serve - fail-limit 3 auto empty
+mcgate serve --listen a:1 --config c --opened empty => refused, told
+mcgate serve --listen a:1 --config c --new-servers flush => refused, told"
 }
 
 // Arguments that the program doesn't have.
@@ -122,10 +140,20 @@ fn dialect_word(dialect: ServerDialect) -> &'static str {
     }
 }
 
+fn push_beginning(out: &mut String, word: &str, beginning: Beginning) -> Result<(), AllocError> {
+    if let Beginning::Own = beginning {
+        write!(out, " {word}")?;
+    }
+    Ok(())
+}
+
 fn push_serve(out: &mut String, job: &ServeJob<'_>) -> Result<(), AllocError> {
     write!(out, "serve {}", any_word(job.any))?;
     if let Some(certificate) = job.certificate {
         write!(out, " by {certificate}")?;
+    }
+    if let Some(history) = job.history {
+        write!(out, " after {history}")?;
     }
     push_number(out, "reload-every", job.reload_every)?;
     push_number(out, "reload-ms", job.reload_ms)?;
@@ -134,7 +162,8 @@ fn push_serve(out: &mut String, job: &ServeJob<'_>) -> Result<(), AllocError> {
         write!(out, " stall-ms {} memory {}", job.stall_ms, job.memory)?;
     }
     write!(out, " {}", dialect_word(job.settings.server_dialect))?;
-    Ok(())
+    push_beginning(out, "own", job.begun.opened)?;
+    push_beginning(out, "empty", job.begun.added)
 }
 
 fn file_word<'a>(file: &Option<&'a str>) -> &'a str {
@@ -149,9 +178,17 @@ fn push_job(out: &mut String, job: &Job<'_>) -> Result<(), AllocError> {
         Job::Run { task, file } => {
             write!(out, "{} of {}", task_words(*task), file_word(file))?;
         }
+        Job::CheckAfter { history, file } => {
+            write!(out, "check of {} after {history}", file_word(file))?;
+        }
+        Job::History { file } => write!(out, "history {file}")?,
         Job::RunOver { any, config, file } => {
             write!(out, "replay {} over {config}", any_word(*any))?;
             write!(out, " of {}", file_word(file))?;
+        }
+        Job::CheckFleet(job) => {
+            write!(out, "check of a fleet with {}", job.with.len())?;
+            write!(out, " and {}", file_word(&job.file))?;
         }
         Job::Where { file, keys } => write!(out, "where {} in {file}", keys.len())?,
         Job::Certify { file } => write!(out, "certify of {}", file_word(file))?,
@@ -228,6 +265,7 @@ mcgate -h => mcgate sends
 mcgate help => mcgate sends
 mcgate help where => usage: mcgate where 
 mcgate help serve => usage: mcgate serve 
+mcgate history -h => usage: mcgate history 
 mcgate cache -h => usage: mcgate cache 
 mcgate check --help => usage: mcgate check 
 mcgate replay --help => usage: mcgate replay 

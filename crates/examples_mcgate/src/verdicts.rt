@@ -6,6 +6,8 @@ mod certificates;
 #[cfg(test)]
 mod explanations;
 #[cfg(test)]
+mod fleets;
+#[cfg(test)]
 mod pictures;
 #[cfg(test)]
 mod places;

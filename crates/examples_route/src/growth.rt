@@ -105,7 +105,7 @@ fn is_sign(letter: &char) -> bool {
 }
 
 // The configuration that a tree's word means.
-fn configuration(alloc: Global, tree: &str) -> Result<String, AllocError> {
+pub fn configuration(alloc: Global, tree: &str) -> Result<String, AllocError> {
     let mut out = String::from_str(alloc, "{\"pools\":{")?;
     let mut pools = 0;
     for slots in tree.split(is_other) {
@@ -118,7 +118,7 @@ fn configuration(alloc: Global, tree: &str) -> Result<String, AllocError> {
     Ok(out)
 }
 
-fn beginning(word: &str) -> Beginning {
+pub fn beginning(word: &str) -> Beginning {
     match word {
         "own" => Beginning::Own,
         _ => Beginning::Any,
@@ -146,7 +146,7 @@ fn push_gap(
     }
 }
 
-fn fault_line(alloc: Global, config: &Config, fault: &Unsound) -> Result<String, AllocError> {
+pub fn fault_line(alloc: Global, config: &Config, fault: &Unsound) -> Result<String, AllocError> {
     let mut out = String::new(alloc);
     match fault {
         Unsound::TooManyGenerations => out.push_str("too many generations")?,

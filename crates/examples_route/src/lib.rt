@@ -13,6 +13,8 @@ mod growth;
 #[cfg(test)]
 mod hashes;
 #[cfg(test)]
+mod histories;
+#[cfg(test)]
 mod jobs;
 #[cfg(test)]
 mod places;

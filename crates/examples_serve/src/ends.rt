@@ -9,7 +9,7 @@ use gate_check::{Accepted, judge};
 use route_json::addresses::Servers;
 use route_json::addresses::servers::MAX_SERVERS;
 use route_json::{Config, read_config, read_config_after};
-use serve_proxy::{LinkNews, ProxyEnd, Settings, text_at};
+use serve_proxy::{Beginnings, LinkNews, ProxyEnd, Settings, text_at};
 use serve_wire::Wire;
 use serve_wire::sockets::Sockets;
 use std::alloc::{AllocError, Global};
@@ -120,7 +120,14 @@ fn proxy(
     settings: Settings,
 ) -> io::Result<Proxy> {
     let wire = listening(rt, servers)?;
-    Ok(ProxyEnd::new(rt.alloc(), wire, accepted, servers, settings)?)
+    Ok(ProxyEnd::new(
+        rt.alloc(),
+        wire,
+        accepted,
+        Beginnings::any(),
+        servers,
+        settings,
+    )?)
 }
 
 // A proxy over as many of these servers as the configuration has, on its tree.

@@ -8,7 +8,8 @@ pub enum Takes {
     Address,
     /// A number in 1..=4294967295.
     Count,
-    Dialect,
+    /// One of a few words.
+    Word,
 }
 
 /// The commands.
@@ -21,23 +22,22 @@ pub enum Command {
     Serve,
     Cache,
     Loopback,
+    History,
     Help,
 }
 
-/// The words of the server dialects.
-pub const DIALECTS: [&str; 3] = ["auto", "classic", "meta"];
-
 /// The names of the commands.
-pub const COMMANDS: [&str; 8] = [
-    "check", "certify", "replay", "where", "serve", "cache", "loopback", "help",
+pub const COMMANDS: [&str; 9] = [
+    "check", "certify", "replay", "where", "serve", "cache", "loopback", "history", "help",
 ];
 
-const SERVE_FLAGS: [&str; 20] = [
+const SERVE_FLAGS: [&str; 23] = [
     "help",
     "check",
     "config",
     "listen",
     "any",
+    "history",
     "certificate",
     "clients",
     "client-window",
@@ -50,6 +50,8 @@ const SERVE_FLAGS: [&str; 20] = [
     "stall-ms",
     "memory-mb",
     "server-dialect",
+    "opened",
+    "new-servers",
     "reload-ms",
     "reload-every",
     "turns",
@@ -63,11 +65,26 @@ pub const TOP_FLAGS: [&str; 2] = ["help", "version"];
 /// What follows the flag of this name.
 pub fn takes_of(flag: &str) -> Takes {
     match flag {
-        "help" | "version" | "any" | "check" | "explain" | "dot" => Takes::Nothing,
-        "config" | "certificate" => Takes::File,
+        "help" | "version" | "any" | "check" | "explain" | "dot" | "fleet" => Takes::Nothing,
+        "config" | "certificate" | "with" | "history" => Takes::File,
         "listen" => Takes::Address,
-        "server-dialect" => Takes::Dialect,
+        "server-dialect" | "opened" | "new-servers" => Takes::Word,
         _ => Takes::Count,
+    }
+}
+
+/// Whether a flag may stand there more than once.
+pub fn is_repeated(flag: &str) -> bool {
+    flag == "with"
+}
+
+/// The words of which one follows the flag of this name, where it takes one of a few.
+pub fn words_after(flag: &str) -> &'static [&'static str] {
+    match flag {
+        "server-dialect" => &["auto", "classic", "meta"],
+        "opened" => &["any", "own"],
+        "new-servers" => &["any", "empty"],
+        _ => &[],
     }
 }
 
@@ -79,7 +96,7 @@ impl Takes {
             Takes::File => "FILE",
             Takes::Address => "HOST:PORT",
             Takes::Count => "N",
-            Takes::Dialect => "WORD",
+            Takes::Word => "WORD",
         }
     }
 }
@@ -95,6 +112,7 @@ impl Command {
             "serve" => Some(Command::Serve),
             "cache" => Some(Command::Cache),
             "loopback" => Some(Command::Loopback),
+            "history" => Some(Command::History),
             "help" => Some(Command::Help),
             _ => None,
         }
@@ -110,6 +128,7 @@ impl Command {
             Command::Serve => "serve",
             Command::Cache => "cache",
             Command::Loopback => "loopback",
+            Command::History => "history",
             Command::Help => "help",
         }
     }
@@ -117,7 +136,9 @@ impl Command {
     /// Its words, as a usage line has them.
     pub fn usage(self) -> &'static str {
         match self {
-            Command::Check => "mcgate check [--explain | --dot] [FILE]",
+            Command::Check => {
+                "mcgate check [--explain | --dot | --history FILE | --fleet [--with FILE ..]] [FILE]"
+            }
             Command::Certify => "mcgate certify [FILE]",
             Command::Replay => "mcgate replay [--any] [--config FILE] [SCRIPT]",
             Command::Where => "mcgate where --config FILE KEY..",
@@ -127,6 +148,7 @@ impl Command {
             Command::Cache =>
                 "mcgate cache --listen HOST:PORT --capacity C [--memory-mb N] [--turns N]",
             Command::Loopback => "mcgate loopback [SCRIPT]",
+            Command::History => "mcgate history FILE",
             Command::Help => "mcgate help [COMMAND]",
         }
     }
@@ -134,12 +156,12 @@ impl Command {
     /// The names of its flags.
     pub fn flags(self) -> &'static [&'static str] {
         match self {
-            Command::Check => &["help", "explain", "dot"],
+            Command::Check => &["help", "explain", "dot", "fleet", "with", "history"],
             Command::Replay => &["help", "any", "config"],
             Command::Where => &["help", "config"],
             Command::Serve => &SERVE_FLAGS,
             Command::Cache => &CACHE_FLAGS,
-            Command::Certify | Command::Loopback | Command::Help => &["help"],
+            Command::Certify | Command::Loopback | Command::History | Command::Help => &["help"],
         }
     }
 
@@ -160,6 +182,7 @@ impl Command {
             | Command::Certify
             | Command::Replay
             | Command::Loopback
+            | Command::History
             | Command::Help => 1,
             Command::Where => usize::MAX,
             Command::Serve | Command::Cache => 0,
@@ -169,7 +192,7 @@ impl Command {
     /// How many of those it takes at least.
     pub fn least_words(self) -> usize {
         match self {
-            Command::Where => 1,
+            Command::Where | Command::History => 1,
             _ => 0,
         }
     }
@@ -177,7 +200,7 @@ impl Command {
     /// What those words are.
     pub fn word(self) -> &'static str {
         match self {
-            Command::Check | Command::Certify => "FILE",
+            Command::Check | Command::Certify | Command::History => "FILE",
             Command::Replay | Command::Loopback => "SCRIPT",
             Command::Where => "KEY",
             Command::Serve | Command::Cache => "",

@@ -27,10 +27,12 @@ pub enum Cause<'a> {
     Extra(&'a str),
     /// The flag is missing.
     Missing(&'static str),
-    /// The command wants a word.
-    NoWord,
-    /// `--explain` and `--dot` don't go together.
-    TwoForms,
+    /// The command wants such a word.
+    NoWord(&'static str),
+    /// The two flags don't go together.
+    Apart(&'static str, &'static str),
+    /// The first flag stands only beside the second.
+    Beside(&'static str, &'static str),
     /// The word is no key.
     NoKey(&'a str, KeyFault),
 }
@@ -47,6 +49,15 @@ pub struct WordFault<'a> {
     pub meant: Option<&'static str>,
 }
 
+// Which word it has to be.
+fn wanted_word(flag: &str) -> &'static str {
+    match flag {
+        "opened" => "any or own",
+        "new-servers" => "any or empty",
+        _ => "auto, classic or meta",
+    }
+}
+
 // What a flag's value has to be.
 fn wanted(flag: &str) -> &'static str {
     match takes_of(flag) {
@@ -54,7 +65,7 @@ fn wanted(flag: &str) -> &'static str {
         Takes::File => "the name of a file",
         Takes::Address => "HOST:PORT",
         Takes::Count => "a number in 1..=4294967295",
-        Takes::Dialect => "auto, classic or meta",
+        Takes::Word => wanted_word(flag),
     }
 }
 
@@ -87,8 +98,9 @@ impl Display for Cause<'_> {
             }
             Cause::Extra(word) => write!(f, "one word too many: {}", Escaped(word.as_bytes())),
             Cause::Missing(flag) => { write!(f, "--{flag} {} is missing", takes_of(flag).value()) }
-            Cause::NoWord => f.write_str("a KEY is missing"),
-            Cause::TwoForms => f.write_str("--explain and --dot don't go together"),
+            Cause::NoWord(word) => write!(f, "a {word} is missing"),
+            Cause::Apart(flag, other) => write!(f, "--{flag} and --{other} don't go together"),
+            Cause::Beside(flag, other) => write!(f, "--{flag} stands only beside --{other}"),
             Cause::NoKey(word, fault) => {
                 write!(
                     f,
@@ -107,7 +119,7 @@ impl WordFault<'_> {
         match self.command {
             Some(command) => command.usage(),
             None => {
-                "mcgate COMMAND, one of check, replay, where, serve, cache and loopback; mcgate help COMMAND tells of each"
+                "mcgate COMMAND, one of check, replay, where, serve, cache, loopback and history; mcgate help COMMAND tells of each"
             }
         }
     }

@@ -1,6 +1,6 @@
 //! The first fault of the program's words.
 
-use crate::commands::{COMMANDS, Command, DIALECTS, TOP_FLAGS, Takes, takes_of};
+use crate::commands::{COMMANDS, Command, TOP_FLAGS, Takes, is_repeated, takes_of, words_after};
 use crate::fault::{Cause, WordFault};
 use crate::names::nearest;
 use mc_types::Key;
@@ -18,7 +18,7 @@ fn is_value(flag: &str, text: &str) -> bool {
         Takes::Nothing => false,
         Takes::File | Takes::Address => true,
         Takes::Count => !matches!(u32_number(text.as_bytes()), None | Some(0)),
-        Takes::Dialect => DIALECTS.contains(&text),
+        Takes::Word => words_after(flag).contains(&text),
     }
 }
 
@@ -90,7 +90,7 @@ impl Reader {
         let Some(flag) = flag_named(self.command.flags(), name) else {
             return Ok(Some(Cause::NoFlag(word)));
         };
-        if self.given.as_slice().contains(&flag) {
+        if self.given.as_slice().contains(&flag) && !is_repeated(flag) {
             return Ok(Some(Cause::Twice(flag)));
         }
         self.given.push(flag)?;
@@ -154,19 +154,43 @@ impl Reader {
             .find(|flag| !self.has(flag))
     }
 
+    // Whether the first flag stands there with the second.
+    fn apart<'a>(&self, flag: &'static str, other: &'static str) -> Option<Cause<'a>> {
+        if self.has(flag) && self.has(other) {
+            Some(Cause::Apart(flag, other))
+        } else {
+            None
+        }
+    }
+
+    // What is wrong with the forms that are asked for.
+    fn forms<'a>(&self) -> Option<Cause<'a>> {
+        if self.has("with") && !self.has("fleet") {
+            return Some(Cause::Beside("with", "fleet"));
+        }
+        self.apart("explain", "dot")
+            .or(self.apart("fleet", "explain"))
+            .or(self.apart("fleet", "dot"))
+            .or(self.apart("fleet", "history"))
+            .or(self.apart("explain", "history"))
+            .or(self.apart("dot", "history"))
+            .or(self.apart("any", "history"))
+            .or(self.apart("any", "certificate"))
+    }
+
     // What is wrong once there are no more words.
     fn end<'a>(&self) -> Option<Cause<'a>> {
         if let Some(flag) = self.waiting {
             return Some(Cause::NoValue(flag));
         }
-        if self.has("explain") && self.has("dot") {
-            return Some(Cause::TwoForms);
+        if let Some(cause) = self.forms() {
+            return Some(cause);
         }
         if let Some(flag) = self.missing() {
             return Some(Cause::Missing(flag));
         }
         if self.words < self.command.least_words() {
-            return Some(Cause::NoWord);
+            return Some(Cause::NoWord(self.command.word()));
         }
         None
     }
@@ -210,9 +234,7 @@ fn meant_after(
     match cause {
         Cause::NoCommand(word) => nearest(alloc, word, COMMANDS.as_slice()),
         Cause::NoFlag(word) => meant_flag(alloc, command.flags(), word),
-        Cause::BadValue(flag, text) if takes_of(flag) == Takes::Dialect => {
-            nearest(alloc, text, DIALECTS.as_slice())
-        }
+        Cause::BadValue(flag, text) => nearest(alloc, text, words_after(flag)),
         _ => Ok(None),
     }
 }

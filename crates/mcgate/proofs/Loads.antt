@@ -1,6 +1,6 @@
 -- How an end begins, a turn and a load as what may be done to it, and what its core stays.
-use Rattle.std.proofs.Common.{◌≡◌, ℕ, true, false, List, [], ◌∷◌, Result, Ok, Err, refl, sym, ap, subst, append-nil, Option, Some, None, ◌++◌}
-use Rattle.std.specs.Prelude.{IfOk}
+use Rattle.std.proofs.Common.{◌≡◌, ℕ, Bool, true, false, List, [], ◌∷◌, Result, Ok, Err, refl, sym, ap, subst, append-nil, Option, Some, None, ◌++◌, ◌∙◌, ⊎_elim, inl, inr, ◌⊎◌}
+use Rattle.std.specs.Prelude.{IfOk, IsTrue}
 use Rattle.std.specs.Result.{IsErr}
 use Rattle.route_json.specs.Servers.{Addresses}
 use Rattle.route_json.specs.Configuration.{Configuration}
@@ -13,31 +13,39 @@ use Rattle.serve_wire.specs.declared.sockets.sockets.Sockets.{Sockets}
 use Rattle.serve_links.specs.CoreSteps.{Step, Opened, NotOpened, Fed, Polled, Stopped, Settled, Gave, Closed, LeftLine, Broke, Loaded, Linked, Asked, Greeted, Spelled, Walks, AreOf, IsOfTurn}
 use Rattle.serve_links.specs.Story.{AnEnd, Agrees, AgreesLosing, AllGoFrom, texts_of}
 use Rattle.serve_links.proofs.LinkGoes.{losing}
-use Rattle.serve_links.proofs.Walked.{walks_keep}
+use Rattle.serve_links.proofs.Walked.{walks_keep_since}
 use Rattle.serve_proxy.specs.declared.proxy.ProxyEnd.{ProxyEnd}
+use Rattle.serve_proxy.specs.Beginning.{LoadStops}
 use Rattle.serve_proxy.specs.Ends.{Stay, AllGoOr, AllGrowFrom, AllGrow, IsLoadOf, HasNoClients}
 use Rattle.serve_proxy.proofs.Going.{still, and_then, stays, same_core}
 use Rattle.serve_proxy.proofs.Linking.{or_any}
 use Rattle.serve_proxy.proofs.Growing.{grows}
 use Rattle.serve_proxy.proofs.LogWalks.{walks_are_fresh}
 use Rattle.serve_proxy.proofs.Staying.{stay_still}
-use Rattle.core_accepted.specs.Begun.{any_begun}
-use Rattle.core_accepted.specs.Known.{first_of}
-use Rattle.core_accepted.specs.Logs.{IsAccepted}
+use Rattle.gate_check.specs.declared.reloading.ReloadFault.TheVariants.{NoMemory}
+use Rattle.core_accepted.specs.declared.loading.LoadFault.{LoadFault}
+use Rattle.core_accepted.specs.declared.loading.LoadFault.TheVariants.{Refused}
+use Rattle.core_accepted.specs.declared.beginnings.Beginnings.{Beginnings}
+use Rattle.core_accepted.proofs.Keeping.{since_are_fresh}
 use Rattle.serve_proxy.specs.LogsGoOn.{LogsAreFresh}
 use Rattle.mcgate.specs.declared.serve.Servable.{Servable}
 use Rattle.mcgate.specs.declared.serve.Servable.TheVariants as servables
 use Rattle.mcgate.specs.Sharing.{sharing_for}
 use Rattle.mcgate.specs.declared.serving.Serving.{Serving}
+use Rattle.mcgate.specs.declared.remembering.Kept.{Kept}
+use Rattle.mcgate.specs.Remembers.{StandsIn, StandsIfLoaded}
 use Rattle.mcgate.specs.Serves.{HasTree, HasServers, BeginsBy, Begins, BeginsServing, SaysAfter, IsServed, history_of, proxy_of, Serves, AgreesTo, ServesTo, GoFreshly, HasServed, StaysFresh}
+
+false_true : false ≡ true → ⊥
+false_true e = cc
 
 -- an end that began by these settings but for its sharing, which is that of its tree
 pub begins_on :
-    {T E : Type 0} (core : T → ServedCore) (servable known : Servable) (settings : Settings) (sharing : Sharing) (tree : Route) (r : Result T E) → servable ≡ known → HasTree known tree → sharing ≡ sharing_for tree
-    → IfOk r (λ end. BeginsBy known (record settings { sharing = sharing }) (core end)) → IfOk r (λ end. Begins servable settings (core end))
-begins_on core servable known settings sharing tree (Ok end) is has sharing_is begins =
-    subst (λ (x : Servable). Begins x settings (core end)) (sym is) (tree, has, subst (λ (s : Sharing). BeginsBy known (record settings { sharing = s }) (core end)) sharing_is begins)
-begins_on core servable known settings sharing tree (Err fault) is has sharing_is begins = tt
+    {T E : Type 0} (core : T → ServedCore) (servable known : Servable) (begun : Beginnings) (settings : Settings) (sharing : Sharing) (tree : Route) (r : Result T E) → servable ≡ known → HasTree known tree → sharing ≡ sharing_for tree
+    → IfOk r (λ end. BeginsBy known begun (record settings { sharing = sharing }) (core end)) → IfOk r (λ end. Begins servable begun settings (core end))
+begins_on core servable known begun settings sharing tree (Ok end) is has sharing_is begins =
+    subst (λ (x : Servable). Begins x begun settings (core end)) (sym is) (tree, has, subst (λ (s : Sharing). BeginsBy known begun (record settings { sharing = s }) (core end)) sharing_is begins)
+begins_on core servable known begun settings sharing tree (Err fault) is has sharing_is begins = tt
 
 of_turn : (step : Step) → IsOfTurn step → IsServed step
 of_turn (Loaded configuration generation) is = absurd is
@@ -75,20 +83,17 @@ servers_on servable known servers (Err fault) is has same = tt
 
 -- what serves is over an end that begins
 pub begins_serving :
-    {E : Type 0} (servable : Servable) (settings : Settings) (servers : Addresses) (end : ProxyEnd Sockets) (r : Result Serving E) → IfOk r (λ serving. serving.end ≡ end)
-    → Begins servable settings end.core.value → Agrees [] (proxy_of end) → texts_of end.sockets.links.all.items ≡ servers → HasServers servable servers → IfOk r (λ serving. BeginsServing servable settings serving.end)
-begins_serving servable settings servers end (Ok serving) is begins agrees texts has =
-    subst (λ x. BeginsServing servable settings x) (sym is) (record { core = begins; agrees = agrees; servers = subst (λ (l : Addresses). HasServers servable l) (sym texts) has })
-begins_serving servable settings servers end (Err fault) is begins agrees texts has = tt
+    {E : Type 0} (servable : Servable) (begun : Beginnings) (settings : Settings) (servers : Addresses) (end : ProxyEnd Sockets) (r : Result Serving E) → IfOk r (λ serving. serving.end ≡ end)
+    → Begins servable begun settings end.core.value → Agrees [] (proxy_of end) → texts_of end.sockets.links.all.items ≡ servers → HasServers servable servers → IfOk r (λ serving. BeginsServing servable begun settings serving.end)
+begins_serving servable begun settings servers end (Ok serving) is begins agrees texts has =
+    subst (λ x. BeginsServing servable begun settings x) (sym is) (record { core = begins; agrees = agrees; servers = subst (λ (l : Addresses). HasServers servable l) (sym texts) has })
+begins_serving servable begun settings servers end (Err fault) is begins agrees texts has = tt
 
 -- a turn
 pub turned : {P Q : List Step → AnEnd → Type 0} {a b : AnEnd} → AllGoFrom P Q IsOfTurn a b → AllGrowFrom P Q IsServed a b
 turned g = grows (record { steps = g.steps; kinds = each_of_turn g.steps g.kinds; walks = g.walks; agree = g.agree; texts = g.texts })
 
 -- what came of it
-false_true : false ≡ true → ⊥
-false_true e = cc
-
 pub to_err : {A E : Type 0} (r : Result A E) (old new : ProxyEnd Sockets) → IsErr r → AllGrowFrom Agrees AgreesLosing IsServed (proxy_of old) (proxy_of new) → ServesTo r old new
 to_err (Ok done) old new is g = absurd (false_true is)
 to_err (Err fault) old new is g = g
@@ -114,6 +119,19 @@ goes_still r end = or_any history_of end.core.value end.sockets end.core.value e
 pub from_end : {A E : Type 0} (r : Result A E) (old mid new : ProxyEnd Sockets) → mid ≡ old → ServesTo r mid new → ServesTo r old new
 from_end r old mid new same g = subst (λ x. ServesTo r x new) same g
 
+-- it wasn't loaded
+pub not_loaded : (old mid new : ServedCore) (configuration : Configuration) (fault : LoadFault) → mid ≡ old → LoadStops mid configuration fault new → (fault ≡ Refused NoMemory → ⊥) → new ≡ old
+not_loaded old mid new configuration fault same stops other = ⊎_elim (λ e. e ∙ same) (λ h. absurd (other h.0)) stops
+
+-- the text stands in the history's file, also after a load that leaves the history as it was
+pub stands_still : (a b : ServedCore) (memory after : Option Kept) (text : List ℕ) → after ≡ memory → StandsIn memory text → StandsIfLoaded a b after text
+stands_still a b memory after text same stands = inr (subst (λ (m : Option Kept). StandsIn m text) (sym same) stands)
+
+-- it wasn't loaded
+pub stands_unused : (a b : ServedCore) (memory : Option Kept) (text : List ℕ) (used : Bool) → used ≡ false → IsTrue used ⊎ (b ≡ a) → StandsIfLoaded a b memory text
+stands_unused a b memory text false none or = ⊎_elim (λ e. absurd (false_true e)) (λ e. inl e) or
+stands_unused a b memory text true none or = absurd (false_true (sym none))
+
 -- a load of what a text says
 pub loaded : (servers : Addresses) (text : List ℕ) (configuration : Configuration) {a b : AnEnd} → SaysAfter servers text configuration → AllGrow (IsLoadOf configuration) a b → AllGrow IsServed a b
 loaded servers text configuration says g = record { steps = g.steps; kinds = each g.steps g.kinds; walks = g.walks; agree = g.agree; texts = g.texts }
@@ -123,25 +141,27 @@ loaded servers text configuration says g = record { steps = g.steps; kinds = eac
     each (step ∷ steps) kinds = (subst IsServed (sym kinds.0.1) (servers, text, says), each steps kinds.1)
 
 -- an end that agreed with nothing at first agrees with all that was done since, and where the gate accepted, each log goes on by that freshly
-has_freshly : (servable : Servable) (settings : Settings) (steps : List Step) (a b : ServedCore) → BeginsBy servable settings a → Walks steps a b → LogsAreFresh b → GoFreshly servable steps a b
-has_freshly (servables.Accepted accepted) settings steps a b begins walks fresh = walks_are_fresh steps a b walks fresh ((walks_keep steps a b walks).0 (first_of begins.config any_begun, begins.word, refl))
-has_freshly (servables.Unchecked configuration) settings steps a b begins walks fresh = tt
+has_freshly : (servable : Servable) (begun : Beginnings) (settings : Settings) (steps : List Step) (a b : ServedCore) → BeginsBy servable begun settings a → Walks steps a b → LogsAreFresh b → GoFreshly servable begun steps a b
+has_freshly (servables.Accepted accepted) begun settings steps a b begins walks fresh = (begins.config, begins.last, walks_are_fresh steps a b walks fresh begins.config begun ([], begins.word))
+has_freshly (servables.Unchecked configuration) begun settings steps a b begins walks fresh = tt
 
 pub has_served :
-    {A E : Type 0} (servable : Servable) (settings : Settings) (ended : Result A E) (first last : ProxyEnd Sockets) → BeginsServing servable settings first → ServesTo ended first last → LogsAreFresh last.core.value
-    → HasServed servable settings ended last
-has_served servable settings ended first last begins g fresh = record {
+    {A E : Type 0} (servable : Servable) (begun : Beginnings) (settings : Settings) (ended : Result A E) (first last : ProxyEnd Sockets) → BeginsServing servable begun settings first → ServesTo ended first last → LogsAreFresh last.core.value
+    → HasServed servable begun settings ended last
+has_served servable begun settings ended first last begins g fresh = record {
   first = first;
   begins = begins;
   serves = g;
   agrees = subst (λ l. AgreesTo ended l (proxy_of last)) (append-nil g.steps) (g.agree [] begins.agrees);
-  fresh = has_freshly servable (record settings { sharing = sharing_for begins.core.0 }) g.steps first.core.value last.core.value begins.core.2 g.walks fresh;
+  fresh = has_freshly servable begun (record settings { sharing = sharing_for begins.core.0 }) g.steps first.core.value last.core.value begins.core.2 g.walks fresh;
 }
 
-by_kind : (servable : Servable) (settings : Settings) (a b : ServedCore) → BeginsBy servable settings a → (IsAccepted a → IsAccepted b) → LogsAreFresh b → StaysFresh servable b
-by_kind (servables.Accepted accepted) settings a b begins kept fresh = let is = kept (first_of begins.config any_begun, begins.word, refl) in (is, fresh is)
-by_kind (servables.Unchecked configuration) settings a b begins kept fresh = tt
+by_kind : (servable : Servable) (begun : Beginnings) (settings : Settings) (steps : List Step) (a b : ServedCore) → BeginsBy servable begun settings a → Walks steps a b → LogsAreFresh b → StaysFresh servable begun b
+by_kind (servables.Accepted accepted) begun settings steps a b begins walks fresh =
+    let is = walks_keep_since steps a b walks begins.config begun ([], begins.word) in
+    (begins.config, begins.last, is, since_are_fresh begins.config begun b fresh is)
+by_kind (servables.Unchecked configuration) begun settings steps a b begins walks fresh = tt
 
-pub stays_fresh : {A E : Type 0} (servable : Servable) (settings : Settings) (ended : Result A E) (end : ProxyEnd Sockets) → HasServed servable settings ended end → LogsAreFresh end.core.value → StaysFresh servable end.core.value
-stays_fresh servable settings ended end served fresh =
-    by_kind servable (record settings { sharing = sharing_for served.begins.core.0 }) served.first.core.value end.core.value served.begins.core.2 (walks_keep served.serves.steps served.first.core.value end.core.value served.serves.walks).0 fresh
+pub stays_fresh : {A E : Type 0} (servable : Servable) (begun : Beginnings) (settings : Settings) (ended : Result A E) (end : ProxyEnd Sockets) → HasServed servable begun settings ended end → LogsAreFresh end.core.value → StaysFresh servable begun end.core.value
+stays_fresh servable begun settings ended end served fresh =
+    by_kind servable begun (record settings { sharing = sharing_for served.begins.core.0 }) served.serves.steps served.first.core.value end.core.value served.begins.core.2 served.serves.walks fresh

@@ -22,11 +22,6 @@ TellsWhy configuration certificate old new status =
     ((status ≡ 1) × (reason : Reason) × IsUnverified configuration.tree certificate (ends.Refused reason) × Appends old new (refusal_line configuration.servers reason))
     ⊎ ((status ≡ 2) × (rows_of_text certificate ≡ None))
 
--- so it was told; or memory or the writer failed
-abbrev pub TellsDeclined : Configuration → List ℕ → Option (List ℕ) → Option (List ℕ) → Result ℕ Stop → Type 0
-TellsDeclined configuration certificate old new (Ok status) = TellsWhy configuration certificate old new status
-TellsDeclined configuration certificate old new (Err stop) = IsBrokenOff stop
-
 -- the configuration may be served, and nothing was written: the text means a certificate that is valid for its tree; or it was told why it isn't
 abbrev pub JudgesBy : Configuration → List ℕ → Option (List ℕ) → Option (List ℕ) → Result Judged Stop → Type 0
 JudgesBy configuration certificate old new (Ok (judgements.Servable (servables.Accepted accepted))) =

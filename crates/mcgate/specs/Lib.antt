@@ -2,3 +2,4 @@ pub mod Sharing
 pub mod Serves
 pub mod Judging
 pub mod Certified
+pub mod Remembers

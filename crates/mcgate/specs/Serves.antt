@@ -16,16 +16,17 @@ use Rattle.serve_links.specs.Story.{AnEnd, Agrees, AgreesLosing, texts_of}
 use Rattle.serve_proxy.specs.declared.proxy.ProxyEnd.{ProxyEnd}
 use Rattle.serve_proxy.specs.Ends.{end_of, AllGrowFrom, AllGrow}
 use Rattle.serve_proxy.specs.Beginning.{BeginsFresh, BeginsUnchecked}
-use Rattle.core_accepted.specs.Logs.{IsAccepted, EveryLogIsFresh}
+use Rattle.core_accepted.specs.declared.beginnings.Beginnings.{Beginnings}
+use Rattle.core_accepted.specs.Logs.{IsAcceptedSince, EveryLogSinceIsFresh}
 use Rattle.serve_proxy.specs.LogsGoOn.{LogsGoFreshly}
 use Rattle.mcgate.specs.Sharing.{sharing_for}
 use Rattle.mcgate.specs.declared.serve.Servable.{Servable}
 use Rattle.mcgate.specs.declared.serve.Servable.TheVariants as servables
 
--- it is a new core on the trees that the gate accepted, or on the configuration's tree, of which no gate was asked
-abbrev pub BeginsBy : Servable → Settings → ServedCore → Type 0
-BeginsBy (servables.Accepted accepted) settings core = BeginsFresh accepted settings core
-BeginsBy (servables.Unchecked configuration) settings core = BeginsUnchecked configuration.tree settings core
+-- it is a new core on the trees that the gate accepted, where servers began so; or on the configuration's tree, of which no gate was asked
+abbrev pub BeginsBy : Servable → Beginnings → Settings → ServedCore → Type 0
+BeginsBy (servables.Accepted accepted) begun settings core = BeginsFresh accepted begun settings core
+BeginsBy (servables.Unchecked configuration) begun settings core = BeginsUnchecked configuration.tree settings core
 
 -- this is its tree: of configurations that the gate accepted, that of the last one
 abbrev pub HasTree : Servable → Route → Type 0
@@ -33,8 +34,8 @@ HasTree (servables.Accepted accepted) tree = (configuration : Configuration) × 
 HasTree (servables.Unchecked configuration) tree = tree ≡ configuration.tree
 
 -- the same by these settings, but that commands share their keys by the rule for its tree
-abbrev pub Begins : Servable → Settings → ServedCore → Type 0
-Begins servable settings core = (tree : Route) × HasTree servable tree × BeginsBy servable (record settings { sharing = sharing_for tree }) core
+abbrev pub Begins : Servable → Beginnings → Settings → ServedCore → Type 0
+Begins servable begun settings core = (tree : Route) × HasTree servable tree × BeginsBy servable begun (record settings { sharing = sharing_for tree }) core
 
 -- the text says this configuration, whose servers are numbered after these
 abbrev pub SaysAfter : Addresses → List ℕ → Configuration → Type 0
@@ -93,25 +94,25 @@ HasServers (servables.Accepted accepted) servers = (configuration : Configuratio
 HasServers (servables.Unchecked configuration) servers = servers ≡ configuration.servers
 
 -- an end of a proxy that begins with a new core of this: nothing was fed or given, each link is to its server, and no link has a connection
-pub record BeginsServing (servable : Servable) (settings : Settings) (end : ProxyEnd Sockets) : Type 0 where
-  pub core : Begins servable settings end.core.value
+pub record BeginsServing (servable : Servable) (begun : Beginnings) (settings : Settings) (end : ProxyEnd Sockets) : Type 0 where
+  pub core : Begins servable begun settings end.core.value
   pub agrees : Agrees [] (proxy_of end)
   pub servers : HasServers servable (texts_of end.sockets.links.all.items)
 
--- where the gate accepted what is served, each log that may have led to the first core goes on by just these calls, and is fresh then
-abbrev pub GoFreshly : Servable → List Step → ServedCore → ServedCore → Type 0
-GoFreshly (servables.Accepted accepted) steps first last = LogsGoFreshly steps first last
-GoFreshly (servables.Unchecked configuration) steps first last = Unit {0}
+-- where the gate accepted what is served, each log that may have led to the first core goes on by just these calls, and is fresh then, if servers began as is said of its configuration
+abbrev pub GoFreshly : Servable → Beginnings → List Step → ServedCore → ServedCore → Type 0
+GoFreshly (servables.Accepted accepted) begun steps first last = (configuration : Configuration) × IsLast accepted configuration × LogsGoFreshly configuration begun steps first last
+GoFreshly (servables.Unchecked configuration) begun steps first last = Unit {0}
 
 -- an end that began so was served, and that ended so: turns and loads alone led to what it is, the ends of its clients and its links agree with them, and each log goes on by them freshly
-pub record HasServed {A E : Type 0} (servable : Servable) (settings : Settings) (ended : Result A E) (end : ProxyEnd Sockets) : Type 0 where
+pub record HasServed {A E : Type 0} (servable : Servable) (begun : Beginnings) (settings : Settings) (ended : Result A E) (end : ProxyEnd Sockets) : Type 0 where
   pub first : ProxyEnd Sockets
-  pub begins : BeginsServing servable settings first
+  pub begins : BeginsServing servable begun settings first
   pub serves : ServesTo ended first end
   pub agrees : AgreesTo ended serves.steps (proxy_of end)
-  pub fresh : GoFreshly servable serves.steps first.core.value end.core.value
+  pub fresh : GoFreshly servable begun serves.steps first.core.value end.core.value
 
--- where the gate accepted what is served, the core is one on accepted trees, and each log that may have led to it is fresh
-abbrev pub StaysFresh : Servable → ServedCore → Type 0
-StaysFresh (servables.Accepted accepted) core = IsAccepted core × EveryLogIsFresh core
-StaysFresh (servables.Unchecked configuration) core = Unit {0}
+-- where the gate accepted what is served, the core is one on its configuration and others that it accepted after it, and each log that may have led to it is fresh, if servers began so
+abbrev pub StaysFresh : Servable → Beginnings → ServedCore → Type 0
+StaysFresh (servables.Accepted accepted) begun core = (configuration : Configuration) × IsLast accepted configuration × IsAcceptedSince configuration begun core × EveryLogSinceIsFresh configuration begun core
+StaysFresh (servables.Unchecked configuration) begun core = Unit {0}

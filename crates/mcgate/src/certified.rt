@@ -2,7 +2,7 @@
 
 ghost use Rattle.std.specs.Prelude.{List, ℕ};
 ghost use Rattle.gate_certificate.specs.Testing.{IsUnverified};
-ghost use Rattle.mcgate.specs.Certified.{JudgesBy, JudgesTextBy, TellsDeclined};
+ghost use Rattle.mcgate.specs.Certified.{JudgesBy, JudgesTextBy};
 
 use crate::serve::{Judged, Servable};
 use gate_certificate::{CertificateFault, Unverified, accept_by};
@@ -16,19 +16,19 @@ use std::alloc::Global;
 use std::io::Write;
 
 // Writes why a configuration isn't accepted by the text of a certificate.
-fn print_declined<W: Write>(config: &Config, why: Unverified, out: &mut W) -> Result<u8, Stop>
-    ensures { (certificate : List ℕ) → IsUnverified config.now.tree certificate why → TellsDeclined config.now certificate (W.contents out.old) (W.contents out.new) result }
+fn print_declined<W: Write>(config: &Config, why: Unverified, out: &mut W) -> Result<Judged, Stop>
+    ensures { (certificate : List ℕ) → IsUnverified config.now.tree certificate why → JudgesBy config.now certificate (W.contents out.old) (W.contents out.new) result }
 {
     match why {
         Unverified::Text(CertificateFault::NoMemory) => Err(Stop::Memory),
         Unverified::Text(fault) => {
             writeln!(out, "certificate: {fault}")?;
-            Ok(BAD_INPUT)
+            Ok(Judged::Printed(BAD_INPUT))
         }
         Unverified::Refused(Reason::NoMemory) => Err(Stop::Memory),
         Unverified::Refused(reason) => {
             write_refusal(config.servers(), &reason, out)?;
-            Ok(REFUSED)
+            Ok(Judged::Printed(REFUSED))
         }
     }
 }
@@ -44,11 +44,7 @@ fn take_config_by<W: Write>(
 {
     match accept_by(alloc, config, certificate) {
         Ok(accepted) => Ok(Judged::Servable(Servable::Accepted(accepted))),
-        Err(declined) => Ok(Judged::Printed(print_declined(
-            &declined.config,
-            declined.why,
-            out,
-        )?)),
+        Err(declined) => print_declined(&declined.config, declined.why, out),
     }
 }
 

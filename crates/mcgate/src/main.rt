@@ -4,17 +4,21 @@
 mod cache;
 mod certified;
 mod descriptors;
+mod histories;
 mod lines;
+mod remembering;
 mod serve;
 mod serving;
 mod sharing;
 mod special;
+mod started;
 mod warnings;
 
 use cache::serve_cache;
 use certified::judge_text_by;
 use descriptors::within_descriptors;
 use fault_words::script::BadLine;
+use histories::{run_after, run_history};
 use lines::Lines;
 use mc_types::Key;
 use mcgate_args::arguments::{Job, Task, read_arguments};
@@ -24,13 +28,16 @@ use mcgate_args::details::{Details, name_of};
 use mcgate_args::ends::{
     Stop, decline, end_of, read_configuration, run_events, run_input, run_keys, run_over_tcp,
 };
+use mcgate_args::fleets::{FleetFile, FleetJob, run_fleet};
 use mcgate_args::input::text_noting;
 use mcgate_args::input_text::InputFault;
 use mcgate_args::serve_arguments::ServeJob;
+use mcgate_check::Form;
 use mcgate_check::status::{BAD_INPUT, DONE, REFUSED};
 use route_json::Config;
 use serve::{Judged, Servable, judge_text, look_up_only, serve_to_end};
 use special::{is_special, special_line};
+use started::{Begun, Started, begin, refused_after};
 use std::alloc::{AllocError, Global};
 use std::io;
 use std::io::{BufWriter, ErrorKind, Write};
@@ -117,6 +124,27 @@ fn run_task<R: Files + Input + AllocGlobal + Eprint, W: Write>(
     Ok(status)
 }
 
+/// Prints the gate's verdict on a configuration, and if that is accepted, whether it may follow a history.
+fn run_check_after<R: Files + Input + AllocGlobal + Eprint, W: Write>(
+    rt: &R,
+    history: &str,
+    file: Option<&str>,
+    out: &mut W,
+    details: &mut Details,
+) -> Result<u8, Stop> {
+    let task = Task::Check { form: Form::Lines };
+    let input = input_of(rt, file, details);
+    let status = run_input(rt.alloc(), task, &input, out)?;
+    tell_of_task(rt, task, file, &input, status, details);
+    if let (DONE | REFUSED) = status {
+        details.add_warnings(rt.alloc(), name_of(file), &input);
+    }
+    match (status, &input) {
+        (DONE, Ok(text)) => run_after(rt, history, text.as_str(), out, details),
+        _ => Ok(status),
+    }
+}
+
 /// The same of a script of events over a configuration.
 fn run_script<R: Files + Input + AllocGlobal + Eprint, W: Write>(
     rt: &R,
@@ -168,6 +196,69 @@ fn run_over<R: Files + Input + AllocGlobal + Eprint, W: Write>(
     };
     tell_of_refusal(rt.alloc(), config, &input, status, details);
     Ok(status)
+}
+
+/// Adds a file of a fleet to others; where it gives no input, prints why, and answers the status.
+fn add_file<'a, R: Files + Input + AllocGlobal, W: Write>(
+    rt: &R,
+    file: Option<&'a str>,
+    files: &mut Vec<FleetFile<'a>>,
+    out: &mut W,
+    details: &mut Details,
+) -> Result<Option<u8>, Stop> {
+    let name = name_of(file);
+    match input_of(rt, file, details) {
+        Ok(text) => match files.push(FleetFile { name, text }) {
+            Ok(()) => Ok(None),
+            Err(_) => Err(Stop::Memory),
+        },
+        Err(fault) => {
+            details.add_configuration(rt.alloc(), name, &Err(fault));
+            Ok(Some(decline(fault, out)?))
+        }
+    }
+}
+
+/// Tells of the file of a fleet that isn't accepted by itself: what is wrong with it, or why the gate refuses its tree.
+fn tell_of_file(alloc: Global, file: &FleetFile<'_>, status: u8, details: &mut Details) {
+    if status == BAD_INPUT {
+        details.add_text(alloc, file.name, file.text.as_str());
+    } else {
+        details.add_refusal(alloc, Some(file.name), file.text.as_str());
+    }
+}
+
+/// Prints the verdict on the configurations of these files, by which the proxies of a fleet run at the same time.
+fn check_files<R: AllocGlobal, W: Write>(
+    rt: &R,
+    files: &[FleetFile<'_>],
+    out: &mut W,
+    details: &mut Details,
+) -> Result<u8, Stop> {
+    let end = run_fleet(rt.alloc(), files, out)?;
+    if let Some(file) = end.alone.and_then(|index| files.get(index)) {
+        tell_of_file(rt.alloc(), file, end.status, details);
+    }
+    Ok(end.status)
+}
+
+/// Reads the files that a job names, and prints the verdict on them.
+fn check_fleet<R: Files + Input + AllocGlobal, W: Write>(
+    rt: &R,
+    job: &FleetJob<'_>,
+    out: &mut W,
+    details: &mut Details,
+) -> Result<u8, Stop> {
+    let mut files = Vec::new(rt.alloc());
+    for file in &job.with {
+        if let Some(status) = add_file(rt, Some(*file), &mut files, out, details)? {
+            return Ok(status);
+        }
+    }
+    match add_file(rt, job.file, &mut files, out, details)? {
+        Some(status) => Ok(status),
+        None => check_files(rt, &files, out, details),
+    }
 }
 
 /// Prints where keys live in the tree of a file's configuration.
@@ -223,11 +314,11 @@ fn serve_job<R: Files + Input + AllocGlobal + Net + Clock + Print + Eprint>(
     rt: &R,
     job: ServeJob<'_>,
     servable: Servable,
-    text: String,
+    started: Started,
     lines: Lines,
     details: &mut Details,
 ) -> Result<u8, Stop> {
-    match serve_to_end(rt, &job, servable, text, lines) {
+    match serve_to_end(rt, &job, servable, started, lines) {
         Ok((_serving, ended)) => ended,
         Err(error) => {
             details.add_listen(rt.alloc(), job.listen, &error);
@@ -253,6 +344,50 @@ fn judge_job<R: Files + Input + AllocGlobal, W: Write>(
             details.add_configuration(rt.alloc(), file, &Err(fault));
             Ok(Judged::Printed(decline(fault, out)?))
         }
+    }
+}
+
+/// Serves it after the history that is kept, if it may follow, or prints why not.
+fn begin_job<R: Files + Input + AllocGlobal + Net + Clock + Print + Eprint, W: Write>(
+    rt: &R,
+    job: ServeJob<'_>,
+    servable: Servable,
+    text: String,
+    lines: Lines,
+    out: &mut W,
+    details: &mut Details,
+) -> Result<u8, Stop> {
+    let mut lines = lines;
+    match begin(rt, &job, text, &mut lines, out, details) {
+        Ok(Begun::Started(started)) => {
+            let begun = started.begun;
+            serve_job(
+                rt,
+                ServeJob { begun, ..job },
+                servable,
+                started,
+                lines,
+                details,
+            )
+        }
+        Ok(Begun::Printed(status)) => Ok(status),
+        Err(stop) => Err(stop),
+    }
+}
+
+/// Tests whether it may be served after that history, and whether all addresses are known.
+fn check_job<R: Files + Input + AllocGlobal + Net + Eprint, W: Write>(
+    rt: &R,
+    job: ServeJob<'_>,
+    servable: &Servable,
+    text: &str,
+    lines: &mut Lines,
+    out: &mut W,
+    details: &mut Details,
+) -> Result<u8, Stop> {
+    match refused_after(rt, &job, text, lines, out, details)? {
+        Some(status) => Ok(status),
+        None => look_up_only(rt, job, servable, lines, details),
     }
 }
 
@@ -287,9 +422,9 @@ fn run_serve<R: Files + Input + AllocGlobal + Net + Clock + Print + Eprint, W: W
             say_warnings(rt, &mut lines, job.file, text.as_str());
             let job = within_descriptors(rt, &mut lines, job, servable.len());
             if job.check {
-                return look_up_only(rt, job, &servable, &mut lines, details);
+                return check_job(rt, job, &servable, text.as_str(), &mut lines, out, details);
             }
-            serve_job(rt, job, servable, text, lines, details)
+            begin_job(rt, job, servable, text, lines, out, details)
         }
     }
 }
@@ -310,7 +445,10 @@ fn run<R: Files + Input + AllocGlobal + Env + Net + Clock + Print + Eprint, W: W
     };
     match job {
         Job::Run { task, file } => run_task(rt, task, file, out, details),
+        Job::CheckAfter { history, file } => run_check_after(rt, history, file, out, details),
+        Job::History { file } => run_history(rt, file, out, details),
         Job::RunOver { any, config, file } => run_over(rt, any, config, file, out, details),
+        Job::CheckFleet(job) => check_fleet(rt, &job, out, details),
         Job::Where { file, keys } => run_where(rt, file, &keys, out, details),
         Job::Certify { file } => run_certify(rt, file, out, details),
         Job::Loopback { file } => run_loopback(rt, file, out, details),

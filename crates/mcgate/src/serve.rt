@@ -9,6 +9,7 @@ ghost use Rattle.mcgate.specs.Serves.{Begins, HasServers, BeginsServing, HasServ
 use crate::lines::Lines;
 use crate::serving::{Proxy, Serving, resolve, tell_if_unknown};
 use crate::sharing::sharing_for;
+use crate::started::Started;
 use gate_check::{Accepted, judge};
 use mcgate_args::details::Details;
 use mcgate_args::ends::Stop;
@@ -17,7 +18,7 @@ use mcgate_check::checking::{print_fault, print_refused};
 use mcgate_check::status::DONE;
 use route_json::addresses::Servers;
 use route_json::{Config, read_config};
-use serve_proxy::{ProxyEnd, Settings, text_at};
+use serve_proxy::{Beginnings, ProxyEnd, Settings, text_at};
 use serve_wire::Wire;
 use serve_wire::sockets::Sockets;
 use std::alloc::{AllocError, Global};
@@ -102,15 +103,16 @@ pub fn judge_text<W: Write>(
     }
 }
 
-// The end that serves it.
+// The end that serves it, where servers began so.
 fn end_over(
     alloc: Global,
     wire: Sockets,
     servable: Servable,
     servers: &Servers,
+    begun: Beginnings,
     settings: Settings,
 ) -> Result<Proxy, AllocError>
-    ensures core { IfOk result (λ end. Begins servable settings end.core.value) }
+    ensures core { IfOk result (λ end. Begins servable begun settings end.core.value) }
     ensures ends { IfOk result (λ end. HasNoClients (history_of wire) → Agrees [] (proxy_of end)) }
     ensures texts { IfOk result (λ end. texts_of end.sockets.links.all.items ≡ servers.now) }
 {
@@ -118,7 +120,7 @@ fn end_over(
     match servable {
         Servable::Accepted(accepted) => {
             settings.sharing = sharing_for(accepted.config().tree());
-            ProxyEnd::new(alloc, wire, accepted, servers, settings)
+            ProxyEnd::new(alloc, wire, accepted, begun, servers, settings)
         }
         Servable::Unchecked(config) => {
             let tree = config.tree().copy()?;
@@ -214,30 +216,30 @@ fn open<R: Net + Clock + AllocGlobal + Eprint>(
     servable: Servable,
     servers: &Servers,
 ) -> io::Result<Proxy>
-    ensures core { IfOk result (λ end. Begins servable job.now.settings end.core.value) }
+    ensures core { IfOk result (λ end. Begins servable job.now.begun job.now.settings end.core.value) }
     ensures ends { IfOk result (λ end. Agrees [] (proxy_of end)) }
     ensures texts { IfOk result (λ end. texts_of end.sockets.links.all.items ≡ servers.now) }
 {
     let wire = listen(rt, lines, job.listen, servers)?;
-    Ok(end_over(rt.alloc(), wire, servable, servers, job.settings)?)
+    Ok(end_over(rt.alloc(), wire, servable, servers, job.begun, job.settings)?)
 }
 
 fn start<R: Net + Clock + AllocGlobal + Eprint>(
     rt: &R,
     job: &ServeJob<'_>,
     servable: Servable,
-    text: String,
+    started: Started,
     lines: Lines,
 ) -> io::Result<Serving>
-    ensures { IfOk result (λ serving. BeginsServing servable job.now.settings serving.end) }
+    ensures { IfOk result (λ serving. BeginsServing servable job.now.begun job.now.settings serving.end) }
 {
     let servers = servable.servers(rt.alloc())?;
     let mut lines = lines;
     let end = open(rt, &mut lines, job, servable, &servers)?;
-    Serving::new(rt, end, servers, text, lines)
+    Serving::new(rt, end, servers, started, lines)
 }
 
-/// Serves a configuration, and tells so; `text` is that of its file. What it was in the end comes with the exit status after the turns that
+/// Serves a configuration, which starts so, and tells it. What it was in the end comes with the exit status after the turns that
 /// were asked, or with why it ended before.
 ///
 /// [`Stop::Device`] comes where the system's wait or clock fails, and [`Stop::Memory`] where memory was refused for a configuration that is
@@ -246,13 +248,13 @@ pub fn serve_to_end<R: Files + Input + Net + Clock + AllocGlobal + Print + Eprin
     rt: &R,
     job: &ServeJob<'_>,
     servable: Servable,
-    text: String,
+    started: Started,
     lines: Lines,
 ) -> io::Result<(Serving, Result<u8, Stop>)>
-    ensures served { IfOk result (λ ended. HasServed servable job.now.settings ended.1 ended.0.end) }
-    ensures fresh { IfOk result (λ ended. StaysFresh servable ended.0.end.core.value) }
+    ensures served { IfOk result (λ ended. HasServed servable job.now.begun job.now.settings ended.1 ended.0.end) }
+    ensures fresh { IfOk result (λ ended. StaysFresh servable job.now.begun ended.0.end.core.value) }
 {
-    let mut serving = start(rt, job, servable, text, lines)?;
+    let mut serving = start(rt, job, servable, started, lines)?;
     let ended = serving.tell_and_run(rt, job);
     serving.logs_are_fresh();
     Ok((serving, ended))

@@ -1,12 +1,17 @@
 //! A proxy that runs: its turns, what is told of its servers, and the configurations that are loaded meanwhile.
 
-ghost use Rattle.std.specs.Prelude.{◌≡◌, IfOk, string_bytes};
+ghost use Rattle.std.specs.Prelude.{◌≡◌, ◌≢◌, ◌⊎◌, IsTrue, IfOk, OnOk, string_bytes};
+ghost use Rattle.core_accepted.specs.declared.loading.LoadFault.TheVariants.{Refused};
+ghost use Rattle.gate_check.specs.declared.reloading.ReloadFault.TheVariants.{NoMemory};
 ghost use Rattle.serve_proxy.specs.Ends.{Stay, AllGoOr, AllGrow, IsLoadOf};
 ghost use Rattle.serve_proxy.specs.LogsGoOn.{LogsAreFresh};
 ghost use Rattle.mcgate.specs.Serves.{SaysAfter, history_of, proxy_of, Serves, ServesTo, MayLoad, MayLoadText};
+ghost use Rattle.mcgate.specs.Remembers.{StandsIn, StandsIfLoaded};
 
 use crate::lines::Lines;
+use crate::remembering::{Kept, Remembering, forget, remember};
 use crate::special::is_special;
+use crate::started::Started;
 use core_accepted::LoadFault;
 use gate_check::ReloadFault;
 use mc_types::ServerId;
@@ -68,6 +73,10 @@ pub struct Serving {
     text: String,
     /// Its generation.
     generation: u32,
+    /// How many generations there were before the first one, where a history is kept.
+    before: u32,
+    /// The history, where one is kept.
+    memory: Option<Kept>,
     /// What the file had since, where that wasn't loaded.
     refused: Option<String>,
     /// When that was.
@@ -123,31 +132,61 @@ fn print_loaded<W: Write>(any: bool, generation: u32, out: &mut W) -> io::Result
     }
 }
 
+// The fault, its generation counted after so many.
+fn counted_after(before: u32, fault: ReloadFault) -> ReloadFault {
+    match fault {
+        ReloadFault::Uncovered(generation, gap) => {
+            ReloadFault::Uncovered(before.saturating_add(generation), gap)
+        }
+        fault => fault,
+    }
+}
+
 // Prints why it was not.
-fn print_kept<W: Write>(servers: &Servers, fault: LoadFault, out: &mut W) -> Result<(), Stop> {
+fn print_kept<W: Write>(
+    servers: &Servers,
+    before: u32,
+    fault: LoadFault,
+    out: &mut W,
+) -> Result<(), Stop>
+    ensures { OnOk result (fault ≢ Refused NoMemory) }
+{
     match fault {
         LoadFault::Refused(ReloadFault::NoMemory) => Err(Stop::Memory),
-        LoadFault::Refused(fault) => Ok(write_kept(servers, &fault, out)?),
+        LoadFault::Refused(fault) => {
+            Ok(write_kept(servers, &counted_after(before, fault), out)?)
+        }
         LoadFault::OtherServers => Ok(writeln!(out, "reload refused: other servers")?),
     }
 }
 
+// How many generations there were before the last one.
+fn before_of(memory: &Option<Kept>) -> u32 {
+    match memory {
+        None => 0,
+        Some(kept) => u32::try_from(kept.count()).unwrap_or(0).saturating_sub(1),
+    }
+}
+
 impl Serving {
-    /// Of this end, by a configuration of these servers, whose text this is.
+    /// Of this end, by a configuration of these servers, which starts so.
     pub fn new<R: Clock>(
         rt: &R,
         end: Proxy,
         servers: Servers,
-        text: String,
+        started: Started,
         lines: Lines,
     ) -> io::Result<Serving>
         ensures { IfOk result (λ serving. serving.end ≡ end) }
     {
+        let (text, memory) = started.into_parts();
         Ok(Serving {
             end,
             servers,
             text,
             generation: 1,
+            before: before_of(&memory),
+            memory,
             refused: None,
             since: Instant::now(rt)?,
             turns: 0,
@@ -188,11 +227,25 @@ impl Serving {
         }
         let servers = self.servers.len();
         let line = format_args!(
-            "mcgate: serving {} on {address}, {servers} servers, generation 1",
-            job.file
+            "mcgate: serving {} on {address}, {servers} servers, generation {}",
+            job.file,
+            self.generation.saturating_add(self.before)
         );
         self.lines.tell(rt, line);
+        self.tell_if_new(rt, job);
         Ok(())
+    }
+
+    // Tells that nothing is remembered of trees before, where no history is kept.
+    fn tell_if_new<R: Eprint>(&mut self, rt: &R, job: &ServeJob<'_>)
+        ensures { self.new.end ≡ self.old.end }
+    {
+        if !job.any && job.history.is_none() {
+            self.lines.tell(
+                rt,
+                "mcgate: without --history what is promised begins now: no tree that was served before is remembered",
+            );
+        }
     }
 
     // Turns it so.
@@ -344,7 +397,7 @@ impl Serving {
     }
 
     #[tactic(auto, using(crate::proofs::Loads::serves_still))]
-    fn take_text<R: Net + AllocGlobal + Print + Eprint>(
+    fn take_text<R: Files + Net + AllocGlobal + Print + Eprint>(
         &mut self,
         rt: &R,
         any: bool,
@@ -352,6 +405,7 @@ impl Serving {
     ) -> Result<(), Stop>
         ensures core { MayLoadText self.old.servers (string_bytes text) self.old.end.core.value self.new.end.core.value }
         ensures ends { Serves self.old.end self.new.end }
+        ensures remembered { StandsIfLoaded self.old.end.core.value self.new.end.core.value self.new.memory (string_bytes text) }
     {
         if self.has_seen(text.as_str()) {
             return Ok(());
@@ -366,7 +420,7 @@ impl Serving {
     // Loads the configuration of the text, unless the text says what the one in use says, and prints what came of that. Whether the
     // configuration in use is that of the text then.
     #[tactic(auto, using(crate::proofs::Loads::serves_still))]
-    fn judge_text<R: Net + AllocGlobal + Eprint, W: Write>(
+    fn judge_text<R: Files + Net + AllocGlobal + Eprint, W: Write>(
         &mut self,
         rt: &R,
         any: bool,
@@ -375,12 +429,55 @@ impl Serving {
     ) -> Result<bool, Stop>
         ensures core { MayLoadText self.old.servers text.now self.old.end.core.value self.new.end.core.value }
         ensures ends { Serves self.old.end self.new.end }
+        ensures remembered { StandsIfLoaded self.old.end.core.value self.new.end.core.value self.new.memory text.now }
     {
         if says_the_same(rt.alloc(), self.text.as_str(), text) {
-            writeln!(out, "reload unchanged generation={}", self.generation)?;
+            let generation = self.generation.saturating_add(self.before);
+            writeln!(out, "reload unchanged generation={generation}")?;
             return Ok(true);
         }
-        self.load_text(rt, any, text, out)
+        self.remember_and_load(rt, any, text, out)
+    }
+
+    // Loads the configuration of the text, once it stands in the history, where one is kept. Whether it was loaded.
+    #[tactic(auto, using(crate::proofs::Loads::serves_still))]
+    fn remember_and_load<R: Files + Net + AllocGlobal + Eprint, W: Write>(
+        &mut self,
+        rt: &R,
+        any: bool,
+        text: &str,
+        out: &mut W,
+    ) -> Result<bool, Stop>
+        ensures core { MayLoadText self.old.servers text.now self.old.end.core.value self.new.end.core.value }
+        ensures ends { Serves self.old.end self.new.end }
+        ensures remembered { StandsIfLoaded self.old.end.core.value self.new.end.core.value self.new.memory text.now }
+    {
+        match remember(rt, &mut self.lines, &mut self.memory, text, out)? {
+            Remembering::Refused => Ok(false),
+            Remembering::Stands(old) => self.load_remembered(rt, any, text, old, out),
+        }
+    }
+
+    // Loads the configuration of a text that stands there. What isn't loaded is forgotten.
+    #[tactic(auto, using(crate::proofs::Loads::stands_still, crate::proofs::Loads::stands_unused))]
+    fn load_remembered<R: Files + Net + AllocGlobal + Eprint, W: Write>(
+        &mut self,
+        rt: &R,
+        any: bool,
+        text: &str,
+        old: Option<String>,
+        out: &mut W,
+    ) -> Result<bool, Stop>
+        requires stands { StandsIn self.old.memory text.now }
+        ensures core { MayLoadText self.old.servers text.now self.old.end.core.value self.new.end.core.value }
+        ensures ends { Serves self.old.end self.new.end }
+        ensures remembered { StandsIfLoaded self.old.end.core.value self.new.end.core.value self.new.memory text.now }
+    {
+        if self.load_text(rt, any, text, out)? {
+            return Ok(true);
+        }
+        forget(rt, &mut self.lines, &mut self.memory, old)?;
+        Ok(false)
     }
 
     // Loads the configuration of the text, and prints what came of that, or why the text is none. Whether it was loaded.
@@ -394,6 +491,8 @@ impl Serving {
     ) -> Result<bool, Stop>
         ensures core { MayLoadText self.old.servers text.now self.old.end.core.value self.new.end.core.value }
         ensures ends { Serves self.old.end self.new.end }
+        ensures memory { self.new.memory ≡ self.old.memory }
+        ensures unused { IfOk result (λ used. IsTrue used ⊎ (self.new.end.core.value ≡ self.old.end.core.value)) }
     {
         match read_after(rt.alloc(), &self.servers, text) {
             Ok((config, servers)) => self.load(rt, any, config, servers, out),
@@ -451,17 +550,19 @@ impl Serving {
     ) -> Result<bool, Stop>
         ensures core { MayLoad config self.old.end.core.value self.new.end.core.value }
         ensures ends { AllGrow (IsLoadOf config) (proxy_of self.old.end) (proxy_of self.new.end) }
+        ensures memory { self.new.memory ≡ self.old.memory }
+        ensures unused { IfOk result (λ used. IsTrue used ⊎ (self.new.end.core.value ≡ self.old.end.core.value)) }
     {
         self.resolve(rt, &servers)?;
         match self.end.load(config, &servers) {
             Ok(generation) => {
                 self.servers = servers;
                 self.generation = generation;
-                print_loaded(any, generation, out)?;
+                print_loaded(any, generation.saturating_add(self.before), out)?;
                 Ok(true)
             }
             Err(fault) => {
-                print_kept(&servers, fault, out)?;
+                print_kept(&servers, self.before, fault, out)?;
                 Ok(false)
             }
         }

@@ -6,6 +6,8 @@ ghost use Rattle.mcgate_args.specs.Stops.{arguments_fault_at};
 
 use crate::cache_arguments::{CACHE_HELP, CacheJob, cache_command, cache_job};
 use crate::certify_arguments::{CERTIFY_HELP, certify_command, certify_job};
+use crate::fleets::arguments::{FleetJob, fleet_job, is_of_fleet, with_fleet};
+use crate::history_arguments::{HISTORY_HELP, history_command, history_job};
 use crate::loopback_arguments::{LOOPBACK_HELP, loopback_command, loopback_job};
 use crate::serve_arguments::{SERVE_HELP, ServeJob, serve_command, serve_job};
 use clap::error::ErrorKind;
@@ -32,6 +34,15 @@ pub enum Job<'a> {
         task: Task,
         file: Option<&'a str>,
     },
+    /// Print the gate's verdict on a configuration, of a file or of standard input, and whether it may follow this history.
+    CheckAfter {
+        history: &'a str,
+        file: Option<&'a str>,
+    },
+    /// Tell what a history remembers.
+    History {
+        file: &'a str,
+    },
     /// Run a script of events, of a file or of standard input, over the configuration in this file: with `any` whatever the gate
     /// says of its tree.
     RunOver {
@@ -39,6 +50,8 @@ pub enum Job<'a> {
         config: &'a str,
         file: Option<&'a str>,
     },
+    /// Print the gate's verdict on the configurations of a fleet.
+    CheckFleet(FleetJob<'a>),
     /// Print where these keys live in the tree of the configuration in this file.
     Where {
         file: &'a str,
@@ -87,9 +100,11 @@ const VERSION: &str = "mcgate 1\n";
 const HELP: &str =
     "mcgate sends memcached commands through a tree of routes, and asks of a tree whether it can show deleted data.
 
-usage: mcgate check [--explain | --dot] [FILE]
+usage: mcgate check [--explain | --dot | --history HISTORY] [FILE]
                                      print the gate's verdict on a configuration, with --explain also in words,
                                      with --dot as a picture
+       mcgate check --fleet [--with FILE ..] [FILE]
+                                     the same for proxies before the same servers, which run by any of these at the same time
        mcgate certify [FILE]         print a certificate of a configuration that the gate accepts
        mcgate replay [--any] [--config FILE] [SCRIPT]
                                      run a script, and print what each client gets
@@ -97,6 +112,7 @@ usage: mcgate check [--explain | --dot] [FILE]
                                      print where keys live in the tree of a configuration
        mcgate serve --config FILE --listen HOST:PORT [--any]
                                      serve a configuration that the gate accepts, between clients and servers
+       mcgate history FILE           print what serve --history FILE remembers
        mcgate cache --listen HOST:PORT --capacity C
                                      be a memcached server of C items
        mcgate loopback [SCRIPT]      run a script with proxy, clients and servers as ends of TCP connections
@@ -107,7 +123,8 @@ Without FILE or SCRIPT the input is standard input. Without any arguments mcgate
 Exit status: 0 accepted or done, 1 refused by the gate, 2 bad arguments or input, 3 memory or a device failed, or too many calls.
 ";
 
-const CHECK_HELP: &str = "usage: mcgate check [--explain | --dot] [FILE]
+const CHECK_HELP: &str =
+    "usage: mcgate check [--explain | --dot | --history HISTORY | --fleet [--with FILE ..]] [FILE]
 
 Reads a configuration in JSON, of FILE or of standard input, and prints the gate's verdict:
   accepted places=N      no run of the tree shows deleted data; the keys have N places
@@ -121,6 +138,23 @@ With --explain lines that begin with # follow: by which way a read reaches the s
 which it leaves, and what to change.
 With --dot the tree and its servers are printed as a graph for Graphviz, in place of accepted and refused lines: of a refused
 tree the way by which a read reaches the server and the server are red.
+With --history the configuration is judged also as mcgate serve --history HISTORY would, and nothing is written:
+  history accepted generation=G
+                         it may be the G-th
+  history unchanged generation=G
+                         the last line says it
+  history refused generation=G server=A ..
+                         A may hold what a delete under generation G left
+  history: line N: ..    why HISTORY is no history
+With --fleet all proxies before the same servers are judged together, each of which may run by any of the files at any time. First
+each file is judged by itself, and the first that isn't accepted is told as above; then all together, which gives one line:
+  accepted trees=N       no run of such proxies shows deleted data, whichever of the N trees each runs by
+  refused: a read copies, route=R prefix=P file=F
+                         by the tree of F a get of keys with this prefix copies an item, at this route
+  refused: reads=F deletes=G server=A read=OP delete=D prefix=P residue=R/L
+                         the same gap of two trees: a read by that of F may be answered from A, which a delete by that of G leaves
+  refused: too many files, or too many places reads=F deletes=G
+                         there are more than 15 files, or the two trees together have more than 262,144 places
 Exit status: 0 accepted, 1 refused, 2 no configuration, 3 memory or a device failed.
 ";
 
@@ -189,12 +223,14 @@ fn check_command<'a>(alloc: Global) -> Result<Command<'a>, AllocError> {
     let dot = Arg::new(alloc, "dot")
         .long("dot")
         .action(ArgAction::SetTrue);
-    Command::new(alloc, "check")
+    let command = Command::new(alloc, "check")
         .disable_help_flag(true)
         .arg(help_flag(alloc))?
         .arg(explain)?
         .arg(dot)?
-        .arg(Arg::new(alloc, "FILE"))
+        .arg(option(alloc, "history"))?
+        .arg(Arg::new(alloc, "FILE"))?;
+    with_fleet(alloc, command)
 }
 
 fn replay_command<'a>(alloc: Global) -> Result<Command<'a>, AllocError> {
@@ -245,6 +281,7 @@ fn command<'a>(alloc: Global) -> Result<Command<'a>, AllocError> {
         .subcommand(where_command(alloc)?)?
         .subcommand(cache_command(alloc)?)?
         .subcommand(loopback_command(alloc)?)?
+        .subcommand(history_command(alloc)?)?
         .subcommand(help_command(alloc)?)?
         .subcommand(serve_command(alloc)?)
 }
@@ -260,15 +297,26 @@ fn form_of(explain: bool, dot: bool) -> Result<Form, ArgumentsFault> {
 }
 
 // What the arguments after `check` ask for.
-fn check_job<'a>(given: &ArgMatches<'a>) -> Result<Job<'a>, ArgumentsFault> {
+fn check_job<'a>(alloc: Global, given: &ArgMatches<'a>) -> Result<Job<'a>, ArgumentsFault> {
     if given.get_flag("help") {
         return Ok(Job::Print(CHECK_HELP));
     }
+    if is_of_fleet(given) {
+        if given.get_str("history").is_some() {
+            return Err(ArgumentsFault::Refused);
+        }
+        return Ok(Job::CheckFleet(fleet_job(alloc, given)?));
+    }
     let form = form_of(given.get_flag("explain"), given.get_flag("dot"))?;
-    Ok(Job::Run {
-        task: Task::Check { form },
-        file: given.get_str("FILE"),
-    })
+    let file = given.get_str("FILE");
+    match (given.get_str("history"), form) {
+        (None, form) => Ok(Job::Run {
+            task: Task::Check { form },
+            file,
+        }),
+        (Some(history), Form::Lines) => Ok(Job::CheckAfter { history, file }),
+        (Some(_), _) => Err(ArgumentsFault::Refused),
+    }
 }
 
 // What the arguments after `replay` ask for.
@@ -325,6 +373,7 @@ fn help_on<'a>(name: &str) -> Result<Job<'a>, ArgumentsFault> {
         "cache" => Ok(Job::Print(CACHE_HELP)),
         "loopback" => Ok(Job::Print(LOOPBACK_HELP)),
         "serve" => Ok(Job::Print(SERVE_HELP)),
+        "history" => Ok(Job::Print(HISTORY_HELP)),
         "help" => Ok(Job::Print(HELP)),
         _ => Err(ArgumentsFault::Refused),
     }
@@ -352,10 +401,10 @@ fn plain_job<'a>(given: &ArgMatches<'a>) -> Job<'a> {
     }
 }
 
-/// What the arguments ask for, the program's name first: `check [--explain | --dot] [FILE]`, `certify [FILE]`,
-/// `replay [--any] [--config FILE] [SCRIPT]`, `where --config FILE KEY..`, `cache --listen HOST:PORT --capacity C [--memory-mb N] [--turns N]`,
-/// `loopback [SCRIPT]`, `serve` with its flags, or none at all after it, which is `replay`. Also `help [COMMAND]`, `-h` and `--help`, before or
-/// after a command, and `--version`.
+/// What the arguments ask for, the program's name first: `check [--explain | --dot | --history HISTORY | --fleet [--with FILE ..]] [FILE]`,
+/// `certify [FILE]`, `replay [--any] [--config FILE] [SCRIPT]`, `where --config FILE KEY..`, `history FILE`,
+/// `cache --listen HOST:PORT --capacity C [--memory-mb N] [--turns N]`, `loopback [SCRIPT]`, `serve` with its flags, or none
+/// at all after it, which is `replay`. Also `help [COMMAND]`, `-h` and `--help`, before or after a command, and `--version`.
 ///
 /// A KEY that is none is [`ArgumentsFault::Key`], and any other arguments are [`ArgumentsFault::Refused`].
 pub fn read_arguments<'a>(
@@ -367,12 +416,13 @@ pub fn read_arguments<'a>(
     };
     let matches = command.try_get_matches_from(arguments)?;
     match matches.subcommand() {
-        Some(("check", given)) => check_job(given),
+        Some(("check", given)) => check_job(alloc, given),
         Some(("certify", given)) => Ok(certify_job(given)),
         Some(("where", given)) => where_job(alloc, given),
         Some(("cache", given)) => cache_job(given),
         Some(("loopback", given)) => Ok(loopback_job(given)),
         Some(("serve", given)) => serve_job(given),
+        Some(("history", given)) => history_job(given),
         Some(("help", given)) => help_job(given),
         Some((_, given)) => Ok(replay_job(given)),
         None => Ok(plain_job(&matches)),

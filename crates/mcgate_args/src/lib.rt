@@ -3,11 +3,15 @@
 
 pub mod arguments;
 pub mod bad_lines;
+pub mod beginning_arguments;
 pub mod cache_arguments;
 pub mod certify_arguments;
 pub mod certifying;
 pub mod details;
 pub mod ends;
+pub mod fleets;
+pub mod histories;
+pub mod history_arguments;
 pub mod input;
 pub mod input_text;
 pub mod loopback_arguments;

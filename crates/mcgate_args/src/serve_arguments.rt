@@ -1,8 +1,9 @@
 //! The arguments of `mcgate serve`, and what they ask for.
 
 use crate::arguments::{ArgumentsFault, Job, count_of, help_flag, option, switch};
+use crate::beginning_arguments::begun_of;
 use clap::{ArgMatches, Command};
-use serve_proxy::{ServerDialect, Settings};
+use serve_proxy::{Beginnings, ServerDialect, Settings};
 use std::alloc::{AllocError, Global};
 
 /// What `mcgate serve` is to do.
@@ -13,10 +14,14 @@ pub struct ServeJob<'a> {
     /// Where to listen: a host and a port.
     pub listen: &'a str,
     pub settings: Settings,
+    /// How servers began.
+    pub begun: Beginnings,
     /// A tree that the gate refuses is served too.
     pub any: bool,
     /// The file of a certificate, by which the tree is accepted at the start.
     pub certificate: Option<&'a str>,
+    /// The file of what is remembered from one run to the next, if there is one.
+    pub history: Option<&'a str>,
     /// Nothing is served: it ends once all that is tested at the start was tested.
     pub check: bool,
     /// A client is closed that takes nothing for so many milliseconds.
@@ -56,9 +61,14 @@ opens, fails or comes back.
   --stall-ms N           a client that takes nothing for so many milliseconds, while more than 1 MiB is to be sent to it, is closed, 10000
   --memory-mb N          where more than so many MiB are to be sent to all clients, the client to which most are is closed, 1024
   --server-dialect WORD  how servers are asked for classic gets: classic, meta, or auto, by what each answers to an mn; auto
+  --opened WORD          what the servers of the first configuration held before: any, or own: of each key nothing but what its tree
+                         may put on them; any
+  --new-servers WORD     what servers held that a reload brings: any, or empty: nothing; any
   --reload-ms N          FILE is read again each N milliseconds; without it and the next one, it isn't
   --reload-every N       FILE is read again each N turns
   --turns N              ends after so many turns; without it, it doesn't end
+  --history FILE         the configurations that were accepted so far stand in FILE: the first one and each new text is judged after
+                         them, and written there before it is used; without it, what is promised begins with this start
   --any                  serves a tree that the gate refuses too: nothing is promised then
   --certificate FILE     at the start the tree is accepted by this certificate, as mcgate-verify tests it, or refused; not with --any
   --check                serves nothing: it tests the words, FILE, its tree, and that all addresses are known, and ends
@@ -89,9 +99,12 @@ pub fn serve_command<'a>(alloc: Global) -> Result<Command<'a>, AllocError> {
         .arg(option(alloc, "stall-ms"))?
         .arg(option(alloc, "memory-mb"))?
         .arg(option(alloc, "server-dialect"))?
+        .arg(option(alloc, "opened"))?
+        .arg(option(alloc, "new-servers"))?
         .arg(option(alloc, "reload-every"))?
         .arg(option(alloc, "reload-ms"))?
         .arg(option(alloc, "turns"))?
+        .arg(option(alloc, "history"))?
         .arg(switch(alloc, "any"))?
         .arg(option(alloc, "certificate"))?
         .arg(switch(alloc, "check"))
@@ -139,6 +152,14 @@ fn settings_of(given: &ArgMatches<'_>) -> Result<Settings, ArgumentsFault> {
     })
 }
 
+// The file of what is remembered. Of trees that no gate accepted nothing is.
+fn history_of<'a>(given: &ArgMatches<'a>) -> Result<Option<&'a str>, ArgumentsFault> {
+    match given.get_str("history") {
+        Some(_) if given.get_flag("any") => Err(ArgumentsFault::Refused),
+        history => Ok(history),
+    }
+}
+
 /// What the arguments after `serve` ask for.
 pub fn serve_job<'a>(given: &ArgMatches<'a>) -> Result<Job<'a>, ArgumentsFault> {
     if given.get_flag("help") {
@@ -155,8 +176,10 @@ pub fn serve_job<'a>(given: &ArgMatches<'a>) -> Result<Job<'a>, ArgumentsFault> 
         file,
         listen,
         settings: settings_of(given)?,
+        begun: begun_of(given)?,
         any,
         certificate,
+        history: history_of(given)?,
         check: given.get_flag("check"),
         stall_ms: millis_of(given, "stall-ms", STALL_MS)?,
         memory: size_of(given, "memory-mb", MEMORY_MB)?.saturating_mul(MIB),

@@ -44,7 +44,7 @@ pub fn write_place<W: Write>(place: &Place, out: &mut W) -> io::Result<()>
 }
 
 /// Writes the fields of a gap and ends the line: ` server=A read=OP delete=D prefix=P residue=R/L`.
-pub(crate) fn write_gap<W: Write>(servers: &Servers, gap: &Gap, out: &mut W) -> io::Result<()>
+pub fn write_gap<W: Write>(servers: &Servers, gap: &Gap, out: &mut W) -> io::Result<()>
     ensures { OnOk result (Appends (W.contents out.old) (W.contents out.new) (gap_fields servers.now gap.now)) }
 {
     write_ask(servers, gap, out)?;

@@ -11,7 +11,7 @@ use mc_types::limits::SCRIPT_CLIENTS;
 use route_json::Config;
 use route_json::addresses::Servers;
 use script_events::{Event, Output, PIECE_CUT, Reload, Script};
-use serve_proxy::{ProxyEnd, ServerDialect, Settings, text_at};
+use serve_proxy::{Beginnings, ProxyEnd, ServerDialect, Settings, text_at};
 use serve_wire::Wire;
 use serve_wire::sockets::Sockets;
 use std::alloc::{AllocError, Global};
@@ -127,7 +127,14 @@ impl Ends {
         let servers = ServerEnds::listen(rt, alloc, servers, any_port())?;
         let addresses = servers.addresses()?;
         let wire = listen(rt, &addresses)?;
-        let mut proxy = ProxyEnd::new(alloc, wire, accepted, &addresses, settings())?;
+        let mut proxy = ProxyEnd::new(
+            alloc,
+            wire,
+            accepted,
+            Beginnings::any(),
+            &addresses,
+            settings(),
+        )?;
         proxy.poll_in_rounds();
         Ends::of(alloc, proxy, servers)
     }

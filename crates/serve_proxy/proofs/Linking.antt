@@ -2,7 +2,6 @@
 use Rattle.std.proofs.Common.{◌≡◌, ℕ, ◌<◌, zero, suc, Bool, true, false, List, [], ◌∷◌, ◌++◌, length, get_or, Option, Some, None, Result, Ok, Err, refl, sym, ap, ◌∙◌, subst, arith}
 use Rattle.std.proofs.Math.ListN.{set}
 use Rattle.std.specs.Prelude.{MatchOption, IfOk, IsSome, slice_get}
-use Rattle.std.proofs.lemmas.Option.{slice_get_read}
 use Rattle.std.specs.Option.{option_map}
 use Rattle.std.specs.Result.{IsErr}
 use Rattle.mc_types.specs.declared.ask.Ask.{Ask}
@@ -120,9 +119,6 @@ polled_call client ticket r a b is ok fresh =
 -- the link at a place stands there still
 pub open_still : (at : ℕ) (ls ls' : List Link) → ls' ≡ ls → IsOpenAt at ls → IsOpenAt at ls'
 open_still at ls ls' same there = subst (IsOpenAt at) (sym same) there
-
-pub open_now : (links : List Link) (at : ℕ) (x : Link) → at < length links → x ≡ get_or links at x → IsSome x.conn → IsOpenAt at links
-open_now links at x within was some = (x, slice_get_read links (length links) at x refl within was, some)
 
 pub open_set : (links : List Link) (at : ℕ) (y : Link) → at < length links → IsSome y.conn → IsOpenAt at (set links at y)
 open_set links at y within some = (y, set_here links at y within, some)

@@ -20,10 +20,12 @@ use Rattle.core_proxy.specs.declared.note.Note.{Note}
 use Rattle.core_proxy.specs.declared.note.Poll.{Poll}
 use Rattle.core_proxy.specs.declared.note.Poll.TheVariants as polls
 use Rattle.core_accepted.specs.declared.served.ServedCore.{ServedCore}
-use Rattle.core_accepted.specs.Logs.{MayHaveLed, LogsGoBy, IsFreshLog, fed}
+use Rattle.core_accepted.specs.Logs.{MayHaveLed, LogsGoBy, IsFreshLog, BeginSo, fed}
 use Rattle.core_accepted.specs.Results.{PollStops, TakesResult, SettleStops}
 use Rattle.serve_links.specs.CoreSteps.{Step, Opened, NotOpened, Fed, Polled, Stopped, Settled, Gave, Closed, LeftLine, Broke, Loaded, Linked, Asked, Greeted, Spelled, Does, Walks}
+use Rattle.core_accepted.proofs.Keeping.{since_are_fresh}
 use Rattle.core_accepted.proofs.Losses.{servers_may_lose}
+use Rattle.serve_links.proofs.Walked.{walks_keep_since}
 use Rattle.serve_proxy.specs.LogsGoOn.{AreOwn, AreTurns, happened, after_turns, GoesOnSaying, StaysOn, SettlesOnLog, StepGoes, LogGoes, WalksGoOn, WalksAreFresh}
 
 -- ---- what a core does by itself
@@ -214,5 +216,7 @@ pub walks_go_on : WalksGoOn
 walks_go_on steps old new walks opening past led = log_goes opening past old led steps new walks (λ later by. Unit {0}) (λ later by. tt)
 
 pub walks_are_fresh : WalksAreFresh
-walks_are_fresh steps old new walks fresh accepted opening past led =
-    log_goes opening past old led steps new walks (λ later by. LosesOnly (run_of later) → IsFreshLog new.core.limits.sharing opening later) (λ later by loses. fresh accepted opening later by loses)
+walks_are_fresh steps old new walks fresh first begun accepted opening past led =
+    let since = since_are_fresh first begun new fresh (walks_keep_since steps old new walks first begun accepted) in
+    log_goes opening past old led steps new walks (λ later by. BeginSo first begun opening → LosesOnly (run_of later) → IsFreshLog new.core.limits.sharing opening later)
+    (λ later by begins loses. since opening later by begins loses)

@@ -4,7 +4,8 @@ use Rattle.route_tree.specs.Route.{Route}
 use Rattle.route_json.specs.Configuration.{Configuration}
 use Rattle.gate_check.specs.declared.reloading.ReloadFault.TheVariants.{NoMemory}
 use Rattle.core_proxy.specs.declared.limits.Limits.{Limits}
-use Rattle.core_accepted.specs.Logs.{IsNew, IsUnchecked}
+use Rattle.core_accepted.specs.declared.beginnings.Beginnings.{Beginnings}
+use Rattle.core_accepted.specs.Logs.{IsNewFrom, IsUnchecked}
 use Rattle.core_accepted.specs.declared.served.ServedCore.{ServedCore}
 use Rattle.core_accepted.specs.declared.loading.LoadFault.{LoadFault}
 use Rattle.core_accepted.specs.declared.loading.LoadFault.TheVariants.{Refused}
@@ -16,9 +17,9 @@ use Rattle.serve_proxy.specs.declared.beginning.TheConstants.{HELD_LIMIT}
 abbrev pub limits_by : Settings → Limits
 limits_by settings = record { clients = settings.clients; held = HELD_LIMIT; depth = settings.client_window; window = settings.link_window; sharing = settings.sharing }
 
--- it is a new core on accepted trees
-abbrev pub BeginsFresh : List Configuration → Settings → ServedCore → Type 0
-BeginsFresh accepted settings core = IsNew accepted (limits_by settings) core
+-- it is a new core on accepted trees, where servers began so
+abbrev pub BeginsFresh : List Configuration → Beginnings → Settings → ServedCore → Type 0
+BeginsFresh accepted begun settings core = IsNewFrom accepted begun (limits_by settings) core
 
 -- it is a new core on this tree, which no gate was asked about
 abbrev pub BeginsUnchecked : Route → Settings → ServedCore → Type 0

@@ -1,5 +1,5 @@
 -- What a walk makes of each log that may have led to a core. Source: mcgate's own.
-use Rattle.std.specs.Prelude.{◌≡◌, ℕ, List, [], ◌∷◌, ◌++◌, Option, ◌⊎◌}
+use Rattle.std.specs.Prelude.{◌≡◌, ℕ, List, [], ◌∷◌, ◌++◌, Option, Some, ◌⊎◌}
 use Rattle.mc_types.specs.Items.{Item}
 use Rattle.mc_types.specs.declared.ask.Ask.{Ask}
 use Rattle.mc_types.specs.declared.call.Origin.{Origin}
@@ -8,11 +8,14 @@ use Rattle.fresh_runs.specs.Fleet.{EndsIn}
 use Rattle.fresh_runs.specs.Sharing.{Event, Calls, LosesOnly, after_event}
 use Rattle.fresh_runs.specs.Overlap as log
 use Rattle.fresh_runs.specs.Overlap.{Entry, Happens, run_of}
+use Rattle.route_json.specs.Configuration.{Configuration}
 use Rattle.core_proxy.specs.CoreState.{dialect, client_at, dropped_by}
 use Rattle.core_proxy.specs.Polls.{Then, Perhaps, BeginsOne, IsPolled}
 use Rattle.core_proxy.specs.Settles.{IsCalled}
 use Rattle.core_accepted.specs.declared.served.ServedCore.{ServedCore}
-use Rattle.core_accepted.specs.Logs.{MayHaveLed, IsAccepted, IsFreshLog, EveryLogIsFresh, fed}
+use Rattle.core_accepted.specs.declared.beginnings.Beginnings.{Beginnings}
+use Rattle.core_accepted.specs.Known.{Known}
+use Rattle.core_accepted.specs.Logs.{MayHaveLed, IsFreshLog, EveryLogFromIsFresh, IsAcceptedSince, BeginSo, fed}
 use Rattle.core_accepted.specs.Losses.{IsLoss}
 use Rattle.serve_links.specs.CoreSteps.{Step, Opened, NotOpened, Fed, Polled, Stopped, Settled, Gave, Closed, LeftLine, Broke, Loaded, Linked, Asked, Greeted, Spelled, Walks}
 
@@ -91,16 +94,18 @@ WalksGoOn =
     (steps : List Step) (old new : ServedCore) → Walks steps old new
     → (opening : ℕ → List ℕ → Option Item) (past : List (Entry dialect)) (led : MayHaveLed opening past old) → LogGoes opening steps past old led new (λ later by. Unit {0})
 
--- where the gate accepted its trees, each log that may have led to the core is fresh, if nobody else writes the servers
+-- where the gate accepted its trees, each log that may have led to the core is fresh, if servers held at first what is said of them, and nobody else writes them
 abbrev pub LogsAreFresh : ServedCore → Type 0
-LogsAreFresh served = IsAccepted served → EveryLogIsFresh served
+LogsAreFresh served = (known : Known) → served.accepted ≡ Some known → EveryLogFromIsFresh known served
 
--- each log that may have led to the core before goes on by just these calls, and is fresh then, if nobody else writes the servers
-abbrev pub LogsGoFreshly : List Step → (old new : ServedCore) → Type 0
-LogsGoFreshly steps old new =
+-- each log that may have led to the core before goes on by just these calls, and is fresh then, if servers began so, and nobody else writes them
+abbrev pub LogsGoFreshly : Configuration → Beginnings → List Step → (old new : ServedCore) → Type 0
+LogsGoFreshly first begun steps old new =
     (opening : ℕ → List ℕ → Option Item) (past : List (Entry dialect)) (led : MayHaveLed opening past old)
-    → LogGoes opening steps past old led new (λ later by. LosesOnly (run_of later) → IsFreshLog new.core.limits.sharing opening later)
+    → LogGoes opening steps past old led new (λ later by. BeginSo first begun opening → LosesOnly (run_of later) → IsFreshLog new.core.limits.sharing opening later)
 
--- a law of all walks: where the gate accepted the trees, each log goes on by them so
+-- a law of all walks: where the gate accepted the trees, this one at first, each log goes on by them so
 abbrev pub WalksAreFresh : Type 0
-WalksAreFresh = (steps : List Step) (old new : ServedCore) → Walks steps old new → LogsAreFresh new → IsAccepted new → LogsGoFreshly steps old new
+WalksAreFresh =
+    (steps : List Step) (old new : ServedCore) → Walks steps old new → LogsAreFresh new → (first : Configuration) (begun : Beginnings) → IsAcceptedSince first begun old
+    → LogsGoFreshly first begun steps old new

@@ -3,7 +3,7 @@
 ghost use Rattle.std.specs.Prelude.{◌≡◌, IfOk};
 ghost use Rattle.serve_proxy.specs.Beginning.{limits_by, BeginsFresh, BeginsUnchecked};
 
-use core_accepted::ServedCore;
+use core_accepted::{Beginnings, ServedCore};
 use core_proxy::Limits;
 use gate_check::Accepted;
 use route_tree::Tree;
@@ -25,15 +25,16 @@ fn limits_of(settings: Settings) -> Limits
     }
 }
 
-/// A new core on accepted trees.
+/// A new core on accepted trees, where servers began so.
 pub fn fresh_core(
     alloc: Global,
     accepted: Accepted,
+    begun: Beginnings,
     settings: Settings,
 ) -> Result<Box<ServedCore>, AllocError>
-    ensures { IfOk result (λ core. BeginsFresh accepted settings core.value) }
+    ensures { IfOk result (λ core. BeginsFresh accepted begun settings core.value) }
 {
-    let core = ServedCore::new(alloc, accepted, limits_of(settings))?;
+    let core = ServedCore::new_from(alloc, accepted, begun, limits_of(settings))?;
     Ok(Box::new(alloc, core)?)
 }
 

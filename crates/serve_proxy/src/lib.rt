@@ -39,6 +39,7 @@ mod stalls;
 mod texts;
 mod worklist;
 
+pub use core_accepted::{Beginning, Beginnings};
 pub use proxy::ProxyEnd;
 pub use serve_links::{Cause, LinkNews, ServerDialect, Settings, Tally};
 pub use texts::text_at;

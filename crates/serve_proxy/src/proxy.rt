@@ -22,8 +22,8 @@ use crate::serving::{serve_all, serve_asks};
 use crate::showing::give_back_room;
 use crate::sockets::Sockets;
 use crate::stalls::{end_stalled, shed};
-use core_accepted::laws::accepted_core_is_fresh;
-use core_accepted::{LoadFault, ServedCore};
+use core_accepted::laws::begun_core_is_fresh;
+use core_accepted::{Beginnings, LoadFault, ServedCore};
 use gate_check::{Accepted, ReloadFault};
 use route_json::Config;
 use route_json::addresses::Servers;
@@ -78,21 +78,22 @@ fn run_turn<W: Wire, R: Net + Clock>(
 }
 
 impl<W: Wire + Drop> ProxyEnd<W> {
-    /// An end over a wire that listens. No server has a connection: each is begun when the first call is to go out on it, at the address
-    /// that the server's text was found to name. The calls of one whose text names none fail.
+    /// An end over a wire that listens, where servers began so. No server has a connection: each is begun when the first call is to go out
+    /// on it, at the address that the server's text was found to name. The calls of one whose text names none fail.
     pub fn new(
         alloc: Global,
         wire: W,
         accepted: Accepted,
+        begun: Beginnings,
         servers: &Servers,
         settings: Settings,
     ) -> Result<ProxyEnd<W>, AllocError>
-        ensures core { IfOk result (λ end. BeginsFresh accepted settings end.core.value) }
+        ensures core { IfOk result (λ end. BeginsFresh accepted begun settings end.core.value) }
         ensures ends { IfOk result (λ end. HasNoClients (W.history wire) → Agrees [] (end_of W.history end.core.value end.sockets)) }
         ensures texts { IfOk result (λ end. texts_of end.sockets.links.all.items ≡ servers.now) }
     {
         let links = Links::to(alloc, servers, settings)?;
-        let core = fresh_core(alloc, accepted, settings)?;
+        let core = fresh_core(alloc, accepted, begun, settings)?;
         Ok(ProxyEnd::of(alloc, core, wire, links))
     }
 
@@ -185,11 +186,12 @@ impl<W: Wire> ProxyEnd<W> {
         self.sockets.stalls.next_closed(self.sockets.time)
     }
 
-    /// Where the gate accepted its trees, each log that may have led to the core is fresh. A law: it does nothing.
+    /// Where the gate accepted its trees, each log that may have led to the core is fresh, if servers began as is said. A law: it does
+    /// nothing.
     pub fn logs_are_fresh(&self)
         ensures { LogsAreFresh self.now.core.value }
     {
-        accepted_core_is_fresh(self.core.as_ref());
+        begun_core_is_fresh(self.core.as_ref());
     }
 
     /// From now on clients are polled in rounds, as those of a script are: each once, in the order in which they were accepted. Without it

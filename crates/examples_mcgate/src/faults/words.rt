@@ -19,6 +19,9 @@ words: mcgate help check serve => mcgate help: one word too many: serve
 words: mcgate check f g => mcgate check: one word too many: g
 words: mcgate check --any => mcgate check: unknown flag --any
 words: mcgate check --explain --dot => mcgate check: --explain and --dot don't go together
+words: mcgate check --history h --dot => mcgate check: --dot and --history don't go together
+words: mcgate serve --any --history h => mcgate serve: --any and --history don't go together
+words: mcgate history => mcgate history: a FILE is missing
 words: mcgate check --explian => mcgate check: unknown flag --explian; did you mean --explain?
 words: mcgate replay --any --any => mcgate replay: --any stands there twice
 words: mcgate replay --any=yes => mcgate replay: --any takes no value
@@ -35,6 +38,8 @@ words: mcgate serve --config c --listen a:1 --call-ms -1 => mcgate serve: --call
 words: mcgate serve --config c --listen a:1 --client 10 => mcgate serve: unknown flag --client; did you mean --clients?
 words: mcgate serve --client=10 => mcgate serve: unknown flag --client=10; did you mean --clients?
 words: mcgate serve --config c --listen a:1 --server-dialect met => mcgate serve: --server-dialect met: expected auto, classic or meta; did you mean meta?
+words: mcgate serve --config c --listen a:1 --opened empty => mcgate serve: --opened empty: expected any or own
+words: mcgate serve --config c --listen a:1 --new-servers emtpy => mcgate serve: --new-servers emtpy: expected any or empty; did you mean empty?
 words: mcgate serve f => mcgate serve: one word too many: f
 words: mcgate cache --listen a:1 => mcgate cache: --capacity N is missing
 words: mcgate cache --listen a:1 --capacity 4294967296 => mcgate cache: --capacity 4294967296: expected a number in 1..=4294967295

@@ -7,7 +7,7 @@ use examples_tables::playing::{Stage, cut, first_line, play_lines, shown, yes_or
 use gate_check::{Accepted, judge};
 use route_json::addresses::Servers;
 use route_json::{Config, read_config, read_config_after};
-use serve_proxy::{LinkNews, ProxyEnd, ServerDialect, Settings, text_at};
+use serve_proxy::{Beginnings, LinkNews, ProxyEnd, ServerDialect, Settings, text_at};
 use serve_wire::Wire;
 use serve_wire::memory::{Memory, Peer};
 use std::alloc::{AllocError, Global};
@@ -16,7 +16,8 @@ use std::test::Fail;
 use std::time::Duration;
 
 // Far ends have names that are numbers. `peer` begins the script of one, which then calls at a time or answers the next connection to a
-// host. `proxy` looks up the servers of its configuration and begins. `news` are those since they were asked for last.
+// host. `proxy` looks up the servers of its configuration and begins. A `turn` waits for 100 ms at most, and a `wait` is a turn that waits
+// as long as the proxy does by itself. `news` are those since they were asked for last.
 fn texts() -> &'static str {
     r"Bytes come cut anywhere, and go out by the piece.
 host 127.0.0.1:5001
@@ -110,8 +111,10 @@ An answer that is late is nobody's: its connection is closed, and the next call 
 host 127.0.0.1:5001
 peer 8
 awaits 7
-until 1500
-sends VALUE a 0 1\r\n1\r\nEND\r\n
+sends END\r\n
+awaits 14
+until 4500
+sends VALUE b 0 1\r\n1\r\nEND\r\n
 answers 127.0.0.1:5001
 peer 9
 awaits 7
@@ -119,14 +122,16 @@ sends END\r\n
 answers 127.0.0.1:5001
 peer 1
 sends get a\r\n
-until 2000
+until 3000
 sends get b\r\n
+until 5000
+sends get c\r\n
 calls 0
 proxy <one server>
-turn 60
-taken 1 => SERVER_ERROR call failed\r\nEND\r\n
+wait 60
+taken 1 => END\r\nSERVER_ERROR call failed\r\nEND\r\n
 open 8 => no
-taken 9 => get b\r\n
+taken 9 => get c\r\n
 news => server 0: connected; server 0: failed: a call took too long, 1 in a row; server 0: back
 
 Bytes that came while nothing was out are no answer to the next call, which goes to a new connection.
@@ -299,6 +304,73 @@ turn 40
 taken 1 => nothing
 open 1 => no
 taken 2 => END\r\n
+
+A delete waits for a get that may copy its key, and goes out when that has ended.
+host 127.0.0.1:5001
+host 127.0.0.1:5002
+peer 8
+awaits 7
+sends END\r\n
+-- 7 + 16, and 10 more
+awaits 23
+sends STORED\r\n
+awaits 33
+sends DELETED\r\n
+answers 127.0.0.1:5001
+peer 9
+awaits 7
+until 50
+sends VALUE k 0 1\r\n7\r\nEND\r\n
+awaits 17
+sends DELETED\r\n
+answers 127.0.0.1:5002
+peer 1
+sends get k\r\n
+calls 0
+peer 2
+sends delete k\r\n
+calls 20
+proxy <warm-up>
+turn 40
+taken 8 => get k\r\nadd k 0 0 1\r\n7\r\ndelete k\r\n
+taken 9 => get k\r\ndelete k\r\n
+taken 1 => VALUE k 0 1\r\n7\r\nEND\r\n
+taken 2 => DELETED\r\n
+
+A client that leaves its replies untaken stands in no line: nobody waits for a key behind it.
+host 127.0.0.1:5001
+host 127.0.0.1:5002
+peer 8
+awaits 7
+sends END\r\n
+-- 9 * 8 + 3 * 9 more, 7, and 16
+awaits 106
+sends «12 VALUE b# 0 100000\r\n<data>\r\nEND\r\n»
+awaits 113
+sends VALUE k 0 1\r\n8\r\nEND\r\n
+awaits 129
+sends NOT_STORED\r\n
+answers 127.0.0.1:5001
+peer 9
+awaits 7
+until 50
+sends VALUE k 0 1\r\n7\r\nEND\r\n
+answers 127.0.0.1:5002
+peer 1
+sends get k\r\n
+calls 0
+peer 2
+room 1000
+sends «12 get b#\r\n»delete k\r\n
+calls 20
+peer 3
+sends get k\r\n
+calls 40
+proxy <warm-up>
+turn 80
+taken 1 => VALUE k 0 1\r\n7\r\nEND\r\n
+taken 9 => get k\r\n
+taken 3 => VALUE k 0 1\r\n8\r\nEND\r\n
 
 Nobody answers at one address, and no host is known of the other.
 host 127.0.0.1:5001
@@ -572,7 +644,14 @@ fn end_over(
     servers: &Servers,
     settings: Settings,
 ) -> Result<ProxyEnd<Memory>, Fail> {
-    Ok(ProxyEnd::new(rt.alloc(), wire, accepted, servers, settings)?)
+    Ok(ProxyEnd::new(
+        rt.alloc(),
+        wire,
+        accepted,
+        Beginnings::any(),
+        servers,
+        settings,
+    )?)
 }
 
 fn begin(
@@ -670,6 +749,7 @@ impl Scripted<'_> {
             "auto-proxy" => self.begin(text, ServerDialect::Auto),
             "turn" => self.turn_often(text.parse::<usize>()?),
             "bounds" => self.bound(text),
+            "wait" => self.wait_often(text.parse::<usize>()?),
             _ => self.script(verb, text),
         }
     }
@@ -721,6 +801,21 @@ impl Scripted<'_> {
             self.turn()?;
             self.note_news()?;
             self.note_stalled()?;
+        }
+        Ok(())
+    }
+
+    // A turn as long as the proxy waits by itself. Where it would wait for ever nothing happens.
+    fn wait(&mut self) -> Result<(), Fail> {
+        let rt = self.rt;
+        let _ = self.proxy()?.turn(rt);
+        Ok(())
+    }
+
+    fn wait_often(&mut self, count: usize) -> Result<(), Fail> {
+        for _ in 0..count {
+            self.wait()?;
+            self.note_news()?;
         }
         Ok(())
     }

@@ -1,5 +1,7 @@
 use Rattle.serve_proxy.proofs.Growing.{then_grows}
-use Rattle.mcgate.proofs.Loads.{stood}
+use Rattle.std.proofs.Common.{ap, inr}
+use Rattle.serve_proxy.specs.declared.proxy.ProxyEnd.{ProxyEnd}
+use Rattle.mcgate.proofs.Loads.{stood, not_loaded}
 use Rattle.mcgate.proofs.serving.Serving.load.Goals as goal
 
 pub returns-in_err-resolve-clause-ends : goal.returns-in_err-resolve-clause-ends
@@ -16,3 +18,7 @@ returns-in_ok-print_loaded-in-Ok-clause-ends g c = then_grows (stood c.args.self
 
 pub returns-in_ok-print_kept-in-Err-clause-ends : goal.returns-in_ok-print_kept-in-Err-clause-ends
 returns-in_ok-print_kept-in-Err-clause-ends g c = then_grows (stood c.args.self.now.end c.resolve.new.self.end c.resolve.ensures.core c.resolve.ensures.ends) c.load.ensures.ends
+
+pub returns-in_ok-print_kept-in-Err-clause-unused : goal.returns-in_ok-print_kept-in-Err-clause-unused
+returns-in_ok-print_kept-in-Err-clause-unused g c =
+    inr (not_loaded c.args.self.now.end.core.value c.resolve.new.self.end.core.value c.load.new.self.core.value c.args.config c.in-Err.fault (ap (λ x. x.value) c.resolve.ensures.core) c.load.ensures.refused c.in_ok-print_kept-in-Err.ensures)

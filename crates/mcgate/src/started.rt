@@ -1,0 +1,145 @@
+//! A text that is to be served, and what is remembered of those before it.
+
+ghost use Rattle.std.specs.Prelude.{string_bytes};
+ghost use Rattle.mcgate.specs.Remembers.{StandsIn};
+
+use crate::histories::file_at;
+use crate::lines::Lines;
+use crate::remembering::{Kept, unwritten_line};
+use gate_growth::ledger::Beginning;
+use gate_history::HistoryFile;
+use mcgate_args::details::Details;
+use mcgate_args::ends::Stop;
+use mcgate_args::histories::print_no_next;
+use mcgate_args::serve_arguments::ServeJob;
+use mcgate_check::status::BAD_INPUT;
+use serve_proxy::Beginnings;
+use std::io::Write;
+use std::rt::Files;
+
+/// The text of a configuration that is to be served; where a history is kept, it stands in its file.
+#[derive(Drop)]
+pub struct Started {
+    text: String,
+    memory: Option<Kept>,
+    /// How servers began.
+    pub begun: Beginnings,
+    ghost stands: { ∥ StandsIn memory (string_bytes text) ∥₁ },
+}
+
+/// What came of a text: it may be served, or the exit status of what was printed instead.
+#[derive(Drop)]
+pub enum Begun {
+    Started(Started),
+    Printed(u8),
+}
+
+impl Started {
+    /// The text, and what is remembered.
+    pub fn into_parts(self) -> (String, Option<Kept>)
+        ensures { ∥ StandsIn result.1 (string_bytes result.0) ∥₁ }
+    {
+        let Started {
+            text,
+            memory,
+            begun: _,
+        } = self;
+        (text, memory)
+    }
+}
+
+// How servers began for a core after the history of this file: where there were trees before, those of its first one held anything.
+fn begun_after(file: &HistoryFile, begun: Beginnings) -> Beginnings {
+    if file.count() == 0 {
+        begun
+    } else {
+        Beginnings {
+            opened: Beginning::Any,
+            added: begun.added,
+        }
+    }
+}
+
+// How the new servers of the next generation of a file began.
+fn began_in(file: &HistoryFile, begun: Beginnings) -> Beginning {
+    if file.count() == 0 {
+        begun.opened
+    } else {
+        begun.added
+    }
+}
+
+// The text is the next generation of this file, if it may be; else why not is printed.
+fn begin_in<R: Files + AllocGlobal, W: Write>(
+    rt: &R,
+    job: &ServeJob<'_>,
+    path: &str,
+    file: HistoryFile,
+    text: String,
+    out: &mut W,
+    details: &mut Details,
+) -> Result<Begun, Stop> {
+    let began = began_in(&file, job.begun);
+    let begun = begun_after(&file, job.begun);
+    let mut file = file;
+    match file.take_text(rt.alloc(), text.as_str(), began) {
+        Ok(old) => match Kept::new(rt, path, file, begun.added, old.is_some()) {
+            Ok(kept) => Ok(Begun::Started(Started {
+                text,
+                memory: Some(kept),
+                begun,
+            })),
+            Err(error) => {
+                details.add(unwritten_line(rt.alloc(), path, &error));
+                Err(Stop::from(error))
+            }
+        },
+        Err(fault) => Ok(Begun::Printed(print_no_next(rt.alloc(), path, &fault, out, details)?)),
+    }
+}
+
+/// A text whose configuration the gate accepted is to be served. Where a history is kept it is judged after it, and written to its file,
+/// if it may be served; else why not is printed.
+pub fn begin<R: Files + Input + AllocGlobal + Eprint, W: Write>(
+    rt: &R,
+    job: &ServeJob<'_>,
+    text: String,
+    lines: &mut Lines,
+    out: &mut W,
+    details: &mut Details,
+) -> Result<Begun, Stop> {
+    match job.history {
+        None => Ok(Begun::Started(Started {
+            text,
+            memory: None,
+            begun: job.begun,
+        })),
+        Some(path) => match file_at(rt, path, lines, out, details)? {
+            Some(file) => begin_in(rt, job, path, file, text, out, details),
+            None => Ok(Begun::Printed(BAD_INPUT)),
+        },
+    }
+}
+
+/// The same where nothing is to be served, and nothing is written: the exit status of what was printed, if the text may not be served.
+pub fn refused_after<R: Files + Input + AllocGlobal + Eprint, W: Write>(
+    rt: &R,
+    job: &ServeJob<'_>,
+    text: &str,
+    lines: &mut Lines,
+    out: &mut W,
+    details: &mut Details,
+) -> Result<Option<u8>, Stop> {
+    let Some(path) = job.history else {
+        return Ok(None);
+    };
+    let Some(file) = file_at(rt, path, lines, out, details)? else {
+        return Ok(Some(BAD_INPUT));
+    };
+    let began = began_in(&file, job.begun);
+    let mut file = file;
+    match file.take_text(rt.alloc(), text, began) {
+        Ok(_) => Ok(None),
+        Err(fault) => Ok(Some(print_no_next(rt.alloc(), path, &fault, out, details)?)),
+    }
+}

@@ -1,0 +1,122 @@
+-- What is printed of the configurations of a fleet. Source: mcgate's own.
+use Rattle.std.specs.Prelude.{◌≡◌, ℕ, ◌+◌, ◌≤◌, ◌⊎◌, List, [], ◌∷◌, ◌++◌, Option, Some, None, Ok, IsSome, length, slice_get, string_bytes}
+use Rattle.std.specs.Io.KnownBytes.{Appends}
+use Rattle.serde_json.specs.Read.{read}
+use Rattle.route_tree.specs.Each.{Each}
+use Rattle.route_json.specs.declared.fault.ConfigFault.{ConfigFault}
+use Rattle.route_json.specs.Fault.{fault_of}
+use Rattle.route_json.specs.Configs.{read_or, read_after}
+use Rattle.route_json.specs.Configuration.{Configuration}
+use Rattle.route_json.specs.Servers.{Addresses}
+use Rattle.gate_check.specs.declared.gap.Gap.{Gap}
+use Rattle.gate_check.specs.declared.gap.Reason.{Reason}
+use Rattle.gate_check.specs.declared.reloading.TheConstants.{MOST_GENERATIONS}
+use Rattle.gate_check.specs.Gate.{IsCertified}
+use Rattle.gate_check.specs.Sound.{trees_of}
+use Rattle.core_fleets.specs.declared.gates.judging.FleetFault.{FleetFault}
+use Rattle.core_fleets.specs.declared.gates.judging.FleetFault.TheVariants as faults
+use Rattle.core_fleets.specs.FleetGate.{AreSideBySide, IsFleetFault}
+use Rattle.script_text.specs.Printed.{config_fault_line}
+use Rattle.mcgate_check.specs.declared.reporting.Form.TheVariants.{Lines}
+use Rattle.mcgate_check.specs.Checking.{ChecksRefused}
+use Rattle.mcgate_check.specs.Reporting.{Checks}
+use Rattle.mcgate_args.specs.declared.fleets.checking.FleetFile.{FleetFile}
+use Rattle.mcgate_args.specs.declared.fleets.checking.FleetEnd.{FleetEnd}
+use Rattle.mcgate_args.specs.FleetLines.{fleet_line, many_files_line, many_places_line, pair_gap_line, copying_line}
+
+-- the gate accepts the configuration, and nothing was written; or it refuses it, and that was written
+abbrev pub JudgesAlone : Configuration → Option (List ℕ) → Option (List ℕ) → Option ℕ → Type 0
+JudgesAlone config old new None = IsCertified config.tree × (new ≡ old)
+JudgesAlone config old new (Some status) = (status ≡ 1) × (reason : Reason) × ChecksRefused config reason old new
+
+-- the text is a configuration that the gate accepts
+abbrev pub IsAccepted : List ℕ → Type 0
+IsAccepted text = (config : Configuration) × (read_or (read text) ≡ Ok (config.tree, config.servers)) × IsCertified config.tree
+
+-- so it is, and nothing was written; or what `check` prints of it was
+abbrev pub ChecksAlone : List ℕ → Option (List ℕ) → Option (List ℕ) → Option ℕ → Type 0
+ChecksAlone text old new None = IsAccepted text × (new ≡ old)
+ChecksAlone text old new (Some status) = (status ≡ 0 → ⊥) × Checks Lines text old new status
+
+-- the first of the files that isn't accepted by itself, counted from this number on, and what `check` prints of it was written; or all are
+abbrev pub FindsRefused : ℕ → List FleetFile → Option (List ℕ) → Option (List ℕ) → Option FleetEnd → Type 0
+FindsRefused index files old new None = Each (λ (f : FleetFile). IsAccepted (string_bytes f.text)) files × (new ≡ old)
+FindsRefused index [] old new (Some end) = ⊥
+FindsRefused index (file ∷ files) old new (Some end) =
+    ((end.alone ≡ Some index) × ChecksAlone (string_bytes file.text) old new (Some end.status))
+    ⊎ (IsAccepted (string_bytes file.text) × FindsRefused (index + 1) files old new (Some end))
+
+-- the configurations of the files, the servers of each numbered after those of the one before
+abbrev pub AreRead : Addresses → List FleetFile → List Configuration → Type 0
+AreRead servers [] configs = configs ≡ []
+AreRead servers (file ∷ files) [] = ⊥
+AreRead servers (file ∷ files) (config ∷ configs) = (read_after servers (read (string_bytes file.text)) ≡ Ok (config.tree, config.servers)) × AreRead config.servers files configs
+
+-- they were added
+abbrev pub AddsRead : Addresses → List FleetFile → List Configuration → List Configuration → Type 0
+AddsRead servers files old new = (configs : List Configuration) × (new ≡ old ++ configs) × AreRead servers files configs
+
+-- how a file is called
+abbrev pub name_of : Option FleetFile → List ℕ
+name_of None = []
+name_of (Some file) = file.name.now
+
+abbrev pub name_at : List FleetFile → ℕ → List ℕ
+name_at files index = name_of (slice_get files index)
+
+abbrev pub copying_line_of : (file : List ℕ) → Option (List ℕ) → Option Configuration → List ℕ
+copying_line_of file prefix None = []
+copying_line_of file prefix (Some config) = copying_line file config.tree prefix
+
+abbrev pub gap_line_of : (reads deletes : List ℕ) → Gap → Option Configuration → List ℕ
+gap_line_of reads deletes gap None = []
+gap_line_of reads deletes gap (Some config) = pair_gap_line config.servers reads deletes gap
+
+-- the line of a fault; running out of memory has none
+abbrev pub fault_line : List FleetFile → List Configuration → FleetFault → List ℕ
+fault_line files configs (faults.Copies index prefix) = copying_line_of (name_at files index) prefix (slice_get configs index)
+fault_line files configs (faults.TooManyPlaces reads deletes) = many_places_line (name_at files reads) (name_at files deletes)
+fault_line files configs (faults.Uncovered reads deletes gap) = gap_line_of (name_at files reads) (name_at files deletes) gap (slice_get configs reads)
+fault_line files configs faults.NoMemory = []
+
+-- a fault that has a line
+abbrev pub IsToldFault : FleetFault → Type 0
+IsToldFault (faults.Copies index prefix) = Unit {0}
+IsToldFault (faults.TooManyPlaces reads deletes) = Unit {0}
+IsToldFault (faults.Uncovered reads deletes gap) = Unit {0}
+IsToldFault faults.NoMemory = ⊥
+
+-- proxies may run by the configurations of the files at the same time, and that was written
+pub record AcceptsFleet (files : List FleetFile) (old new : Option (List ℕ)) : Type 0 where
+  pub configs : List Configuration
+  pub read : AreRead [] files configs
+  pub side_by_side : AreSideBySide (trees_of configs)
+  pub printed : Appends old new (fleet_line (length configs))
+
+-- they may not, and why was written
+pub record RefusesFleet (files : List FleetFile) (old new : Option (List ℕ)) : Type 0 where
+  pub configs : List Configuration
+  pub read : AreRead [] files configs
+  pub fault : FleetFault
+  pub told : IsToldFault fault
+  pub judged : IsFleetFault (trees_of configs) fault
+  pub printed : Appends old new (fault_line files configs fault)
+
+-- a fault of a configuration was written
+pub record SaysFault (old new : Option (List ℕ)) : Type 0 where
+  pub fault : ConfigFault
+  pub told : IsSome (fault_of fault)
+  pub printed : Appends old new (config_fault_line fault)
+
+-- the verdict on all together was written; status 0: accepted; status 1: refused, or there are too many; status 2: the configurations can't be read together
+abbrev pub ChecksTogether : List FleetFile → Option (List ℕ) → Option (List ℕ) → ℕ → Type 0
+ChecksTogether files old new status =
+    ((status ≡ 0) × AcceptsFleet files old new)
+    ⊎ (((status ≡ 1) × (RefusesFleet files old new ⊎ ((MOST_GENERATIONS ≤ length files) × Appends old new many_files_line)))
+    ⊎ ((status ≡ 2) × SaysFault old new))
+
+-- what `check` prints of the first file that isn't accepted by itself was written, or each is, and the verdict on all together was
+abbrev pub ChecksFleet : List FleetFile → Option (List ℕ) → Option (List ℕ) → FleetEnd → Type 0
+ChecksFleet files old new end =
+    FindsRefused 0 files old new (Some end)
+    ⊎ ((end.alone ≡ None) × Each (λ (f : FleetFile). IsAccepted (string_bytes f.text)) files × ChecksTogether files old new end.status)

@@ -1,0 +1,186 @@
+//! What is printed of the file of a history, and of a configuration that is to follow it.
+
+use crate::details::Details;
+use crate::ends::{Stop, decline};
+use crate::input_text::InputFault;
+use gate_check::ReloadFault;
+use gate_growth::ledger::{Beginning, Unsound};
+use gate_history::{
+    HistoryFault, HistoryFile, NextFault, advice_on, write_fault, write_meaning, write_remembered,
+};
+use mcgate_check::reload_lines::write_kept;
+use mcgate_check::status::{BAD_INPUT, DONE, REFUSED};
+use route_json::{ConfigFault, Servers};
+use std::alloc::{AllocError, Global};
+use std::io;
+use std::io::Write;
+
+// What to do about the fault of a file.
+fn fault_line(alloc: Global, name: &str, advice: &str) -> Result<String, AllocError> {
+    format!(in alloc; "mcgate: {name}: {advice}")
+}
+
+// The history of a text, or prints its fault.
+fn file_of<W: Write>(
+    alloc: Global,
+    name: &str,
+    text: String,
+    out: &mut W,
+    details: &mut Details,
+) -> Result<Option<HistoryFile>, Stop> {
+    match HistoryFile::read(alloc, text) {
+        Ok(file) => Ok(Some(file)),
+        Err(HistoryFault::NoMemory) => Err(Stop::Memory),
+        Err(fault) => {
+            write_fault(&fault, out)?;
+            if let Some(advice) = advice_on(&fault) {
+                details.add(fault_line(alloc, name, advice));
+            }
+            Ok(None)
+        }
+    }
+}
+
+/// The history of an input of this name. Where it is none, that was printed.
+pub fn read_file<W: Write>(
+    alloc: Global,
+    name: &str,
+    input: Result<String, InputFault>,
+    out: &mut W,
+    details: &mut Details,
+) -> Result<Option<HistoryFile>, Stop> {
+    match input {
+        Ok(text) => file_of(alloc, name, text, out, details),
+        Err(fault) => {
+            details.add_configuration(alloc, name, &Err(fault));
+            decline(fault, out)?;
+            Ok(None)
+        }
+    }
+}
+
+// The fault of a reload.
+fn reload_fault_of(unsound: &Unsound) -> ReloadFault {
+    match unsound {
+        Unsound::TooManyGenerations => ReloadFault::TooManyGenerations,
+        Unsound::TooManyPlaces => ReloadFault::TooManyPlaces(0),
+        Unsound::Left(generation, gap) => ReloadFault::Uncovered(*generation, *gap),
+        Unsound::NoMemory => ReloadFault::NoMemory,
+    }
+}
+
+// Prints the fault of a text that says no configuration.
+fn print_config_fault<W: Write>(fault: &ConfigFault, out: &mut W) -> Result<(), Stop> {
+    match fault {
+        ConfigFault::NoMemory => Err(Stop::Memory),
+        told => Ok(writeln!(out, "config: {told}")?),
+    }
+}
+
+// Prints why a configuration of these servers may not be loaded.
+fn print_unsound<W: Write>(servers: &Servers, unsound: &Unsound, out: &mut W) -> Result<(), Stop> {
+    match reload_fault_of(unsound) {
+        ReloadFault::NoMemory => Err(Stop::Memory),
+        fault => Ok(write_kept(servers, &fault, out)?),
+    }
+}
+
+/// Prints why a text isn't loaded after a history.
+pub fn print_kept_after<W: Write>(fault: &NextFault, out: &mut W) -> Result<(), Stop> {
+    match fault {
+        NextFault::Config(fault) => print_config_fault(fault, out),
+        NextFault::Refused(servers, unsound) => print_unsound(servers, unsound, out),
+        NextFault::NoLine => Ok(writeln!(out, "reload refused: no line")?),
+        NextFault::NoMemory => Err(Stop::Memory),
+    }
+}
+
+// Writes the line of a reload as that of a start.
+fn write_start<W: Write>(line: &[u8], out: &mut W) -> io::Result<()> {
+    let line = str::from_utf8(line).unwrap_or("");
+    let rest = line.strip_prefix("reload").unwrap_or(line);
+    write!(out, "history{rest}")
+}
+
+// What to do where a configuration may not follow a history.
+fn refused_lines(alloc: Global, name: &str, details: &mut Details) {
+    details.add(format!(in alloc;
+        "mcgate: {name}: items that an earlier tree left there would be shown; mcgate history {name} tells what servers hold"
+    ));
+    details.add(format!(in alloc;
+        "mcgate: {name}: serve the configuration of its last line; or empty all servers that were ever used, take it away, and start anew"
+    ));
+}
+
+// Prints why a configuration of these servers isn't served after a history.
+fn print_refused<W: Write>(
+    alloc: Global,
+    name: &str,
+    servers: &Servers,
+    unsound: &Unsound,
+    out: &mut W,
+    details: &mut Details,
+) -> Result<u8, Stop> {
+    let mut line = Vec::new(alloc);
+    print_unsound(servers, unsound, &mut line)?;
+    write_start(line.as_slice(), out)?;
+    refused_lines(alloc, name, details);
+    Ok(REFUSED)
+}
+
+/// Prints why a text isn't served after the history of this name. The answer is the exit status.
+pub fn print_no_next<W: Write>(
+    alloc: Global,
+    name: &str,
+    fault: &NextFault,
+    out: &mut W,
+    details: &mut Details,
+) -> Result<u8, Stop> {
+    match fault {
+        NextFault::Config(fault) => {
+            print_config_fault(fault, out)?;
+            Ok(BAD_INPUT)
+        }
+        NextFault::Refused(servers, unsound) => {
+            print_refused(alloc, name, servers, unsound, out, details)
+        }
+        NextFault::NoLine => {
+            writeln!(out, "history refused: no line")?;
+            Ok(REFUSED)
+        }
+        NextFault::NoMemory => Err(Stop::Memory),
+    }
+}
+
+/// Prints whether the text's configuration may follow the history of this name. The answer is the exit status.
+pub fn check_after<W: Write>(
+    alloc: Global,
+    name: &str,
+    file: HistoryFile,
+    text: &str,
+    began: Beginning,
+    out: &mut W,
+    details: &mut Details,
+) -> Result<u8, Stop> {
+    let mut file = file;
+    match file.take_text(alloc, text, began) {
+        Ok(old) => {
+            let word = if old.is_some() {
+                "accepted"
+            } else {
+                "unchanged"
+            };
+            writeln!(out, "history {word} generation={}", file.count())?;
+            Ok(DONE)
+        }
+        Err(fault) => print_no_next(alloc, name, &fault, out, details),
+    }
+}
+
+/// Prints what a history remembers. The answer is the exit status.
+pub fn tell_history<W: Write>(alloc: Global, file: HistoryFile, out: &mut W) -> Result<u8, Stop> {
+    writeln!(out, "generations={}", file.count())?;
+    write_remembered(alloc, file.into_history(), out)?;
+    write_meaning(out)?;
+    Ok(DONE)
+}
