@@ -13,4 +13,4 @@ loop-id-preserved g c = record {
 }
 
 pub returns : goal.returns
-returns g c = record { ends = c.loop-id.invariant.ends; most = most_of_all c.args.self.now.clients c.loop-id.id c.loop-id.best (omega (arith, c.loop-id-test.false, c.len-id.ensures)) c.loop-id.invariant.most }
+returns g c = record { ends = c.loop-id.invariant.ends; most = most_of_all c.args.self.now.clients c.loop-id.id c.loop-id.best (omega (arith, c.loop-id-test.false, c.len-id-end.ensures)) c.loop-id.invariant.most }
