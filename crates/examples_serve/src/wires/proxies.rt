@@ -487,7 +487,7 @@ proxy <one server>
 turn 90
 open 1 => yes
 taken 3 => nothing
-turn 60
+turn 100
 taken 3 => END\r\n
 open 1 => no
 turn 200
@@ -777,12 +777,16 @@ impl Scripted<'_> {
         Ok(())
     }
 
-    // Who was closed after a turn, as nothing was taken.
+    fn next_stalled(&mut self) -> Result<Option<u64>, Fail> {
+        Ok(self.proxy()?.next_stalled())
+    }
+
+    // How many were closed after a turn, as they took too little.
     fn note_stalled(&mut self) -> Result<(), Fail> {
-        if let Some(count) = self.proxy()?.next_stalled() {
-            push_stalled(self.rt.alloc(), &mut self.told, count)?;
+        match self.next_stalled()? {
+            Some(count) => Ok(push_stalled(self.rt.alloc(), &mut self.told, count)?),
+            None => Ok(()),
         }
-        Ok(())
     }
 
     // The news since they were asked for.
