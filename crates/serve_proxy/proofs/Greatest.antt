@@ -1,6 +1,6 @@
 -- To which client most is to be sent.
 use Rattle.std.proofs.Common.{◌≡◌, ◌≢◌, ◌⊎◌, inl, inr, ℕ, ◌+◌, ◌-◌, ◌^◌, ◌<◌, ◌≤◌, min, Bool, List, true, false, if◌then◌else◌, Option, Some, None, length, refl, sym, ap, ◌∙◌, subst, arith}
-use Rattle.std.proofs.lemmas.Bool.{cases_eq}
+use Rattle.std.proofs.lemmas.Bool.{cases_eq, cases_lt, leb-false}
 use Rattle.std.proofs.lemmas.Option.{slice_get_past}
 use Rattle.std.specs.Prelude.{nat_le, IfSome, slice_get}
 use Rattle.std.specs.Option.{option_map, option_flatten}
@@ -49,19 +49,19 @@ most_more clients now n count best best' keeps is new was = subst (IsMostBelow c
       where
         if_more : (b : Bool) → nat_le count best.1 ≡ b → IsMostBelow clients (n + 1) (if b then Some best else Some (n, count))
         if_more true e = (some.0, up_to best.1 (grind arith) some.1)
-        if_more false e = (here, up_to count (omega arith) (λ other below. omega (arith, some.1 other below, e)))
+        if_more false e = (here, up_to count (omega arith) (λ other below. omega (arith, some.1 other below, leb-false count best.1 e)))
 
 -- all are below the number of places
-pub most_of_all : (clients : Clients) (n : ℕ) (best : Option (ℕ × ℕ)) → length clients.all.items ≤ n → IsMostBelow clients n best → IfSome best (λ found. HasMost clients found.0)
-most_of_all clients n None all was = tt
-most_of_all clients n (Some best) all was other = split (ℕ_cases n other)
+most_there : (clients : Clients) (n : ℕ) (best : ℕ × ℕ) → length clients.all.items ≤ n → IsMostBelow clients n (Some best) → HasMost clients best.0
+most_there clients n best all was other = split (cases_lt other n)
   where
     split : (other < n) ⊎ (n ≤ other) → unsent_at clients other ≤ unsent_at clients best.0
     split (inl below) = subst (λ k. unsent_at clients other ≤ k) was.0 (was.1 other below)
     split (inr above) = subst (λ o. unsent_of (option_flatten o) ≤ unsent_at clients best.0) (sym (slice_get_past clients.all.items other (omega arith))) (omega arith)
 
-    ℕ_cases : (n other : ℕ) → (other < n) ⊎ (n ≤ other)
-    ℕ_cases n other = omega arith
+pub most_of_all : (clients : Clients) (n : ℕ) (best : Option (ℕ × ℕ)) → length clients.all.items ≤ n → IsMostBelow clients n best → IfSome best (λ found. HasMost clients found.0)
+most_of_all clients n None all was = tt
+most_of_all clients n (Some best) all was = most_there clients n best all was
 
 -- only it is broken off
 pub only_most :
@@ -73,8 +73,8 @@ only_most s g b n id keeps others after most k = split (cases_eq k id)
     split (inr other) = inl (after k ∙ ap (option_map said_of) (others k other) ∙ keeps k)
 
 -- of an option that is there
-pub if_there : {A : Type 0} {P : A → Type 0} (r : Option A) (x : A) → r ≡ Some x → IfSome r P → P x
-if_there {A} {P} r x is p = subst (λ o. IfSome o P) is p
+pub if_there : {A : Type 0} (P : A → Type 0) (r : Option A) (x : A) → r ≡ Some x → IfSome r P → P x
+if_there P r x is p = subst (λ o. IfSome o P) is p
 
 -- where all clients are as they were, so is each
 pub same_there : (s n : Clients) (id : ℕ) → AreAlike s n → client_of n id ≡ client_of s id

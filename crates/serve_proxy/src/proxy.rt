@@ -21,7 +21,7 @@ use crate::sending::{send_clients, send_links};
 use crate::serving::{serve_all, serve_asks};
 use crate::showing::give_back_room;
 use crate::sockets::Sockets;
-use crate::stalls::{end_stalled, shed};
+use crate::stalls::close_slow;
 use core_accepted::laws::begun_core_is_fresh;
 use core_accepted::{Beginnings, LoadFault, ServedCore};
 use gate_check::{Accepted, ReloadFault};
@@ -71,10 +71,8 @@ fn run_turn<W: Wire, R: Net + Clock>(
     send_links(core, sockets)?;
     // Replies go out.
     send_clients(core, sockets)?;
-    // Clients are closed that take nothing.
-    end_stalled(core, sockets)?;
-    // So are those that hold most, if all hold too much.
-    Ok(shed(core, sockets)?)
+    // Clients are closed that take too little.
+    close_slow(core, sockets)
 }
 
 impl<W: Wire + Drop> ProxyEnd<W> {

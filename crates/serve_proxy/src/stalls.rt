@@ -12,6 +12,7 @@ use core_accepted::ServedCore;
 use serve_clients::Client;
 use serve_wire::Wire;
 use std::alloc::{AllocError, Global};
+use std::io;
 
 // More bytes than these are much.
 const MUCH: usize = 1_048_576;
@@ -241,8 +242,17 @@ impl Stalls {
     }
 }
 
-/// Where more bytes are to be sent to all clients than are set, the client to which most are is broken off, until no more are than that.
-pub fn shed<W: Wire>(core: &ServedCore, sockets: &mut Sockets<W>) -> Result<(), AllocError>
+/// After all clients were written, those that have stalled are broken off, and those to which most is to be sent, if too much is to all.
+pub fn close_slow<W: Wire>(core: &ServedCore, sockets: &mut Sockets<W>) -> io::Result<()>
+    ensures ends { AllGoOn W.history core.now sockets.old core.now sockets.new }
+{
+    end_stalled(core, sockets)?;
+    shed(core, sockets)?;
+    Ok(())
+}
+
+// Where more bytes are to be sent to all clients than are set, the client to which most are is broken off, until no more are than that.
+fn shed<W: Wire>(core: &ServedCore, sockets: &mut Sockets<W>) -> Result<(), AllocError>
     ensures ends { AllGoOn W.history core.now sockets.old core.now sockets.new }
 {
     for _ in 0..sockets.clients.len() {
@@ -278,8 +288,8 @@ fn greater(best: Option<(usize, usize)>, id: usize, count: usize) -> Option<(usi
     }
 }
 
-/// Clients that have stalled are broken off. After all were written, it is looked whether one may have.
-pub fn end_stalled<W: Wire>(core: &ServedCore, sockets: &mut Sockets<W>) -> Result<(), AllocError>
+// Clients that have stalled are broken off, if one may have.
+fn end_stalled<W: Wire>(core: &ServedCore, sockets: &mut Sockets<W>) -> Result<(), AllocError>
     ensures ends { AllGoOn W.history core.now sockets.old core.now sockets.new }
 {
     if !sockets.stalls.may_be_late(sockets.time) {
@@ -299,10 +309,23 @@ fn end_if_stalled<W: Wire>(
 ) -> Result<(), AllocError>
     ensures ends { AllGoOn W.history core.now sockets.old core.now sockets.new }
 {
-    if sockets.may_have_stalled(id) {
-        write_again(core, sockets, id)?;
-    }
+    let may_have = sockets.may_have_stalled(id);
+    write_again_if(core, sockets, id, may_have)?;
     sockets.note_later(id);
+    Ok(())
+}
+
+fn write_again_if<W: Wire>(
+    core: &ServedCore,
+    sockets: &mut Sockets<W>,
+    id: usize,
+    is_so: bool,
+) -> Result<(), AllocError>
+    ensures ends { AllGoOn W.history core.now sockets.old core.now sockets.new }
+{
+    if is_so {
+        return write_again(core, sockets, id);
+    }
     Ok(())
 }
 

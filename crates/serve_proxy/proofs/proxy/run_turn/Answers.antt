@@ -26,8 +26,5 @@ returns-in_err-send_links g c = record { ends = or_any g.W.Wire.history c.args.c
 pub returns-in_err-send_clients : goal.returns-in_err-send_clients
 returns-in_err-send_clients g c = record { ends = or_any g.W.Wire.history c.args.core.now c.args.sockets.now _ _ c.from_residual-in_err-send_clients.result (and_then (and_then (and_then (and_then (and_then (and_then (and_then (and_then ((stays c.args.core.now c.wait.ensures.ends)) c.give_back_room.ensures.ends) c.accept_ready.ensures.ends) c.serve_asks.ensures.ends) c.in_ok-read_links.ensures.ends) c.in_ok-fail_late.ensures.ends) c.serve_all.ensures.ends) (failing c.send_links.ensures.ends)) c.send_clients.ensures.ends) }
 
-pub returns-in_err-end_stalled : goal.returns-in_err-end_stalled
-returns-in_err-end_stalled g c = record { ends = or_any g.W.Wire.history c.args.core.now c.args.sockets.now _ _ c.from_residual-in_err-end_stalled.result (and_then (and_then (and_then (and_then (and_then (and_then (and_then (and_then (and_then ((stays c.args.core.now c.wait.ensures.ends)) c.give_back_room.ensures.ends) c.accept_ready.ensures.ends) c.serve_asks.ensures.ends) c.in_ok-read_links.ensures.ends) c.in_ok-fail_late.ensures.ends) c.serve_all.ensures.ends) (failing c.send_links.ensures.ends)) c.send_clients.ensures.ends) c.end_stalled.ensures.ends) }
-
 pub returns : goal.returns
-returns g c = record { ends = or_any g.W.Wire.history c.args.core.now c.args.sockets.now _ _ (Ok tt) (and_then (and_then (and_then (and_then (and_then (and_then (and_then (and_then (and_then ((stays c.args.core.now c.wait.ensures.ends)) c.give_back_room.ensures.ends) c.accept_ready.ensures.ends) c.serve_asks.ensures.ends) c.in_ok-read_links.ensures.ends) c.in_ok-fail_late.ensures.ends) c.serve_all.ensures.ends) (failing c.send_links.ensures.ends)) c.send_clients.ensures.ends) c.end_stalled.ensures.ends) }
+returns g c = record { ends = or_any g.W.Wire.history c.args.core.now c.args.sockets.now _ _ c.close_slow.result (and_then (and_then (and_then (and_then (and_then (and_then (and_then (and_then (and_then ((stays c.args.core.now c.wait.ensures.ends)) c.give_back_room.ensures.ends) c.accept_ready.ensures.ends) c.serve_asks.ensures.ends) c.in_ok-read_links.ensures.ends) c.in_ok-fail_late.ensures.ends) c.serve_all.ensures.ends) (failing c.send_links.ensures.ends)) c.send_clients.ensures.ends) c.close_slow.ensures.ends) }

@@ -1,4 +1,5 @@
 use Rattle.std.proofs.Common.{inl}
+use Rattle.serve_proxy.specs.Stalls.{HasMost}
 use Rattle.serve_proxy.proofs.Going.{and_then, breaking, stays}
 use Rattle.serve_proxy.proofs.Greatest.{only_most, if_there}
 use Rattle.serve_proxy.proofs.stalls.shed_one.Goals as goal
@@ -7,8 +8,8 @@ pub returns : goal.returns
 returns g c = record {
   ends = and_then (and_then (stays c.args.core.now c.greatest.ensures.ends) (breaking (c.break_client.ensures.ends c.args.core.now))) (stays c.args.core.now c.mark_ready_if.ensures.ends);
   only =
-      only_most c.args.sockets.now.clients c.greatest.new.self.clients c.break_client.new.self.clients _ c.in-Some.id c.greatest.ensures.ends.clients c.break_client.ensures.others c.mark_ready_if.ensures.ends.clients
-      (if_there c.greatest.result c.in-Some.id c.in-Some.is c.greatest.ensures.most);
+      only_most c.args.sockets.now.clients c.greatest.new.self.clients c.break_client.new.self.clients c.mark_ready_if.new.self.clients c.in-Some.id c.greatest.ensures.ends.clients c.break_client.ensures.others c.mark_ready_if.ensures.ends.clients
+      (if_there (HasMost c.args.sockets.now.clients) c.greatest.result c.in-Some.id c.in-Some.is c.greatest.ensures.most);
 }
 
 pub returns-in_default : goal.returns-in_default

@@ -1,4 +1,4 @@
-use Rattle.std.proofs.Common.{refl}
+use Rattle.std.proofs.Common.{refl, arith}
 use Rattle.serve_proxy.proofs.Staying.{stay_then, stay_still}
 use Rattle.serve_proxy.proofs.Greatest.{most_more, most_of_all}
 use Rattle.serve_proxy.proofs.sockets.Sockets.greatest_with.Goals as goal
@@ -13,4 +13,4 @@ loop-id-preserved g c = record {
 }
 
 pub returns : goal.returns
-returns g c = record { ends = c.loop-id.invariant.ends; most = most_of_all c.args.self.now.clients c.loop-id.id c.loop-id.best ? c.loop-id.invariant.most }
+returns g c = record { ends = c.loop-id.invariant.ends; most = most_of_all c.args.self.now.clients c.loop-id.id c.loop-id.best (omega (arith, c.loop-id-test.false, c.len-id-end.ensures)) c.loop-id.invariant.most }
