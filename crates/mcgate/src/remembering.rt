@@ -1,7 +1,8 @@
 //! What a proxy remembers from one run to the next: a history in a file, to which each configuration is added before its tree is used.
 
-ghost use Rattle.std.specs.Prelude.{◌≡◌, ℕ, Some, IfOk, OnOk, OnErr, string_bytes};
+ghost use Rattle.std.specs.Prelude.{◌≡◌, ℕ, List, Some, IfOk};
 ghost use Rattle.gate_history.specs.Standing.{Stands};
+ghost use Rattle.mcgate.specs.Remembers.{MayStand};
 
 use crate::lines::Lines;
 use gate_growth::ledger::Beginning;
