@@ -70,16 +70,7 @@ ask 0 get a\r\n => SERVER_ERROR call failed\r\n
 ask 0 get a\r\n => SERVER_ERROR call failed\r\n
 ask 0 get a\r\n => SERVER_ERROR call failed\r\n
 ask 0 get a\r\n => SERVER_ERROR call failed\r\n
-news => server 0: failed: no connection could be made, 2 in a row, a second later
-
-A client that quits gets its replies, and what comes behind is dropped: the system would take them away from it if bytes were left unread.
-cache
-proxy <one server>
-connect => 0
-send 0 get a\r\nquit\r\n
-repeat 0 100000 x
-gets 0 => END\r\n
-closed 0 => yes"
+news => server 0: failed: no connection could be made, 2 in a row, a second later"
 }
 
 // Many commands, many clients, and a client that reads late.

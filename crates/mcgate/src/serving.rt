@@ -551,6 +551,7 @@ impl Serving {
         ensures core { MayLoad config self.old.end.core.value self.new.end.core.value }
         ensures ends { AllGrow (IsLoadOf config) (proxy_of self.old.end) (proxy_of self.new.end) }
         ensures memory { self.new.memory ≡ self.old.memory }
+        ensures noted { IfOk result (λ used. IsTrue used → self.new.servers ≡ servers) }
         ensures unused { IfOk result (λ used. IsTrue used ⊎ (self.new.end.core.value ≡ self.old.end.core.value)) }
     {
         self.resolve(rt, &servers)?;

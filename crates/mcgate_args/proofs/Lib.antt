@@ -1,2 +1,3 @@
+pub mod FleetVerdicts
 pub mod InputLemmas
 pub mod StopLemmas

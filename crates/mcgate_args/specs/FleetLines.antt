@@ -12,6 +12,8 @@ use Rattle.gate_check.specs.declared.gap.Gap.{Gap}
 use Rattle.gate_gaps.specs.Pointing.{pointed}
 use Rattle.gate_gaps.specs.Sites.{longest_begun}
 use Rattle.mcgate_check.specs.Verdict.{gap_fields}
+use Rattle.mcgate_args.specs.declared.fleets.lines.Step.{Step}
+use Rattle.mcgate_args.specs.declared.fleets.lines.Step.TheVariants as steps
 
 -- the line of trees that are accepted together: accepted trees=N
 abbrev pub fleet_line : ℕ → List ℕ
@@ -35,6 +37,12 @@ pair_head reads deletes = codes "refused:" ++ pair_fields reads deletes
 -- the line of a gap of two trees
 abbrev pub pair_gap_line : Addresses → (reads deletes : List ℕ) → Gap → List ℕ
 pair_gap_line servers reads deletes gap = pair_head reads deletes ++ gap_fields servers gap
+
+-- the steps from selectors to their children
+unfoldable pub step_text : Step → List ℕ
+step_text steps.Default = codes "/default_policy"
+step_text steps.Get = codes "/operation_policies/get"
+step_text steps.Wildcard = codes "/wildcard"
 
 abbrev pub step_to_child : ℕ → List ℕ
 step_to_child index = codes "/children/" ++ decimal index
@@ -64,18 +72,21 @@ module _ (text : List ℕ) where
 
     -- by the policy of gets, else by the default
     pub copy_path_by : Policies → List ℕ
-    copy_path_by (Otherwise r) = codes "/default_policy" ++ copy_path r
-    copy_path_by (Policy op r ps) = if same_op op Get then codes "/operation_policies/get" ++ copy_path r else copy_path_by ps
+    copy_path_by (Otherwise r) = step_text steps.Default ++ copy_path r
+    copy_path_by (Policy op r ps) = if same_op op Get then step_text steps.Get ++ copy_path r else copy_path_by ps
 
     -- by the policy of this length that begins the text, else by the wildcard
     pub copy_path_begun : (longest : ℕ) → Prefixes → List ℕ
-    copy_path_begun longest (Wildcard r) = codes "/wildcard" ++ copy_path r
+    copy_path_begun longest (Wildcard r) = step_text steps.Wildcard ++ copy_path r
     copy_path_begun longest (Prefix p r ps) = if begins p text && length p == longest then step_to_policy p ++ copy_path r else copy_path_begun longest ps
 
 -- the prefix and the file, and the line's end
 abbrev pub copying_end : (file : List ℕ) → Option (List ℕ) → List ℕ
 copying_end file prefix = codes " prefix=" ++ escaped (prefix_text prefix) ++ codes " file=" ++ escaped file ++ codes "\n"
 
+abbrev pub copying_front : (text : List ℕ) → Route → List ℕ
+copying_front text tree = codes "refused: a read copies, route=/route" ++ copy_path text tree
+
 -- the line of a tree by which a get of keys with this prefix copies
 abbrev pub copying_line : (file : List ℕ) → Route → Option (List ℕ) → List ℕ
-copying_line file tree prefix = codes "refused: a read copies, route=/route" ++ copy_path (prefix_text prefix) tree ++ copying_end file prefix
+copying_line file tree prefix = copying_front (prefix_text prefix) tree ++ copying_end file prefix

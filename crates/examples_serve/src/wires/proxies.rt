@@ -16,8 +16,7 @@ use std::test::Fail;
 use std::time::Duration;
 
 // Far ends have names that are numbers. `peer` begins the script of one, which then calls at a time or answers the next connection to a
-// host. `proxy` looks up the servers of its configuration and begins. A `turn` waits for 100 ms at most, and a `wait` is a turn that waits
-// as long as the proxy does by itself. `news` are those since they were asked for last.
+// host. `proxy` looks up the servers of its configuration and begins. `news` are those since they were asked for last.
 fn texts() -> &'static str {
     r"Bytes come cut anywhere, and go out by the piece.
 host 127.0.0.1:5001
@@ -107,7 +106,7 @@ taken 1 => VALUE a 0 9\r\n123456789\r\nEND\r\n
 open 1 => no
 taken 9 => get a\r\n
 
-An answer that is late is nobody's: its connection is closed, and the next call goes to a new one.
+An answer that is late is nobody's: its connection is closed, and the next call goes to a new one, whose answer isn't late.
 host 127.0.0.1:5001
 peer 8
 awaits 7
@@ -118,6 +117,7 @@ sends VALUE b 0 1\r\n1\r\nEND\r\n
 answers 127.0.0.1:5001
 peer 9
 awaits 7
+until 5500
 sends END\r\n
 answers 127.0.0.1:5001
 peer 1
@@ -128,7 +128,7 @@ until 5000
 sends get c\r\n
 calls 0
 proxy <one server>
-wait 60
+turn 100
 taken 1 => END\r\nSERVER_ERROR call failed\r\nEND\r\n
 open 8 => no
 taken 9 => get c\r\n
@@ -487,7 +487,7 @@ proxy <one server>
 turn 90
 open 1 => yes
 taken 3 => nothing
-turn 60
+turn 100
 taken 3 => END\r\n
 open 1 => no
 turn 200
@@ -749,7 +749,6 @@ impl Scripted<'_> {
             "auto-proxy" => self.begin(text, ServerDialect::Auto),
             "turn" => self.turn_often(text.parse::<usize>()?),
             "bounds" => self.bound(text),
-            "wait" => self.wait_often(text.parse::<usize>()?),
             _ => self.script(verb, text),
         }
     }
@@ -777,12 +776,16 @@ impl Scripted<'_> {
         Ok(())
     }
 
-    // Who was closed after a turn, as nothing was taken.
+    fn next_stalled(&mut self) -> Result<Option<u64>, Fail> {
+        Ok(self.proxy()?.next_stalled())
+    }
+
+    // How many were closed after a turn, as they took too little.
     fn note_stalled(&mut self) -> Result<(), Fail> {
-        if let Some(count) = self.proxy()?.next_stalled() {
-            push_stalled(self.rt.alloc(), &mut self.told, count)?;
+        match self.next_stalled()? {
+            Some(count) => Ok(push_stalled(self.rt.alloc(), &mut self.told, count)?),
+            None => Ok(()),
         }
-        Ok(())
     }
 
     // The news since they were asked for.
@@ -801,21 +804,6 @@ impl Scripted<'_> {
             self.turn()?;
             self.note_news()?;
             self.note_stalled()?;
-        }
-        Ok(())
-    }
-
-    // A turn as long as the proxy waits by itself. Where it would wait for ever nothing happens.
-    fn wait(&mut self) -> Result<(), Fail> {
-        let rt = self.rt;
-        let _ = self.proxy()?.turn(rt);
-        Ok(())
-    }
-
-    fn wait_often(&mut self, count: usize) -> Result<(), Fail> {
-        for _ in 0..count {
-            self.wait()?;
-            self.note_news()?;
         }
         Ok(())
     }

@@ -51,6 +51,7 @@ fn judge_alone<W: Write>(alloc: Global, config: Config, out: &mut W) -> Result<O
 
 // Judges the configuration of a text. Where it is refused or the text is none, that is written as `check` does, and the answer is the
 // status.
+#[tactic(auto, using(crate::proofs::FleetVerdicts::judged_alone, crate::proofs::FleetVerdicts::faulty))]
 fn check_alone<W: Write>(alloc: Global, text: &str, out: &mut W) -> Result<Option<u8>, RunFault>
     ensures ok { IfOk result (ChecksAlone text.now (W.contents out.old) (W.contents out.new)) }
     ensures err { IfErr result (StopsUnwritten (W.contents out.old) (W.contents out.new)) }
@@ -227,6 +228,7 @@ fn check_together<W: Write>(
 }
 
 // The first of the files, which have numbers from this one on, whose configuration isn't accepted by itself, and what is printed of it.
+#[tactic(auto, using(crate::proofs::FleetVerdicts::found_later, crate::proofs::FleetVerdicts::stops_later))]
 fn first_refused<W: Write>(
     alloc: Global,
     index: usize,

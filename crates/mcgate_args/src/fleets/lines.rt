@@ -3,7 +3,7 @@
 ghost use Rattle.std.specs.Prelude.{◌≡◌, ◌+◌, ◌<◌, ◌^◌, OnOk, length};
 ghost use Rattle.std.specs.Io.KnownBytes.{Appends};
 ghost use Rattle.route_tree.specs.Form.{policies_of, prefixes_of, routes_of};
-ghost use Rattle.mcgate_args.specs.FleetLines.{copy_path, copy_path_begun, copy_path_by, copy_path_in, copying_end, copying_line, fleet_line, many_files_line, many_places_line, pair_fields, pair_gap_line, pair_head, step_to_child, step_to_policy};
+ghost use Rattle.mcgate_args.specs.FleetLines.{copy_path, copy_path_begun, copy_path_by, copy_path_in, copying_end, copying_front, copying_line, fleet_line, many_files_line, many_places_line, pair_fields, pair_gap_line, pair_head, step_text, step_to_child, step_to_policy};
 
 use core_fleets::gates::copied::copies;
 use gate_check::Gap;
@@ -127,10 +127,30 @@ fn write_copy_path_in<W: Write>(
     }
 }
 
-fn write_step<W: Write>(step: &'static str, out: &mut W) -> io::Result<()>
-    ensures { OnOk result (Appends (W.contents out.old) (W.contents out.new) step.now) }
+// A step from a selector to a child.
+#[derive(Clone, Copy)]
+enum Step {
+    Default,
+    Get,
+    Wildcard,
+}
+
+#[tactic(auto, unfolding(crate::specs::FleetLines::step_text))]
+fn step_text(step: Step) -> &'static str
+    ensures { result.now ≡ step_text step }
 {
-    write!(out, "{step}")
+    match step {
+        Step::Default => "/default_policy",
+        Step::Get => "/operation_policies/get",
+        Step::Wildcard => "/wildcard",
+    }
+}
+
+fn write_step<W: Write>(step: Step, out: &mut W) -> io::Result<()>
+    ensures { OnOk result (Appends (W.contents out.old) (W.contents out.new) (step_text step)) }
+{
+    let text = step_text(step);
+    write!(out, "{text}")
 }
 
 // Writes the path by the policy of gets, else by the default.
@@ -145,12 +165,12 @@ fn write_copy_path_by<W: Write>(
 {
     match policies {
         [] => {
-            write_step("/default_policy", out)?;
+            write_step(Step::Default, out)?;
             write_copy_path(text, default, out)
         }
         [(op, child), rest @ ..] => {
             if is_op(*op, Op::Get) {
-                write_step("/operation_policies/get", out)?;
+                write_step(Step::Get, out)?;
                 write_copy_path(text, child, out)
             } else {
                 write_copy_path_by(text, rest, default, out)
@@ -179,7 +199,7 @@ fn write_copy_path_begun<W: Write>(
 {
     match policies {
         [] => {
-            write_step("/wildcard", out)?;
+            write_step(Step::Wildcard, out)?;
             write_copy_path(text, wildcard, out)
         }
         [(own, child), rest @ ..] => {
@@ -203,6 +223,15 @@ fn write_copying_end<W: Write>(file: &str, prefix: &Option<Key>, out: &mut W) ->
     writeln!(out, " prefix={prefix} file={file}")
 }
 
+// Writes the path through the JSON text to the first warm-up that a get of keys with this text comes to.
+fn write_copying_front<W: Write>(text: &[u8], tree: &Tree, out: &mut W) -> io::Result<()>
+    ensures { OnOk result (Appends (W.contents out.old) (W.contents out.new) (copying_front text.now tree.now)) }
+{
+    write!(out, "refused: a read copies, route=/route")?;
+    write_copy_path(text, tree, out)?;
+    Ok(())
+}
+
 /// Writes the line of a tree by which a get of keys with this prefix copies: `refused: a read copies, route=R prefix=P file=F`, with the
 /// path through the JSON text to the first warm-up that it comes to. The format is mcgate's own.
 pub fn write_copying<W: Write>(
@@ -213,8 +242,7 @@ pub fn write_copying<W: Write>(
 ) -> io::Result<()>
     ensures { OnOk result (Appends (W.contents out.old) (W.contents out.new) (copying_line file.now tree.now prefix.now)) }
 {
-    write_step("refused: a read copies, route=/route", out)?;
-    write_copy_path(prefix_text(prefix), tree, out)?;
+    write_copying_front(prefix_text(prefix), tree, out)?;
     write_copying_end(file, prefix, out)?;
     Ok(())
 }
