@@ -13,7 +13,7 @@ fn written() -> &'static str {
 {"type":"PrefixSelectorRoute","policies":{"b":"PoolRoute|B"},"wildcard":"PoolRoute|A"} => 0 {"certificate":1,"classes":[{"modulus":1,"runs":[{"first":0,"servers":[0]}]},{"modulus":1,"runs":[{"first":0,"servers":[1]}]}]}
 {"type":"OperationSelectorRoute","default_policy":{"type":"FailoverRoute","children":["PoolRoute|B","PoolRoute|A"]},"operation_policies":{"delete":{"type":"AllSyncRoute","children":["PoolRoute|A","PoolRoute|B"]}}} => 0 {"certificate":1,"classes":[{"modulus":1,"runs":[{"first":0,"servers":[0,1]}]}]}
 {"type":"FailoverRoute","children":["PoolRoute|A","PoolRoute|B"]} => 1 refused: server=127.0.0.1:5001 read=get delete=delete prefix= residue=0/1
-"PoolRoute|C" => 2 config: unknown pool C"#
+"PoolRoute|C" => 2 config: no pool C"#
 }
 
 struct OfRoutes;
