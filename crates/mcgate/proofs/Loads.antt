@@ -127,6 +127,11 @@ not_loaded old mid new configuration fault same stops other = ⊎_elim (λ e. e 
 pub stands_still : (a b : ServedCore) (memory after : Option Kept) (text : List ℕ) → after ≡ memory → StandsIn memory text → StandsIfLoaded a b after text
 stands_still a b memory after text same stands = inr (subst (λ (m : Option Kept). StandsIn m text) (sym same) stands)
 
+-- nothing was changed since
+pub stands_as : (a b b' : ServedCore) (m m' : Option Kept) (text text' : List ℕ) → b' ≡ b → m' ≡ m → text ≡ text' → StandsIfLoaded a b m text → StandsIfLoaded a b' m' text'
+stands_as a b b' m m' text text' core memory said stands =
+    subst (λ (x : ServedCore). StandsIfLoaded a x m' text') (sym core) (subst (λ (x : Option Kept). StandsIfLoaded a b x text') (sym memory) (subst (λ (x : List ℕ). StandsIfLoaded a b m x) said stands))
+
 -- it wasn't loaded
 pub stands_unused : (a b : ServedCore) (memory : Option Kept) (text : List ℕ) (used : Bool) → used ≡ false → IsTrue used ⊎ (b ≡ a) → StandsIfLoaded a b memory text
 stands_unused a b memory text false none or = ⊎_elim (λ e. absurd (false_true e)) (λ e. inl e) or

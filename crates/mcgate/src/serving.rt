@@ -386,7 +386,8 @@ impl Serving {
 
     // This is what the file has; it says the configuration in use or was refused.
     fn note_text(&mut self, text: String, is_used: bool)
-        ensures { self.new.end ≡ self.old.end }
+        ensures ends { self.new.end ≡ self.old.end }
+        ensures memory { self.new.memory ≡ self.old.memory }
     {
         if is_used {
             self.text = text;
@@ -507,6 +508,7 @@ impl Serving {
     fn resolve<R: Net + Eprint>(&mut self, rt: &R, servers: &Servers) -> io::Result<()>
         ensures core { self.new.end.core ≡ self.old.end.core }
         ensures ends { Stay history_of self.old.end.sockets self.new.end.sockets }
+        ensures memory { self.new.memory ≡ self.old.memory }
     {
         for at in self.servers.len()..servers.len() {
             self.resolve_at(rt, servers, at)?;
@@ -523,6 +525,7 @@ impl Serving {
     ) -> io::Result<()>
         ensures core { self.new.end.core ≡ self.old.end.core }
         ensures ends { Stay history_of self.old.end.sockets self.new.end.sockets }
+        ensures memory { self.new.memory ≡ self.old.memory }
     {
         match text_at(servers, at) {
             Some(text) => self.resolve_one(rt, text),
@@ -533,6 +536,7 @@ impl Serving {
     fn resolve_one<R: Net + Eprint>(&mut self, rt: &R, text: &str) -> io::Result<()>
         ensures core { self.new.end.core ≡ self.old.end.core }
         ensures ends { Stay history_of self.old.end.sockets self.new.end.sockets }
+        ensures memory { self.new.memory ≡ self.old.memory }
     {
         let found = self.end.resolve(rt, text);
         tell_if_unknown(rt, &mut self.lines, text, found)?;

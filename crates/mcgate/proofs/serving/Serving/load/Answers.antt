@@ -21,4 +21,4 @@ returns-in_ok-print_kept-in-Err-clause-ends g c = then_grows (stood c.args.self.
 
 pub returns-in_ok-print_kept-in-Err-clause-unused : goal.returns-in_ok-print_kept-in-Err-clause-unused
 returns-in_ok-print_kept-in-Err-clause-unused g c =
-    inr (not_loaded c.args.self.now.end.core.value c.resolve.new.self.end.core.value c.load.new.self.core.value c.args.config c.in-Err.fault (ap (λ x. x.value) c.resolve.ensures.core) c.load.ensures.refused c.in_ok-print_kept-in-Err.ensures)
+    inr (not_loaded c.args.self.now.end.core.value c.resolve.new.self.end.core.value c.load.new.self.core.value c.args.config c.in-Err.fault (ap (λ x. x.value) c.resolve.ensures.core) c.in-Err.ensures.refused c.in_ok-print_kept-in-Err.ensures)

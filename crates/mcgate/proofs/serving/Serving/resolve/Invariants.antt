@@ -4,4 +4,4 @@ use Rattle.mcgate.specs.Serves.{history_of}
 use Rattle.mcgate.proofs.serving.Serving.resolve.Given as goal
 
 abbrev pub invariant-loop-at : goal.invariant-loop-at
-invariant-loop-at g l = record { core : l.self.end.core ≡ l.fn.self.end.core; ends : Stay history_of l.fn.self.end.sockets l.self.end.sockets }
+invariant-loop-at g l = record { core : l.self.end.core ≡ l.fn.self.end.core; ends : Stay history_of l.fn.self.end.sockets l.self.end.sockets; memory : l.self.memory ≡ l.fn.self.memory }
