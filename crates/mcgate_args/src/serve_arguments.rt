@@ -141,7 +141,8 @@ fn settings_of(given: &ArgMatches<'_>) -> Result<Settings, ArgumentsFault> {
     Ok(Settings {
         clients: size_of(given, "clients", usual.clients)?,
         client_window: size_of(given, "client-window", usual.client_window)?,
-        link_window: size_of(given, "link-window", usual.link_window)?,
+        link_window: usual.link_window,
+        places: size_of(given, "link-window", usual.places)?,
         sharing: usual.sharing,
         call_ms: millis_of(given, "call-ms", usual.call_ms)?,
         connect_ms: millis_of(given, "connect-ms", usual.connect_ms)?,

@@ -73,6 +73,7 @@ fn settings() -> Settings {
         clients: SCRIPT_CLIENTS,
         client_window: 1,
         link_window: 1,
+        places: 1,
         sharing: Sharing::Alone,
         call_ms: u64::MAX,
         connect_ms: u64::MAX,

@@ -49,6 +49,10 @@ with_busy flag x = record x { is_busy = flag }
 abbrev pub one_settled : Client → Client
 one_settled x = record x { settled = min (x.settled + 1) (2 ^ 64 - 1); calls_out = x.calls_out - 1 }
 
+-- the client, when the next answer to it is expected to take so many bytes
+abbrev pub one_expects : ℕ → Client → Client
+one_expects len x = record x { expects = Some len }
+
 -- the client after one of its calls began to wait for a server, and after one waits no longer
 abbrev pub one_waits : Client → Client
 one_waits x = record x { waiting = min (x.waiting + 1) (2 ^ 64 - 1) }

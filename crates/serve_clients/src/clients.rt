@@ -4,7 +4,7 @@ ghost use Rattle.std.specs.Prelude.{◌≡◌, ◌≢◌, ℕ, ◌+◌, ◌-◌,
 ghost use Rattle.std.specs.Option.{option_map, option_flatten, option_copied_mut};
 ghost use Rattle.std.specs.Borrow.{sem};
 ghost use Rattle.wire_parts.specs.Sending.{bytes_of};
-ghost use Rattle.serve_clients.specs.Marks.{client_of, Changes, AreAlike, EndsBusy, ids_with, ids_if, is_idle, with_ready, with_unsent, with_busy, ready_if, unsent_if, told_of, noted, will_send, one_settled, one_waits, one_waited};
+ghost use Rattle.serve_clients.specs.Marks.{client_of, Changes, AreAlike, EndsBusy, ids_with, ids_if, is_idle, with_ready, with_unsent, with_busy, ready_if, unsent_if, told_of, noted, will_send, one_settled, one_expects, one_waits, one_waited};
 ghost use Rattle.serve_clients.specs.Agrees.{Breaks, KeepsEnds};
 ghost use Rattle.serve_clients.specs.Lending.{LendsClient};
 ghost use Rattle.serve_clients.specs.Waits.{waits_a_turn};
@@ -41,6 +41,8 @@ pub struct Client {
     waiting: usize,
     /// How many of its calls have no outcome yet.
     calls_out: usize,
+    // How many bytes the next answer to it is expected to take, once one came.
+    expects: Option<usize>,
     /// Whether what is to be sent to it was held back in the turn before.
     is_held_back: bool,
     /// It sends no more, or nothing more is read of it.
@@ -68,6 +70,7 @@ impl Client {
             settled: 0,
             waiting: 0,
             calls_out: 0,
+            expects: None,
             is_held_back: false,
             is_ended: false,
             is_broken: false,
@@ -268,6 +271,15 @@ fn mark_settled_at(
             mark(&mut client.is_ready, ids, id)
         }
         None => Ok(()),
+    }
+}
+
+// The next answer to it is expected to take so many bytes.
+fn expect_at(place: &mut Option<Client>, len: usize)
+    ensures { place.new ≡ option_map (one_expects len) place.old }
+{
+    if let Some(client) = place {
+        client.expects = Some(len);
     }
 }
 
@@ -536,6 +548,35 @@ impl Clients {
         match self.all.get_mut(id) {
             Some(place) => mark_settled_at(place, &mut self.ready, id),
             None => Ok(()),
+        }
+    }
+
+    /// A call of it was settled by an answer of so many bytes: the next is expected to take as many, or a quarter of what was expected of this one
+    /// where that is more.
+    #[tactic(auto, using(crate::proofs::Agreeing::expects_keeps))]
+    pub fn mark_answered(&mut self, id: usize, len: usize) -> Result<(), AllocError>
+        ensures ends { KeepsEnds self.old self.new }
+    {
+        let before = self.expects(id).unwrap_or(0);
+        self.expect(id, len.max(before / 4));
+        self.mark_settled(id)
+    }
+
+    // The next answer to it is expected to take so many bytes.
+    fn expect(&mut self, id: usize, len: usize)
+        ensures client { Changes (one_expects len) id self.old self.new }
+        ensures rest { self.new ≡ record self.old { all = self.new.all } }
+    {
+        if let Some(place) = self.all.get_mut(id) {
+            expect_at(place, len);
+        }
+    }
+
+    /// How many bytes the next answer to it is expected to take, if one came before.
+    pub fn expects(&self, id: usize) -> Option<usize> {
+        match self.all.get(id) {
+            Some(Some(client)) => client.expects,
+            _ => None,
         }
     }
 

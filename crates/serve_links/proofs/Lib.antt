@@ -10,3 +10,4 @@ pub mod Ends
 pub mod Talking
 pub mod Answering
 pub mod LinkGoes
+pub mod Taking

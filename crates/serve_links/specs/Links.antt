@@ -16,6 +16,10 @@ abbrev pub AllFail : List SentCall → ServedCore → ServedCore → Type 0
 AllFail [] old new = new ≡ old
 AllFail (call ∷ calls) old new = (mid : ServedCore) × IsSettled old call.ticket.number Failed mid × AllFail calls mid new
 
+-- of these calls this one is gone, and the others are left in their order
+abbrev pub IsTaken : List SentCall → SentCall → List SentCall → Type 0
+IsTaken calls call calls' = (before after : List SentCall) × (calls ≡ before ++ call ∷ after) × (calls' ≡ before ++ after)
+
 -- of these calls the first are gone
 abbrev pub LosesFirst : List SentCall → List SentCall → Type 0
 LosesFirst calls calls' = (gone : List SentCall) × (calls ≡ gone ++ calls')

@@ -2,7 +2,7 @@
 
 ghost use Rattle.std.specs.Prelude.{◌≡◌, ◌+◌, ◌<◌, ◌++◌, false, ◌∷◌, [], None, length, MatchOption, IfOk, IfErr, OnOk, OnErr, option_map};
 ghost use Rattle.mc_types.specs.declared.ask.Dialect.TheVariants.{Classic};
-ghost use Rattle.serve_links.specs.Links.{IsDown};
+ghost use Rattle.serve_links.specs.Links.{IsDown, IsTaken};
 ghost use Rattle.wire_parts.specs.Sending.{bytes_of};
 ghost use Rattle.serve_links.specs.Lines.{first_asked_of, awaits_first, first_dialect, KeepsLines, HasNewEnd, OpensBy, Learns};
 
@@ -191,9 +191,25 @@ impl Link {
         }
     }
 
-    /// Whether a further call has to wait.
-    pub fn is_full(&self) -> bool {
-        !self.waiting.is_empty() || self.has_backlog()
+    // Whether it takes calls: it has places, and no backlog.
+    fn takes_calls(&self, places: usize) -> bool {
+        self.calls.len() < places && !self.has_backlog()
+    }
+
+    // Whether the call that has waited longest is bulk, and has no room.
+    fn holds_bulk(&self) -> bool {
+        match self.waiting.front() {
+            Some(call) => !self.calls.has_room_for(call.bulk),
+            None => false,
+        }
+    }
+
+    /// Whether a further call, of whose answer so many bytes are expected, has to wait: others than bulk ones pass those that wait.
+    pub fn is_full(&self, places: usize, bulk: usize) -> bool {
+        if !self.takes_calls(places) || !self.calls.has_room_for(bulk) {
+            return true;
+        }
+        !self.waiting.is_empty() && (bulk > 0 || !self.holds_bulk())
     }
 
     /// The call waits. Where memory was refused it is given back.
@@ -208,16 +224,62 @@ impl Link {
         }
     }
 
-    /// The first of the calls that wait, if it may go out now.
+    /// The first of the calls that wait.
     pub fn next_waiting(&mut self) -> Option<SentCall>
         ensures waiting { MatchOption result (self.new.waiting.items ≡ self.old.waiting.items) (λ call. self.old.waiting.items ≡ call ∷ self.new.waiting.items) }
-        ensures none { self.old.conn ≡ None → result ≡ None → self.old.waiting.items ≡ [] }
+        ensures none { result ≡ None → self.old.waiting.items ≡ [] }
         ensures rest { self.new ≡ record self.old { waiting = self.new.waiting } }
     {
-        if self.has_backlog() {
+        self.waiting.pop_front()
+    }
+
+    /// When the first of the calls that wait began.
+    fn oldest_waiting(&self) -> Option<u64> {
+        match self.waiting.front() {
+            Some(call) => Some(call.since),
+            None => None,
+        }
+    }
+
+    // The place of the first that may go out: those that are bulk may have no room.
+    fn place_to_go(&self) -> Option<usize> {
+        let mut place = 0usize;
+        for call in self.waiting.iter() {
+            if self.calls.has_room_for(call.bulk) {
+                return Some(place);
+            }
+            place = place.saturating_add(1);
+        }
+        None
+    }
+
+    /// Of the calls that wait the first that may go out now.
+    #[tactic(auto, using(crate::proofs::Taking::taken))]
+    pub fn next_to_go(&mut self, places: usize) -> Option<SentCall>
+        ensures waiting { MatchOption result (self.new.waiting.items ≡ self.old.waiting.items) (λ call. IsTaken self.old.waiting.items call self.new.waiting.items) }
+        ensures rest { self.new ≡ record self.old { waiting = self.new.waiting } }
+    {
+        if !self.takes_calls(places) {
             return None;
         }
-        self.waiting.pop_front()
+        let place = self.place_to_go()?;
+        self.waiting.remove(place)
+    }
+
+    /// Whether the first of those that wait has waited too long to go out by now: half of the time that it has, so that as much is left for its answer.
+    pub fn has_waited_long(&self, now: u64, settings: &Settings) -> bool {
+        match self.waiting_limit(settings) {
+            Some(limit) => limit < now,
+            None => false,
+        }
+    }
+
+    /// Until when the first of those that wait may wait, in milliseconds.
+    pub fn waiting_limit(&self, settings: &Settings) -> Option<u64> {
+        match self.oldest_waiting() {
+            Some(since) => Some(since.saturating_add(settings.call_ms / 2)),
+            None => None,
+        }
     }
 
     /// How many calls wait.

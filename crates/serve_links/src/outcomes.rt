@@ -224,7 +224,7 @@ fn settle_in(
             Next::Settled { client, used: len } => {
                 used = used.saturating_add(len);
                 *is_freed = true;
-                clients.mark_settled(client)?;
+                clients.mark_answered(client, len)?;
             }
             Next::More => return Ok((used, HeldStop::More)),
             Next::Foreign => return Ok((used, HeldStop::Foreign)),
@@ -305,7 +305,7 @@ fn settle_copied(
         Next::Settled { client, used } => {
             conn.use_up(used);
             *is_freed = true;
-            clients.mark_settled(client)?;
+            clients.mark_answered(client, used)?;
             Ok(HeldFront::Settled)
         }
         Next::More => Ok(HeldFront::More),
@@ -408,9 +408,9 @@ fn settle_large(
         return settle_copied(calls, core, clients, is_freed, conn);
     };
     match settle_shared(calls, core, &front, conn) {
-        (Next::Settled { client, used: _ }, is_kept) => {
+        (Next::Settled { client, used }, is_kept) => {
             *is_freed = true;
-            clients.mark_settled(client)?;
+            clients.mark_answered(client, used)?;
             if is_kept {
                 Ok(HeldFront::Settled)
             } else {

@@ -19,8 +19,10 @@ pub struct Settings {
     pub clients: usize,
     /// How many commands of one client may have no shown reply.
     pub client_window: usize,
-    /// How many calls may be out at one server.
+    /// How many calls the core may have out at one server.
     pub link_window: usize,
+    /// How many of them may have gone out to it: others wait for it.
+    pub places: usize,
     /// Which commands may be under way together on one key.
     pub sharing: Sharing,
     /// How many milliseconds a call may take.
@@ -37,13 +39,14 @@ pub struct Settings {
 }
 
 impl Settings {
-    /// 1,024 clients, 32 commands of each, 256 calls at each server, keys shared, one second each time, three failures, any number of reads,
+    /// 1,024 clients, 32 commands of each, 256 calls that have gone out to each server, keys shared, one second each time, three failures, any number of reads,
     /// and dialects as servers tell.
     pub fn usual() -> Settings {
         Settings {
             clients: 1_024,
             client_window: 32,
-            link_window: 256,
+            link_window: usize::MAX,
+            places: 256,
             sharing: Sharing::Shared,
             call_ms: 1_000,
             connect_ms: 1_000,

@@ -3,8 +3,9 @@
 ghost use Rattle.std.specs.Prelude.{◌≡◌, ℕ, false, None, IfOk};
 ghost use Rattle.serve_clients.specs.Agrees.{KeepsEnds};
 ghost use Rattle.serve_links.specs.Story.{line_of};
-ghost use Rattle.serve_proxy.specs.Ends.{LineStands, LineGoesOn, LineGoesLosing, Stay, GoAlone, AllGoOr, AllGoUnless};
+ghost use Rattle.serve_proxy.specs.Ends.{LineStands, LineGoesOn, LineGoesLosing, Stay, GoAlone, AllFailOn, AllGoOr, AllGoUnless};
 
+use crate::calls::begin_settled;
 use crate::failing::fail_link;
 use crate::sockets::Sockets;
 use core_accepted::ServedCore;
@@ -38,8 +39,20 @@ pub fn serve_link<W: Wire>(
 {
     match read_link(core, sockets, at)? {
         Some(cause) => Ok(fail_link(core, sockets, at, cause)?),
-        None => Ok(sockets.links.mark_rest(at)?),
+        None => Ok(go_on_with(core, sockets, at)?),
     }
+}
+
+// Calls that waited go out in the places of those that were settled, and what is left is read.
+fn go_on_with<W: Wire>(
+    core: &mut ServedCore,
+    sockets: &mut Sockets<W>,
+    at: usize,
+) -> Result<(), AllocError>
+    ensures ends { AllFailOn W.history core.old sockets.old core.new sockets.new }
+{
+    begin_settled(core, sockets, at)?;
+    sockets.links.mark_rest(at)
 }
 
 // One read, and all whole answers are settled. Why the link fails by that, if it does.

@@ -42,17 +42,36 @@ fn send_looked<W: Wire, N: Net>(
     if !sockets.links.is_open(net, &mut sockets.wire, at, time) {
         return refuse_call(core, sockets, id, ticket);
     }
+    let bulk = sockets.bulk_of(id, at, &ticket);
     let call = SentCall {
         ticket,
         client: id,
         since: time,
+        bulk,
         dialect: sockets.links.dialect_of(at),
     };
-    if sockets.links.is_full(at) {
+    if sockets.links.is_full(at, bulk) {
         return let_wait(core, sockets, at, call);
     }
     begin_call(core, sockets, at, call)?;
     sockets.links.mark_output(at)
+}
+
+// The call, which may have waited while nothing was looked at, has half of its time for its answer at least.
+fn renewed(call: SentCall, time: u64, call_ms: u64) -> SentCall
+    ensures { result ≡ record call { since = result.since } }
+{
+    let mut call = call;
+    call.since = call.since.max(time.saturating_sub(call_ms / 2));
+    call
+}
+
+impl<W: Wire> Sockets<W> {
+    // How many bytes the answer to this client's call is expected to take, where it is bulk; else 0.
+    fn bulk_of(&self, id: usize, at: usize, ticket: &Ticket) -> usize {
+        self.links
+            .bulk_of(at, ticket.ask.get(), self.clients.expects(id))
+    }
 }
 
 // The call waits until its server takes more, or has failed. Until then none of its client's commands begins.
@@ -144,6 +163,68 @@ fn begin_waited<W: Wire>(
     ensures ends { AllSendFrom (AgreesSent at call) W.history core.old sockets.old core.new sockets.new }
 {
     sockets.clients.end_waiting(call.client)?;
+    let call = renewed(call, sockets.time, sockets.links.settings.call_ms);
     begin_call(core, sockets, at, call)?;
     Ok(true)
+}
+
+/// Calls that have waited too long for the link fail, who waited longest first. The link stays as it is.
+pub fn fail_waited<W: Wire>(
+    core: &mut ServedCore,
+    sockets: &mut Sockets<W>,
+    at: usize,
+) -> Result<(), AllocError>
+    ensures ends { AllFailOn W.history core.old sockets.old core.new sockets.new }
+{
+    for _ in 0..sockets.links.waiting(at) {
+        if !fail_next(core, sockets, at)? {
+            return Ok(());
+        }
+    }
+    Ok(())
+}
+
+// The first call that waits has failed, if it has waited too long. Whether it has.
+fn fail_next<W: Wire>(
+    core: &mut ServedCore,
+    sockets: &mut Sockets<W>,
+    at: usize,
+) -> Result<bool, AllocError>
+    ensures ends { AllFailOn W.history core.old sockets.old core.new sockets.new }
+{
+    match sockets.links.next_too_late(at, sockets.time) {
+        None => Ok(false),
+        Some(call) => refuse_waited(core, sockets, at, call),
+    }
+}
+
+// The call that waited has failed, and never went out. It tells `true`.
+fn refuse_waited<W: Wire>(
+    core: &mut ServedCore,
+    sockets: &mut Sockets<W>,
+    at: usize,
+    call: SentCall,
+) -> Result<bool, AllocError>
+    ensures ends { AllSendFrom (AgreesSent at call) W.history core.old sockets.old core.new sockets.new }
+{
+    sockets.clients.end_waiting(call.client)?;
+    refuse_call(core, sockets, call.client, call.ticket)?;
+    Ok(true)
+}
+
+/// Calls that waited for the link go out as far as it takes them, where one was settled or the link stands.
+pub fn begin_settled<W: Wire>(
+    core: &mut ServedCore,
+    sockets: &mut Sockets<W>,
+    at: usize,
+) -> Result<(), AllocError>
+    ensures ends { AllFailOn W.history core.old sockets.old core.new sockets.new }
+{
+    if sockets.links.waiting(at) == 0 {
+        return Ok(());
+    }
+    if begin_waiting(core, sockets, at)? {
+        return sockets.links.mark_output(at);
+    }
+    Ok(())
 }

@@ -5,6 +5,7 @@ ghost use Rattle.serve_links.specs.Links.{IsDownAt, IsClosedAt};
 ghost use Rattle.serve_proxy.specs.Ends.{GoAlone, AllFailOn, AllGiveUp, AllGoOr};
 
 use crate::answers::{read_line, serve_link};
+use crate::calls::fail_waited;
 use crate::sockets::{Sockets, close_if_any};
 use core_accepted::ServedCore;
 use serve_links::{Cause, Link, fail_all};
@@ -79,7 +80,7 @@ fn fail_if_late<W: Wire>(
     read_late(core, sockets, at)?;
     match sockets.lateness(at) {
         Some(cause) => Ok(fail_link(core, sockets, at, cause)?),
-        None => Ok(()),
+        None => Ok(fail_waited(core, sockets, at)?),
     }
 }
 

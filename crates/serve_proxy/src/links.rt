@@ -9,7 +9,7 @@ ghost use Rattle.serve_proxy.specs.Ends.{lines_of, LinksTake, LinksGive, LineSta
 
 use crate::clock::earlier;
 use crate::texts::text_at;
-use mc_types::Dialect;
+use mc_types::{Ask, Dialect};
 use route_json::addresses::Servers;
 use serve_links::calls::SentCall;
 use serve_links::{Cause, KEPT_ROOM, Link, LinkNews, Opening, Settings};
@@ -66,6 +66,11 @@ fn write_to(link: &mut Link, call: SentCall) -> Result<(), SentCall>
         Some(conn) => link.calls.begin(call, &mut conn.unsent),
         None => Err(call),
     }
+}
+
+// When it is to be looked at if nothing comes: it fails then, or a call has waited too long for it.
+fn limit_of(link: &Link, settings: &Settings) -> Option<u64> {
+    earlier(link.time_limit(settings), link.waiting_limit(settings))
 }
 
 // It gives back the room that it doesn't need now. Whether it has much that it needs.
@@ -320,10 +325,18 @@ impl Links {
         }
     }
 
-    /// Whether a further call has to wait until the server takes more.
-    pub fn is_full(&self, at: usize) -> bool {
+    /// How many bytes the answer to this call is expected to take, where it is bulk, for a client that expects so many; else 0.
+    pub fn bulk_of(&self, at: usize, ask: &Ask, expects: Option<usize>) -> usize {
         match self.all.get(at) {
-            Some(link) => link.is_full(),
+            Some(link) => link.calls.bulk_of(ask, expects),
+            None => 0,
+        }
+    }
+
+    /// Whether a further call, of whose answer so many bytes are expected, has to wait until the server takes more.
+    pub fn is_full(&self, at: usize, bulk: usize) -> bool {
+        match self.all.get(at) {
+            Some(link) => link.is_full(self.settings.places, bulk),
             None => false,
         }
     }
@@ -351,7 +364,19 @@ impl Links {
     pub fn next_waiting(&mut self, at: usize) -> Option<SentCall>
         ensures call { MatchOption result (lines_of self.new.all.items ≡ lines_of self.old.all.items) (λ call. LinksGive at call self.old.all.items self.new.all.items) }
     {
-        self.all.get_mut(at)?.next_waiting()
+        let places = self.settings.places;
+        self.all.get_mut(at)?.next_to_go(places)
+    }
+
+    /// The first of the calls that wait for it, if that has waited too long to go out.
+    pub fn next_too_late(&mut self, at: usize, time: u64) -> Option<SentCall>
+        ensures call { MatchOption result (lines_of self.new.all.items ≡ lines_of self.old.all.items) (λ call. LinksGive at call self.old.all.items self.new.all.items) }
+    {
+        let link = self.all.get_mut(at)?;
+        if !link.has_waited_long(time, &self.settings) {
+            return None;
+        }
+        link.next_waiting()
     }
 
     /// The call is written to the link, or given back.
@@ -379,7 +404,7 @@ impl Links {
         ensures lines { lines_of self.new.all.items ≡ lines_of self.old.all.items }
     {
         if let Some(link) = self.all.get(at) {
-            self.late_from = earlier(self.late_from, link.time_limit(&self.settings));
+            self.late_from = earlier(self.late_from, limit_of(link, &self.settings));
         }
     }
 
@@ -397,7 +422,7 @@ impl Links {
     {
         let mut first = None;
         for link in self.all.as_slice() {
-            first = earlier(first, link.time_limit(&self.settings));
+            first = earlier(first, limit_of(link, &self.settings));
         }
         self.late_from = first;
     }

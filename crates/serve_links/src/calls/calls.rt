@@ -14,7 +14,7 @@ ghost use Rattle.mc_types.specs.declared.call.Outcome.TheVariants.{Failed};
 use crate::calls::sending::send_ask;
 use core_accepted::ServedCore;
 use core_proxy::Ticket;
-use mc_types::{Ask, Dialect, Outcome, SpareBodies, is_ask};
+use mc_types::{Ask, Dialect, Op, Outcome, SpareBodies, is_ask};
 use std::alloc::{AllocError, Global};
 use std::collections::VecDeque;
 use wire_answers::laws::spelled_answers_fit;
@@ -25,14 +25,28 @@ use wire_meta_gets::{
 use wire_parts::to_send::SendBuffer;
 use wire_stream::{AnswerRead, Received, read_received};
 
+// A get is bulk of whose answer more bytes than these are expected.
+const BULK_FROM: usize = 98_304;
+
+// No further get that is bulk goes out while so many bytes are expected of those that are out.
+const BULK_OUT: usize = 1_310_720;
+
+// So many are expected before a server answered anything.
+const LARGEST: usize = 1_048_576;
+
+// What other clients are expected to take falls by such a part at each answer that is smaller.
+const EXPECTS_PART: usize = 64;
+
 /// A call that went out to a server.
 #[derive(Drop)]
 pub struct SentCall {
     pub ticket: Ticket,
     /// Whose command it is.
     pub client: usize,
-    /// When it began, in milliseconds.
+    /// When it began, in milliseconds: also where it waited before it went out.
     pub since: u64,
+    /// How many bytes its answer is expected to take, where that is much; 0 for all other calls.
+    pub bulk: usize,
     /// In which dialect its server is asked for a classic get; all else is asked as it is.
     pub dialect: Dialect,
 }
@@ -53,6 +67,10 @@ pub enum Next {
 pub struct LinkCalls {
     alloc: Global,
     sent: VecDeque<SentCall>,
+    // How many bytes are expected of those among them whose answers are large.
+    bulk_out: usize,
+    // How many bytes an answer is expected to take to a client to which none came yet.
+    expects: usize,
     // Those of the last gets that were asked in the meta dialect.
     forms: MetaForms,
     // Bodies of earlier answers, for later ones.
@@ -204,6 +222,8 @@ impl LinkCalls {
         LinkCalls {
             alloc,
             sent: VecDeque::new(alloc),
+            bulk_out: 0,
+            expects: LARGEST,
             forms: MetaForms::new(),
             spares: SpareBodies::new(alloc),
         }
@@ -223,12 +243,31 @@ impl LinkCalls {
         self.sent.is_empty()
     }
 
-    /// When the first of those that are out began.
+    /// When the first of those that are out began: the one in front, but where bulk calls are out, which others passed.
     pub fn oldest(&self) -> Option<u64> {
-        match self.sent.front() {
-            Some(call) => Some(call.since),
-            None => None,
+        let mut oldest = self.sent.front()?.since;
+        if self.bulk_out > 0 {
+            for call in self.sent.iter() {
+                oldest = oldest.min(call.since);
+            }
         }
+        Some(oldest)
+    }
+
+    /// How many bytes the answer to this call is expected to take, where that is much, and 0 else: where it is a get of a client that expects
+    /// so many. Of one to which no answer came yet as many are expected as other clients of this server took.
+    pub fn bulk_of(&self, ask: &Ask, expects: Option<usize>) -> usize {
+        let expects = expects.unwrap_or(self.expects);
+        if ask.op == Op::Get && expects > BULK_FROM {
+            expects
+        } else {
+            0
+        }
+    }
+
+    /// Whether a call may go out of which so many bytes are expected: all may but where much is expected of those that are out.
+    pub fn has_room_for(&self, bulk: usize) -> bool {
+        bulk == 0 || self.bulk_out < BULK_OUT
     }
 
     // The number of the call that went out first, and the dialect in which it was asked.
@@ -258,6 +297,7 @@ impl LinkCalls {
         if !send_any(call.dialect, self.alloc, &mut self.forms, ask, out) {
             return Err(call);
         }
+        self.bulk_out = self.bulk_out.saturating_add(call.bulk);
         self.sent.push_back_reserved(call);
         Ok(())
     }
@@ -272,6 +312,7 @@ impl LinkCalls {
             None => None,
             Some(call) => {
                 let client = call.client;
+                self.bulk_out = self.bulk_out.saturating_sub(call.bulk);
                 let _ = core.settle(call.ticket, outcome);
                 Some(client)
             }
@@ -303,6 +344,7 @@ impl LinkCalls {
             AnswerRead::More => Next::More,
             AnswerRead::Foreign => Next::Foreign,
             AnswerRead::Answer(answer, used) => {
+                self.expects = used.max(self.expects - self.expects / EXPECTS_PART);
                 match self.settle_first(core, Outcome::Answered(answer)) {
                     Some(client) => Next::Settled { client, used },
                     None => unreachable!(),

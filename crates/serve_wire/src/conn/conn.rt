@@ -152,12 +152,13 @@ impl Conn {
         if len < MOVED_FROM || room <= self.held.capacity() - len || !self.may_cut() {
             return self.held.reserve(room);
         }
-        self.other.clear();
-        self.other.reserve(len)?;
-        self.other.extend_reserved(self.held.as_slice());
         // Four times as much, up to a bound, so that it seldom has to move again.
         let more = len.saturating_mul(4).min(MOVED_ROOM);
-        self.other.reserve(room.max(more))?;
+        self.other.clear();
+        // (while it is empty, so that nothing moves byte by byte here either)
+        self.other.reserve(len.saturating_add(room.max(more)))?;
+        self.other.extend_from_slice(self.held.as_slice())?;
+        self.other.reserve(room)?;
         mem::swap(&mut self.held, &mut self.other);
         Ok(())
     }

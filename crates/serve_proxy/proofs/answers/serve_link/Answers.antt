@@ -15,11 +15,11 @@ returns-in_err-fail_link-in-Some g c = record {
 pub returns-in_ok-fail_link-in-Some : goal.returns-in_ok-fail_link-in-Some
 returns-in_ok-fail_link-in-Some g c = record { ends = and_then (unless_some g.W.Wire.history c.args.at c.args.core.now c.args.sockets.now _ _ _ _ c.in-Some.is c.in_ok-cause.ensures.ends) (failing (sending c.fail_link.ensures.ends)) }
 
-pub returns-in_err-mark_rest-in-None : goal.returns-in_err-mark_rest-in-None
-returns-in_err-mark_rest-in-None g c = record {
-  ends = or_err g.W.Wire.history c.args.core.now c.args.sockets.now _ _ c.from_residual-in_err-mark_rest-in-None.result c.from_residual-in_err-mark_rest-in-None.ensures.0
-      (may_lose (and_then (unless_none g.W.Wire.history c.args.at c.args.core.now c.args.sockets.now _ _ _ c.in-None.is c.in_ok-cause.ensures.ends) (stays c.read_link.new.core (stay_links _ _ _ _ c.mark_rest.ensures.lines))));
+pub returns-in_err-go_on_with-in-None : goal.returns-in_err-go_on_with-in-None
+returns-in_err-go_on_with-in-None g c = record {
+  ends = or_err g.W.Wire.history c.args.core.now c.args.sockets.now _ _ c.from_residual-in_err-go_on_with-in-None.result c.from_residual-in_err-go_on_with-in-None.ensures.0
+      (may_lose (and_then (unless_none g.W.Wire.history c.args.at c.args.core.now c.args.sockets.now _ _ _ c.in-None.is c.in_ok-cause.ensures.ends) (failing c.go_on_with.ensures.ends)));
 }
 
-pub returns-in_ok-mark_rest-in-None : goal.returns-in_ok-mark_rest-in-None
-returns-in_ok-mark_rest-in-None g c = record { ends = and_then (unless_none g.W.Wire.history c.args.at c.args.core.now c.args.sockets.now _ _ _ c.in-None.is c.in_ok-cause.ensures.ends) (stays c.read_link.new.core (stay_links _ _ _ _ c.mark_rest.ensures.lines)) }
+pub returns-in_ok-go_on_with-in-None : goal.returns-in_ok-go_on_with-in-None
+returns-in_ok-go_on_with-in-None g c = record { ends = and_then (unless_none g.W.Wire.history c.args.at c.args.core.now c.args.sockets.now _ _ _ c.in-None.is c.in_ok-cause.ensures.ends) (failing c.go_on_with.ensures.ends) }
