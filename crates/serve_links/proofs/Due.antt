@@ -12,7 +12,7 @@ use Rattle.serve_links.specs.Story.{numbers_of}
 
 -- ---- numbers among others
 
-one : ℕ → ℕ → ℕ
+abbrev one : ℕ → ℕ → ℕ
 one n m = if nat_eq m n then 1 else 0
 
 pub times_both : (n : ℕ) (xs ys : List ℕ) → times n (xs ++ ys) ≡ times n xs + times n ys
