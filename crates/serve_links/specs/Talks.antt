@@ -13,7 +13,7 @@ use Rattle.core_proxy.specs.declared.note.Poll.TheVariants as polls
 use Rattle.serve_links.specs.Dialects.{asked_in, SpellsIn, IsGreeting}
 use Rattle.serve_links.specs.declared.settings.ServerDialect.{ServerDialect}
 use Rattle.serve_links.specs.Lines.{first_asked_of, awaits_first, first_dialect}
-use Rattle.serve_links.specs.CoreSteps.{Step, Opened, NotOpened, Fed, Polled, Stopped, Settled, Gave, Closed, LeftLine, Broke, Loaded, Linked, Asked, Greeted, Spelled}
+use Rattle.serve_links.specs.CoreSteps.{Step, Opened, NotOpened, Fed, Polled, Stopped, Settled, Gave, Closed, LeftLine, Broke, Loaded, Linked, Asked, Greeted, Spelled, Lost}
 
 -- a call that a server was asked: its number, in which dialect it was asked, and its ask
 abbrev pub SaidAsk : Type 0
@@ -54,12 +54,17 @@ greeted dialect bytes talk = record talk { told = talk.told ++ bytes; awaits = f
 abbrev pub with_answer : List ℕ → Talk → Talk
 with_answer bytes talk = record talk { told = talk.told ++ bytes; out = behind talk.out }
 
+-- it was given up: no call is out there any more, and nothing is awaited
+abbrev pub given_up : Talk → Talk
+given_up talk = record talk { out = []; awaits = false }
+
 -- what a step adds to what was said over the connection of the server of this number
 abbrev pub talk_after : Step → ℕ → Talk → Talk
 talk_after (Linked at dialect) i talk = if nat_eq at i then first_talk dialect talk else talk
 talk_after (Asked at number dialect ask) i talk = if nat_eq at i then with_ask number dialect ask talk else talk
 talk_after (Greeted at dialect bytes) i talk = if nat_eq at i then greeted dialect bytes talk else talk
 talk_after (Spelled at number ask answer bytes) i talk = if nat_eq at i then with_answer bytes talk else talk
+talk_after (Lost at why) i talk = if nat_eq at i then given_up talk else talk
 talk_after (Opened client) i talk = talk
 talk_after (NotOpened fault) i talk = talk
 talk_after (Fed client piece) i talk = talk
@@ -128,6 +133,7 @@ calls_of (Linked server dialect) at = []
 calls_of (Asked server number dialect ask) at = []
 calls_of (Greeted server dialect bytes) at = []
 calls_of (Spelled server number ask answer bytes) at = []
+calls_of (Lost server why) at = []
 
 -- the numbers of all calls that the core gave out for this server in these steps
 abbrev pub calls_in : List Step → ℕ → List ℕ
@@ -168,6 +174,7 @@ MayFollow (Greeted at dialect bytes) past = ((talk_in past at).awaits ≡ true) 
 MayFollow (Spelled at number ask answer bytes) past = IsNextAnswer number ask answer bytes (talk_in past at)
 MayFollow (Settled number outcome) past = ComesBy number outcome past
 MayFollow (Linked at dialect) past = Unit {0}
+MayFollow (Lost at why) past = Unit {0}
 MayFollow (Opened client) past = Unit {0}
 MayFollow (NotOpened fault) past = Unit {0}
 MayFollow (Fed client piece) past = Unit {0}
@@ -201,6 +208,7 @@ IsOfClients (Linked at dialect) = ⊥
 IsOfClients (Asked at number dialect ask) = ⊥
 IsOfClients (Greeted at dialect bytes) = ⊥
 IsOfClients (Spelled at number ask answer bytes) = ⊥
+IsOfClients (Lost at why) = ⊥
 
 -- a step tells of this server, or settles a call
 abbrev pub IsOfServer : ℕ → Step → Type 0
@@ -209,6 +217,7 @@ IsOfServer i (Linked at dialect) = at ≡ i
 IsOfServer i (Asked at number dialect ask) = at ≡ i
 IsOfServer i (Greeted at dialect bytes) = at ≡ i
 IsOfServer i (Spelled at number ask answer bytes) = at ≡ i
+IsOfServer i (Lost at why) = at ≡ i
 IsOfServer i (Opened client) = ⊥
 IsOfServer i (NotOpened fault) = ⊥
 IsOfServer i (Fed client piece) = ⊥
