@@ -1,5 +1,5 @@
 -- How a proxy that serves begins, and how its core and the ends of clients and servers go on. Source: mcgate's own.
-use Rattle.std.specs.Prelude.{◌≡◌, ℕ, ◌⊎◌, List, [], Result, Ok, Err}
+use Rattle.std.specs.Prelude.{◌≡◌, ℕ, ◌⊎◌, List, [], IsSome, Result, Ok, Err}
 use Rattle.serde_json.specs.Read.{read}
 use Rattle.route_json.specs.Servers.{Addresses}
 use Rattle.route_json.specs.Configs.{read_after}
@@ -11,7 +11,7 @@ use Rattle.core_accepted.specs.Loading.{IsLoaded}
 use Rattle.serve_links.specs.declared.settings.Settings.{Settings}
 use Rattle.serve_wire.specs.Events.{Event}
 use Rattle.serve_wire.specs.declared.sockets.sockets.Sockets.{Sockets}
-use Rattle.serve_links.specs.CoreSteps.{Step, Opened, NotOpened, Fed, Polled, Stopped, Settled, Gave, Closed, LeftLine, Broke, Loaded, Linked, Asked, Greeted, Spelled}
+use Rattle.serve_links.specs.CoreSteps.{Step, Opened, NotOpened, Fed, Polled, Stopped, Settled, Gave, Closed, LeftLine, Broke, Loaded, Linked, Asked, Greeted, Spelled, Lost}
 use Rattle.serve_links.specs.Story.{AnEnd, Agrees, AgreesLosing, texts_of}
 use Rattle.serve_proxy.specs.declared.proxy.ProxyEnd.{ProxyEnd}
 use Rattle.serve_proxy.specs.Ends.{end_of, AllGrowFrom, AllGrow}
@@ -58,6 +58,7 @@ IsServed (Linked at dialect) = Unit {0}
 IsServed (Asked at number dialect ask) = Unit {0}
 IsServed (Greeted at dialect bytes) = Unit {0}
 IsServed (Spelled at number ask answer bytes) = Unit {0}
+IsServed (Lost at why) = IsSome why
 
 -- all that has happened on its sockets, the latest first
 abbrev pub history_of : Sockets → List Event

@@ -5,9 +5,11 @@ pub mod Failing
 pub mod Feeding
 pub mod Leaving
 pub mod Reading
+pub mod Shutting
 pub mod Story
 pub mod Ends
 pub mod Talking
+pub mod Due
 pub mod Answering
 pub mod LinkGoes
 pub mod Taking

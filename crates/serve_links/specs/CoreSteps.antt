@@ -1,5 +1,5 @@
 -- What may happen to the core of a proxy, one call after another. Source: mcgate's own.
-use Rattle.std.specs.Prelude.{◌≡◌, ℕ, List, [], ◌∷◌, Some}
+use Rattle.std.specs.Prelude.{◌≡◌, ℕ, List, [], ◌∷◌, Option, Some, IsSome}
 use Rattle.mc_types.specs.declared.ask.Ask.{Ask}
 use Rattle.mc_types.specs.declared.ask.Dialect.{Dialect}
 use Rattle.mc_types.specs.declared.answer.Answer.{Answer}
@@ -20,9 +20,10 @@ use Rattle.core_accepted.specs.declared.served.ServedCore.{ServedCore}
 use Rattle.core_accepted.specs.Results.{IsSettled}
 use Rattle.core_accepted.specs.Loading.{IsLoaded}
 use Rattle.serve_links.specs.declared.settings.ServerDialect.{ServerDialect}
+use Rattle.serve_links.specs.declared.news.Cause.{Cause}
 
 -- one call of a core that changes it, and what came of it; or what was done at a connection, which changes no core: a client was broken off, as its connection failed or memory was refused for its bytes; or at a
--- server's a new one was begun, a call's ask is to be sent, what the server told of its dialects was taken from its bytes, or they spell the answer to a call
+-- server's a new one was begun, a call's ask is to be sent, what the server told of its dialects was taken from its bytes, they spell the answer to a call, or it was given up, for a cause, or as that was wanted
 pub data Step : Type 0 where
   Opened : (client : ℕ) → Step
   NotOpened : (fault : CoreFault) → Step
@@ -39,6 +40,7 @@ pub data Step : Type 0 where
   Asked : (at number : ℕ) (dialect : Dialect) (ask : Ask) → Step
   Greeted : (at : ℕ) (dialect : Dialect) (bytes : List ℕ) → Step
   Spelled : (at number : ℕ) (ask : Ask) (answer : Answer) (bytes : List ℕ) → Step
+  Lost : (at : ℕ) (why : Option Cause) → Step
 
 -- a core goes from one state to another by this call: as the core's own call of that name goes, and with each log that may have led to it. By what was done at a connection it stays; where bytes
 -- spell the answer to a call, that call of the core is out, and asks this
@@ -60,6 +62,7 @@ Does (Linked at dialect) old new = new ≡ old
 Does (Asked at number dialect ask) old new = new ≡ old
 Does (Greeted at dialect bytes) old new = new ≡ old
 Does (Spelled at number ask answer bytes) old new = (new ≡ old) × (of_calls.asked old.core number ≡ Some ask)
+Does (Lost at why) old new = new ≡ old
 
 -- these calls, the latest first, lead from one state to the other
 abbrev pub Walks : List Step → ServedCore → ServedCore → Type 0
@@ -81,7 +84,7 @@ pub record GoesBy (Is : Step → Type 0) (old new : ServedCore) : Type 0 where
 abbrev pub IsAnyCall : Step → Type 0
 IsAnyCall step = Unit {0}
 
--- any call but a load
+-- any call but a load; and no server's connection is given up without a cause
 abbrev pub IsOfTurn : Step → Type 0
 IsOfTurn (Loaded configuration generation) = ⊥
 IsOfTurn (Opened client) = Unit {0}
@@ -98,6 +101,7 @@ IsOfTurn (Linked at dialect) = Unit {0}
 IsOfTurn (Asked at number dialect ask) = Unit {0}
 IsOfTurn (Greeted at dialect bytes) = Unit {0}
 IsOfTurn (Spelled at number ask answer bytes) = Unit {0}
+IsOfTurn (Lost at why) = IsSome why
 
 -- a call of a server has an outcome
 abbrev pub IsSettlement : Step → Type 0
@@ -116,6 +120,7 @@ IsSettlement (Linked at dialect) = ⊥
 IsSettlement (Asked at number dialect ask) = ⊥
 IsSettlement (Greeted at dialect bytes) = ⊥
 IsSettlement (Spelled at number ask answer bytes) = ⊥
+IsSettlement (Lost at why) = ⊥
 
 -- a call of a server has failed
 abbrev pub IsFailure : Step → Type 0
@@ -134,8 +139,9 @@ IsFailure (Linked at dialect) = ⊥
 IsFailure (Asked at number dialect ask) = ⊥
 IsFailure (Greeted at dialect bytes) = ⊥
 IsFailure (Spelled at number ask answer bytes) = ⊥
+IsFailure (Lost at why) = ⊥
 
--- a call of a server is to be sent, over a connection that was there or a new one, or has failed
+-- a call of a server is to be sent, over a connection that was there or a new one, or has failed; or a connection is given up for a cause
 abbrev pub IsSending : Step → Type 0
 IsSending (Settled number outcome) = outcome ≡ Failed
 IsSending (Linked at dialect) = Unit {0}
@@ -152,6 +158,26 @@ IsSending (Broke client) = ⊥
 IsSending (Loaded configuration generation) = ⊥
 IsSending (Greeted at dialect bytes) = ⊥
 IsSending (Spelled at number ask answer bytes) = ⊥
+IsSending (Lost at why) = IsSome why
+
+-- a server's connection is given up so, or a call has failed
+abbrev pub IsGivingUp : Option Cause → Step → Type 0
+IsGivingUp why (Lost at cause) = cause ≡ why
+IsGivingUp why (Settled number outcome) = outcome ≡ Failed
+IsGivingUp why (Opened client) = ⊥
+IsGivingUp why (NotOpened fault) = ⊥
+IsGivingUp why (Fed client piece) = ⊥
+IsGivingUp why (Polled client poll) = ⊥
+IsGivingUp why (Stopped client fault) = ⊥
+IsGivingUp why (Gave client bytes) = ⊥
+IsGivingUp why (Closed client) = ⊥
+IsGivingUp why (LeftLine client) = ⊥
+IsGivingUp why (Broke client) = ⊥
+IsGivingUp why (Loaded configuration generation) = ⊥
+IsGivingUp why (Linked at dialect) = ⊥
+IsGivingUp why (Asked at number dialect ask) = ⊥
+IsGivingUp why (Greeted at dialect bytes) = ⊥
+IsGivingUp why (Spelled at number ask answer bytes) = ⊥
 
 -- it goes on by calls of it alone, and keeps its configuration
 abbrev pub GoesOn : ServedCore → ServedCore → Type 0

@@ -1,10 +1,10 @@
 -- What a walk of a core tells of its clients, and how the ends of clients and links on a wire go on with it. Source: mcgate's own.
-use Rattle.std.specs.Prelude.{◌≡◌, ◌≢◌, ℕ, IfSome, Bool, true, false, List, [], ◌∷◌, ◌++◌, Option, Some, map as each, if◌then◌else◌, nat_eq, slice_get, ◌⊎◌}
+use Rattle.std.specs.Prelude.{◌≡◌, ◌≢◌, ℕ, IfSome, Bool, true, false, List, [], ◌∷◌, ◌++◌, Option, None, Some, map as each, if◌then◌else◌, nat_eq, slice_get, ◌⊎◌}
 use Rattle.mc_types.specs.declared.ask.Ask.{Ask}
 use Rattle.mc_types.specs.declared.ask.Dialect.{Dialect}
 use Rattle.wire_parts.specs.Sending.{bytes_of}
-use Rattle.serve_wire.specs.Events.{Event, role, delivered, taken}
-use Rattle.serve_wire.specs.Agreement.{AddressAgrees, IsUntouched, ClientLost, TouchesOnly}
+use Rattle.serve_wire.specs.Events.{Event, ends, fails, role, delivered, taken, is_over}
+use Rattle.serve_wire.specs.Agreement.{Extends, AddressAgrees, IsUntouched, ClientLost, TouchesOnly}
 use Rattle.serve_wire.specs.declared.conn.conn.Conn.{Conn}
 use Rattle.core_accepted.specs.declared.served.ServedCore.{ServedCore}
 use Rattle.serve_clients.specs.declared.clients.Client.{Client}
@@ -13,8 +13,11 @@ use Rattle.serve_clients.specs.Agrees.{EndAgrees, AllAgree}
 use Rattle.serve_clients.specs.Marks.{client_of}
 use Rattle.serve_links.specs.declared.calls.calls.SentCall.{SentCall}
 use Rattle.serve_links.specs.declared.link.Link.{Link}
-use Rattle.serve_links.specs.CoreSteps.{Step, Opened, NotOpened, Fed, Polled, Stopped, Settled, Gave, Closed, LeftLine, Broke, Loaded, Linked, Asked, Greeted, Spelled, Walks, AreOf}
-use Rattle.serve_links.specs.Talks.{SaidAsk, Talk, talk_in, IsCalledIn, MayBeAsked, IsOrderly, IsOfClients, IsOfServer}
+use Rattle.serve_links.specs.declared.news.Cause.{Cause}
+use Rattle.serve_links.specs.declared.news.Cause.TheVariants as causes
+use Rattle.serve_links.specs.CoreSteps.{Step, Opened, NotOpened, Fed, Polled, Stopped, Settled, Gave, Closed, LeftLine, Broke, Loaded, Linked, Asked, Greeted, Spelled, Lost, Walks, AreOf}
+use Rattle.serve_links.specs.Shut.{AreShut, StaysShut}
+use Rattle.serve_links.specs.Talks.{SaidAsk, Talk, talk_in, IsCalledIn, MayBeAsked, AreDue, IsOrderly, IsOfClients, IsOfServer}
 use Rattle.std.specs.Option.{option_map}
 
 -- all that the core was fed for this client since it was opened, by the calls of a walk, the latest first
@@ -35,6 +38,7 @@ fed_in (Linked at dialect ∷ steps) i = fed_in steps i
 fed_in (Asked at number dialect ask ∷ steps) i = fed_in steps i
 fed_in (Greeted at dialect bytes ∷ steps) i = fed_in steps i
 fed_in (Spelled at number ask answer bytes ∷ steps) i = fed_in steps i
+fed_in (Lost at why ∷ steps) i = fed_in steps i
 
 -- all that the core gave for this client since it was opened
 abbrev pub gave_in : List Step → ℕ → List ℕ
@@ -54,6 +58,7 @@ gave_in (Linked at dialect ∷ steps) i = gave_in steps i
 gave_in (Asked at number dialect ask ∷ steps) i = gave_in steps i
 gave_in (Greeted at dialect bytes ∷ steps) i = gave_in steps i
 gave_in (Spelled at number ask answer bytes ∷ steps) i = gave_in steps i
+gave_in (Lost at why ∷ steps) i = gave_in steps i
 
 -- whether this client was opened, and not closed since
 abbrev pub is_open_in : List Step → ℕ → Bool
@@ -73,6 +78,7 @@ is_open_in (Linked at dialect ∷ steps) i = is_open_in steps i
 is_open_in (Asked at number dialect ask ∷ steps) i = is_open_in steps i
 is_open_in (Greeted at dialect bytes ∷ steps) i = is_open_in steps i
 is_open_in (Spelled at number ask answer bytes ∷ steps) i = is_open_in steps i
+is_open_in (Lost at why ∷ steps) i = is_open_in steps i
 
 -- whether it was broken off since it was opened
 abbrev pub is_broken_in : List Step → ℕ → Bool
@@ -92,6 +98,7 @@ is_broken_in (Linked at dialect ∷ steps) i = is_broken_in steps i
 is_broken_in (Asked at number dialect ask ∷ steps) i = is_broken_in steps i
 is_broken_in (Greeted at dialect bytes ∷ steps) i = is_broken_in steps i
 is_broken_in (Spelled at number ask answer bytes ∷ steps) i = is_broken_in steps i
+is_broken_in (Lost at why ∷ steps) i = is_broken_in steps i
 
 -- a client's end agrees with what was fed and given for it by these calls
 abbrev pub AgreesWith : List Step → List Event → ℕ → Client → Type 0
@@ -157,6 +164,10 @@ abbrev pub MayAllGo : List Step → ℕ → List SentCall → Type 0
 MayAllGo past at [] = Unit {0}
 MayAllGo past at (call ∷ calls) = MayGo past at call × MayAllGo past at calls
 
+-- the numbers of calls
+abbrev pub numbers_of : List SentCall → List ℕ
+numbers_of calls = each (λ call. call.ticket.number) calls
+
 -- a connection agrees with what was said over it: it is to this server, and was begun at the address that this text names; what was to be sent is what it took, and then what is unsent; what it delivered told all
 -- that was told, and is else held; these calls are out, what the server tells of its dialects is awaited or not, and calls are asked in this dialect
 pub record TalkAgrees (h : List Event) (at : ℕ) (text : List ℕ) (talk : Talk) (c : ℕ) (held unsent : List ℕ) (out : List SaidAsk) (awaits : Bool) (dialect : Dialect) : Type 0 where
@@ -172,19 +183,81 @@ pub record TalkAgrees (h : List Event) (at : ℕ) (text : List ℕ) (talk : Talk
 abbrev pub ConnAgrees : ℕ → List Step → List Event → Link → Conn → List ℕ → Type 0
 ConnAgrees at past h link conn held = TalkAgrees h at link.text.items (talk_in past at) conn.number held (bytes_of conn.unsent) (said_asks link.calls.sent.items) link.awaits_dialect link.dialect
 
--- a link agrees with these calls, and all calls that wait for it may go there
+-- a link agrees with these calls, its connection is not over, and all calls that wait for it may go there, and weren't asked yet
 pub record LineAgrees (at : ℕ) (past : List Step) (h : List Event) (link : Link) : Type 0 where
   pub conn : (conn : Conn) → link.conn ≡ Some conn → ConnAgrees at past h link conn conn.held.items
+  pub goes_on : (conn : Conn) → link.conn ≡ Some conn → is_over conn.number h ≡ false
   pub waiting : MayAllGo past at link.waiting.items
+  pub due : AreDue past at (numbers_of link.waiting.items)
 
--- the same of a link whose bytes were lost: it agrees but for what it holds
+-- the same of a link whose bytes were lost, or whose connection is over: it agrees but for what it holds
 pub record LineLost (at : ℕ) (past : List Step) (h : List Event) (link : Link) : Type 0 where
   pub conn : (conn : Conn) → link.conn ≡ Some conn → (held : List ℕ) × ConnAgrees at past h link conn held
   pub waiting : MayAllGo past at link.waiting.items
+  pub due : AreDue past at (numbers_of link.waiting.items)
 
--- a link agrees, and this call may go there
+-- this has happened
+abbrev pub HasHappened : Event → List Event → Type 0
+HasHappened event h = (later earlier : List Event) × (h ≡ later ++ event ∷ earlier)
+
+-- what the wire shows, or what was said, of a connection that is given up for this cause: it has ended, or has failed, or calls are out there. For want of a connection none is given up
+abbrev pub Shows : Cause → Talk → ℕ → List Event → Type 0
+Shows causes.Unreachable talk c h = ⊥
+Shows causes.ConnectLate talk c h = Unit {0}
+Shows causes.CallLate talk c h = talk.out ≢ []
+Shows causes.Closed talk c h = HasHappened (ends c) h
+Shows causes.Broken talk c h = HasHappened (fails c) h
+Shows causes.Foreign talk c h = Unit {0}
+Shows causes.VainReads talk c h = talk.out ≢ []
+
+-- the same where it is given up for a cause, if it is
+abbrev pub ShowsWhy : Option Cause → Talk → ℕ → List Event → Type 0
+ShowsWhy None talk c h = Unit {0}
+ShowsWhy (Some cause) talk c h = Shows cause talk c h
+
+-- the connection over which these steps tell what was said showed so, at some time
+pub record WasShown (why : Option Cause) (at : ℕ) (past : List Step) (h : List Event) : Type 0 where
+  pub conn : ℕ
+  pub before : List Event
+  pub since : Extends before h
+  pub text : List ℕ
+  pub held : List ℕ
+  pub unsent : List ℕ
+  pub agrees : TalkAgrees before at text (talk_in past at) conn held unsent (talk_in past at).out (talk_in past at).awaits (talk_in past at).dialect
+  pub shows : ShowsWhy why (talk_in past at) conn before
+
+-- so it is with a step by which one is given up
+abbrev pub ShownBy : Step → List Step → List Event → Type 0
+ShownBy (Lost at why) past h = WasShown why at past h
+ShownBy (Opened client) past h = Unit {0}
+ShownBy (NotOpened fault) past h = Unit {0}
+ShownBy (Fed client piece) past h = Unit {0}
+ShownBy (Polled client poll) past h = Unit {0}
+ShownBy (Stopped client fault) past h = Unit {0}
+ShownBy (Settled number outcome) past h = Unit {0}
+ShownBy (Gave client bytes) past h = Unit {0}
+ShownBy (Closed client) past h = Unit {0}
+ShownBy (LeftLine client) past h = Unit {0}
+ShownBy (Broke client) past h = Unit {0}
+ShownBy (Loaded configuration generation) past h = Unit {0}
+ShownBy (Linked at dialect) past h = Unit {0}
+ShownBy (Asked at number dialect ask) past h = Unit {0}
+ShownBy (Greeted at dialect bytes) past h = Unit {0}
+ShownBy (Spelled at number ask answer bytes) past h = Unit {0}
+
+-- and with each of these
+abbrev pub AreShown : List Step → List Event → Type 0
+AreShown [] h = Unit {0}
+AreShown (step ∷ steps) h = ShownBy step steps h × AreShown steps h
+
+-- a link is to be given up so: it agrees but for what it holds, and its connection shows why
+pub record LineFails (why : Option Cause) (at : ℕ) (past : List Step) (h : List Event) (link : Link) : Type 0 where
+  pub lost : LineLost at past h link
+  pub shows : (conn : Conn) → link.conn ≡ Some conn → ShowsWhy why (talk_in past at) conn.number h
+
+-- a link agrees, and this call may go there, and wasn't asked yet
 abbrev pub LineCalled : SentCall → (at : ℕ) → List Step → List Event → Link → Type 0
-LineCalled call at past h link = LineAgrees at past h link × MayGo past at call
+LineCalled call at past h link = LineAgrees at past h link × MayGo past at call × AreDue past at (numbers_of (call ∷ link.waiting.items))
 
 -- each link agrees with these calls
 abbrev pub LinesAgree : List Step → List Event → List Link → Type 0
@@ -198,9 +271,10 @@ LineState = List ℕ × Option (ℕ × List ℕ × List ℕ) × List SaidAsk × 
 abbrev pub line_of : Link → LineState
 line_of link = (link.text.items, option_map (λ (x : Conn). (x.number, x.held.items, bytes_of x.unsent)) link.conn, said_asks link.calls.sent.items, link.waiting.items, link.awaits_dialect, link.dialect)
 
--- all connections that were or are of others than this one are as they were
-abbrev pub KeepsOthers : ℕ × ℕ → List Event → List Event → Type 0
-KeepsOthers its h h' = (d : ℕ) (p : ℕ × ℕ) → (role d h ≡ Some p) ⊎ (role d h' ≡ Some p) → p ≢ its → IsUntouched d h h'
+-- all connections that were of others than this one, and all that aren't its now, are as they were
+pub record KeepsOthers (its : ℕ × ℕ) (h h' : List Event) : Type 0 where
+  pub were : (d : ℕ) (p : ℕ × ℕ) → role d h ≡ Some p → p ≢ its → IsUntouched d h h'
+  pub are : (d : ℕ) → role d h' ≢ Some its → IsUntouched d h h'
 
 -- by calls of this kind, which tell nothing of servers, the core goes on, and a client's end on the wire with it: where it agreed with all calls before, it agrees with all calls after, and no other connection is touched
 pub record OneGoes (Is : Step → Type 0) (id : ℕ) (core : ServedCore) (h : List Event) (client : Client) (core' : ServedCore) (h' : List Event) (client' : Client) : Type 0 where
@@ -215,13 +289,15 @@ pub record OneGoes (Is : Step → Type 0) (id : ℕ) (core : ServedCore) (h : Li
   pub others : (past : List Step) (j : ℕ) → nat_eq id j ≡ false → TellsNone j past steps
 
 -- by calls of this kind, which tell of this server alone, the core goes on, and the server's link on the wire with it: where the one held of it and of all calls before, the other holds of it and of all calls after, and
--- all happened in order if it had before. No other's connection is touched
+-- all happened in order if it had before. No other's connection is touched, of its own none is left open but the one that it has, and where a connection is given up the wire showed why
 pub record LineGoesFrom (Before After : ℕ → List Step → List Event → Link → Type 0) (Is : Step → Type 0) (at : ℕ) (core : ServedCore) (h : List Event) (link : Link) (core' : ServedCore) (h' : List Event) (link' : Link) : Type 0 where
   pub steps : List Step
   pub kinds : AreOf Is steps
   pub own : AreOf (IsOfServer at) steps
   pub walks : Walks steps core core'
   pub agrees : (past : List Step) → IsOrderly past → Before at past h link → IsOrderly (steps ++ past) × After at (steps ++ past) h' link' × KeepsOthers (1, at) h h'
+  pub shown : (past : List Step) → IsOrderly past → Before at past h link → AreShown past h → AreShown (steps ++ past) h'
+  pub shut : StaysShut at h link h' link'
   pub text : link'.text.items ≡ link.text.items
 
 -- a link that agrees goes on to agree
@@ -239,13 +315,15 @@ pub record AnEnd : Type 0 where
 abbrev pub texts_of : List Link → List (List ℕ)
 texts_of links = each (λ link. link.text.items) links
 
--- all happened in order by these calls, and each end agrees with them, and so does each connection that was a client's
+-- all happened in order by these calls, and each end agrees with them, and so does each connection that was a client's; the wire showed why each of a server's was given up; and none is open but what ends have
 pub record Agrees (past : List Step) (x : AnEnd) : Type 0 where
   pub orderly : IsOrderly past
   pub clients : AgreeWith past x.history x.clients
   pub told : AreTold past x.clients
   pub links : LinesAgree past x.history x.links
   pub gone : (conn id : ℕ) → role conn x.history ≡ Some (0, id) → HasOrHad past x.history x.clients id conn
+  pub shown : AreShown past x.history
+  pub shut : AreShut x.history x.clients x.links
 
 -- the same, but that this holds of the link at one place
 pub record AgreesBut (This : ℕ → List Step → List Event → Link → Type 0) (at : ℕ) (past : List Step) (x : AnEnd) : Type 0 where
@@ -255,18 +333,20 @@ pub record AgreesBut (This : ℕ → List Step → List Event → Link → Type 
   pub links : (j : ℕ) (link : Link) → nat_eq at j ≡ false → slice_get x.links j ≡ Some link → LineAgrees j past x.history link
   pub this : (link : Link) → slice_get x.links at ≡ Some link → This at past x.history link
   pub gone : (conn id : ℕ) → role conn x.history ≡ Some (0, id) → HasOrHad past x.history x.clients id conn
+  pub shown : AreShown past x.history
+  pub shut : AreShut x.history x.clients x.links
 
 -- all agree, and the core just gave all that it had for this client
 abbrev pub AgreesGiven : ℕ → List Step → AnEnd → Type 0
 AgreesGiven id past x = Agrees past x × IsJustGiven id past
 
--- all agree, and the core gave out this call for this server
+-- all agree, the core gave out this call for this server, and all would agree if it hadn't
 abbrev pub AgreesCalled : ℕ → ℕ → Ask → List Step → AnEnd → Type 0
-AgreesCalled number at ask past x = Agrees past x × IsCalledIn past number at ask
+AgreesCalled number at ask past x = Agrees past x × (call : IsCalledIn past number at ask) × Agrees (call.later ++ call.earlier) x
 
--- all agree, and this call may go to this server
+-- all agree, and this call may go to this server, and wasn't asked yet
 abbrev pub AgreesSent : ℕ → SentCall → List Step → AnEnd → Type 0
-AgreesSent at call past x = Agrees past x × MayGo past at call
+AgreesSent at call past x = Agrees past x × MayGo past at call × ((link : Link) → slice_get x.links at ≡ Some link → AreDue past at (numbers_of (call ∷ link.waiting.items)))
 
 -- all agree, but that what one link holds may be lost
 abbrev pub AgreesLosing : List Step → AnEnd → Type 0

@@ -14,9 +14,10 @@ use Rattle.serve_clients.specs.Marks.{client_of}
 use Rattle.serve_clients.specs.Agrees.{KeepsEnds}
 use Rattle.serve_links.specs.declared.calls.calls.SentCall.{SentCall}
 use Rattle.serve_links.specs.declared.link.Link.{Link}
-use Rattle.serve_links.specs.CoreSteps.{Step, Opened, Gave, Closed, Broke, Loaded, Does, Walks, AreOf, IsOfTurn, IsFailure, IsSending}
+use Rattle.serve_links.specs.CoreSteps.{Step, Opened, Gave, Closed, Broke, Loaded, Does, Walks, AreOf, IsOfTurn, IsGivingUp, IsSending}
+use Rattle.serve_links.specs.declared.news.Cause.{Cause}
 use Rattle.serve_proxy.specs.declared.sockets.Sockets.{Sockets}
-use Rattle.serve_links.specs.Story.{LineState, line_of, LineAgrees, LineLost, LineCalled, LineGoesFrom, LineGoes, OneGoes, AnEnd, Agrees, AgreesGiven, AgreesBut, AgreesCalled, AgreesSent, AgreesLosing, AllGoFrom, AllGo, texts_of}
+use Rattle.serve_links.specs.Story.{LineState, line_of, LineAgrees, LineLost, LineFails, LineCalled, LineGoesFrom, LineGoes, OneGoes, AnEnd, Agrees, AgreesGiven, AgreesBut, AgreesCalled, AgreesSent, AgreesLosing, AllGoFrom, AllGo, texts_of}
 
 -- what each link has to do with its connection and its calls
 abbrev pub lines_of : List Link → List LineState
@@ -62,6 +63,14 @@ LinksGive at call ls ls' = (h : List Event) (cs : Clients) → EndsGoFrom Agrees
 abbrev pub LineStands : ℕ → List Event → List Event → Link → Link → Type 0
 LineStands at h h' old new = (core : ServedCore) → LineGoes IsSending at core h old core h' new
 
+-- the same of one that is to be given up for a cause, if there is one
+abbrev pub LineUnless : Option Cause → ℕ → List Step → List Event → Link → Type 0
+LineUnless None = LineAgrees
+LineUnless (Some cause) = LineFails (Some cause)
+
+abbrev pub LineStandsUnless : Option Cause → ℕ → List Event → List Event → Link → Link → Type 0
+LineStandsUnless cause at h h' old new = (core : ServedCore) → LineGoesFrom LineAgrees (LineUnless cause) IsSending at core h old core h' new
+
 -- wherever it stands, a link takes over this call, which may go to its server
 abbrev pub LineTakes : SentCall → Link → Link → Type 0
 LineTakes call old new = (at : ℕ) (h : List Event) (core : ServedCore) → LineGoesFrom (LineCalled call) LineAgrees IsSending at core h old core h new
@@ -81,6 +90,14 @@ Stay history old new = EndsStay (history old.wire) (history new.wire) old.client
 abbrev pub GoAlone : {W : Type 0} → (W → List Event) → Sockets W → Sockets W → Type 0
 GoAlone history old new = EndsGo (history old.wire) (history new.wire) old.clients new.clients old.links.all.items new.links.all.items
 
+-- all agree; only where the link at this place is to be given up for a cause, what it holds may be lost, and its connection shows why
+abbrev pub AgreesUnless : ℕ → Option Cause → List Step → AnEnd → Type 0
+AgreesUnless at None = Agrees
+AgreesUnless at (Some cause) = AgreesBut (LineFails (Some cause)) at
+
+abbrev pub GoAloneUnless : {W : Type 0} → ℕ → Option Cause → (W → List Event) → Sockets W → Sockets W → Type 0
+GoAloneUnless at cause history old new = EndsGoFrom Agrees (AgreesUnless at cause) (history old.wire) (history new.wire) old.clients new.clients old.links.all.items new.links.all.items
+
 -- a core, and the ends beside it
 abbrev pub end_of : {W : Type 0} → (W → List Event) → ServedCore → Sockets W → AnEnd
 end_of history core sockets = record { core = core; history = history sockets.wire; clients = sockets.clients; links = sockets.links.all.items }
@@ -96,9 +113,13 @@ AllSendFrom Before history core sockets core' sockets' = AllGoFrom Before Agrees
 abbrev pub AllFailOn : {W : Type 0} → (W → List Event) → ServedCore → Sockets W → ServedCore → Sockets W → Type 0
 AllFailOn history core sockets core' sockets' = AllSendFrom Agrees history core sockets core' sockets'
 
--- the link at this place, whose bytes may be lost, is given up: its calls fail, and nothing else is done with the core
+-- the link at this place, whose bytes may be lost, is given up, for whatever its connection shows: its calls fail, and nothing else is done with the core
 abbrev pub AllGiveUp : {W : Type 0} → ℕ → (W → List Event) → ServedCore → Sockets W → ServedCore → Sockets W → Type 0
-AllGiveUp at history core sockets core' sockets' = AllGoFrom (AgreesBut LineLost at) Agrees IsFailure (end_of history core sockets) (end_of history core' sockets')
+AllGiveUp at history core sockets core' sockets' = (why : Option Cause) → AllGoFrom (AgreesBut (LineFails why) at) Agrees (IsGivingUp why) (end_of history core sockets) (end_of history core' sockets')
+
+-- so it is with one that agrees, as that is wanted
+abbrev pub AllDrop : {W : Type 0} → (W → List Event) → ServedCore → Sockets W → ServedCore → Sockets W → Type 0
+AllDrop history core sockets core' sockets' = AllGo (IsGivingUp None) (end_of history core sockets) (end_of history core' sockets')
 
 -- the core goes on by calls of it alone, and the ends with it, but that what the link at this place holds may be lost
 abbrev pub AllGoBut : {W : Type 0} → ℕ → (W → List Event) → ServedCore → Sockets W → ServedCore → Sockets W → Type 0
@@ -114,9 +135,8 @@ AllGoOr (Ok done) history core sockets core' sockets' = AllGoOn history core soc
 AllGoOr (Err refused) history core sockets core' sockets' = AllGoLosing history core sockets core' sockets'
 
 -- the ends go on; only where the link at this place is to be given up for a cause, or it stopped, what that link holds may be lost
-abbrev pub AllGoUnless : {W C E : Type 0} → ℕ → Result (Option C) E → (W → List Event) → ServedCore → Sockets W → ServedCore → Sockets W → Type 0
-AllGoUnless at (Ok None) history core sockets core' sockets' = AllGoOn history core sockets core' sockets'
-AllGoUnless at (Ok (Some cause)) history core sockets core' sockets' = AllGoBut at history core sockets core' sockets'
+abbrev pub AllGoUnless : {W E : Type 0} → ℕ → Result (Option Cause) E → (W → List Event) → ServedCore → Sockets W → ServedCore → Sockets W → Type 0
+AllGoUnless at (Ok cause) history core sockets core' sockets' = AllGoFrom Agrees (AgreesUnless at cause) IsOfTurn (end_of history core sockets) (end_of history core' sockets')
 AllGoUnless at (Err refused) history core sockets core' sockets' = AllGoBut at history core sockets core' sockets'
 
 -- a client was opened under this id in a core that is so now, and all go on from before that

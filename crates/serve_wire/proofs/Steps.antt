@@ -1,9 +1,9 @@
 -- What each event does to what agrees: to the connection that it is of, and to all others.
-use Rattle.std.proofs.Common.{◌≡◌, ◌≢◌, ℕ, ◌==◌, true, false, if◌then◌else◌, Some, None, List, [], ◌∷◌, ◌++◌, take, drop, refl, sym, ap, ◌∙◌, append_assoc, append-nil, arith}
+use Rattle.std.proofs.Common.{◌≡◌, ◌≢◌, ℕ, suc, ◌==◌, true, false, if◌then◌else◌, Some, None, List, [], ◌∷◌, ◌++◌, take, drop, refl, sym, ap, ◌∙◌, append_assoc, append-nil, arith}
 use Rattle.std.proofs.lemmas.Bool.{eq-eqb, eqb-true}
 use Rattle.std.proofs.lemmas.List.{take-append-drop}
-use Rattle.serve_wire.specs.Events.{Event, admits, connects, delivers, takes, ends, fails, closes, accepts, ticks, delivered, taken, role, address_of, is_over, IsNew}
-use Rattle.serve_wire.specs.Agreement.{ClientAgrees, LinkAgrees, AddressAgrees, IsUntouched, TouchesOnly}
+use Rattle.serve_wire.specs.Events.{Event, admits, connects, delivers, takes, ends, fails, closes, accepts, ticks, delivered, taken, role, address_of, is_over, is_open, IsNew}
+use Rattle.serve_wire.specs.Agreement.{ClientAgrees, LinkAgrees, AddressAgrees, Extends, IsUntouched, TouchesOnly}
 
 pub equal : (c : ℕ) → (c == c) ≡ true
 equal c = eq-eqb c c refl
@@ -30,43 +30,50 @@ new_apart c d h p of_d none = unequal c d (λ e. none_some (sym none ∙ ap (λ 
 
 -- ---- all others
 
+pub extends_twice : (h h' h'' : List Event) → Extends h h' → Extends h' h'' → Extends h h''
+extends_twice h h' h'' a b = (b.0 ++ a.0, b.1 ∙ ap (λ l. b.0 ++ l) a.1 ∙ sym (append_assoc b.0 a.0 h))
+
 pub untouched : (d : ℕ) (h : List Event) → IsUntouched d h h
-untouched d h = record { same_role = refl; same_address = refl; same_came = refl; same_went = refl; same_over = refl }
+untouched d h = record { same_role = refl; same_address = refl; same_came = refl; same_went = refl; same_over = refl; same_open = refl; after = ([], refl) }
 
 pub untouched_twice : (d : ℕ) (h h' h'' : List Event) → IsUntouched d h h' → IsUntouched d h' h'' → IsUntouched d h h''
 untouched_twice d h h' h'' a b =
-    record { same_role = b.same_role ∙ a.same_role; same_address = b.same_address ∙ a.same_address; same_came = b.same_came ∙ a.same_came; same_went = b.same_went ∙ a.same_went; same_over = b.same_over ∙ a.same_over }
+    record { same_role = b.same_role ∙ a.same_role; same_address = b.same_address ∙ a.same_address; same_came = b.same_came ∙ a.same_came; same_went = b.same_went ∙ a.same_went; same_over = b.same_over ∙ a.same_over; same_open = b.same_open ∙ a.same_open; after = extends_twice h h' h'' a.after b.after }
 
 pub only_twice : (c : ℕ) (h h' h'' : List Event) → TouchesOnly c h h' → TouchesOnly c h' h'' → TouchesOnly c h h''
 only_twice c h h' h'' a b = λ d other. untouched_twice d h h' h'' (a d other) (b d other)
 
+-- some connection is another one
+pub only_after : (c : ℕ) (h h' : List Event) → TouchesOnly c h h' → Extends h h'
+only_after c h h' only = (only (suc c) (unequal c (suc c) (λ e. absurd (omega (arith, e))))).after
+
 pub only_delivers : (c : ℕ) (bytes : List ℕ) (h : List Event) → TouchesOnly c h (delivers c bytes ∷ h)
-only_delivers c bytes h = λ d other. record { same_role = refl; same_address = refl; same_came = ap (λ b. if b then delivered d h ++ bytes else delivered d h) other; same_went = refl; same_over = refl }
+only_delivers c bytes h = λ d other. record { same_role = refl; same_address = refl; same_came = ap (λ b. if b then delivered d h ++ bytes else delivered d h) other; same_went = refl; same_over = refl; same_open = refl; after = (delivers c bytes ∷ [], refl) }
 
 pub only_takes : (c : ℕ) (bytes : List ℕ) (h : List Event) → TouchesOnly c h (takes c bytes ∷ h)
-only_takes c bytes h = λ d other. record { same_role = refl; same_address = refl; same_came = refl; same_went = ap (λ b. if b then taken d h ++ bytes else taken d h) other; same_over = refl }
+only_takes c bytes h = λ d other. record { same_role = refl; same_address = refl; same_came = refl; same_went = ap (λ b. if b then taken d h ++ bytes else taken d h) other; same_over = refl; same_open = refl; after = (takes c bytes ∷ [], refl) }
 
 pub only_ends : (c : ℕ) (h : List Event) → TouchesOnly c h (ends c ∷ h)
-only_ends c h = λ d other. record { same_role = refl; same_address = refl; same_came = refl; same_went = refl; same_over = ap (λ b. if b then true else is_over d h) other }
+only_ends c h = λ d other. record { same_role = refl; same_address = refl; same_came = refl; same_went = refl; same_over = ap (λ b. if b then true else is_over d h) other; same_open = refl; after = (ends c ∷ [], refl) }
 
 pub only_fails : (c : ℕ) (h : List Event) → TouchesOnly c h (fails c ∷ h)
-only_fails c h = λ d other. record { same_role = refl; same_address = refl; same_came = refl; same_went = refl; same_over = ap (λ b. if b then true else is_over d h) other }
+only_fails c h = λ d other. record { same_role = refl; same_address = refl; same_came = refl; same_went = refl; same_over = ap (λ b. if b then true else is_over d h) other; same_open = refl; after = (fails c ∷ [], refl) }
 
 pub only_closes : (c : ℕ) (h : List Event) → TouchesOnly c h (closes c ∷ h)
-only_closes c h = λ d other. record { same_role = refl; same_address = refl; same_came = refl; same_went = refl; same_over = ap (λ b. if b then true else is_over d h) other }
+only_closes c h = λ d other. record { same_role = refl; same_address = refl; same_came = refl; same_went = refl; same_over = ap (λ b. if b then true else is_over d h) other; same_open = ap (λ b. if b then false else is_open d h) other; after = (closes c ∷ [], refl) }
 
 pub only_admits : (c i : ℕ) (h : List Event) → TouchesOnly c h (admits c i ∷ h)
-only_admits c i h = λ d other. record { same_role = ap (λ b. if b then Some (0, i) else role d h) other; same_address = refl; same_came = refl; same_went = refl; same_over = refl }
+only_admits c i h = λ d other. record { same_role = ap (λ b. if b then Some (0, i) else role d h) other; same_address = refl; same_came = refl; same_went = refl; same_over = refl; same_open = refl; after = (admits c i ∷ [], refl) }
 
 pub only_connects : (c i : ℕ) (text : List ℕ) (h : List Event) → TouchesOnly c h (connects c i text ∷ h)
-only_connects c i text h = λ d other. record { same_role = ap (λ b. if b then Some (1, i) else role d h) other; same_address = ap (λ b. if b then Some text else address_of d h) other; same_came = refl; same_went = refl; same_over = refl }
+only_connects c i text h = λ d other. record { same_role = ap (λ b. if b then Some (1, i) else role d h) other; same_address = ap (λ b. if b then Some text else address_of d h) other; same_came = refl; same_went = refl; same_over = refl; same_open = ap (λ b. if b then true else is_open d h) other; after = (connects c i text ∷ [], refl) }
 
--- of these no connection is touched
-pub none_accepts : (c d : ℕ) (h : List Event) → IsUntouched d h (accepts c ∷ h)
-none_accepts c d h = record { same_role = refl; same_address = refl; same_came = refl; same_went = refl; same_over = refl }
+pub only_accepts : (c : ℕ) (h : List Event) → TouchesOnly c h (accepts c ∷ h)
+only_accepts c h = λ d other. record { same_role = refl; same_address = refl; same_came = refl; same_went = refl; same_over = refl; same_open = ap (λ b. if b then true else is_open d h) other; after = (accepts c ∷ [], refl) }
 
+-- by a look at the clock no connection is touched
 pub none_ticks : (t d : ℕ) (h : List Event) → IsUntouched d h (ticks t ∷ h)
-none_ticks t d h = record { same_role = refl; same_address = refl; same_came = refl; same_went = refl; same_over = refl }
+none_ticks t d h = record { same_role = refl; same_address = refl; same_came = refl; same_went = refl; same_over = refl; same_open = refl; after = (ticks t ∷ [], refl) }
 
 -- what agrees goes on to agree where nothing touched it
 pub client_stays : (h h' : List Event) (input output : ℕ → List ℕ) (i conn : ℕ) (held unsent : List ℕ) → IsUntouched conn h h' → ClientAgrees h input output i conn held unsent → ClientAgrees h' input output i conn held unsent

@@ -1,6 +1,6 @@
 -- What each call of a wire adds to what has happened. Source: mcgate's own.
-use Rattle.std.specs.Prelude.{◌≡◌, ◌⊎◌, ℕ, ◌+◌, ◌<◌, ◌≤◌, List, ◌∷◌, ◌++◌, take, length}
-use Rattle.serve_wire.specs.Events.{Event, accepts, connects, delivers, takes, ends, fails, closes, IsNew}
+use Rattle.std.specs.Prelude.{◌≡◌, ◌⊎◌, false, ℕ, ◌+◌, ◌<◌, ◌≤◌, List, ◌∷◌, ◌++◌, take, length}
+use Rattle.serve_wire.specs.Events.{Event, accepts, connects, delivers, takes, ends, fails, closes, is_open, IsNew}
 use Rattle.serve_wire.specs.declared.outcomes.Accepted.{Accepted}
 use Rattle.serve_wire.specs.declared.outcomes.Accepted.TheVariants as accepted
 use Rattle.serve_wire.specs.declared.outcomes.Connected.{Connected}
@@ -62,6 +62,6 @@ Fits write.NotReady bytes = Unit {0}
 Fits write.Interrupted bytes = Unit {0}
 Fits write.Failed bytes = Unit {0}
 
--- it was closed, unless it was before
+-- it was closed, unless it wasn't open
 abbrev pub Closes : ℕ → List Event → List Event → Type 0
-Closes c h h' = (h' ≡ closes c ∷ h) ⊎ (h' ≡ h)
+Closes c h h' = (h' ≡ closes c ∷ h) ⊎ ((h' ≡ h) × (is_open c h ≡ false))

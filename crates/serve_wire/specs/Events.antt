@@ -1,5 +1,5 @@
 -- What has happened on a wire, newest first, and what that says of one connection. Source: mcgate's own.
-use Rattle.std.specs.Prelude.{◌≡◌, ℕ, Bool, true, false, ◌&&◌, ◌==◌, nat_lt, nat_le, if◌then◌else◌, Option, Some, None, List, [], ◌∷◌, ◌++◌, slice_index}
+use Rattle.std.specs.Prelude.{◌≡◌, ℕ, Bool, true, false, ◌&&◌, ◌||◌, ◌==◌, nat_lt, nat_le, if◌then◌else◌, Option, Some, None, List, [], ◌∷◌, ◌++◌, slice_index}
 
 -- a kind, a connection's number, one more number, and bytes
 abbrev pub Event : Type 0
@@ -74,6 +74,11 @@ address_of c (e ∷ h) = if (e.0 == 1) && (e.1 == c) then Some e.3 else address_
 abbrev pub is_over : ℕ → List Event → Bool
 is_over c [] = false
 is_over c (e ∷ h) = if (nat_le 4 e.0 && nat_lt e.0 7) && (e.1 == c) then true else is_over c h
+
+-- whether a connection was accepted or begun, and not closed since
+abbrev pub is_open : ℕ → List Event → Bool
+is_open c [] = false
+is_open c (e ∷ h) = if ((e.0 == 1) || (e.0 == 7)) && (e.1 == c) then true else if (e.0 == 6) && (e.1 == c) then false else is_open c h
 
 -- what the clock showed last
 abbrev pub time : List Event → ℕ

@@ -1,6 +1,6 @@
 -- What reads and writes of one end come to, however many they are. Source: mcgate's own.
-use Rattle.std.specs.Prelude.{◌≡◌, ℕ, List, ◌++◌}
-use Rattle.serve_wire.specs.Events.{Event, role, address_of, delivered, taken, is_over}
+use Rattle.std.specs.Prelude.{◌≡◌, ℕ, List, ◌∷◌, ◌++◌}
+use Rattle.serve_wire.specs.Events.{Event, fails, role, address_of, delivered, taken, is_over}
 use Rattle.serve_wire.specs.Agreement.{TouchesOnly}
 
 -- what is held is more by what came, and nothing else happened, but that the connection may be over
@@ -20,6 +20,10 @@ pub record SendsOn (c : ℕ) (unsent unsent' : List ℕ) (h h' : List Event) : T
   pub same_address : address_of c h' ≡ address_of c h
   pub same_came : delivered c h' ≡ delivered c h
   pub elsewhere : TouchesOnly c h h'
+
+-- the last that happened is that the connection failed
+abbrev pub HasJustFailed : ℕ → List Event → Type 0
+HasJustFailed c h = (before : List Event) × (h ≡ fails c ∷ before)
 
 -- the connection is over only if it was
 abbrev pub Stands : ℕ → List Event → List Event → Type 0

@@ -1,8 +1,8 @@
 //! The wire of a test.
 
-ghost use Rattle.std.specs.Prelude.{◌≡◌, ◌≤◌, ◌<◌, ℕ, [], length, IfSome, IfOk};
+ghost use Rattle.std.specs.Prelude.{◌≡◌, ◌≤◌, ◌<◌, ℕ, [], false, length, IfSome, IfOk};
 ghost use Rattle.std.specs.Io.Slices.{io_slices_bytes};
-ghost use Rattle.serve_wire.specs.Events.{IsNew};
+ghost use Rattle.serve_wire.specs.Events.{IsNew, is_open};
 ghost use Rattle.serve_wire.specs.Calls.{Adds, Fits};
 
 use crate::memory::peer::Peer;
@@ -78,7 +78,7 @@ pub struct Memory {
     count: usize,
     reports: Vec<Report>,
     log: Record,
-    ghost fresh: { (c : ℕ) → count ≤ c → IsNew c log.events },
+    ghost fresh: { (c : ℕ) → count ≤ c → IsNew c log.events × (is_open c log.events ≡ false) },
 }
 
 fn earlier(first: Option<u64>, other: Option<u64>) -> Option<u64> {
@@ -342,14 +342,9 @@ fn give_line(lines: &mut Vec<Line>, conn: usize, owner: Owner) -> bool {
     }
 }
 
-// Whether one was closed.
-fn close_line(lines: &mut Vec<Line>, conn: usize) -> bool {
-    match line_at(lines, conn) {
-        Some(line) => {
-            line.is_open = false;
-            true
-        }
-        None => false,
+fn close_line(lines: &mut Vec<Line>, conn: usize) {
+    if let Some(line) = lines.get_mut(conn) {
+        line.is_open = false;
     }
 }
 
@@ -478,7 +473,8 @@ impl Wire for Memory {
     }
 
     fn close(&mut self, conn: usize) {
-        if conn < self.count && close_line(&mut self.lines, conn) {
+        if conn < self.count {
+            close_line(&mut self.lines, conn);
             self.log.note(&[CLOSES, conn as u64, 0], &[]);
         }
     }

@@ -1,7 +1,7 @@
 //! The wire that a program has.
 
-ghost use Rattle.std.specs.Prelude.{◌≡◌, ◌≤◌, ◌<◌, ◌+◌, ◌*◌, ℕ, [], IfSome, IfOk, OnSome};
-ghost use Rattle.serve_wire.specs.Events.{IsNew};
+ghost use Rattle.std.specs.Prelude.{◌≡◌, ◌≤◌, ◌<◌, ◌+◌, ◌*◌, ℕ, [], false, IfSome, IfOk, OnSome};
+ghost use Rattle.serve_wire.specs.Events.{IsNew, is_open};
 
 use crate::sockets::open::{Address, Open, Owner};
 use crate::{Accepted, Connected, ReadOutcome, Ready, Record, Report, Wire, WriteOutcome};
@@ -54,7 +54,7 @@ pub struct Sockets {
     addresses: Vec<Address>,
     start: Instant,
     log: Record,
-    ghost fresh: { (c : ℕ) → count * 16777216 ≤ c → IsNew c log.events },
+    ghost fresh: { (c : ℕ) → count * 16777216 ≤ c → IsNew c log.events × (is_open c log.events ≡ false) },
 }
 
 fn watch(poll: &Poll, socket: RawFd, token: usize) -> io::Result<()> {
@@ -346,10 +346,12 @@ impl Wire for Sockets {
     }
 
     fn close(&mut self, conn: usize) {
-        if open_at(&self.open, self.count, conn).is_none() {
+        if conn / SLOTS >= self.count {
             return;
         }
-        let _ = self.open.try_remove(conn % SLOTS);
+        if open_at(&self.open, self.count, conn).is_some() {
+            let _ = self.open.try_remove(conn % SLOTS);
+        }
         self.log.note(&[CLOSES, conn as u64, 0], &[]);
     }
 }
