@@ -8,5 +8,6 @@ pub mod Reading
 pub mod Story
 pub mod Ends
 pub mod Talking
+pub mod Showing
 pub mod Answering
 pub mod LinkGoes
