@@ -9,5 +9,6 @@ pub mod Story
 pub mod Ends
 pub mod Talking
 pub mod Showing
+pub mod Due
 pub mod Answering
 pub mod LinkGoes

@@ -23,9 +23,10 @@ use Rattle.serve_links.specs.CoreSteps.{Step, Opened, NotOpened, Fed, Polled, St
 use Rattle.serve_links.specs.Dialects.{asked_in}
 use Rattle.serve_links.specs.Lines.{first_asked_of, awaits_first, first_dialect, SameLine, KeepsLines, IsNewEnd, HasNewEnd, OpensBy, TakesGreeting, HasLearnt, Learns}
 use Rattle.serve_links.specs.Settled.{SettlesSome}
-use Rattle.serve_links.specs.Talks.{SaidAsk, Talk, first_talk, with_ask, greeted, talk_in, IsOrderly, IsOfServer}
-use Rattle.serve_links.specs.Story.{said_asks, MayGo, MayAllGo, TalkAgrees, ConnAgrees, LineAgrees, LineLost, LineCalled, LineState, line_of, KeepsOthers, LineGoesFrom, LineGoes, AnEnd, Agrees, AgreesLosing}
-use Rattle.serve_links.proofs.Talking.{calls_later, one_more, IsPlain, plain_orderly}
+use Rattle.serve_links.specs.Talks.{SaidAsk, Talk, first_talk, with_ask, greeted, talk_in, AreDue, IsOrderly, IsOfServer}
+use Rattle.serve_links.specs.Story.{said_asks, numbers_of, MayGo, MayAllGo, TalkAgrees, ConnAgrees, LineAgrees, LineLost, LineCalled, LineState, line_of, KeepsOthers, LineGoesFrom, LineGoes, AnEnd, Agrees, AgreesLosing}
+use Rattle.serve_links.proofs.Talking.{calls_later, one_more, IsPlain, plain_talk, plain_orderly}
+use Rattle.serve_links.proofs.Due.{due_less, due_first, due_last, due_behind, due_later, due_asked}
 use Rattle.serve_links.proofs.Walked.{walked, of_both}
 use Rattle.serve_links.proofs.Answering.{Answers, answers_some}
 use Rattle.serve_links.proofs.Story.{line_stays}
@@ -76,15 +77,15 @@ talk_as {h} {at} {text} {text'} {t} {t'} {c} {c'} {held} {held'} {unsent} {unsen
 }
 
 -- a link that has this connection
-pub has_conn : (at : ℕ) (past : List Step) (h : List Event) (y : Link) (d : Conn) → y.conn ≡ Some d → ConnAgrees at past h y d d.held.items → MayAllGo past at y.waiting.items → LineAgrees at past h y
-has_conn at past h y d is agrees waiting = record { conn = λ conn there. subst (λ (z : Conn). ConnAgrees at past h y z z.held.items) (same_some (sym is ∙ there)) agrees; waiting = waiting }
+pub has_conn : (at : ℕ) (past : List Step) (h : List Event) (y : Link) (d : Conn) → y.conn ≡ Some d → ConnAgrees at past h y d d.held.items → MayAllGo past at y.waiting.items → AreDue past at (numbers_of y.waiting.items) → LineAgrees at past h y
+has_conn at past h y d is agrees waiting due = record { conn = λ conn there. subst (λ (z : Conn). ConnAgrees at past h y z z.held.items) (same_some (sym is ∙ there)) agrees; waiting = waiting; due = due }
 
 -- and one that has none
-pub has_none : (at : ℕ) (past : List Step) (h : List Event) (y : Link) → y.conn ≡ None → MayAllGo past at y.waiting.items → LineAgrees at past h y
-has_none at past h y is waiting = record { conn = λ conn there. absurd (none_some (sym is ∙ there)); waiting = waiting }
+pub has_none : (at : ℕ) (past : List Step) (h : List Event) (y : Link) → y.conn ≡ None → MayAllGo past at y.waiting.items → AreDue past at (numbers_of y.waiting.items) → LineAgrees at past h y
+has_none at past h y is waiting due = record { conn = λ conn there. absurd (none_some (sym is ∙ there)); waiting = waiting; due = due }
 
 pub as_lost : (at : ℕ) (past : List Step) (h : List Event) (x : Link) → LineAgrees at past h x → LineLost at past h x
-as_lost at past h x a = record { conn = λ conn is. (conn.held.items, a.conn conn is); waiting = a.waiting }
+as_lost at past h x a = record { conn = λ conn is. (conn.held.items, a.conn conn is); waiting = a.waiting; due = a.due }
 
 -- where all agree, all agree but for what one link may hold
 pub losing : (at : ℕ) (past : List Step) (x : AnEnd) → Agrees past x → AgreesLosing past x
@@ -148,10 +149,10 @@ OfConn at past h text out awaits dialect None = Unit {0}
 OfConn at past h text out awaits dialect (Some e) = TalkAgrees h at text (talk_in past at) e.0 e.1 e.2 out awaits dialect
 
 abbrev OfLine : ℕ → List Step → List Event → LineState → Type 0
-OfLine at past h s = OfConn at past h s.0 s.2 s.4 s.5 s.1 × MayAllGo past at s.3
+OfLine at past h s = OfConn at past h s.0 s.2 s.4 s.5 s.1 × MayAllGo past at s.3 × AreDue past at (numbers_of s.3)
 
 to_line : (at : ℕ) (past : List Step) (h : List Event) (x : Link) → LineAgrees at past h x → OfLine at past h (line_of x)
-to_line at past h x a = (by x.conn refl, a.waiting)
+to_line at past h x a = (by x.conn refl, a.waiting, a.due)
   where
     by : (o : Option Conn) → x.conn ≡ o → OfConn at past h x.text.items (said_asks x.calls.sent.items) x.awaits_dialect x.dialect (option_map (λ (c : Conn). (c.number, c.held.items, bytes_of c.unsent)) o)
     by None e = tt
@@ -161,6 +162,7 @@ from_line : (at : ℕ) (past : List Step) (h : List Event) (y : Link) → OfLine
 from_line at past h y o = record {
   conn = λ conn is. subst (λ (q : Option Conn). OfConn at past h y.text.items (said_asks y.calls.sent.items) y.awaits_dialect y.dialect (option_map (λ (c : Conn). (c.number, c.held.items, bytes_of c.unsent)) q)) is o.0;
   waiting = o.1;
+  due = o.2;
 }
 
 pub same_line : (at : ℕ) (past : List Step) (h : List Event) (x y : Link) → line_of y ≡ line_of x → LineAgrees at past h x → LineAgrees at past h y
@@ -222,7 +224,7 @@ line_reads {at = at} {h = h} {h' = h'} x y c d was is number unsent r =
     agrees past a =
         let out = said_asks x.calls.sent.items in
         let now = talk_reads h h' at x.text.items (talk_in past at) c.number c.held.items d.held.items (bytes_of c.unsent) out x.awaits_dialect x.dialect r (a.conn c was) in
-        subst (λ z. LineAgrees at past h' z) (sym is) (has_conn at past h' (record x { conn = Some d }) d refl (talk_as refl refl number refl unsent refl refl refl now) a.waiting)
+        subst (λ z. LineAgrees at past h' z) (sym is) (has_conn at past h' (record x { conn = Some d }) d refl (talk_as refl refl number refl unsent refl refl refl now) a.waiting a.due)
 
 talk_sends :
     (h h' : List Event) (at : ℕ) (text : List ℕ) (t : Talk) (c : ℕ) (held unsent unsent' : List ℕ) (out : List SaidAsk) (awaits : Bool) (dialect : Dialect) → SendsOn c unsent unsent' h h' → TalkAgrees h at text t c held unsent out awaits dialect
@@ -248,14 +250,14 @@ line_sends {at = at} {h = h} {h' = h'} x y c d was is number held s =
     agrees past a =
         let out = said_asks x.calls.sent.items in
         let now = talk_sends h h' at x.text.items (talk_in past at) c.number c.held.items (bytes_of c.unsent) (bytes_of d.unsent) out x.awaits_dialect x.dialect s (a.conn c was) in
-        subst (λ z. LineAgrees at past h' z) (sym is) (has_conn at past h' (record x { conn = Some d }) d refl (talk_as refl refl number held refl refl refl refl now) a.waiting)
+        subst (λ z. LineAgrees at past h' z) (sym is) (has_conn at past h' (record x { conn = Some d }) d refl (talk_as refl refl number held refl refl refl refl now) a.waiting a.due)
 
 -- ---- a new connection
 
 first_agrees :
-    (h : List Event) (at number : ℕ) (text : List ℕ) (dialect : ServerDialect) → IsNew number h
-    → TalkAgrees (connects number at text ∷ h) at text (first_talk dialect) number [] (first_asked_of dialect) [] (awaits_first dialect) (first_dialect dialect)
-first_agrees h at number text dialect new = record {
+    (h : List Event) (at number : ℕ) (text : List ℕ) (dialect : ServerDialect) (t : Talk) → IsNew number h
+    → TalkAgrees (connects number at text ∷ h) at text (first_talk dialect t) number [] (first_asked_of dialect) [] (awaits_first dialect) (first_dialect dialect)
+first_agrees h at number text dialect t new = record {
   is_to = ap (λ b. if b then Some (1, at) else role number h) (equal number);
   address = address_begins h text at number;
   sent_is = ap (λ l. l ++ first_asked_of dialect) (sym new.none_went);
@@ -289,11 +291,12 @@ begins at core h h' x y dialect number new noted has = record {
     by : (past : List Step) → LineAgrees at past h x → (o : Option Conn) → y.conn ≡ o → IsNewEnd number dialect o → LineAgrees at (Linked at dialect ∷ past) h' y
     by past a None e end = absurd end
     by past a (Some d) e end =
-        let talk = ap (λ b. if b then first_talk dialect else talk_in past at) (equal at) in
+        let talk = ap (λ b. if b then first_talk dialect (talk_in past at) else talk_in past at) (equal at) in
         let none : said_asks y.calls.sent.items ≡ [] = ap (λ c. said_asks c.sent.items) has.calls ∙ ap said_asks has.none_out in
-        let first = subst (λ k. TalkAgrees k at x.text.items (first_talk dialect) number [] (first_asked_of dialect) [] (awaits_first dialect) (first_dialect dialect)) (sym noted) (first_agrees h at number x.text.items dialect new) in
+        let first = subst (λ k. TalkAgrees k at x.text.items (first_talk dialect (talk_in past at)) number [] (first_asked_of dialect) [] (awaits_first dialect) (first_dialect dialect)) (sym noted) (first_agrees h at number x.text.items dialect (talk_in past at) new) in
         has_conn at (Linked at dialect ∷ past) h' y d e (talk_as (ap (λ t. t.items) has.text) talk end.0 end.1 end.2 none has.awaits has.speaks first)
         (calls_later (Linked at dialect ∷ []) past at y.waiting.items (subst (λ w. MayAllGo past at w) (sym (ap (λ w. w.items) has.waiting)) a.waiting))
+        (due_later (Linked at dialect ∷ []) past at (numbers_of y.waiting.items) (ap (λ (t : Talk). t.asked) talk) (subst (λ w. AreDue past at (numbers_of w)) (sym (ap (λ w. w.items) has.waiting)) a.due))
 
 only_closed : (c : ℕ) (h h' : List Event) → Closes c h h' → TouchesOnly c h h'
 only_closed c h h' (inl closed) = subst (TouchesOnly c h) (sym closed) (only_closes c h)
@@ -361,6 +364,7 @@ line_learns {at} {core} {h} x y can on l = by l.told
             has_conn at (step ∷ past) h y d is
             (talk_as (ap (λ (z : Link). z.text.items) learnt.rest) talk (ap (λ (z : Conn). z.number) takes.3) refl (ap (λ (z : Conn). bytes_of z.unsent) takes.3) (ap (λ (z : Link). said_asks z.calls.sent.items) learnt.rest) learnt.told refl now)
             (calls_later (step ∷ []) past at y.waiting.items (subst (λ w. MayAllGo past at w) (sym (ap (λ (z : Link). z.waiting.items) learnt.rest)) a.waiting))
+            (due_later (step ∷ []) past at (numbers_of y.waiting.items) (ap (λ (t : Talk). t.asked) talk) (subst (λ w. AreDue past at (numbers_of w)) (sym (ap (λ (z : Link). z.waiting.items) learnt.rest)) a.due))
 
     by_conns : (o p : Option Conn) → x.conn ≡ o → y.conn ≡ p → TakesGreeting y.dialect o p → HasLearnt x y → LineGoes IsOfTurn at core h x core h y
     by_conns None p was is takes learnt = absurd takes
@@ -401,28 +405,30 @@ line_asks {at} {core} {h} x y c d call was is same more unsent = record {
   kinds = (tt, tt);
   own = (refl, tt);
   walks = (core, refl, refl);
-  agrees = λ past o a. ((a.1, o), agreed past a.0, all_kept (1, at) h h (quiet h));
+  agrees = λ past o a. (((a.1, due_first past at call.ticket.number (numbers_of x.waiting.items) a.2), o), agreed past a.0 a.2, all_kept (1, at) h h (quiet h));
   text = ap (λ (z : Link). z.text.items) is;
 }
   where
     step : Step
     step = Asked at call.ticket.number call.dialect call.ticket.ask
 
-    agreed : (past : List Step) → LineAgrees at past h x → LineAgrees at (step ∷ past) h y
-    agreed past a =
+    agreed : (past : List Step) → LineAgrees at past h x → AreDue past at (numbers_of (call ∷ x.waiting.items)) → LineAgrees at (step ∷ past) h y
+    agreed past a due =
         let talk = ap (λ b. if b then with_ask call.ticket.number call.dialect call.ticket.ask (talk_in past at) else talk_in past at) (equal at) in
         let now = talk_asks h at x.text.items (talk_in past at) c.number c.held.items (bytes_of c.unsent) (said_asks x.calls.sent.items) x.awaits_dialect x.dialect call.ticket.number call.dialect call.ticket.ask (a.conn c was) in
         has_conn at (step ∷ past) h y d (ap (λ (z : Link). z.conn) is)
         (talk_as (ap (λ (z : Link). z.text.items) is) talk (ap (λ (z : Conn). z.number) same) (ap (λ (z : Conn). z.held.items) same) unsent (ap said_asks more ∙ one_said x.calls.sent.items call) (ap (λ (z : Link). z.awaits_dialect) is) (ap (λ (z : Link). z.dialect) is) now)
         (calls_later (step ∷ []) past at y.waiting.items (subst (λ w. MayAllGo past at w) (sym (ap (λ (z : Link). z.waiting.items) is)) a.waiting))
+        (due_asked step past at call.ticket.number (numbers_of y.waiting.items) (ap (λ (t : Talk). t.asked) talk) (subst (λ w. AreDue past at (numbers_of (call ∷ w))) (sym (ap (λ (z : Link). z.waiting.items) is)) due))
 
 -- a link that has another list of calls that wait
-waits_with : (at : ℕ) (past : List Step) (h : List Event) (x y : Link) → y ≡ record x { waiting = y.waiting } → LineAgrees at past h x → MayAllGo past at y.waiting.items → LineAgrees at past h y
-waits_with at past h x y is a waiting = record {
+waits_with : (at : ℕ) (past : List Step) (h : List Event) (x y : Link) → y ≡ record x { waiting = y.waiting } → LineAgrees at past h x → MayAllGo past at y.waiting.items → AreDue past at (numbers_of y.waiting.items) → LineAgrees at past h y
+waits_with at past h x y is a waiting due = record {
   conn = λ conn there.
       talk_as (ap (λ (z : Link). z.text.items) is) refl refl refl refl (ap (λ (z : Link). said_asks z.calls.sent.items) is) (ap (λ (z : Link). z.awaits_dialect) is) (ap (λ (z : Link). z.dialect) is)
       (a.conn conn (sym (ap (λ (z : Link). z.conn) is) ∙ there));
   waiting = waiting;
+  due = due;
 }
 
 -- it waits
@@ -431,7 +437,10 @@ pub line_waits :
     → LineGoesFrom (LineCalled call) LineAgrees Is at core h x core h y
 line_waits {at = at} {h = h} x y call is more =
     line_moves refl (ap (λ (z : Link). z.text.items) is)
-    (λ past a. (waits_with at past h x y is a.0 (subst (λ w. MayAllGo past at w) (sym more) (one_more past at x.waiting.items call a.0.waiting a.1)), all_kept (1, at) h h (quiet h)))
+    (λ past a. (
+      waits_with at past h x y is a.0 (subst (λ w. MayAllGo past at w) (sym more) (one_more past at x.waiting.items call a.0.waiting a.1)) (subst (λ w. AreDue past at (numbers_of w)) (sym more) (due_behind past at x.waiting.items call a.2)),
+      all_kept (1, at) h h (quiet h),
+    ))
 
 -- the first that waits is taken
 pub line_takes :
@@ -439,7 +448,10 @@ pub line_takes :
     → LineGoesFrom LineAgrees (LineCalled call) Is at core h x core h y
 line_takes {at = at} {h = h} x y call is first =
     line_moves refl (ap (λ (z : Link). z.text.items) is)
-    (λ past a. let all = subst (λ w. MayAllGo past at w) first a.waiting in ((waits_with at past h x y is a all.1, all.0), all_kept (1, at) h h (quiet h)))
+    (λ past a.
+    let all = subst (λ w. MayAllGo past at w) first a.waiting in
+    let due = subst (λ w. AreDue past at (numbers_of w)) first a.due in
+    ((waits_with at past h x y is a all.1 (due_less past at call.ticket.number (numbers_of y.waiting.items) due), all.0, due), all_kept (1, at) h h (quiet h)))
 
 -- ---- answers
 
@@ -460,7 +472,7 @@ talk_answers h at text t c spelled held unsent out out' awaits dialect was = rec
 settles_to :
     {After : ℕ → List Step → List Event → Link → Type 0} {at : ℕ} {core core' : ServedCore} {h : List Event} (x y : Link) (c d : Conn) (rest : List ℕ) → x.conn ≡ Some c → x.awaits_dialect ≡ false
     → y.text.items ≡ x.text.items → y.waiting.items ≡ x.waiting.items → y.awaits_dialect ≡ x.awaits_dialect → y.dialect ≡ x.dialect → d.number ≡ c.number → bytes_of d.unsent ≡ bytes_of c.unsent
-    → ((past : List Step) → ConnAgrees at past h y d rest → MayAllGo past at y.waiting.items → After at past h y)
+    → ((past : List Step) → ConnAgrees at past h y d rest → MayAllGo past at y.waiting.items → AreDue past at (numbers_of y.waiting.items) → After at past h y)
     → SettlesSome x.calls.sent.items c.held.items core y.calls.sent.items rest core' → LineGoesFrom LineAgrees After IsOfTurn at core h x core' h y
 settles_to {After} {at} {core} {core'} {h} x y c d rest was off text waiting awaits speaks number unsent after s = record {
   steps = g.steps;
@@ -479,6 +491,7 @@ settles_to {After} {at} {core} {core'} {h} x y c d rest was off text waiting awa
         let before = talk_as refl refl refl (sym g.whole) refl refl refl refl (a.conn c was) in
         let now = talk_answers h at x.text.items (talk_in past at) c.number g.spelled rest (bytes_of c.unsent) (said_asks x.calls.sent.items) (said_asks y.calls.sent.items) x.awaits_dialect x.dialect before in
         after (g.steps ++ past) (talk_as text talk number refl unsent refl awaits speaks now) (calls_later g.steps past at y.waiting.items (subst (λ w. MayAllGo past at w) (sym waiting) a.waiting))
+        (due_later g.steps past at (numbers_of y.waiting.items) (ap (λ (t : Talk). t.asked) talk) (subst (λ w. AreDue past at (numbers_of w)) (sym waiting) a.due))
 
 -- what is left of it is held
 pub line_settles :
@@ -486,7 +499,7 @@ pub line_settles :
     → y.awaits_dialect ≡ x.awaits_dialect → y.dialect ≡ x.dialect → d.number ≡ c.number → bytes_of d.unsent ≡ bytes_of c.unsent → SettlesSome x.calls.sent.items c.held.items core y.calls.sent.items d.held.items core'
     → LineGoes IsOfTurn at core h x core' h y
 line_settles {at} {core} {core'} {h} x y c d was is off text waiting awaits speaks number unsent s =
-    settles_to x y c d d.held.items was off text waiting awaits speaks number unsent (λ past agrees called. has_conn at past h y d is agrees called) s
+    settles_to x y c d d.held.items was off text waiting awaits speaks number unsent (λ past agrees called due. has_conn at past h y d is agrees called due) s
 
 -- or it is lost
 pub line_loses :
@@ -495,7 +508,7 @@ pub line_loses :
     → LineGoesFrom LineAgrees LineLost IsOfTurn at core h x core' h y
 line_loses {at} {core} {core'} {h} x y c d rest was is off text waiting awaits speaks number unsent s =
     settles_to x y c d rest was off text waiting awaits speaks number unsent
-    (λ past agrees called. record { conn = λ conn there. subst (λ (z : Conn). (held : List ℕ) × ConnAgrees at past h y z held) (same_some (sym is ∙ there)) (rest, agrees); waiting = called }) s
+    (λ past agrees called due. record { conn = λ conn there. subst (λ (z : Conn). (held : List ℕ) × ConnAgrees at past h y z held) (same_some (sym is ∙ there)) (rest, agrees); waiting = called; due = due }) s
 
 -- ---- the end of a connection
 
@@ -504,7 +517,8 @@ pub line_closes :
     {Is : Step → Type 0} {at : ℕ} {core : ServedCore} {h h' : List Event} (x y : Link) (r : Option ℕ) → r ≡ option_map (λ (z : Conn). z.number) x.conn → IfSome r (λ c. Closes c h h') → (r ≡ None → h' ≡ h) → y.conn ≡ None
     → y.text.items ≡ x.text.items → y.waiting.items ≡ x.waiting.items → LineGoesFrom LineLost LineAgrees Is at core h x core h' y
 line_closes {at = at} {h = h} {h' = h'} x y r r_is some none closed text waiting =
-    line_moves refl text (λ past a. (has_none at past h' y closed (subst (λ w. MayAllGo past at w) (sym waiting) a.waiting), keeps past a x.conn refl))
+    line_moves refl text
+    (λ past a. (has_none at past h' y closed (subst (λ w. MayAllGo past at w) (sym waiting) a.waiting) (subst (λ w. AreDue past at (numbers_of w)) (sym waiting) a.due), keeps past a x.conn refl))
   where
     keeps : (past : List Step) → LineLost at past h x → (o : Option Conn) → x.conn ≡ o → KeepsOthers (1, at) h h'
     keeps past a None e = all_kept (1, at) h h' (λ d. subst (IsUntouched d h) (sym (none (r_is ∙ ap (option_map (λ (z : Conn). z.number)) e))) (untouched d h))
@@ -521,7 +535,11 @@ line_shuts {at = at} {h' = h'} {z = z} g closed text waiting = record {
   kinds = g.kinds;
   own = g.own;
   walks = g.walks;
-  agrees = λ past o was. let r = g.agrees past o was in (r.0, has_none at (g.steps ++ past) h' z closed (subst (λ w. MayAllGo (g.steps ++ past) at w) (sym waiting) r.1.waiting), r.2);
+  agrees = λ past o was. let r = g.agrees past o was in (
+    r.0,
+    has_none at (g.steps ++ past) h' z closed (subst (λ w. MayAllGo (g.steps ++ past) at w) (sym waiting) r.1.waiting) (subst (λ w. AreDue (g.steps ++ past) at (numbers_of w)) (sym waiting) r.1.due),
+    r.2,
+  );
   text = text ∙ g.text;
 }
 
@@ -560,7 +578,8 @@ line_fails {at} {core} {core'} {h} x y gone f none text waiting =
       walks = f.walks;
       agrees = λ past o a. (
         plain_orderly f.steps own.1 past o,
-        has_none at (f.steps ++ past) h y none (calls_later f.steps past at y.waiting.items (last_called past at gone y.waiting.items (subst (λ w. MayAllGo past at w) waiting a.waiting))),
+        has_none at (f.steps ++ past) h y none (calls_later f.steps past at y.waiting.items (last_called past at gone y.waiting.items (subst (λ w. MayAllGo past at w) waiting a.waiting)))
+            (due_later f.steps past at (numbers_of y.waiting.items) (ap (λ (t : Talk). t.asked) (plain_talk f.steps own.1 past at)) (due_last past at gone y.waiting.items (subst (λ w. AreDue past at (numbers_of w)) waiting a.due))),
         all_kept (1, at) h h (quiet h),
       );
       text = text;

@@ -10,17 +10,18 @@ use Rattle.serve_wire.specs.Events.{Event, role, delivered, taken}
 use Rattle.serve_wire.specs.Agreement.{ClientLost, IsUntouched}
 use Rattle.serve_wire.specs.declared.conn.conn.Conn.{Conn}
 use Rattle.serve_wire.proofs.Steps.{apart}
+use Rattle.core_proxy.specs.declared.note.Poll.TheVariants as polls
 use Rattle.serve_clients.specs.declared.clients.Client.{Client}
 use Rattle.serve_clients.specs.declared.clients.Clients.{Clients}
 use Rattle.serve_clients.specs.Agrees.{EndAgrees, AllAgree}
 use Rattle.serve_clients.proofs.Agreeing.{its, state_stays, client_lost}
 use Rattle.serve_clients.specs.Marks.{client_of}
-use Rattle.serve_links.specs.declared.calls.calls.SentCall.{SentCall}
 use Rattle.serve_links.specs.declared.link.Link.{Link}
-use Rattle.serve_links.specs.CoreSteps.{Step, Closed, Opened, AreOf}
+use Rattle.serve_links.specs.CoreSteps.{Step, Closed, Opened, Polled, AreOf}
 use Rattle.serve_links.specs.Talks.{SaidAsk, Talk, talk_in}
-use Rattle.serve_links.specs.Story.{fed_in, gave_in, is_open_in, is_broken_in, AgreesWith, IsTold, AreTold, TellsNone, TookAll, EndsBy, IsGone, HasOrHad, TalkAgrees, said_asks, LineAgrees, LinesAgree, texts_of, OneGoes, LineGoesFrom, LineGoes, AnEnd, Agrees, AgreesBut, AgreesCalled, AllGoFrom, AllGo, StoriesGoOn, AgreesSent}
-use Rattle.serve_links.proofs.Talking.{called_later, calls_later, IsPlain, clients_plain, plain_talk, plain_orderly, server_tells_none, talk_elsewhere, go_later}
+use Rattle.serve_links.specs.Story.{fed_in, gave_in, is_open_in, is_broken_in, AgreesWith, IsTold, AreTold, TellsNone, TookAll, EndsBy, IsGone, HasOrHad, TalkAgrees, said_asks, numbers_of, LineAgrees, LinesAgree, texts_of, OneGoes, LineGoesFrom, LineGoes, AnEnd, Agrees, AgreesBut, AgreesCalled, AllGoFrom, AllGo, StoriesGoOn}
+use Rattle.serve_links.proofs.Talking.{calls_later, IsPlain, clients_plain, plain_talk, plain_orderly, server_tells_none, talk_elsewhere}
+use Rattle.serve_links.proofs.Due.{due_later}
 use Rattle.serve_links.proofs.Walked.{walked, of_both}
 
 -- ---- one end
@@ -91,6 +92,7 @@ line_stays h h' at steps past link same told was = record {
   conn = λ conn is.
       talk_stays h h' at link.text.items (talk_in past at) (talk_in (steps ++ past) at) conn.number conn.held.items (bytes_of conn.unsent) (said_asks link.calls.sent.items) link.awaits_dialect link.dialect (same conn is) told (was.conn conn is);
   waiting = calls_later steps past at link.waiting.items was.waiting;
+  due = due_later steps past at (numbers_of link.waiting.items) (ap (λ (t : Talk). t.asked) told) was.due;
 }
 
 -- ---- connections of clients
@@ -368,13 +370,28 @@ from_then {P} {Q} {R} {Is} a b c g k =
 pub all_then : {Is : Step → Type 0} (a b c : AnEnd) → AllGo Is a b → AllGo Is b c → AllGo Is a c
 all_then a b c g k = from_then a b c g k
 
--- what the core gave out for a server stays so
+-- what the core gave out for a server stays so, and all would agree if it hadn't
 pub still_called : {Is : Step → Type 0} {a b : AnEnd} (number at : ℕ) (ask : Ask) → AllGo Is a b → AllGoFrom (AgreesCalled number at ask) (AgreesCalled number at ask) Is a b
-still_called number at ask g = record { steps = g.steps; kinds = g.kinds; walks = g.walks; agree = λ past was. (g.agree past was.0, called_later g.steps past number at ask was.1); texts = g.texts }
-
--- and so does what may be asked
-pub still_sent : {Is : Step → Type 0} {a b : AnEnd} (at : ℕ) (call : SentCall) → AllGo Is a b → AllGoFrom (AgreesSent at call) (AgreesSent at call) Is a b
-still_sent at call g = record { steps = g.steps; kinds = g.kinds; walks = g.walks; agree = λ past was. (g.agree past was.0, go_later g.steps past at call was.1); texts = g.texts }
+still_called {a = a} {b = b} number at ask g = record {
+  steps = g.steps;
+  kinds = g.kinds;
+  walks = g.walks;
+  agree = λ past was. let call = was.1 in (
+    g.agree past was.0,
+    record {
+      client = call.client;
+      ticket = call.ticket;
+      number_is = call.number_is;
+      server_is = call.server_is;
+      ask_is = call.ask_is;
+      later = g.steps ++ call.later;
+      earlier = call.earlier;
+      was = ap (λ l. g.steps ++ l) call.was ∙ sym (append_assoc g.steps call.later (Polled call.client (polls.Call call.ticket) ∷ call.earlier));
+    },
+    subst (λ l. Agrees l b) (sym (append_assoc g.steps call.later call.earlier)) (g.agree (call.later ++ call.earlier) was.2),
+  );
+  texts = g.texts;
+}
 
 -- the laws, by calls of any kind
 pub stories_go_on : (Is : Step → Type 0) → StoriesGoOn Is

@@ -16,7 +16,7 @@ use Rattle.serve_links.specs.declared.link.Link.{Link}
 use Rattle.serve_links.specs.declared.news.Cause.{Cause}
 use Rattle.serve_links.specs.declared.news.Cause.TheVariants as causes
 use Rattle.serve_links.specs.CoreSteps.{Step, Opened, NotOpened, Fed, Polled, Stopped, Settled, Gave, Closed, LeftLine, Broke, Loaded, Linked, Asked, Greeted, Spelled, Lost, Walks, AreOf}
-use Rattle.serve_links.specs.Talks.{SaidAsk, Talk, talk_in, IsCalledIn, MayBeAsked, IsOrderly, IsOfClients, IsOfServer}
+use Rattle.serve_links.specs.Talks.{SaidAsk, Talk, talk_in, IsCalledIn, MayBeAsked, AreDue, IsOrderly, IsOfClients, IsOfServer}
 use Rattle.std.specs.Option.{option_map}
 
 -- all that the core was fed for this client since it was opened, by the calls of a walk, the latest first
@@ -163,6 +163,10 @@ abbrev pub MayAllGo : List Step → ℕ → List SentCall → Type 0
 MayAllGo past at [] = Unit {0}
 MayAllGo past at (call ∷ calls) = MayGo past at call × MayAllGo past at calls
 
+-- the numbers of calls
+abbrev pub numbers_of : List SentCall → List ℕ
+numbers_of calls = each (λ call. call.ticket.number) calls
+
 -- a connection agrees with what was said over it: it is to this server, and was begun at the address that this text names; what was to be sent is what it took, and then what is unsent; what it delivered told all
 -- that was told, and is else held; these calls are out, what the server tells of its dialects is awaited or not, and calls are asked in this dialect
 pub record TalkAgrees (h : List Event) (at : ℕ) (text : List ℕ) (talk : Talk) (c : ℕ) (held unsent : List ℕ) (out : List SaidAsk) (awaits : Bool) (dialect : Dialect) : Type 0 where
@@ -178,16 +182,18 @@ pub record TalkAgrees (h : List Event) (at : ℕ) (text : List ℕ) (talk : Talk
 abbrev pub ConnAgrees : ℕ → List Step → List Event → Link → Conn → List ℕ → Type 0
 ConnAgrees at past h link conn held = TalkAgrees h at link.text.items (talk_in past at) conn.number held (bytes_of conn.unsent) (said_asks link.calls.sent.items) link.awaits_dialect link.dialect
 
--- a link agrees with these calls, its connection is not over, and all calls that wait for it may go there
+-- a link agrees with these calls, its connection is not over, and all calls that wait for it may go there, and weren't asked yet
 pub record LineAgrees (at : ℕ) (past : List Step) (h : List Event) (link : Link) : Type 0 where
   pub conn : (conn : Conn) → link.conn ≡ Some conn → ConnAgrees at past h link conn conn.held.items
   pub goes_on : (conn : Conn) → link.conn ≡ Some conn → is_over conn.number h ≡ false
   pub waiting : MayAllGo past at link.waiting.items
+  pub due : AreDue past at (numbers_of link.waiting.items)
 
 -- the same of a link whose bytes were lost, or whose connection is over: it agrees but for what it holds
 pub record LineLost (at : ℕ) (past : List Step) (h : List Event) (link : Link) : Type 0 where
   pub conn : (conn : Conn) → link.conn ≡ Some conn → (held : List ℕ) × ConnAgrees at past h link conn held
   pub waiting : MayAllGo past at link.waiting.items
+  pub due : AreDue past at (numbers_of link.waiting.items)
 
 -- this has happened
 abbrev pub HasHappened : Event → List Event → Type 0
@@ -248,9 +254,9 @@ pub record LineFails (why : Option Cause) (at : ℕ) (past : List Step) (h : Lis
   pub lost : LineLost at past h link
   pub shows : (conn : Conn) → link.conn ≡ Some conn → ShowsWhy why (talk_in past at) conn.number h
 
--- a link agrees, and this call may go there
+-- a link agrees, and this call may go there, and wasn't asked yet
 abbrev pub LineCalled : SentCall → (at : ℕ) → List Step → List Event → Link → Type 0
-LineCalled call at past h link = LineAgrees at past h link × MayGo past at call
+LineCalled call at past h link = LineAgrees at past h link × MayGo past at call × AreDue past at (numbers_of (call ∷ link.waiting.items))
 
 -- each link agrees with these calls
 abbrev pub LinesAgree : List Step → List Event → List Link → Type 0
@@ -329,13 +335,13 @@ pub record AgreesBut (This : ℕ → List Step → List Event → Link → Type 
 abbrev pub AgreesGiven : ℕ → List Step → AnEnd → Type 0
 AgreesGiven id past x = Agrees past x × IsJustGiven id past
 
--- all agree, and the core gave out this call for this server
+-- all agree, the core gave out this call for this server, and all would agree if it hadn't
 abbrev pub AgreesCalled : ℕ → ℕ → Ask → List Step → AnEnd → Type 0
-AgreesCalled number at ask past x = Agrees past x × IsCalledIn past number at ask
+AgreesCalled number at ask past x = Agrees past x × (call : IsCalledIn past number at ask) × Agrees (call.later ++ call.earlier) x
 
--- all agree, and this call may go to this server
+-- all agree, and this call may go to this server, and wasn't asked yet
 abbrev pub AgreesSent : ℕ → SentCall → List Step → AnEnd → Type 0
-AgreesSent at call past x = Agrees past x × MayGo past at call
+AgreesSent at call past x = Agrees past x × MayGo past at call × ((link : Link) → slice_get x.links at ≡ Some link → AreDue past at (numbers_of (call ∷ link.waiting.items)))
 
 -- all agree, but that what one link holds may be lost
 abbrev pub AgreesLosing : List Step → AnEnd → Type 0

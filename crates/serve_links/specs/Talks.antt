@@ -1,5 +1,5 @@
 -- What a walk tells of what was said over each server's connection. Source: mcgate's own.
-use Rattle.std.specs.Prelude.{◌≡◌, ℕ, Bool, true, false, List, [], ◌∷◌, ◌++◌, nat_eq, length, if◌then◌else◌}
+use Rattle.std.specs.Prelude.{◌≡◌, ℕ, Bool, true, false, List, [], ◌∷◌, ◌++◌, ◌+◌, ◌≤◌, nat_eq, length, if◌then◌else◌}
 use Rattle.mc_types.specs.declared.ask.Ask.{Ask}
 use Rattle.mc_types.specs.declared.ask.Dialect.{Dialect}
 use Rattle.mc_types.specs.declared.ask.Dialect.TheVariants.{Classic}
@@ -8,6 +8,7 @@ use Rattle.mc_types.specs.declared.call.Outcome.{Outcome}
 use Rattle.mc_types.specs.declared.call.Outcome.TheVariants.{Answered, Failed}
 use Rattle.wire_stream.specs.Spelling.{spelling_of}
 use Rattle.core_commands.specs.declared.ticket.Ticket.{Ticket}
+use Rattle.core_proxy.specs.declared.note.Poll.{Poll}
 use Rattle.core_proxy.specs.declared.note.Poll.TheVariants as polls
 use Rattle.serve_links.specs.Dialects.{asked_in, SpellsIn, IsGreeting}
 use Rattle.serve_links.specs.declared.settings.ServerDialect.{ServerDialect}
@@ -19,13 +20,14 @@ abbrev pub SaidAsk : Type 0
 SaidAsk = ℕ × Dialect × Ask
 
 -- of a server's connection: what was to be sent over it, which bytes that came over it told something, the calls that are out there, the one that was asked first in front, whether the server is still
--- to tell of its dialects, before it answers any call, and in which dialect calls are asked there from now on
+-- to tell of its dialects, before it answers any call, in which dialect calls are asked there from now on; and the numbers of all calls that the server was ever asked, the last in front
 pub record Talk : Type 0 where
   pub sent : List ℕ
   pub told : List ℕ
   pub out : List SaidAsk
   pub awaits : Bool
   pub dialect : Dialect
+  pub asked : List ℕ
 
 -- without the first
 abbrev pub behind : List SaidAsk → List SaidAsk
@@ -34,15 +36,15 @@ behind (ask ∷ asks) = asks
 
 -- where there was no connection yet
 abbrev pub no_talk : Talk
-no_talk = record { sent = []; told = []; out = []; awaits = false; dialect = Classic }
+no_talk = record { sent = []; told = []; out = []; awaits = false; dialect = Classic; asked = [] }
 
 -- a new connection, to a server that is asked so
-abbrev pub first_talk : ServerDialect → Talk
-first_talk dialect = record { sent = first_asked_of dialect; told = []; out = []; awaits = awaits_first dialect; dialect = first_dialect dialect }
+abbrev pub first_talk : ServerDialect → Talk → Talk
+first_talk dialect talk = record { sent = first_asked_of dialect; told = []; out = []; awaits = awaits_first dialect; dialect = first_dialect dialect; asked = talk.asked }
 
 -- one more call is asked in its dialect
 abbrev pub with_ask : ℕ → Dialect → Ask → Talk → Talk
-with_ask number dialect ask talk = record talk { sent = talk.sent ++ spelling_of (asked_in dialect ask); out = talk.out ++ (number, dialect, ask) ∷ [] }
+with_ask number dialect ask talk = record talk { sent = talk.sent ++ spelling_of (asked_in dialect ask); out = talk.out ++ (number, dialect, ask) ∷ []; asked = number ∷ talk.asked }
 
 -- the server told this dialect
 abbrev pub greeted : Dialect → List ℕ → Talk → Talk
@@ -58,7 +60,7 @@ given_up talk = record talk { out = []; awaits = false }
 
 -- what a step adds to what was said over the connection of the server of this number
 abbrev pub talk_after : Step → ℕ → Talk → Talk
-talk_after (Linked at dialect) i talk = if nat_eq at i then first_talk dialect else talk
+talk_after (Linked at dialect) i talk = if nat_eq at i then first_talk dialect talk else talk
 talk_after (Asked at number dialect ask) i talk = if nat_eq at i then with_ask number dialect ask talk else talk
 talk_after (Greeted at dialect bytes) i talk = if nat_eq at i then greeted dialect bytes talk else talk
 talk_after (Spelled at number ask answer bytes) i talk = if nat_eq at i then with_answer bytes talk else talk
@@ -99,6 +101,49 @@ pub record MayBeAsked (steps : List Step) (number at : ℕ) (dialect : Dialect) 
   pub called : IsCalledIn earlier number at ask
   pub speaks : (talk_in earlier at).dialect ≡ dialect
 
+-- how often a number stands among others
+abbrev pub times : ℕ → List ℕ → ℕ
+times n [] = 0
+times n (m ∷ numbers) = (if nat_eq m n then 1 else 0) + times n numbers
+
+-- the number of the call for this server that a poll gave out, if one was
+abbrev pub called_by : Poll → ℕ → List ℕ
+called_by (polls.Call ticket) at = if nat_eq ticket.server at then ticket.number ∷ [] else []
+called_by polls.Idle at = []
+called_by polls.Own at = []
+called_by polls.Refused at = []
+called_by polls.Waiting at = []
+called_by polls.Queued at = []
+called_by polls.Busy at = []
+called_by (polls.Did note) at = []
+
+abbrev pub calls_of : Step → ℕ → List ℕ
+calls_of (Polled client poll) at = called_by poll at
+calls_of (Opened client) at = []
+calls_of (NotOpened fault) at = []
+calls_of (Fed client piece) at = []
+calls_of (Stopped client fault) at = []
+calls_of (Settled number outcome) at = []
+calls_of (Gave client bytes) at = []
+calls_of (Closed client) at = []
+calls_of (LeftLine client) at = []
+calls_of (Broke client) at = []
+calls_of (Loaded configuration generation) at = []
+calls_of (Linked server dialect) at = []
+calls_of (Asked server number dialect ask) at = []
+calls_of (Greeted server dialect bytes) at = []
+calls_of (Spelled server number ask answer bytes) at = []
+calls_of (Lost server why) at = []
+
+-- the numbers of all calls that the core gave out for this server in these steps
+abbrev pub calls_in : List Step → ℕ → List ℕ
+calls_in [] at = []
+calls_in (step ∷ steps) at = calls_of step at ++ calls_in steps at
+
+-- calls of these numbers are still to be asked: of each number the core gave out as many for this server as were asked there and are among these, or more
+abbrev pub AreDue : List Step → ℕ → List ℕ → Type 0
+AreDue steps at numbers = (n : ℕ) → times n ((talk_in steps at).asked ++ numbers) ≤ times n (calls_in steps at)
+
 -- the call that was asked first of those that are out has this number, nothing else is told before its answer, and these bytes, whatever follows them, spell this answer to the ask, in the dialect in which it was asked
 pub record IsNextAnswer (number : ℕ) (ask : Ask) (answer : Answer) (bytes : List ℕ) (talk : Talk) : Type 0 where
   pub dialect : Dialect
@@ -122,9 +167,9 @@ abbrev pub ComesBy : ℕ → Outcome → List Step → Type 0
 ComesBy number (Answered answer) past = IsJustSpelled number answer past
 ComesBy number Failed past = Unit {0}
 
--- after these steps this one may come: a server is asked what the core gave out for it, in a dialect that it speaks; tells of its dialects where it is asked for that, and then answers its calls in their order; and a call is settled by its answer
+-- after these steps this one may come: a server is asked what the core gave out for it, once, in a dialect that it speaks; tells of its dialects where it is asked for that, and then answers its calls in their order; and a call is settled by its answer
 abbrev pub MayFollow : Step → List Step → Type 0
-MayFollow (Asked at number dialect ask) past = MayBeAsked past number at dialect ask
+MayFollow (Asked at number dialect ask) past = MayBeAsked past number at dialect ask × AreDue past at (number ∷ [])
 MayFollow (Greeted at dialect bytes) past = ((talk_in past at).awaits ≡ true) × IsGreeting dialect bytes
 MayFollow (Spelled at number ask answer bytes) past = IsNextAnswer number ask answer bytes (talk_in past at)
 MayFollow (Settled number outcome) past = ComesBy number outcome past

@@ -25,15 +25,15 @@ use Rattle.core_accepted.specs.declared.served.ServedCore.{ServedCore}
 use Rattle.serve_clients.specs.declared.clients.Client.{Client}
 use Rattle.serve_clients.specs.declared.clients.Clients.{Clients}
 use Rattle.serve_clients.specs.Marks.{client_of}
-use Rattle.serve_clients.specs.Agrees.{said_of, Breaks, StateAgrees, EndAgrees, GoesOnAgreeing, AllAgree}
+use Rattle.serve_clients.specs.Agrees.{KeepsEnds, said_of, Breaks, StateAgrees, EndAgrees, GoesOnAgreeing, AllAgree}
 use Rattle.serve_clients.specs.Lending.{with_client}
 use Rattle.serve_clients.proofs.Agreeing.{state_stays, agree_still}
 use Rattle.serve_links.specs.declared.calls.calls.SentCall.{SentCall}
 use Rattle.serve_links.specs.declared.link.Link.{Link}
 use Rattle.serve_links.specs.CoreSteps.{Step, Opened, NotOpened, Fed, Polled, Stopped, Settled, Gave, Closed, LeftLine, Broke, Loaded, Linked, Asked, Greeted, Spelled, Does, Walks, AreOf, GoesBy, IsOfTurn, IsFailure, IsSending, Fails}
-use Rattle.serve_links.specs.Talks.{IsOfClients}
+use Rattle.serve_links.specs.Talks.{AreDue, IsOfClients}
 use Rattle.serve_links.specs.Pieces.{FeedsHeld}
-use Rattle.serve_links.specs.Story.{fed_in, gave_in, is_open_in, is_broken_in, AgreesWith, IsTold, AreTold, TellsNone, HasOrHad, LineState, line_of, LineAgrees, LineLost, LineCalled, LinesAgree, OneGoes, LineGoesFrom, LineGoes, AnEnd, Agrees, AgreesGiven, AgreesBut, AgreesCalled, AgreesLosing, AllGoFrom, AllGo, texts_of, AgreesSent}
+use Rattle.serve_links.specs.Story.{fed_in, gave_in, is_open_in, is_broken_in, AgreesWith, IsTold, AreTold, TellsNone, HasOrHad, numbers_of, LineState, line_of, LineAgrees, LineLost, LineCalled, LinesAgree, OneGoes, LineGoesFrom, LineGoes, AnEnd, Agrees, AgreesGiven, AgreesBut, AgreesCalled, AgreesLosing, AllGoFrom, AllGo, texts_of, AgreesSent}
 use Rattle.serve_links.proofs.Reading.{breaks_now}
 use Rattle.serve_links.proofs.Talking.{IsPlain, plain_talk, plain_orderly}
 use Rattle.serve_links.proofs.Story.{one_agrees, at_told, each_told, all_told, same_told, had_stays, one_of_all, line_among, line_stays, all_still, from_then, go_between, all_but, but_all}
@@ -363,6 +363,14 @@ without_call number at ask g = go_between (λ past was. was.0) (λ past was. was
 pub without_sent : {Q : List Step → AnEnd → Type 0} {Is : Step → Type 0} {a b : AnEnd} (at : ℕ) (call : SentCall) → AllGoFrom Agrees Q Is a b → AllGoFrom (AgreesSent at call) Q Is a b
 without_sent at call g = go_between (λ past was. was.0) (λ past was. was) g
 
+-- while clients have the ends that they had, it may be asked still
+pub sent_clients :
+    {h : List Event} {ls : List Link} (at : ℕ) (call : SentCall) (core : ServedCore) (cs cs' : Clients) → KeepsEnds cs cs'
+    → AllGoFrom (AgreesSent at call) (AgreesSent at call) IsSending (record { core = core; history = h; clients = cs; links = ls }) (record { core = core; history = h; clients = cs'; links = ls })
+sent_clients {h} {ls} at call core cs cs' keeps =
+    let g : AllGo IsSending (record { core = core; history = h; clients = cs; links = ls }) (record { core = core; history = h; clients = cs'; links = ls }) = stays core (record { quiet = λ d. untouched d h; clients = keeps; links = refl }) in
+    record { steps = []; kinds = tt; walks = refl; agree = λ past was. (g.agree past was.0, was.1, was.2); texts = refl }
+
 pub agree_told : (h : List Event) (input output input' output' : ℕ → List ℕ) (cs : Clients) → ((j : ℕ) → (input' j ≡ input j) × (output' j ≡ output j)) → AllAgree h input output cs → AllAgree h input' output' cs
 agree_told h input output input' output' cs told was id = by (client_of cs id) (was id)
   where
@@ -409,7 +417,11 @@ called_go {h} {cs} {ls} client ticket a b does =
       steps = step ∷ [];
       kinds = (tt, tt);
       walks = (a, refl, does);
-      agree = λ past was. (calls_agree a b past (step ∷ []) (tt, tt) was, record { client = client; ticket = ticket; number_is = refl; server_is = refl; ask_is = refl; later = []; earlier = past; was = refl });
+      agree = λ past was. (
+        calls_agree a b past (step ∷ []) (tt, tt) was,
+        record { client = client; ticket = ticket; number_is = refl; server_is = refl; ask_is = refl; later = []; earlier = past; was = refl },
+        calls_agree a b past [] tt was,
+      );
       texts = refl;
     }
 
@@ -503,7 +515,7 @@ line_took {h = h} {h' = h'} {cs = cs} {a = a} {b = b} links at x y call within w
     with_call :
         (past : List Step) → AgreesSent at call past (record { core = a; history = h; clients = cs; links = links }) → AgreesBut (LineCalled call) at past (record { core = a; history = h; clients = cs; links = links })
     with_call past was =
-        record { orderly = was.0.orderly; clients = was.0.clients; told = was.0.told; links = λ j link other there. was.0.links j link there; this = λ link there. (was.0.links at link there, was.1); gone = was.0.gone }
+        record { orderly = was.0.orderly; clients = was.0.clients; told = was.0.told; links = λ j link other there. was.0.links j link there; this = λ link there. (was.0.links at link there, was.1, was.2 link there); gone = was.0.gone }
 
 -- one that waited was taken from it
 pub line_gave :
@@ -519,6 +531,7 @@ line_gave {h = h} {h' = h'} {cs = cs} {a = a} {b = b} links at x y call within w
       but_all at past (record { core = b; history = h'; clients = cs; links = set links at y })
           (record { orderly = was.orderly; clients = was.clients; told = was.told; links = was.links; this = λ link there. (was.this link there).0; gone = was.gone }),
       (was.this y (set_here links at y within)).1,
+      λ link there. subst (λ (z : Link). AreDue past at (numbers_of (call ∷ z.waiting.items))) (same_some (sym (set_here links at y within) ∙ there)) (was.this y (set_here links at y within)).2,
     )
 
 -- without a core

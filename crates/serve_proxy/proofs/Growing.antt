@@ -19,7 +19,9 @@ use Rattle.serve_links.specs.declared.calls.calls.SentCall.{SentCall}
 use Rattle.serve_links.specs.declared.link.Link.{Link}
 use Rattle.serve_links.specs.Links.{IsDown}
 use Rattle.serve_links.specs.CoreSteps.{Step, Loaded}
-use Rattle.serve_links.specs.Story.{fed_in, gave_in, IsTold, said_asks, LineState, line_of, LineAgrees, LinesAgree, AnEnd, Agrees, AllGoFrom, texts_of, MayAllGo}
+use Rattle.serve_links.specs.Story.{fed_in, gave_in, IsTold, said_asks, numbers_of, LineState, line_of, LineAgrees, LinesAgree, AnEnd, Agrees, AllGoFrom, texts_of, MayAllGo}
+use Rattle.serve_links.specs.Talks.{AreDue, IsOrderly}
+use Rattle.serve_links.proofs.Due.{none_more}
 use Rattle.serve_links.proofs.Walked.{walked, of_both}
 use Rattle.serve_proxy.specs.Ends.{lines_of, down_line, AddsLines, AllGrowFrom, AllGrow, IsLoadOf, HasNoClients}
 use Rattle.serve_proxy.proofs.Going.{agree_told, had_quiet, lines_told, get_line, texts_by_lines}
@@ -77,8 +79,8 @@ no_conn : (o : Option Conn) → option_map (λ (x : Conn). let e : ℕ × List �
 no_conn None is = refl
 no_conn (Some conn) is = absurd (none_some (sym is))
 
-pub lines_grow : (h : List Event) (past : List Step) (ls ls' : List Link) → AddsLines ls ls' → LinesAgree past h ls → LinesAgree past h ls'
-lines_grow h past ls ls' adds was at link there = by (in_both (lines_of ls) (each down_line adds.0) at (line_of link) (ap (λ l. slice_get l at) (sym adds.1) ∙ sym (get_line ls' at) ∙ ap (option_map line_of) there))
+pub lines_grow : (h : List Event) (past : List Step) (ls ls' : List Link) → AddsLines ls ls' → IsOrderly past → LinesAgree past h ls → LinesAgree past h ls'
+lines_grow h past ls ls' adds orderly was at link there = by (in_both (lines_of ls) (each down_line adds.0) at (line_of link) (ap (λ l. slice_get l at) (sym adds.1) ∙ sym (get_line ls' at) ∙ ap (option_map line_of) there))
   where
     of_old : (o : Option Link) → slice_get ls at ≡ o → option_map line_of o ≡ Some (line_of link) → LineAgrees at past h link
     of_old None e l = absurd (none_some l)
@@ -86,7 +88,7 @@ lines_grow h past ls ls' adds was at link there = by (in_both (lines_of ls) (eac
 
     by : (slice_get (lines_of ls) at ≡ Some (line_of link)) ⊎ ((k : ℕ) × (slice_get (each down_line adds.0) k ≡ Some (line_of link))) → LineAgrees at past h link
     by (inl old) = of_old (slice_get ls at) refl (get_line ls at ∙ old)
-    by (inr new) = let down = is_down adds.0 new.0 (line_of link) new.1 in has_none at past h link (no_conn link.conn down.0) (subst (λ w. MayAllGo past at w) (sym down.1) tt)
+    by (inr new) = let down = is_down adds.0 new.0 (line_of link) new.1 in has_none at past h link (no_conn link.conn down.0) (subst (λ w. MayAllGo past at w) (sym down.1) tt) (subst (λ w. AreDue past at (numbers_of w)) (sym down.1) (none_more past at orderly))
 
 texts_both : (lines : List LineState) (texts : List (List ℕ)) → each (λ (p : LineState). p.0) (lines ++ each down_line texts) ≡ each (λ (p : LineState). p.0) lines ++ texts
 texts_both [] [] = refl
@@ -119,7 +121,7 @@ pub links_grow :
     {Is : Step → Type 0} {h : List Event} {cs : Clients} {ls ls' : List Link} (core : ServedCore) → AddsLines ls ls'
     → AllGrow Is (record { core = core; history = h; clients = cs; links = ls }) (record { core = core; history = h; clients = cs; links = ls' })
 links_grow {h = h} {ls = ls} {ls' = ls'} core adds =
-    record { steps = []; kinds = tt; walks = refl; agree = λ past was. record { orderly = was.orderly; clients = was.clients; told = was.told; links = lines_grow h past ls ls' adds was.links; gone = was.gone }; texts = (adds.0, texts_grow ls ls' adds) }
+    record { steps = []; kinds = tt; walks = refl; agree = λ past was. record { orderly = was.orderly; clients = was.clients; told = was.told; links = lines_grow h past ls ls' adds was.orderly was.links; gone = was.gone }; texts = (adds.0, texts_grow ls ls' adds) }
 
 -- a configuration was loaded, which tells nothing of clients
 pub load_grows :
@@ -149,7 +151,7 @@ grow_from {Is} {h} {cs} {ls} {a} {x} {b} same g = subst (λ y. AllGrow Is (recor
 
 -- no client is there, and no link has a connection
 pub new_agrees : (h : List Event) (core : ServedCore) (cs : Clients) (ls : List Link) → cs.all.items ≡ [] → AddsLines [] ls → HasNoClients h → Agrees [] (record { core = core; history = h; clients = cs; links = ls })
-new_agrees h core cs ls none adds new = record { orderly = tt; clients = λ id. subst (λ o. IfSome o (EndAgrees h (fed_in []) (gave_in []) id)) (sym (nobody id)) tt; told = λ id. subst (λ o. IfSome o (IsTold [] id)) (sym (nobody id)) tt; links = lines_grow h [] [] ls adds (λ at link there. absurd (none_some there)); gone = λ conn id is. absurd (new conn id is) }
+new_agrees h core cs ls none adds new = record { orderly = tt; clients = λ id. subst (λ o. IfSome o (EndAgrees h (fed_in []) (gave_in []) id)) (sym (nobody id)) tt; told = λ id. subst (λ o. IfSome o (IsTold [] id)) (sym (nobody id)) tt; links = lines_grow h [] [] ls adds tt (λ at link there. absurd (none_some there)); gone = λ conn id is. absurd (new conn id is) }
   where
     nobody : (id : ℕ) → client_of cs id ≡ None
     nobody id = ap (λ (xs : List (Option Client)). option_flatten (slice_get xs id)) none

@@ -34,9 +34,10 @@ use Rattle.serve_links.specs.Dialects.{asked_in}
 use Rattle.serve_links.specs.Settled.{SettlesSome, SettlesFront}
 use Rattle.serve_links.specs.Lines.{IsNewEnd, OpensBy}
 use Rattle.serve_links.specs.Talks.{SaidAsk, talk_in, IsCalledIn}
-use Rattle.serve_links.specs.Story.{LineState, line_of, said_asks, MayGo, LineAgrees, LineLost, LineGoesFrom, LineGoes, AnEnd, Agrees, AgreesBut, AgreesCalled, AgreesSent, AllGoFrom, fed_in, gave_in}
+use Rattle.serve_links.specs.Story.{LineState, line_of, said_asks, numbers_of, MayGo, LineAgrees, LineLost, LineGoesFrom, LineGoes, AnEnd, Agrees, AgreesBut, AgreesCalled, AgreesSent, AllGoFrom, fed_in, gave_in}
 use Rattle.serve_links.proofs.LinkGoes.{as_lost, line_between, line_settles, line_loses, line_asks, line_waits, line_takes}
 use Rattle.serve_links.proofs.Story.{go_between}
+use Rattle.serve_links.proofs.Due.{one_due}
 use Rattle.serve_proxy.specs.Ends.{lines_of, LinksTake, LinksGive, LineTakes, IsOpenAt, AsksIn, AllGoOn, AllGoBut, AllGoLosing, AllGoOr, AllGoUnless}
 use Rattle.serve_proxy.specs.declared.sockets.Sockets.{Sockets}
 use Rattle.serve_proxy.proofs.Going.{and_then, core_of, may_lose, may_lose_at, line_took, line_gave, had_quiet, numbers_kept, told_kept, set_here}
@@ -151,7 +152,9 @@ may_go past x at call there asks was called = record { later = []; earlier = pas
 pub called_at :
     {Q : List Step → AnEnd → Type 0} {Is : Step → Type 0} {a b : AnEnd} (at : ℕ) (call : SentCall) → call.ticket.server ≡ at → IsOpenAt at a.links → AsksIn call.dialect at a.links → AllGoFrom (AgreesSent at call) Q Is a b
     → AllGoFrom (AgreesCalled call.ticket.number call.ticket.server call.ticket.ask) Q Is a b
-called_at {a = a} at call same there asks g = go_between (λ past was. (was.0, may_go past a at call there asks was.0 (subst (λ n. IsCalledIn past call.ticket.number n call.ticket.ask) same was.1))) (λ past was. was) g
+called_at {Q} {Is} {a} {b} at call same stands asks g =
+    subst (λ n. AllGoFrom (AgreesCalled call.ticket.number n call.ticket.ask) Q Is a b) (sym same)
+    (go_between (λ past was. (was.0, may_go past a at call stands asks was.0 was.1, λ link there. one_due past call.ticket.number at call.ticket.ask was.1 (numbers_of link.waiting.items) (was.2.links at link there).due)) (λ past was. was) g)
 
 -- ---- answers
 
