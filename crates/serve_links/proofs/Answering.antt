@@ -18,12 +18,14 @@ use Rattle.serve_links.specs.Settled.{SettlesOne, SettlesEach, SettlesSome}
 use Rattle.serve_links.specs.Talks.{SaidAsk, Talk, behind, with_answer, talk_in, IsNextAnswer, IsOrderly, IsOfServer}
 use Rattle.serve_links.specs.Story.{said_asks}
 use Rattle.serve_links.proofs.Walked.{walked, of_both}
+use Rattle.serve_links.proofs.Showing.{IsUnlost}
 
 -- the walk that answers to calls make, and what it tells of their server
 pub record Answers (at : ℕ) (sent : List SentCall) (bytes : List ℕ) (a : ServedCore) (sent' : List SentCall) (rest : List ℕ) (b : ServedCore) : Type 0 where
   pub steps : List Step
   pub kinds : AreOf IsOfTurn steps
   pub own : AreOf (IsOfServer at) steps
+  pub unlost : AreOf IsUnlost steps
   pub walks : Walks steps a b
   pub spelled : List ℕ
   pub whole : bytes ≡ spelled ++ rest
@@ -55,6 +57,7 @@ one at (call ∷ calls) bytes a answer sent' rest b s = record {
   steps = Settled number (Answered answer) ∷ Spelled at number ask answer spelled ∷ [];
   kinds = (tt, (tt, tt));
   own = (tt, (refl, tt));
+  unlost = (tt, (tt, tt));
   walks = (a, (a, refl, (refl, asks)), s.settles.2);
   spelled = spelled;
   whole = s.whole ∙ ap (λ l. l ++ s.more) (sym (take-append-drop s.used s.front)) ∙ append_assoc spelled (drop s.used s.front) s.more ∙ ap (λ l. spelled ++ l) (sym s.rest);
@@ -102,6 +105,7 @@ both at sent bytes a mid left m sent' rest b f g = record {
   steps = g.steps ++ f.steps;
   kinds = of_both IsOfTurn g.steps f.steps g.kinds f.kinds;
   own = of_both (IsOfServer at) g.steps f.steps g.own f.own;
+  unlost = of_both IsUnlost g.steps f.steps g.unlost f.unlost;
   walks = walked g.steps f.steps a m b f.walks g.walks;
   spelled = f.spelled ++ g.spelled;
   whole = f.whole ∙ ap (λ l. f.spelled ++ l) g.whole ∙ sym (append_assoc f.spelled g.spelled rest);
@@ -128,6 +132,7 @@ answers_each at [] sent bytes a sent' rest b s = record {
   steps = [];
   kinds = tt;
   own = tt;
+  unlost = tt;
   walks = s.2;
   spelled = [];
   whole = sym s.1;

@@ -9,6 +9,7 @@ pub mod Shutting
 pub mod Story
 pub mod Ends
 pub mod Talking
+pub mod Showing
 pub mod Due
 pub mod Answering
 pub mod LinkGoes

@@ -7,27 +7,29 @@ use Rattle.mc_types.specs.declared.ask.Ask.{Ask}
 use Rattle.mc_types.specs.declared.ask.Dialect.{Dialect}
 use Rattle.wire_stream.specs.Spelling.{spelling_of}
 use Rattle.wire_parts.specs.Sending.{bytes_of}
-use Rattle.serve_wire.specs.Events.{Event, connects, role, address_of, delivered, taken, IsNew}
-use Rattle.serve_wire.specs.Flow.{ReadsOn, SendsOn}
+use Rattle.serve_wire.specs.Events.{Event, connects, closes, role, address_of, delivered, taken, is_over, IsNew}
+use Rattle.serve_wire.specs.Flow.{ReadsOn, SendsOn, Stands}
 use Rattle.serve_wire.specs.Calls.{Closes}
-use Rattle.serve_wire.specs.Agreement.{IsUntouched, TouchesOnly}
+use Rattle.serve_wire.specs.Agreement.{Extends, IsUntouched, TouchesOnly}
 use Rattle.serve_wire.specs.declared.conn.conn.Conn.{Conn}
-use Rattle.serve_wire.proofs.Steps.{equal, new_apart, untouched, untouched_twice, only_twice, only_connects, only_closes, address_begins}
+use Rattle.serve_wire.proofs.Steps.{only_after, equal, new_apart, untouched, untouched_twice, only_twice, only_connects, only_closes, address_begins}
 use Rattle.core_accepted.specs.declared.served.ServedCore.{ServedCore}
 use Rattle.serve_links.specs.declared.calls.calls.SentCall.{SentCall}
 use Rattle.serve_links.specs.declared.settings.ServerDialect.{ServerDialect}
 use Rattle.serve_links.specs.declared.link.Opening.{Opening}
 use Rattle.serve_links.specs.declared.link.Opening.TheVariants as opening
 use Rattle.serve_links.specs.declared.link.Link.{Link}
-use Rattle.serve_links.specs.CoreSteps.{Step, Opened, NotOpened, Fed, Polled, Stopped, Settled, Gave, Closed, LeftLine, Broke, Loaded, Linked, Asked, Greeted, Spelled, AreOf, IsOfTurn, IsFailure, IsSending, Fails}
+use Rattle.serve_links.specs.declared.news.Cause.{Cause}
+use Rattle.serve_links.specs.CoreSteps.{Step, Opened, NotOpened, Fed, Polled, Stopped, Settled, Gave, Closed, LeftLine, Broke, Loaded, Linked, Asked, Greeted, Spelled, Lost, AreOf, IsOfTurn, IsFailure, IsGivingUp, IsSending, Fails}
 use Rattle.serve_links.specs.Dialects.{asked_in}
 use Rattle.serve_links.specs.Lines.{first_asked_of, awaits_first, first_dialect, SameLine, KeepsLines, IsNewEnd, HasNewEnd, OpensBy, TakesGreeting, HasLearnt, Learns}
 use Rattle.serve_links.specs.Settled.{SettlesSome}
-use Rattle.serve_links.specs.Talks.{SaidAsk, Talk, first_talk, with_ask, greeted, talk_in, AreDue, IsOrderly, IsOfServer}
-use Rattle.serve_links.specs.Story.{said_asks, numbers_of, MayGo, MayAllGo, TalkAgrees, ConnAgrees, LineAgrees, LineLost, LineCalled, LineState, line_of, KeepsOthers, LineGoesFrom, LineGoes, AnEnd, Agrees, AgreesLosing}
+use Rattle.serve_links.specs.Talks.{SaidAsk, Talk, first_talk, with_ask, greeted, given_up, talk_in, AreDue, IsOrderly, IsOfServer}
+use Rattle.serve_links.specs.Story.{said_asks, numbers_of, MayGo, MayAllGo, TalkAgrees, ConnAgrees, LineAgrees, LineLost, LineFails, ShowsWhy, WasShown, AreShown, LineCalled, LineState, line_of, KeepsOthers, LineGoesFrom, LineGoes, AnEnd, Agrees, AgreesLosing}
 use Rattle.serve_links.proofs.Talking.{calls_later, one_more, IsPlain, plain_talk, plain_orderly}
 use Rattle.serve_links.proofs.Due.{due_less, due_first, due_last, due_behind, due_later, due_asked}
 use Rattle.serve_links.proofs.Walked.{walked, of_both}
+use Rattle.serve_links.proofs.Showing.{plain_unlost, none_since, shown_since, shown_later}
 use Rattle.serve_links.proofs.Answering.{Answers, answers_some}
 use Rattle.serve_links.proofs.Story.{line_stays}
 
@@ -77,15 +79,19 @@ talk_as {h} {at} {text} {text'} {t} {t'} {c} {c'} {held} {held'} {unsent} {unsen
 }
 
 -- a link that has this connection
-pub has_conn : (at : ℕ) (past : List Step) (h : List Event) (y : Link) (d : Conn) → y.conn ≡ Some d → ConnAgrees at past h y d d.held.items → MayAllGo past at y.waiting.items → AreDue past at (numbers_of y.waiting.items) → LineAgrees at past h y
-has_conn at past h y d is agrees waiting due = record { conn = λ conn there. subst (λ (z : Conn). ConnAgrees at past h y z z.held.items) (same_some (sym is ∙ there)) agrees; waiting = waiting; due = due }
+pub has_conn : (at : ℕ) (past : List Step) (h : List Event) (y : Link) (d : Conn) → y.conn ≡ Some d → ConnAgrees at past h y d d.held.items → is_over d.number h ≡ false → MayAllGo past at y.waiting.items → AreDue past at (numbers_of y.waiting.items) → LineAgrees at past h y
+has_conn at past h y d is agrees goes_on waiting due = record { conn = λ conn there. subst (λ (z : Conn). ConnAgrees at past h y z z.held.items) (same_some (sym is ∙ there)) agrees; goes_on = λ conn there. subst (λ (z : Conn). is_over z.number h ≡ false) (same_some (sym is ∙ there)) goes_on; waiting = waiting; due = due }
 
 -- and one that has none
 pub has_none : (at : ℕ) (past : List Step) (h : List Event) (y : Link) → y.conn ≡ None → MayAllGo past at y.waiting.items → AreDue past at (numbers_of y.waiting.items) → LineAgrees at past h y
-has_none at past h y is waiting due = record { conn = λ conn there. absurd (none_some (sym is ∙ there)); waiting = waiting; due = due }
+has_none at past h y is waiting due = record { conn = λ conn there. absurd (none_some (sym is ∙ there)); goes_on = λ conn there. absurd (none_some (sym is ∙ there)); waiting = waiting; due = due }
 
 pub as_lost : (at : ℕ) (past : List Step) (h : List Event) (x : Link) → LineAgrees at past h x → LineLost at past h x
 as_lost at past h x a = record { conn = λ conn is. (conn.held.items, a.conn conn is); waiting = a.waiting; due = a.due }
+
+-- one that agrees, whose connection shows why it is to be given up
+pub as_failing : (why : Option Cause) (at : ℕ) (past : List Step) (h : List Event) (x : Link) → ((conn : Conn) → x.conn ≡ Some conn → ShowsWhy why (talk_in past at) conn.number h) → LineAgrees at past h x → LineFails why at past h x
+as_failing why at past h x shows a = record { lost = as_lost at past h x a; shows = shows }
 
 -- where all agree, all agree but for what one link may hold
 pub losing : (at : ℕ) (past : List Step) (x : AnEnd) → Agrees past x → AgreesLosing past x
@@ -98,14 +104,15 @@ losing at past x a = (
     links = λ j link other there. a.links j link there;
     this = λ link there. as_lost at past x.history link (a.links at link there);
     gone = a.gone;
+    shown = a.shown;
   },
 )
 
 -- nothing happened but at the connection, and no step is told of
 pub line_moves :
-    {Before After : ℕ → List Step → List Event → Link → Type 0} {Is : Step → Type 0} {at : ℕ} {a b : ServedCore} {h h' : List Event} {x y : Link} → b ≡ a → y.text.items ≡ x.text.items
+    {Before After : ℕ → List Step → List Event → Link → Type 0} {Is : Step → Type 0} {at : ℕ} {a b : ServedCore} {h h' : List Event} {x y : Link} → b ≡ a → Extends h h' → y.text.items ≡ x.text.items
     → ((past : List Step) → Before at past h x → After at past h' y × KeepsOthers (1, at) h h') → LineGoesFrom Before After Is at a h x b h' y
-line_moves same text moves = record { steps = []; kinds = tt; own = tt; walks = same; agrees = λ past o was. let m = moves past was in (o, m.0, m.1); text = text }
+line_moves {h = h} {h' = h'} same more text moves = record { steps = []; kinds = tt; own = tt; walks = same; agrees = λ past o was. let m = moves past was in (o, m.0, m.1); shown = λ past o was shown. shown_since past h h' more shown; text = text }
 
 -- what is wanted before is there, and what is there after is more than is wanted
 pub line_between :
@@ -117,6 +124,7 @@ line_between before after g = record {
   own = g.own;
   walks = g.walks;
   agrees = λ past o was. let r = g.agrees past o (before past was) in (r.0, after (g.steps ++ past) r.1, r.2);
+  shown = λ past o was shown. g.shown past o (before past was) shown;
   text = g.text;
 }
 
@@ -139,6 +147,8 @@ line_then {P} {Q} {R} {Is} {at} {a} {b} {c} {h} {h'} {h''} {x} {y} {z} g k = rec
       let later = k.agrees (g.steps ++ past) first.0 first.1 in
       let both = subst (λ l. IsOrderly l × R at l h'' z) (sym (append_assoc k.steps g.steps past)) (later.0, later.1) in
       (both.0, both.1, others_twice (1, at) h h' h'' first.2 later.2);
+  shown = λ past o was shown.
+      let first = g.agrees past o was in subst (λ l. AreShown l h'') (sym (append_assoc k.steps g.steps past)) (k.shown (g.steps ++ past) first.0 first.1 (g.shown past o was shown));
   text = k.text ∙ g.text;
 }
 
@@ -146,7 +156,7 @@ line_then {P} {Q} {R} {Is} {at} {a} {b} {c} {h} {h'} {h''} {x} {y} {z} g k = rec
 
 abbrev OfConn : ℕ → List Step → List Event → List ℕ → List SaidAsk → Bool → Dialect → Option (ℕ × List ℕ × List ℕ) → Type 0
 OfConn at past h text out awaits dialect None = Unit {0}
-OfConn at past h text out awaits dialect (Some e) = TalkAgrees h at text (talk_in past at) e.0 e.1 e.2 out awaits dialect
+OfConn at past h text out awaits dialect (Some e) = TalkAgrees h at text (talk_in past at) e.0 e.1 e.2 out awaits dialect × (is_over e.0 h ≡ false)
 
 abbrev OfLine : ℕ → List Step → List Event → LineState → Type 0
 OfLine at past h s = OfConn at past h s.0 s.2 s.4 s.5 s.1 × MayAllGo past at s.3 × AreDue past at (numbers_of s.3)
@@ -156,14 +166,13 @@ to_line at past h x a = (by x.conn refl, a.waiting, a.due)
   where
     by : (o : Option Conn) → x.conn ≡ o → OfConn at past h x.text.items (said_asks x.calls.sent.items) x.awaits_dialect x.dialect (option_map (λ (c : Conn). (c.number, c.held.items, bytes_of c.unsent)) o)
     by None e = tt
-    by (Some c) e = a.conn c e
+    by (Some c) e = (a.conn c e, a.goes_on c e)
 
 from_line : (at : ℕ) (past : List Step) (h : List Event) (y : Link) → OfLine at past h (line_of y) → LineAgrees at past h y
-from_line at past h y o = record {
-  conn = λ conn is. subst (λ (q : Option Conn). OfConn at past h y.text.items (said_asks y.calls.sent.items) y.awaits_dialect y.dialect (option_map (λ (c : Conn). (c.number, c.held.items, bytes_of c.unsent)) q)) is o.0;
-  waiting = o.1;
-  due = o.2;
-}
+from_line at past h y o = record { conn = λ conn is. (there conn is).0; goes_on = λ conn is. (there conn is).1; waiting = o.1; due = o.2 }
+  where
+    there : (conn : Conn) → y.conn ≡ Some conn → ConnAgrees at past h y conn conn.held.items × (is_over conn.number h ≡ false)
+    there conn is = subst (λ (q : Option Conn). OfConn at past h y.text.items (said_asks y.calls.sent.items) y.awaits_dialect y.dialect (option_map (λ (c : Conn). (c.number, c.held.items, bytes_of c.unsent)) q)) is o.0
 
 pub same_line : (at : ℕ) (past : List Step) (h : List Event) (x y : Link) → line_of y ≡ line_of x → LineAgrees at past h x → LineAgrees at past h y
 same_line at past h x y same a = from_line at past h y (subst (OfLine at past h) (sym same) (to_line at past h x a))
@@ -172,7 +181,7 @@ same_line at past h x y same a = from_line at past h y (subst (OfLine at past h)
 pub line_keeps :
     {Is : Step → Type 0} {at : ℕ} {core : ServedCore} {h h' : List Event} {x y : Link} → ((d : ℕ) → IsUntouched d h h') → line_of y ≡ line_of x → LineGoes Is at core h x core h' y
 line_keeps {at = at} {h = h} {h' = h'} {x = x} {y = y} still same =
-    line_moves refl (ap (λ (s : LineState). s.0) same)
+    line_moves refl (still 0).after (ap (λ (s : LineState). s.0) same)
     (λ past a. (same_line at past h' x y same (line_stays h h' at [] past x (λ conn is. still conn.number) refl a), all_kept (1, at) h h' still))
 
 -- of six parts
@@ -213,18 +222,46 @@ talk_reads h h' at text t c held held' unsent out awaits dialect r was = record 
   dialect_is = was.dialect_is;
 }
 
--- what came is held
+-- what agrees but for its connection is over, and shows why
+pub over_so :
+    (why : Option Cause) (at : ℕ) (past : List Step) (h : List Event) (y : Link) (d : Conn) → y.conn ≡ Some d → ConnAgrees at past h y d d.held.items → ShowsWhy why (talk_in past at) d.number h → MayAllGo past at y.waiting.items
+    → AreDue past at (numbers_of y.waiting.items) → LineFails why at past h y
+over_so why at past h y d is agrees shows waiting due = record {
+  lost = record { conn = λ conn there. (conn.held.items, subst (λ (z : Conn). ConnAgrees at past h y z z.held.items) (same_some (sym is ∙ there)) agrees); waiting = waiting; due = due };
+  shows = λ conn there. subst (λ (z : Conn). ShowsWhy why (talk_in past at) z.number h) (same_some (sym is ∙ there)) shows;
+}
+
+-- what came is held, and this holds of the link then
+line_reads_to :
+    {After : ℕ → List Step → List Event → Link → Type 0} {Is : Step → Type 0} {at : ℕ} {core : ServedCore} {h h' : List Event} (x y : Link) (c d : Conn) → x.conn ≡ Some c → y ≡ record x { conn = Some d } → d.number ≡ c.number
+    → bytes_of d.unsent ≡ bytes_of c.unsent → ReadsOn c.number c.held.items d.held.items h h'
+    → ((past : List Step) → LineAgrees at past h x → ConnAgrees at past h' y d d.held.items → MayAllGo past at y.waiting.items → AreDue past at (numbers_of y.waiting.items) → After at past h' y)
+    → LineGoesFrom LineAgrees After Is at core h x core h' y
+line_reads_to {After} {at = at} {h = h} {h' = h'} x y c d was is number unsent r after =
+    line_moves refl (only_after c.number h h' r.elsewhere) (ap (λ (z : Link). z.text.items) is) (λ past a. (agrees past a, keeps_others c.number (1, at) h h' (a.conn c was).is_to r.same_role r.elsewhere))
+  where
+    agrees : (past : List Step) → LineAgrees at past h x → After at past h' y
+    agrees past a =
+        let now = talk_reads h h' at x.text.items (talk_in past at) c.number c.held.items d.held.items (bytes_of c.unsent) (said_asks x.calls.sent.items) x.awaits_dialect x.dialect r (a.conn c was) in
+        let conn = talk_as (ap (λ (z : Link). z.text.items) is) refl number refl unsent (ap (λ (z : Link). said_asks z.calls.sent.items) is) (ap (λ (z : Link). z.awaits_dialect) is) (ap (λ (z : Link). z.dialect) is) now in
+        let waits = sym (ap (λ (z : Link). z.waiting.items) is) in
+        after past a conn (subst (λ w. MayAllGo past at w) waits a.waiting) (subst (λ w. AreDue past at (numbers_of w)) waits a.due)
+
+-- where the connection stands still
 pub line_reads :
     {Is : Step → Type 0} {at : ℕ} {core : ServedCore} {h h' : List Event} (x y : Link) (c d : Conn) → x.conn ≡ Some c → y ≡ record x { conn = Some d } → d.number ≡ c.number → bytes_of d.unsent ≡ bytes_of c.unsent
-    → ReadsOn c.number c.held.items d.held.items h h' → LineGoes Is at core h x core h' y
-line_reads {at = at} {h = h} {h' = h'} x y c d was is number unsent r =
-    line_moves refl (ap (λ (z : Link). z.text.items) is) (λ past a. (agrees past a, keeps_others c.number (1, at) h h' (a.conn c was).is_to r.same_role r.elsewhere))
-  where
-    agrees : (past : List Step) → LineAgrees at past h x → LineAgrees at past h' y
-    agrees past a =
-        let out = said_asks x.calls.sent.items in
-        let now = talk_reads h h' at x.text.items (talk_in past at) c.number c.held.items d.held.items (bytes_of c.unsent) out x.awaits_dialect x.dialect r (a.conn c was) in
-        subst (λ z. LineAgrees at past h' z) (sym is) (has_conn at past h' (record x { conn = Some d }) d refl (talk_as refl refl number refl unsent refl refl refl now) a.waiting a.due)
+    → ReadsOn c.number c.held.items d.held.items h h' → Stands c.number h h' → LineGoes Is at core h x core h' y
+line_reads {at = at} {h' = h'} x y c d was is number unsent r stands =
+    line_reads_to x y c d was is number unsent r
+    (λ past a agrees waiting due. has_conn at past h' y d (ap (λ (z : Link). z.conn) is) agrees (ap (λ n. is_over n h') number ∙ stands ∙ a.goes_on c was) waiting due)
+
+-- or shows why it is to be given up
+pub line_reads_over :
+    {Is : Step → Type 0} {at : ℕ} {core : ServedCore} {h h' : List Event} (why : Option Cause) (x y : Link) (c d : Conn) → x.conn ≡ Some c → y ≡ record x { conn = Some d } → d.number ≡ c.number
+    → bytes_of d.unsent ≡ bytes_of c.unsent → ReadsOn c.number c.held.items d.held.items h h' → ((t : Talk) → ShowsWhy why t c.number h') → LineGoesFrom LineAgrees (LineFails why) Is at core h x core h' y
+line_reads_over {at = at} {h' = h'} why x y c d was is number unsent r shows =
+    line_reads_to x y c d was is number unsent r
+    (λ past a agrees waiting due. over_so why at past h' y d (ap (λ (z : Link). z.conn) is) agrees (subst (λ n. ShowsWhy why (talk_in past at) n h') (sym number) (shows (talk_in past at))) waiting due)
 
 talk_sends :
     (h h' : List Event) (at : ℕ) (text : List ℕ) (t : Talk) (c : ℕ) (held unsent unsent' : List ℕ) (out : List SaidAsk) (awaits : Bool) (dialect : Dialect) → SendsOn c unsent unsent' h h' → TalkAgrees h at text t c held unsent out awaits dialect
@@ -239,18 +276,37 @@ talk_sends h h' at text t c held unsent unsent' out awaits dialect s was = recor
   dialect_is = was.dialect_is;
 }
 
--- what is to be sent goes out, as far as it is taken
+-- what is to be sent goes out, as far as it is taken, and this holds of the link then
+line_sends_to :
+    {After : ℕ → List Step → List Event → Link → Type 0} {Is : Step → Type 0} {at : ℕ} {core : ServedCore} {h h' : List Event} (x y : Link) (c d : Conn) → x.conn ≡ Some c → y ≡ record x { conn = Some d } → d.number ≡ c.number
+    → d.held.items ≡ c.held.items → SendsOn c.number (bytes_of c.unsent) (bytes_of d.unsent) h h'
+    → ((past : List Step) → LineAgrees at past h x → ConnAgrees at past h' y d d.held.items → MayAllGo past at y.waiting.items → AreDue past at (numbers_of y.waiting.items) → After at past h' y)
+    → LineGoesFrom LineAgrees After Is at core h x core h' y
+line_sends_to {After} {at = at} {h = h} {h' = h'} x y c d was is number held s after =
+    line_moves refl (only_after c.number h h' s.elsewhere) (ap (λ (z : Link). z.text.items) is) (λ past a. (agrees past a, keeps_others c.number (1, at) h h' (a.conn c was).is_to s.same_role s.elsewhere))
+  where
+    agrees : (past : List Step) → LineAgrees at past h x → After at past h' y
+    agrees past a =
+        let now = talk_sends h h' at x.text.items (talk_in past at) c.number c.held.items (bytes_of c.unsent) (bytes_of d.unsent) (said_asks x.calls.sent.items) x.awaits_dialect x.dialect s (a.conn c was) in
+        let conn = talk_as (ap (λ (z : Link). z.text.items) is) refl number held refl (ap (λ (z : Link). said_asks z.calls.sent.items) is) (ap (λ (z : Link). z.awaits_dialect) is) (ap (λ (z : Link). z.dialect) is) now in
+        let waits = sym (ap (λ (z : Link). z.waiting.items) is) in
+        after past a conn (subst (λ w. MayAllGo past at w) waits a.waiting) (subst (λ w. AreDue past at (numbers_of w)) waits a.due)
+
+-- where the connection stands still
 pub line_sends :
     {Is : Step → Type 0} {at : ℕ} {core : ServedCore} {h h' : List Event} (x y : Link) (c d : Conn) → x.conn ≡ Some c → y ≡ record x { conn = Some d } → d.number ≡ c.number → d.held.items ≡ c.held.items
-    → SendsOn c.number (bytes_of c.unsent) (bytes_of d.unsent) h h' → LineGoes Is at core h x core h' y
-line_sends {at = at} {h = h} {h' = h'} x y c d was is number held s =
-    line_moves refl (ap (λ (z : Link). z.text.items) is) (λ past a. (agrees past a, keeps_others c.number (1, at) h h' (a.conn c was).is_to s.same_role s.elsewhere))
-  where
-    agrees : (past : List Step) → LineAgrees at past h x → LineAgrees at past h' y
-    agrees past a =
-        let out = said_asks x.calls.sent.items in
-        let now = talk_sends h h' at x.text.items (talk_in past at) c.number c.held.items (bytes_of c.unsent) (bytes_of d.unsent) out x.awaits_dialect x.dialect s (a.conn c was) in
-        subst (λ z. LineAgrees at past h' z) (sym is) (has_conn at past h' (record x { conn = Some d }) d refl (talk_as refl refl number held refl refl refl refl now) a.waiting a.due)
+    → SendsOn c.number (bytes_of c.unsent) (bytes_of d.unsent) h h' → Stands c.number h h' → LineGoes Is at core h x core h' y
+line_sends {at = at} {h' = h'} x y c d was is number held s stands =
+    line_sends_to x y c d was is number held s
+    (λ past a agrees waiting due. has_conn at past h' y d (ap (λ (z : Link). z.conn) is) agrees (ap (λ n. is_over n h') number ∙ stands ∙ a.goes_on c was) waiting due)
+
+-- or shows why it is to be given up
+pub line_sends_over :
+    {Is : Step → Type 0} {at : ℕ} {core : ServedCore} {h h' : List Event} (why : Option Cause) (x y : Link) (c d : Conn) → x.conn ≡ Some c → y ≡ record x { conn = Some d } → d.number ≡ c.number → d.held.items ≡ c.held.items
+    → SendsOn c.number (bytes_of c.unsent) (bytes_of d.unsent) h h' → ((t : Talk) → ShowsWhy why t c.number h') → LineGoesFrom LineAgrees (LineFails why) Is at core h x core h' y
+line_sends_over {at = at} {h' = h'} why x y c d was is number held s shows =
+    line_sends_to x y c d was is number held s
+    (λ past a agrees waiting due. over_so why at past h' y d (ap (λ (z : Link). z.conn) is) agrees (subst (λ n. ShowsWhy why (talk_in past at) n h') (sym number) (shows (talk_in past at))) waiting due)
 
 -- ---- a new connection
 
@@ -285,6 +341,7 @@ begins at core h h' x y dialect number new noted has = record {
   own = (refl, tt);
   walks = (core, refl, refl);
   agrees = λ past o a. ((tt, o), by past a y.conn refl has.conn, keeps_by number (1, at) h h' (new_own at number h h' new.no_role (ap (role number) noted ∙ ap (λ b. if b then Some (1, at) else role number h) (equal number))) (subst (TouchesOnly number h) (sym noted) (only_connects number at x.text.items h)));
+  shown = λ past o a shown. shown_later (Linked at dialect ∷ []) past h h' (tt, tt) (connects number at x.text.items ∷ [], noted) shown;
   text = ap (λ t. t.items) has.text;
 }
   where
@@ -295,6 +352,7 @@ begins at core h h' x y dialect number new noted has = record {
         let none : said_asks y.calls.sent.items ≡ [] = ap (λ c. said_asks c.sent.items) has.calls ∙ ap said_asks has.none_out in
         let first = subst (λ k. TalkAgrees k at x.text.items (first_talk dialect (talk_in past at)) number [] (first_asked_of dialect) [] (awaits_first dialect) (first_dialect dialect)) (sym noted) (first_agrees h at number x.text.items dialect (talk_in past at) new) in
         has_conn at (Linked at dialect ∷ past) h' y d e (talk_as (ap (λ t. t.items) has.text) talk end.0 end.1 end.2 none has.awaits has.speaks first)
+        (ap (λ n. is_over n h') end.0 ∙ ap (is_over number) noted ∙ new.goes_on)
         (calls_later (Linked at dialect ∷ []) past at y.waiting.items (subst (λ w. MayAllGo past at w) (sym (ap (λ w. w.items) has.waiting)) a.waiting))
         (due_later (Linked at dialect ∷ []) past at (numbers_of y.waiting.items) (ap (λ (t : Talk). t.asked) talk) (subst (λ w. AreDue past at (numbers_of w)) (sym (ap (λ w. w.items) has.waiting)) a.due))
 
@@ -308,7 +366,7 @@ begins_in_vain :
 begins_in_vain at core h h' x y number new closed keeps =
     let same = keeps_line x y keeps in
     let only = only_twice number h (connects number at x.text.items ∷ h) h' (only_connects number at x.text.items h) (only_closed number (connects number at x.text.items ∷ h) h' closed) in
-    line_moves refl (ap (λ t. t.items) keeps.text) (λ past a. (
+    line_moves refl (only_after number h h' only) (ap (λ t. t.items) keeps.text) (λ past a. (
       same_line at past h' x y same (line_stays h h' at [] past x (λ conn is. only conn.number (new_apart number conn.number h (1, at) (a.conn conn is).is_to new.no_role)) refl a),
       keeps_by number (1, at) h h' (new_own at number h h' new.no_role (closed_role number (connects number at x.text.items ∷ h) h' closed ∙ ap (λ b. if b then Some (1, at) else role number h) (equal number))) only,
     ))
@@ -350,6 +408,7 @@ line_learns {at} {core} {h} x y can on l = by l.told
       own = (refl, tt);
       walks = (core, refl, refl);
       agrees = λ past o a. ((((a.conn c was).awaits_is ∙ on, takes.2), o), agreed past a, all_kept (1, at) h h (quiet h));
+      shown = λ past o a shown. shown_later (step ∷ []) past h h (tt, tt) (none_since h) shown;
       text = ap (λ (z : Link). z.text.items) learnt.rest;
     }
       where
@@ -363,6 +422,7 @@ line_learns {at} {core} {h} x y can on l = by l.told
             let now = talk_greets h at x.text.items (talk_in past at) c.number takes.0 d.held.items (bytes_of c.unsent) (said_asks x.calls.sent.items) x.awaits_dialect x.dialect y.dialect before in
             has_conn at (step ∷ past) h y d is
             (talk_as (ap (λ (z : Link). z.text.items) learnt.rest) talk (ap (λ (z : Conn). z.number) takes.3) refl (ap (λ (z : Conn). bytes_of z.unsent) takes.3) (ap (λ (z : Link). said_asks z.calls.sent.items) learnt.rest) learnt.told refl now)
+            (ap (λ (z : Conn). is_over z.number h) takes.3 ∙ a.goes_on c was)
             (calls_later (step ∷ []) past at y.waiting.items (subst (λ w. MayAllGo past at w) (sym (ap (λ (z : Link). z.waiting.items) learnt.rest)) a.waiting))
             (due_later (step ∷ []) past at (numbers_of y.waiting.items) (ap (λ (t : Talk). t.asked) talk) (subst (λ w. AreDue past at (numbers_of w)) (sym (ap (λ (z : Link). z.waiting.items) learnt.rest)) a.due))
 
@@ -406,6 +466,7 @@ line_asks {at} {core} {h} x y c d call was is same more unsent = record {
   own = (refl, tt);
   walks = (core, refl, refl);
   agrees = λ past o a. (((a.1, due_first past at call.ticket.number (numbers_of x.waiting.items) a.2), o), agreed past a.0 a.2, all_kept (1, at) h h (quiet h));
+  shown = λ past o a shown. shown_later (step ∷ []) past h h (tt, tt) (none_since h) shown;
   text = ap (λ (z : Link). z.text.items) is;
 }
   where
@@ -418,6 +479,7 @@ line_asks {at} {core} {h} x y c d call was is same more unsent = record {
         let now = talk_asks h at x.text.items (talk_in past at) c.number c.held.items (bytes_of c.unsent) (said_asks x.calls.sent.items) x.awaits_dialect x.dialect call.ticket.number call.dialect call.ticket.ask (a.conn c was) in
         has_conn at (step ∷ past) h y d (ap (λ (z : Link). z.conn) is)
         (talk_as (ap (λ (z : Link). z.text.items) is) talk (ap (λ (z : Conn). z.number) same) (ap (λ (z : Conn). z.held.items) same) unsent (ap said_asks more ∙ one_said x.calls.sent.items call) (ap (λ (z : Link). z.awaits_dialect) is) (ap (λ (z : Link). z.dialect) is) now)
+        (ap (λ (z : Conn). is_over z.number h) same ∙ a.goes_on c was)
         (calls_later (step ∷ []) past at y.waiting.items (subst (λ w. MayAllGo past at w) (sym (ap (λ (z : Link). z.waiting.items) is)) a.waiting))
         (due_asked step past at call.ticket.number (numbers_of y.waiting.items) (ap (λ (t : Talk). t.asked) talk) (subst (λ w. AreDue past at (numbers_of (call ∷ w))) (sym (ap (λ (z : Link). z.waiting.items) is)) due))
 
@@ -427,6 +489,7 @@ waits_with at past h x y is a waiting due = record {
   conn = λ conn there.
       talk_as (ap (λ (z : Link). z.text.items) is) refl refl refl refl (ap (λ (z : Link). said_asks z.calls.sent.items) is) (ap (λ (z : Link). z.awaits_dialect) is) (ap (λ (z : Link). z.dialect) is)
       (a.conn conn (sym (ap (λ (z : Link). z.conn) is) ∙ there));
+  goes_on = λ conn there. a.goes_on conn (sym (ap (λ (z : Link). z.conn) is) ∙ there);
   waiting = waiting;
   due = due;
 }
@@ -436,7 +499,7 @@ pub line_waits :
     {Is : Step → Type 0} {at : ℕ} {core : ServedCore} {h : List Event} (x y : Link) (call : SentCall) → y ≡ record x { waiting = y.waiting } → y.waiting.items ≡ x.waiting.items ++ call ∷ []
     → LineGoesFrom (LineCalled call) LineAgrees Is at core h x core h y
 line_waits {at = at} {h = h} x y call is more =
-    line_moves refl (ap (λ (z : Link). z.text.items) is)
+    line_moves refl (none_since h) (ap (λ (z : Link). z.text.items) is)
     (λ past a. (
       waits_with at past h x y is a.0 (subst (λ w. MayAllGo past at w) (sym more) (one_more past at x.waiting.items call a.0.waiting a.1)) (subst (λ w. AreDue past at (numbers_of w)) (sym more) (due_behind past at x.waiting.items call a.2)),
       all_kept (1, at) h h (quiet h),
@@ -447,7 +510,7 @@ pub line_takes :
     {Is : Step → Type 0} {at : ℕ} {core : ServedCore} {h : List Event} (x y : Link) (call : SentCall) → y ≡ record x { waiting = y.waiting } → x.waiting.items ≡ call ∷ y.waiting.items
     → LineGoesFrom LineAgrees (LineCalled call) Is at core h x core h y
 line_takes {at = at} {h = h} x y call is first =
-    line_moves refl (ap (λ (z : Link). z.text.items) is)
+    line_moves refl (none_since h) (ap (λ (z : Link). z.text.items) is)
     (λ past a.
     let all = subst (λ w. MayAllGo past at w) first a.waiting in
     let due = subst (λ w. AreDue past at (numbers_of w)) first a.due in
@@ -472,7 +535,7 @@ talk_answers h at text t c spelled held unsent out out' awaits dialect was = rec
 settles_to :
     {After : ℕ → List Step → List Event → Link → Type 0} {at : ℕ} {core core' : ServedCore} {h : List Event} (x y : Link) (c d : Conn) (rest : List ℕ) → x.conn ≡ Some c → x.awaits_dialect ≡ false
     → y.text.items ≡ x.text.items → y.waiting.items ≡ x.waiting.items → y.awaits_dialect ≡ x.awaits_dialect → y.dialect ≡ x.dialect → d.number ≡ c.number → bytes_of d.unsent ≡ bytes_of c.unsent
-    → ((past : List Step) → ConnAgrees at past h y d rest → MayAllGo past at y.waiting.items → AreDue past at (numbers_of y.waiting.items) → After at past h y)
+    → ((past : List Step) → ConnAgrees at past h y d rest → is_over d.number h ≡ false → MayAllGo past at y.waiting.items → AreDue past at (numbers_of y.waiting.items) → After at past h y)
     → SettlesSome x.calls.sent.items c.held.items core y.calls.sent.items rest core' → LineGoesFrom LineAgrees After IsOfTurn at core h x core' h y
 settles_to {After} {at} {core} {core'} {h} x y c d rest was off text waiting awaits speaks number unsent after s = record {
   steps = g.steps;
@@ -480,6 +543,7 @@ settles_to {After} {at} {core} {core'} {h} x y c d rest was off text waiting awa
   own = g.own;
   walks = g.walks;
   agrees = λ past o a. let t = a.conn c was in let r = g.orderly past o t.out_is (t.awaits_is ∙ off) in (r.0, agreed past a r.1, all_kept (1, at) h h (quiet h));
+  shown = λ past o a shown. shown_later g.steps past h h g.unlost (none_since h) shown;
   text = text;
 }
   where
@@ -490,7 +554,7 @@ settles_to {After} {at} {core} {core'} {h} x y c d rest was off text waiting awa
     agreed past a talk =
         let before = talk_as refl refl refl (sym g.whole) refl refl refl refl (a.conn c was) in
         let now = talk_answers h at x.text.items (talk_in past at) c.number g.spelled rest (bytes_of c.unsent) (said_asks x.calls.sent.items) (said_asks y.calls.sent.items) x.awaits_dialect x.dialect before in
-        after (g.steps ++ past) (talk_as text talk number refl unsent refl awaits speaks now) (calls_later g.steps past at y.waiting.items (subst (λ w. MayAllGo past at w) (sym waiting) a.waiting))
+        after (g.steps ++ past) (talk_as text talk number refl unsent refl awaits speaks now) (ap (λ n. is_over n h) number ∙ a.goes_on c was) (calls_later g.steps past at y.waiting.items (subst (λ w. MayAllGo past at w) (sym waiting) a.waiting))
         (due_later g.steps past at (numbers_of y.waiting.items) (ap (λ (t : Talk). t.asked) talk) (subst (λ w. AreDue past at (numbers_of w)) (sym waiting) a.due))
 
 -- what is left of it is held
@@ -499,7 +563,7 @@ pub line_settles :
     → y.awaits_dialect ≡ x.awaits_dialect → y.dialect ≡ x.dialect → d.number ≡ c.number → bytes_of d.unsent ≡ bytes_of c.unsent → SettlesSome x.calls.sent.items c.held.items core y.calls.sent.items d.held.items core'
     → LineGoes IsOfTurn at core h x core' h y
 line_settles {at} {core} {core'} {h} x y c d was is off text waiting awaits speaks number unsent s =
-    settles_to x y c d d.held.items was off text waiting awaits speaks number unsent (λ past agrees called due. has_conn at past h y d is agrees called due) s
+    settles_to x y c d d.held.items was off text waiting awaits speaks number unsent (λ past agrees goes_on called due. has_conn at past h y d is agrees goes_on called due) s
 
 -- or it is lost
 pub line_loses :
@@ -508,23 +572,52 @@ pub line_loses :
     → LineGoesFrom LineAgrees LineLost IsOfTurn at core h x core' h y
 line_loses {at} {core} {core'} {h} x y c d rest was is off text waiting awaits speaks number unsent s =
     settles_to x y c d rest was off text waiting awaits speaks number unsent
-    (λ past agrees called due. record { conn = λ conn there. subst (λ (z : Conn). (held : List ℕ) × ConnAgrees at past h y z held) (same_some (sym is ∙ there)) (rest, agrees); waiting = called; due = due }) s
+    (λ past agrees goes_on called due. record { conn = λ conn there. subst (λ (z : Conn). (held : List ℕ) × ConnAgrees at past h y z held) (same_some (sym is ∙ there)) (rest, agrees); waiting = called; due = due }) s
 
 -- ---- the end of a connection
 
--- its connection was closed, whatever it held
+-- its connection was closed, whatever it held, for what it showed
 pub line_closes :
-    {Is : Step → Type 0} {at : ℕ} {core : ServedCore} {h h' : List Event} (x y : Link) (r : Option ℕ) → r ≡ option_map (λ (z : Conn). z.number) x.conn → IfSome r (λ c. Closes c h h') → (r ≡ None → h' ≡ h) → y.conn ≡ None
-    → y.text.items ≡ x.text.items → y.waiting.items ≡ x.waiting.items → LineGoesFrom LineLost LineAgrees Is at core h x core h' y
-line_closes {at = at} {h = h} {h' = h'} x y r r_is some none closed text waiting =
-    line_moves refl text
-    (λ past a. (has_none at past h' y closed (subst (λ w. MayAllGo past at w) (sym waiting) a.waiting) (subst (λ w. AreDue past at (numbers_of w)) (sym waiting) a.due), keeps past a x.conn refl))
+    {at : ℕ} {core : ServedCore} {h h' : List Event} (why : Option Cause) (x y : Link) (r : Option ℕ) → r ≡ option_map (λ (z : Conn). z.number) x.conn → IfSome r (λ c. Closes c h h') → (r ≡ None → h' ≡ h) → y.conn ≡ None
+    → y.text.items ≡ x.text.items → y.waiting.items ≡ x.waiting.items → LineGoesFrom (LineFails why) LineAgrees (IsGivingUp why) at core h x core h' y
+line_closes {at} {core} {h} {h'} why x y r r_is some none closed text waiting = by x.conn refl
   where
-    keeps : (past : List Step) → LineLost at past h x → (o : Option Conn) → x.conn ≡ o → KeepsOthers (1, at) h h'
-    keeps past a None e = all_kept (1, at) h h' (λ d. subst (IsUntouched d h) (sym (none (r_is ∙ ap (option_map (λ (z : Conn). z.number)) e))) (untouched d h))
-    keeps past a (Some c) e =
-        let closes_it = subst (λ o. IfSome o (λ n. Closes n h h')) (r_is ∙ ap (option_map (λ (z : Conn). z.number)) e) some in
-        keeps_others c.number (1, at) h h' (a.conn c e).1.is_to (closed_role c.number h h' closes_it) (only_closed c.number h h' closes_it)
+    left : (steps past : List Step) → LineFails why at past h x → (talk_in (steps ++ past) at).asked ≡ (talk_in past at).asked → LineAgrees at (steps ++ past) h' y
+    left steps past a same =
+        has_none at (steps ++ past) h' y closed (calls_later steps past at y.waiting.items (subst (λ w. MayAllGo past at w) (sym waiting) a.lost.waiting))
+        (due_later steps past at (numbers_of y.waiting.items) same (subst (λ w. AreDue past at (numbers_of w)) (sym waiting) a.lost.due))
+
+    by : (o : Option Conn) → x.conn ≡ o → LineGoesFrom (LineFails why) LineAgrees (IsGivingUp why) at core h x core h' y
+    by None e =
+        let same = none (r_is ∙ ap (option_map (λ (z : Conn). z.number)) e) in
+        line_moves refl ([], same) text (λ past a. (left [] past a refl, all_kept (1, at) h h' (λ d. subst (IsUntouched d h) (sym same) (untouched d h))))
+    by (Some c) e = record {
+      steps = Lost at why ∷ [];
+      kinds = (refl, tt);
+      own = (refl, tt);
+      walks = (core, refl, refl);
+      agrees = λ past o a. ((tt, o), left (Lost at why ∷ []) past a (ap (λ b. (if b then given_up (talk_in past at) else talk_in past at).asked) (equal at)), keeps_others c.number (1, at) h h' (a.lost.conn c e).1.is_to (closed_role c.number h h' closes_it) only);
+      shown = λ past o a shown. (was_shown past a, shown_since past h h' (only_after c.number h h' only) shown);
+      text = text;
+    }
+      where
+        closes_it : Closes c.number h h'
+        closes_it = subst (λ o. IfSome o (λ n. Closes n h h')) (r_is ∙ ap (option_map (λ (z : Conn). z.number)) e) some
+
+        only : TouchesOnly c.number h h'
+        only = only_closed c.number h h' closes_it
+
+        was_shown : (past : List Step) → LineFails why at past h x → WasShown why at past h'
+        was_shown past a = let t = (a.lost.conn c e).1 in record {
+          conn = c.number;
+          before = h;
+          since = only_after c.number h h' only;
+          text = x.text.items;
+          held = (a.lost.conn c e).0;
+          unsent = bytes_of c.unsent;
+          agrees = record { is_to = t.is_to; address = t.address; sent_is = t.sent_is; told_is = t.told_is; out_is = refl; awaits_is = refl; dialect_is = refl };
+          shows = a.shows c e;
+        }
 
 -- it has none then, whatever became of it
 pub line_shuts :
@@ -540,6 +633,7 @@ line_shuts {at = at} {h' = h'} {z = z} g closed text waiting = record {
     has_none at (g.steps ++ past) h' z closed (subst (λ w. MayAllGo (g.steps ++ past) at w) (sym waiting) r.1.waiting) (subst (λ w. AreDue (g.steps ++ past) at (numbers_of w)) (sym waiting) r.1.due),
     r.2,
   );
+  shown = g.shown;
   text = text ∙ g.text;
 }
 
@@ -560,6 +654,30 @@ failed_own at (Linked a dialect ∷ steps) kinds = absurd kinds.0
 failed_own at (Asked a number dialect ask ∷ steps) kinds = absurd kinds.0
 failed_own at (Greeted a dialect bytes ∷ steps) kinds = absurd kinds.0
 failed_own at (Spelled a number ask answer bytes ∷ steps) kinds = absurd kinds.0
+failed_own at (Lost a why ∷ steps) kinds = absurd kinds.0
+
+-- calls that fail, as a connection is given up
+failed_giving : (why : Option Cause) (steps : List Step) → AreOf IsFailure steps → AreOf (IsGivingUp why) steps
+failed_giving why [] kinds = tt
+failed_giving why (step ∷ steps) kinds = (gives step kinds.0, failed_giving why steps kinds.1)
+  where
+    gives : (s : Step) → IsFailure s → IsGivingUp why s
+    gives (Settled number outcome) is = is
+    gives (Opened client) is = absurd is
+    gives (NotOpened fault) is = absurd is
+    gives (Fed client piece) is = absurd is
+    gives (Polled client poll) is = absurd is
+    gives (Stopped client fault) is = absurd is
+    gives (Gave client bytes) is = absurd is
+    gives (Closed client) is = absurd is
+    gives (LeftLine client) is = absurd is
+    gives (Broke client) is = absurd is
+    gives (Loaded configuration generation) is = absurd is
+    gives (Linked a dialect) is = absurd is
+    gives (Asked a number dialect ask) is = absurd is
+    gives (Greeted a dialect bytes) is = absurd is
+    gives (Spelled a number ask answer bytes) is = absurd is
+    gives (Lost a cause) is = absurd is
 
 last_called : (past : List Step) (at : ℕ) (first later : List SentCall) → MayAllGo past at (first ++ later) → MayAllGo past at later
 last_called past at [] later are = are
@@ -567,13 +685,13 @@ last_called past at (call ∷ first) later are = last_called past at first later
 
 -- calls of it fail, while it has no connection; of those that wait the first do
 pub line_fails :
-    {at : ℕ} {core core' : ServedCore} {h : List Event} (x y : Link) (gone : List SentCall) → Fails core core' → y.conn ≡ None → y.text.items ≡ x.text.items → x.waiting.items ≡ gone ++ y.waiting.items
-    → LineGoes IsFailure at core h x core' h y
-line_fails {at} {core} {core'} {h} x y gone f none text waiting =
+    {why : Option Cause} {at : ℕ} {core core' : ServedCore} {h : List Event} (x y : Link) (gone : List SentCall) → Fails core core' → y.conn ≡ None → y.text.items ≡ x.text.items → x.waiting.items ≡ gone ++ y.waiting.items
+    → LineGoes (IsGivingUp why) at core h x core' h y
+line_fails {why} {at} {core} {core'} {h} x y gone f none text waiting =
     let own = failed_own at f.steps f.kinds in
     record {
       steps = f.steps;
-      kinds = f.kinds;
+      kinds = failed_giving why f.steps f.kinds;
       own = own.0;
       walks = f.walks;
       agrees = λ past o a. (
@@ -582,5 +700,6 @@ line_fails {at} {core} {core'} {h} x y gone f none text waiting =
             (due_later f.steps past at (numbers_of y.waiting.items) (ap (λ (t : Talk). t.asked) (plain_talk f.steps own.1 past at)) (due_last past at gone y.waiting.items (subst (λ w. AreDue past at (numbers_of w)) waiting a.due))),
         all_kept (1, at) h h (quiet h),
       );
+      shown = λ past o a shown. shown_later f.steps past h h (plain_unlost f.steps own.1) (none_since h) shown;
       text = text;
     }

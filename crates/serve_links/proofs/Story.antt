@@ -9,7 +9,7 @@ use Rattle.wire_parts.specs.Sending.{bytes_of}
 use Rattle.serve_wire.specs.Events.{Event, role, delivered, taken}
 use Rattle.serve_wire.specs.Agreement.{ClientLost, IsUntouched}
 use Rattle.serve_wire.specs.declared.conn.conn.Conn.{Conn}
-use Rattle.serve_wire.proofs.Steps.{apart}
+use Rattle.serve_wire.proofs.Steps.{apart, only_after}
 use Rattle.core_proxy.specs.declared.note.Poll.TheVariants as polls
 use Rattle.serve_clients.specs.declared.clients.Client.{Client}
 use Rattle.serve_clients.specs.declared.clients.Clients.{Clients}
@@ -22,6 +22,7 @@ use Rattle.serve_links.specs.Talks.{SaidAsk, Talk, talk_in}
 use Rattle.serve_links.specs.Story.{fed_in, gave_in, is_open_in, is_broken_in, AgreesWith, IsTold, AreTold, TellsNone, TookAll, EndsBy, IsGone, HasOrHad, TalkAgrees, said_asks, numbers_of, LineAgrees, LinesAgree, texts_of, OneGoes, LineGoesFrom, LineGoes, AnEnd, Agrees, AgreesBut, AgreesCalled, AllGoFrom, AllGo, StoriesGoOn}
 use Rattle.serve_links.proofs.Talking.{calls_later, IsPlain, clients_plain, plain_talk, plain_orderly, server_tells_none, talk_elsewhere}
 use Rattle.serve_links.proofs.Due.{due_later}
+use Rattle.serve_links.proofs.Showing.{plain_unlost, shown_later}
 use Rattle.serve_links.proofs.Walked.{walked, of_both}
 
 -- ---- one end
@@ -91,6 +92,7 @@ pub line_stays :
 line_stays h h' at steps past link same told was = record {
   conn = λ conn is.
       talk_stays h h' at link.text.items (talk_in past at) (talk_in (steps ++ past) at) conn.number conn.held.items (bytes_of conn.unsent) (said_asks link.calls.sent.items) link.awaits_dialect link.dialect (same conn is) told (was.conn conn is);
+  goes_on = λ conn is. (same conn is).same_over ∙ was.goes_on conn is;
   waiting = calls_later steps past at link.waiting.items was.waiting;
   due = due_later steps past at (numbers_of link.waiting.items) (ap (λ (t : Talk). t.asked) told) was.due;
 }
@@ -274,6 +276,7 @@ one_agrees {Is} id old new x y was is others links g = agree
       told = each_told (g.steps ++ past) new.clients (told past a);
       links = lines past a;
       gone = gone past a;
+      shown = shown_later g.steps past h h' (plain_unlost g.steps plain) (only_after x.conn.number h h' g.only) a.shown;
     }
 
 pub one_of_all :
@@ -320,24 +323,25 @@ line_among {Before} {After} {Is} at old new x y was is others texts clients_are 
       links = other past a;
       this = λ link there. subst (After at (g.steps ++ past) h') (same_some y link (sym is ∙ there)) goes.1;
       gone = gone past a;
+      shown = g.shown past a.orderly (a.this x was) a.shown;
     }
 
 -- where the link at one place agrees like the others, all agree
 pub but_all : (at : ℕ) (past : List Step) (x : AnEnd) → AgreesBut LineAgrees at past x → Agrees past x
-but_all at past x a = record { orderly = a.orderly; clients = a.clients; told = a.told; links = λ j link there. elim (cases_Bool (nat_eq at j)) [ inl e ↦ mine j link there (eqb-true at j e) | inr e ↦ a.links j link e there ]; gone = a.gone }
+but_all at past x a = record { orderly = a.orderly; clients = a.clients; told = a.told; links = λ j link there. elim (cases_Bool (nat_eq at j)) [ inl e ↦ mine j link there (eqb-true at j e) | inr e ↦ a.links j link e there ]; gone = a.gone; shown = a.shown }
   where
     mine : (j : ℕ) (link : Link) → slice_get x.links j ≡ Some link → at ≡ j → LineAgrees j past x.history link
     mine j link there e = subst (λ k. LineAgrees k past x.history link) e (a.this link (ap (slice_get x.links) e ∙ there))
 
 -- and where none is there
 pub but_none : {This : ℕ → List Step → List Event → Link → Type 0} (at : ℕ) (past : List Step) (x : AnEnd) → slice_get x.links at ≡ None → AgreesBut This at past x → Agrees past x
-but_none at past x none a = record { orderly = a.orderly; clients = a.clients; told = a.told; links = λ j link there. elim (cases_Bool (nat_eq at j)) [ inl e ↦ absurd (nobody (sym none ∙ ap (slice_get x.links) (eqb-true at j e) ∙ there)) | inr e ↦ a.links j link e there ]; gone = a.gone }
+but_none at past x none a = record { orderly = a.orderly; clients = a.clients; told = a.told; links = λ j link there. elim (cases_Bool (nat_eq at j)) [ inl e ↦ absurd (nobody (sym none ∙ ap (slice_get x.links) (eqb-true at j e) ∙ there)) | inr e ↦ a.links j link e there ]; gone = a.gone; shown = a.shown }
   where
     nobody : {link : Link} → None ≡ Some link → ⊥
     nobody e = cc
 
 pub all_but : (at : ℕ) (past : List Step) (x : AnEnd) → Agrees past x → AgreesBut LineAgrees at past x
-all_but at past x a = record { orderly = a.orderly; clients = a.clients; told = a.told; links = λ j link e there. a.links j link there; this = λ link there. a.links at link there; gone = a.gone }
+all_but at past x a = record { orderly = a.orderly; clients = a.clients; told = a.told; links = λ j link e there. a.links j link there; this = λ link there. a.links at link there; gone = a.gone; shown = a.shown }
 
 -- what is wanted before is there, and what is there after is more than is wanted
 pub go_between :

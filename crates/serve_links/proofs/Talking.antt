@@ -5,8 +5,8 @@ use Rattle.mc_types.specs.declared.ask.Ask.{Ask}
 use Rattle.mc_types.specs.declared.call.Outcome.TheVariants.{Failed}
 use Rattle.core_proxy.specs.declared.note.Poll.TheVariants as polls
 use Rattle.serve_links.specs.declared.calls.calls.SentCall.{SentCall}
-use Rattle.serve_links.specs.CoreSteps.{Step, Opened, NotOpened, Fed, Polled, Stopped, Settled, Gave, Closed, LeftLine, Broke, Loaded, Linked, Asked, Greeted, Spelled, AreOf}
-use Rattle.serve_links.specs.Talks.{first_talk, with_ask, greeted, with_answer, talk_in, IsCalledIn, MayBeAsked, ComesBy, MayFollow, IsOrderly, IsOfClients, IsOfServer}
+use Rattle.serve_links.specs.CoreSteps.{Step, Opened, NotOpened, Fed, Polled, Stopped, Settled, Gave, Closed, LeftLine, Broke, Loaded, Linked, Asked, Greeted, Spelled, Lost, AreOf}
+use Rattle.serve_links.specs.Talks.{first_talk, with_ask, greeted, with_answer, given_up, talk_in, IsCalledIn, MayBeAsked, ComesBy, MayFollow, IsOrderly, IsOfClients, IsOfServer}
 use Rattle.serve_links.specs.Story.{TellsNone, MayGo, MayAllGo}
 
 -- ---- calls that the core gave out
@@ -52,6 +52,7 @@ IsPlain (Linked at dialect) = ⊥
 IsPlain (Asked at number dialect ask) = ⊥
 IsPlain (Greeted at dialect bytes) = ⊥
 IsPlain (Spelled at number ask answer bytes) = ⊥
+IsPlain (Lost at why) = ⊥
 
 pub clients_plain : (steps : List Step) → AreOf IsOfClients steps → AreOf IsPlain steps
 clients_plain [] kinds = tt
@@ -73,6 +74,7 @@ clients_plain (step ∷ steps) kinds = (plain step kinds.0, clients_plain steps 
     plain (Asked at number dialect ask) is = is
     plain (Greeted at dialect bytes) is = is
     plain (Spelled at number ask answer bytes) is = is
+    plain (Lost at why) is = is
 
 -- nothing is told of servers
 pub plain_talk : (steps : List Step) → AreOf IsPlain steps → (past : List Step) (j : ℕ) → talk_in (steps ++ past) j ≡ talk_in past j
@@ -92,6 +94,7 @@ plain_talk (Linked at dialect ∷ steps) kinds past j = absurd kinds.0
 plain_talk (Asked at number dialect ask ∷ steps) kinds past j = absurd kinds.0
 plain_talk (Greeted at dialect bytes ∷ steps) kinds past j = absurd kinds.0
 plain_talk (Spelled at number ask answer bytes ∷ steps) kinds past j = absurd kinds.0
+plain_talk (Lost at why ∷ steps) kinds past j = absurd kinds.0
 
 -- and they may come at any time
 pub plain_orderly : (steps : List Step) → AreOf IsPlain steps → (past : List Step) → IsOrderly past → IsOrderly (steps ++ past)
@@ -114,6 +117,7 @@ plain_orderly (step ∷ steps) kinds past o = (follows step (steps ++ past) kind
     follows (Asked at number dialect ask) before is = absurd is
     follows (Greeted at dialect bytes) before is = absurd is
     follows (Spelled at number ask answer bytes) before is = absurd is
+    follows (Lost at why) before is = absurd is
 
 -- ---- steps of one server
 
@@ -125,6 +129,7 @@ server_tells_none at (Linked a dialect ∷ steps) own past j = server_tells_none
 server_tells_none at (Asked a number dialect ask ∷ steps) own past j = server_tells_none at steps own.1 past j
 server_tells_none at (Greeted a dialect bytes ∷ steps) own past j = server_tells_none at steps own.1 past j
 server_tells_none at (Spelled a number ask answer bytes ∷ steps) own past j = server_tells_none at steps own.1 past j
+server_tells_none at (Lost a why ∷ steps) own past j = server_tells_none at steps own.1 past j
 server_tells_none at (Opened client ∷ steps) own past j = absurd own.0
 server_tells_none at (NotOpened fault ∷ steps) own past j = absurd own.0
 server_tells_none at (Fed client piece ∷ steps) own past j = absurd own.0
@@ -148,6 +153,8 @@ talk_elsewhere at (Greeted a dialect bytes ∷ steps) own past j other =
     ap (λ b. if b then greeted dialect bytes (talk_in (steps ++ past) j) else talk_in (steps ++ past) j) (ap (λ n. nat_eq n j) own.0 ∙ other) ∙ talk_elsewhere at steps own.1 past j other
 talk_elsewhere at (Spelled a number ask answer bytes ∷ steps) own past j other =
     ap (λ b. if b then with_answer bytes (talk_in (steps ++ past) j) else talk_in (steps ++ past) j) (ap (λ n. nat_eq n j) own.0 ∙ other) ∙ talk_elsewhere at steps own.1 past j other
+talk_elsewhere at (Lost a why ∷ steps) own past j other =
+    ap (λ b. if b then given_up (talk_in (steps ++ past) j) else talk_in (steps ++ past) j) (ap (λ n. nat_eq n j) own.0 ∙ other) ∙ talk_elsewhere at steps own.1 past j other
 talk_elsewhere at (Opened client ∷ steps) own past j other = absurd own.0
 talk_elsewhere at (NotOpened fault ∷ steps) own past j other = absurd own.0
 talk_elsewhere at (Fed client piece ∷ steps) own past j other = absurd own.0

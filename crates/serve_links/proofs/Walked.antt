@@ -24,7 +24,7 @@ use Rattle.core_accepted.specs.Known.{Known, more}
 use Rattle.core_accepted.specs.Loading.{IsLoaded}
 use Rattle.serve_links.specs.Calls.{SettlesFirst, SettlesNext}
 use Rattle.serve_links.specs.CoreSteps.{WalksKeepSince}
-use Rattle.serve_links.specs.CoreSteps.{Step, Opened, NotOpened, Fed, Polled, Stopped, Settled, Gave, Closed, LeftLine, Broke, Loaded, Linked, Asked, Greeted, Spelled, Does, Walks, AreOf, GoesBy, IsOfTurn, IsSettlement, IsFailure, GoesOn, Fails, WalksKeep}
+use Rattle.serve_links.specs.CoreSteps.{Step, Opened, NotOpened, Fed, Polled, Stopped, Settled, Gave, Closed, LeftLine, Broke, Loaded, Linked, Asked, Greeted, Spelled, Lost, Does, Walks, AreOf, GoesBy, IsOfTurn, IsSettlement, IsFailure, GoesOn, Fails, WalksKeep}
 
 pub walked : (later first : List Step) (a b c : ServedCore) → Walks first a b → Walks later b c → Walks (later ++ first) a c
 walked [] first a b c w v = subst (λ x. Walks first a x) (sym v) w
@@ -87,6 +87,7 @@ each_of_turn (step ∷ steps) each = (of_turn step each.0, each_of_turn steps ea
     of_turn (Asked at number dialect ask) is = tt
     of_turn (Greeted at dialect bytes) is = tt
     of_turn (Spelled at number ask answer bytes) is = tt
+    of_turn (Lost at why) is = absurd is
 
 pub failed : {a b : ServedCore} → Fails a b → GoesOn a b
 failed f = record { steps = f.steps; kinds = each_of_turn f.steps f.kinds; walks = f.walks }
@@ -112,6 +113,7 @@ each_settled (step ∷ steps) each = (of_turn step each.0, each_settled steps ea
     of_turn (Asked at number dialect ask) is = tt
     of_turn (Greeted at dialect bytes) is = tt
     of_turn (Spelled at number ask answer bytes) is = tt
+    of_turn (Lost at why) is = absurd is
 
 pub settled : {a b : ServedCore} → GoesBy IsSettlement a b → GoesOn a b
 settled g = record { steps = g.steps; kinds = each_settled g.steps g.kinds; walks = g.walks }
@@ -226,6 +228,7 @@ does_keep (Linked at dialect) a b does = as_it_was a b does
 does_keep (Asked at number dialect ask) a b does = as_it_was a b does
 does_keep (Greeted at dialect bytes) a b does = as_it_was a b does
 does_keep (Spelled at number ask answer bytes) a b does = as_it_was a b does.0
+does_keep (Lost at why) a b does = as_it_was a b does
 
 accepted_keeps : (a b : ServedCore) → IsWordKept a b → (IsAccepted a → IsAccepted b) × (IsAccepted b → IsAccepted a)
 accepted_keeps a b (inl same) = (λ is. (is.0, same ∙ is.1, is.2), λ is. (is.0, sym same ∙ is.1, is.2))

@@ -1,0 +1,112 @@
+-- Why connections were given up, as the wire showed it.
+use Rattle.std.proofs.Common.{◌≡◌, ℕ, List, [], ◌∷◌, ◌++◌, Option, refl}
+use Rattle.serve_wire.specs.Events.{Event}
+use Rattle.serve_wire.specs.Agreement.{Extends}
+use Rattle.serve_wire.proofs.Steps.{extends_twice}
+use Rattle.serve_links.specs.declared.news.Cause.{Cause}
+use Rattle.serve_links.specs.CoreSteps.{Step, Opened, NotOpened, Fed, Polled, Stopped, Settled, Gave, Closed, LeftLine, Broke, Loaded, Linked, Asked, Greeted, Spelled, Lost, AreOf}
+use Rattle.serve_links.specs.Story.{WasShown, ShownBy, AreShown}
+use Rattle.serve_links.proofs.Talking.{IsPlain}
+
+-- no server's connection is given up
+abbrev pub IsUnlost : Step → Type 0
+IsUnlost (Lost at why) = ⊥
+IsUnlost (Opened client) = Unit {0}
+IsUnlost (NotOpened fault) = Unit {0}
+IsUnlost (Fed client piece) = Unit {0}
+IsUnlost (Polled client poll) = Unit {0}
+IsUnlost (Stopped client fault) = Unit {0}
+IsUnlost (Settled number outcome) = Unit {0}
+IsUnlost (Gave client bytes) = Unit {0}
+IsUnlost (Closed client) = Unit {0}
+IsUnlost (LeftLine client) = Unit {0}
+IsUnlost (Broke client) = Unit {0}
+IsUnlost (Loaded configuration generation) = Unit {0}
+IsUnlost (Linked at dialect) = Unit {0}
+IsUnlost (Asked at number dialect ask) = Unit {0}
+IsUnlost (Greeted at dialect bytes) = Unit {0}
+IsUnlost (Spelled at number ask answer bytes) = Unit {0}
+
+pub plain_unlost : (steps : List Step) → AreOf IsPlain steps → AreOf IsUnlost steps
+plain_unlost [] kinds = tt
+plain_unlost (step ∷ steps) kinds = (unlost step kinds.0, plain_unlost steps kinds.1)
+  where
+    unlost : (s : Step) → IsPlain s → IsUnlost s
+    unlost (Lost at why) is = is
+    unlost (Opened client) is = tt
+    unlost (NotOpened fault) is = tt
+    unlost (Fed client piece) is = tt
+    unlost (Polled client poll) is = tt
+    unlost (Stopped client fault) is = tt
+    unlost (Settled number outcome) is = tt
+    unlost (Gave client bytes) is = tt
+    unlost (Closed client) is = tt
+    unlost (LeftLine client) is = tt
+    unlost (Broke client) is = tt
+    unlost (Loaded configuration generation) is = tt
+    unlost (Linked at dialect) is = absurd is
+    unlost (Asked at number dialect ask) is = absurd is
+    unlost (Greeted at dialect bytes) is = absurd is
+    unlost (Spelled at number ask answer bytes) is = absurd is
+
+-- nothing has happened since
+pub none_since : (h : List Event) → Extends h h
+none_since h = ([], refl)
+
+was_since : (why : Option Cause) (at : ℕ) (past : List Step) (h h' : List Event) → Extends h h' → WasShown why at past h → WasShown why at past h'
+was_since why at past h h' more was = record {
+  conn = was.conn;
+  before = was.before;
+  since = extends_twice was.before h h' was.since more;
+  text = was.text;
+  held = was.held;
+  unsent = was.unsent;
+  agrees = was.agrees;
+  shows = was.shows;
+}
+
+-- what was shown stays so
+pub shown_since : (steps : List Step) (h h' : List Event) → Extends h h' → AreShown steps h → AreShown steps h'
+shown_since [] h h' more shown = tt
+shown_since (step ∷ steps) h h' more shown = (by step shown.0, shown_since steps h h' more shown.1)
+  where
+    by : (s : Step) → ShownBy s steps h → ShownBy s steps h'
+    by (Lost at why) was = was_since why at steps h h' more was
+    by (Opened client) was = tt
+    by (NotOpened fault) was = tt
+    by (Fed client piece) was = tt
+    by (Polled client poll) was = tt
+    by (Stopped client fault) was = tt
+    by (Settled number outcome) was = tt
+    by (Gave client bytes) was = tt
+    by (Closed client) was = tt
+    by (LeftLine client) was = tt
+    by (Broke client) was = tt
+    by (Loaded configuration generation) was = tt
+    by (Linked at dialect) was = tt
+    by (Asked at number dialect ask) was = tt
+    by (Greeted at dialect bytes) was = tt
+    by (Spelled at number ask answer bytes) was = tt
+
+-- and so it is with steps by which none is given up
+pub shown_later : (steps past : List Step) (h h' : List Event) → AreOf IsUnlost steps → Extends h h' → AreShown past h → AreShown (steps ++ past) h'
+shown_later [] past h h' kinds more shown = shown_since past h h' more shown
+shown_later (step ∷ steps) past h h' kinds more shown = (by step kinds.0, shown_later steps past h h' kinds.1 more shown)
+  where
+    by : (s : Step) → IsUnlost s → ShownBy s (steps ++ past) h'
+    by (Lost at why) is = absurd is
+    by (Opened client) is = tt
+    by (NotOpened fault) is = tt
+    by (Fed client piece) is = tt
+    by (Polled client poll) is = tt
+    by (Stopped client fault) is = tt
+    by (Settled number outcome) is = tt
+    by (Gave client bytes) is = tt
+    by (Closed client) is = tt
+    by (LeftLine client) is = tt
+    by (Broke client) is = tt
+    by (Loaded configuration generation) is = tt
+    by (Linked at dialect) is = tt
+    by (Asked at number dialect ask) is = tt
+    by (Greeted at dialect bytes) is = tt
+    by (Spelled at number ask answer bytes) is = tt
