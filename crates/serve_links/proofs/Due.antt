@@ -56,6 +56,19 @@ due_behind past at calls call due = λ n.
     let e : times n (m ∷ []) ≡ one n m + 0 = refl in
     omega (arith, due n, a, b, c, d, e)
 
+-- one from among them as the first
+pub due_between :
+    (past : List Step) (at : ℕ) (before : List SentCall) (call : SentCall) (after : List SentCall) → AreDue past at (numbers_of (before ++ call ∷ after)) → AreDue past at (numbers_of (call ∷ (before ++ after)))
+due_between past at before call after due = λ n.
+    let asked = (talk_in past at).asked in
+    let m = call.ticket.number in
+    let a = times_both n asked (numbers_of (before ++ call ∷ after)) in
+    let b : times n (numbers_of (before ++ call ∷ after)) ≡ one n m + times n (numbers_of before ++ numbers_of after) = ap (times n) (numbers_both before (call ∷ after)) ∙ times_between n (numbers_of before) m (numbers_of after) in
+    let c : times n (numbers_of (before ++ after)) ≡ times n (numbers_of before ++ numbers_of after) = ap (times n) (numbers_both before after) in
+    let d = times_between n asked m (numbers_of (before ++ after)) in
+    let e = times_both n asked (numbers_of (before ++ after)) in
+    omega (arith, due n, a, b, c, d, e)
+
 -- ---- later
 
 calls_grow : (steps past : List Step) (at n : ℕ) → times n (calls_in past at) ≤ times n (calls_in (steps ++ past) at)

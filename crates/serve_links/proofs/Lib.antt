@@ -5,6 +5,7 @@ pub mod Failing
 pub mod Feeding
 pub mod Leaving
 pub mod Reading
+pub mod Shutting
 pub mod Story
 pub mod Ends
 pub mod Talking

@@ -27,7 +27,7 @@ use Rattle.serve_links.specs.Settled.{SettlesSome}
 use Rattle.serve_links.specs.Talks.{SaidAsk, Talk, first_talk, with_ask, greeted, given_up, talk_in, AreDue, IsOrderly, IsOfServer}
 use Rattle.serve_links.specs.Story.{said_asks, numbers_of, MayGo, MayAllGo, TalkAgrees, ConnAgrees, LineAgrees, LineLost, LineFails, ShowsWhy, WasShown, AreShown, LineCalled, LineState, line_of, KeepsOthers, LineGoesFrom, LineGoes, AnEnd, Agrees, AgreesLosing}
 use Rattle.serve_links.proofs.Talking.{calls_later, one_more, IsPlain, plain_talk, plain_orderly}
-use Rattle.serve_links.proofs.Due.{due_less, due_first, due_last, due_behind, due_later, due_asked}
+use Rattle.serve_links.proofs.Due.{due_less, due_first, due_last, due_behind, due_between, due_later, due_asked}
 use Rattle.serve_links.proofs.Walked.{walked, of_both}
 use Rattle.serve_links.proofs.Showing.{plain_unlost, none_since, shown_since, shown_later}
 use Rattle.serve_links.proofs.Answering.{Answers, answers_some}
@@ -505,16 +505,24 @@ line_waits {at = at} {h = h} x y call is more =
       all_kept (1, at) h h (quiet h),
     ))
 
--- the first that waits is taken
+called_between : (past : List Step) (at : ℕ) (before : List SentCall) (call : SentCall) (after : List SentCall) → MayAllGo past at (before ++ call ∷ after) → MayGo past at call × MayAllGo past at (before ++ after)
+called_between past at [] call after are = are
+called_between past at (first ∷ before) call after are = let rest = called_between past at before call after are.1 in (rest.0, (are.0, rest.1))
+
+-- one of those that wait is taken
 pub line_takes :
-    {Is : Step → Type 0} {at : ℕ} {core : ServedCore} {h : List Event} (x y : Link) (call : SentCall) → y ≡ record x { waiting = y.waiting } → x.waiting.items ≡ call ∷ y.waiting.items
-    → LineGoesFrom LineAgrees (LineCalled call) Is at core h x core h y
-line_takes {at = at} {h = h} x y call is first =
+    {Is : Step → Type 0} {at : ℕ} {core : ServedCore} {h : List Event} (x y : Link) (call : SentCall) (before after : List SentCall) → y ≡ record x { waiting = y.waiting } → x.waiting.items ≡ before ++ call ∷ after
+    → y.waiting.items ≡ before ++ after → LineGoesFrom LineAgrees (LineCalled call) Is at core h x core h y
+line_takes {at = at} {h = h} x y call before after is was now =
     line_moves refl (none_since h) (ap (λ (z : Link). z.text.items) is)
     (λ past a.
-    let all = subst (λ w. MayAllGo past at w) first a.waiting in
-    let due = subst (λ w. AreDue past at (numbers_of w)) first a.due in
-    ((waits_with at past h x y is a all.1 (due_less past at call.ticket.number (numbers_of y.waiting.items) due), all.0, due), all_kept (1, at) h h (quiet h)))
+    let all = called_between past at before call after (subst (λ w. MayAllGo past at w) was a.waiting) in
+    let due = due_between past at before call after (subst (λ w. AreDue past at (numbers_of w)) was a.due) in
+    ((
+      waits_with at past h x y is a (subst (λ w. MayAllGo past at w) (sym now) all.1) (subst (λ w. AreDue past at (numbers_of w)) (sym now) (due_less past at call.ticket.number (numbers_of (before ++ after)) due)),
+      all.0,
+      subst (λ w. AreDue past at (numbers_of (call ∷ w))) (sym now) due,
+    ), all_kept (1, at) h h (quiet h)))
 
 -- ---- answers
 

@@ -7,4 +7,5 @@ pub mod Links
 pub mod Pieces
 pub mod Settled
 pub mod Talks
+pub mod Shut
 pub mod Story

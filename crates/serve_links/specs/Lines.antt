@@ -59,6 +59,7 @@ IsNewEnd number dialect (Some x) = (x.number ≡ number) × (x.held.items ≡ []
 
 -- no call is out over it yet, calls are asked in the first dialect, and what the server tells of its dialects is awaited where it is asked for that
 pub record HasNewEnd (number : ℕ) (dialect : ServerDialect) (old new : Link) : Type 0 where
+  pub none_there : old.conn ≡ None
   pub text : new.text ≡ old.text
   pub conn : IsNewEnd number dialect new.conn
   pub none_out : old.calls.sent.items ≡ []

@@ -16,6 +16,7 @@ use Rattle.serve_links.specs.declared.link.Link.{Link}
 use Rattle.serve_links.specs.declared.news.Cause.{Cause}
 use Rattle.serve_links.specs.declared.news.Cause.TheVariants as causes
 use Rattle.serve_links.specs.CoreSteps.{Step, Opened, NotOpened, Fed, Polled, Stopped, Settled, Gave, Closed, LeftLine, Broke, Loaded, Linked, Asked, Greeted, Spelled, Lost, Walks, AreOf}
+use Rattle.serve_links.specs.Shut.{AreShut, StaysShut}
 use Rattle.serve_links.specs.Talks.{SaidAsk, Talk, talk_in, IsCalledIn, MayBeAsked, AreDue, IsOrderly, IsOfClients, IsOfServer}
 use Rattle.std.specs.Option.{option_map}
 
@@ -270,9 +271,10 @@ LineState = List ℕ × Option (ℕ × List ℕ × List ℕ) × List SaidAsk × 
 abbrev pub line_of : Link → LineState
 line_of link = (link.text.items, option_map (λ (x : Conn). (x.number, x.held.items, bytes_of x.unsent)) link.conn, said_asks link.calls.sent.items, link.waiting.items, link.awaits_dialect, link.dialect)
 
--- all connections that were or are of others than this one are as they were
-abbrev pub KeepsOthers : ℕ × ℕ → List Event → List Event → Type 0
-KeepsOthers its h h' = (d : ℕ) (p : ℕ × ℕ) → (role d h ≡ Some p) ⊎ (role d h' ≡ Some p) → p ≢ its → IsUntouched d h h'
+-- all connections that were of others than this one, and all that aren't its now, are as they were
+pub record KeepsOthers (its : ℕ × ℕ) (h h' : List Event) : Type 0 where
+  pub were : (d : ℕ) (p : ℕ × ℕ) → role d h ≡ Some p → p ≢ its → IsUntouched d h h'
+  pub are : (d : ℕ) → role d h' ≢ Some its → IsUntouched d h h'
 
 -- by calls of this kind, which tell nothing of servers, the core goes on, and a client's end on the wire with it: where it agreed with all calls before, it agrees with all calls after, and no other connection is touched
 pub record OneGoes (Is : Step → Type 0) (id : ℕ) (core : ServedCore) (h : List Event) (client : Client) (core' : ServedCore) (h' : List Event) (client' : Client) : Type 0 where
@@ -287,7 +289,7 @@ pub record OneGoes (Is : Step → Type 0) (id : ℕ) (core : ServedCore) (h : Li
   pub others : (past : List Step) (j : ℕ) → nat_eq id j ≡ false → TellsNone j past steps
 
 -- by calls of this kind, which tell of this server alone, the core goes on, and the server's link on the wire with it: where the one held of it and of all calls before, the other holds of it and of all calls after, and
--- all happened in order if it had before. No other's connection is touched, and where a connection is given up the wire showed why
+-- all happened in order if it had before. No other's connection is touched, of its own none is left open but the one that it has, and where a connection is given up the wire showed why
 pub record LineGoesFrom (Before After : ℕ → List Step → List Event → Link → Type 0) (Is : Step → Type 0) (at : ℕ) (core : ServedCore) (h : List Event) (link : Link) (core' : ServedCore) (h' : List Event) (link' : Link) : Type 0 where
   pub steps : List Step
   pub kinds : AreOf Is steps
@@ -295,6 +297,7 @@ pub record LineGoesFrom (Before After : ℕ → List Step → List Event → Lin
   pub walks : Walks steps core core'
   pub agrees : (past : List Step) → IsOrderly past → Before at past h link → IsOrderly (steps ++ past) × After at (steps ++ past) h' link' × KeepsOthers (1, at) h h'
   pub shown : (past : List Step) → IsOrderly past → Before at past h link → AreShown past h → AreShown (steps ++ past) h'
+  pub shut : StaysShut at h link h' link'
   pub text : link'.text.items ≡ link.text.items
 
 -- a link that agrees goes on to agree
@@ -312,7 +315,7 @@ pub record AnEnd : Type 0 where
 abbrev pub texts_of : List Link → List (List ℕ)
 texts_of links = each (λ link. link.text.items) links
 
--- all happened in order by these calls, and each end agrees with them, and so does each connection that was a client's; and the wire showed why each of a server's was given up
+-- all happened in order by these calls, and each end agrees with them, and so does each connection that was a client's; the wire showed why each of a server's was given up; and none is open but what ends have
 pub record Agrees (past : List Step) (x : AnEnd) : Type 0 where
   pub orderly : IsOrderly past
   pub clients : AgreeWith past x.history x.clients
@@ -320,6 +323,7 @@ pub record Agrees (past : List Step) (x : AnEnd) : Type 0 where
   pub links : LinesAgree past x.history x.links
   pub gone : (conn id : ℕ) → role conn x.history ≡ Some (0, id) → HasOrHad past x.history x.clients id conn
   pub shown : AreShown past x.history
+  pub shut : AreShut x.history x.clients x.links
 
 -- the same, but that this holds of the link at one place
 pub record AgreesBut (This : ℕ → List Step → List Event → Link → Type 0) (at : ℕ) (past : List Step) (x : AnEnd) : Type 0 where
@@ -330,6 +334,7 @@ pub record AgreesBut (This : ℕ → List Step → List Event → Link → Type 
   pub this : (link : Link) → slice_get x.links at ≡ Some link → This at past x.history link
   pub gone : (conn id : ℕ) → role conn x.history ≡ Some (0, id) → HasOrHad past x.history x.clients id conn
   pub shown : AreShown past x.history
+  pub shut : AreShut x.history x.clients x.links
 
 -- all agree, and the core just gave all that it had for this client
 abbrev pub AgreesGiven : ℕ → List Step → AnEnd → Type 0

@@ -330,7 +330,7 @@ impl Link {
     }
 
     /// A connection to its server is begun, at the address that its text names. Where the server is to tell its dialects, calls go out in the
-    /// classic one until it has. Where memory is refused for its end, the connection is closed. While calls are out none is begun.
+    /// classic one until it has. Where memory is refused for its end, the connection is closed. While it has one, or calls are out, none is begun.
     ///
     /// Source: mcgate's own.
     pub fn connect<N: Net, W: Wire>(
@@ -344,7 +344,7 @@ impl Link {
     ) -> Opening
         ensures opens { OpensBy server dialect result self.old self.new (W.history wire.old) (W.history wire.new) }
     {
-        if !self.calls.is_empty() {
+        if self.conn.is_some() || !self.calls.is_empty() {
             return Opening::Failed;
         }
         match wire.connect(net, server, &self.text) {
@@ -368,6 +368,7 @@ impl Link {
         now: u64,
         dialect: ServerDialect,
     ) -> Result<(), AllocError>
+        requires { self.old.conn ≡ None }
         requires { self.old.calls.sent.items ≡ [] }
         ensures ok { OnOk result (HasNewEnd number dialect self.old self.new) }
         ensures err { OnErr result (KeepsLines self.old self.new) }

@@ -3,7 +3,7 @@ use Rattle.std.proofs.Common.{◌≡◌, ◌≢◌, inl, inr, ℕ, zero, suc, �
 use Rattle.std.proofs.Math.ListN.{set}
 use Rattle.std.proofs.lemmas.Bool.{cases_Bool, eq-eqb, eqb-true}
 use Rattle.std.proofs.lemmas.Option.{slice_get_read}
-use Rattle.std.specs.Prelude.{slice_get, nat_eq, IfSome, IfOk, IfErr, OnOk, OnErr, map as each}
+use Rattle.std.specs.Prelude.{slice_get, nat_eq, IfSome, IsSome, IfOk, IfErr, OnOk, OnErr, map as each}
 use Rattle.std.specs.Option.{option_map}
 use Rattle.mc_types.specs.declared.ask.Ask.{Ask}
 use Rattle.mc_types.specs.declared.call.Outcome.TheVariants.{Failed}
@@ -30,16 +30,20 @@ use Rattle.serve_clients.specs.Lending.{with_client}
 use Rattle.serve_clients.proofs.Agreeing.{state_stays, agree_still}
 use Rattle.serve_links.specs.declared.calls.calls.SentCall.{SentCall}
 use Rattle.serve_links.specs.declared.link.Link.{Link}
-use Rattle.serve_links.specs.CoreSteps.{Step, Opened, NotOpened, Fed, Polled, Stopped, Settled, Gave, Closed, LeftLine, Broke, Loaded, Linked, Asked, Greeted, Spelled, Does, Walks, AreOf, GoesBy, IsOfTurn, IsFailure, IsSending, Fails}
+use Rattle.serve_links.specs.declared.news.Cause.{Cause}
+use Rattle.serve_links.specs.CoreSteps.{Step, Opened, NotOpened, Fed, Polled, Stopped, Settled, Gave, Closed, LeftLine, Broke, Loaded, Linked, Asked, Greeted, Spelled, Lost, Does, Walks, AreOf, GoesBy, IsOfTurn, IsFailure, IsSending, IsGivingUp, Fails}
 use Rattle.serve_links.specs.Talks.{AreDue, IsOfClients}
 use Rattle.serve_links.specs.Pieces.{FeedsHeld}
 use Rattle.serve_links.specs.Story.{fed_in, gave_in, is_open_in, is_broken_in, AgreesWith, IsTold, AreTold, TellsNone, HasOrHad, numbers_of, LineState, line_of, LineAgrees, LineLost, LineCalled, LinesAgree, OneGoes, LineGoesFrom, LineGoes, AnEnd, Agrees, AgreesGiven, AgreesBut, AgreesCalled, AgreesLosing, AllGoFrom, AllGo, texts_of, AgreesSent}
 use Rattle.serve_links.proofs.Reading.{breaks_now}
 use Rattle.serve_links.proofs.Talking.{IsPlain, plain_talk, plain_orderly}
 use Rattle.serve_links.proofs.Story.{one_agrees, at_told, each_told, all_told, same_told, had_stays, one_of_all, line_among, line_stays, all_still, from_then, go_between, all_but, but_all}
+use Rattle.serve_links.proofs.Showing.{plain_unlost, none_since, shown_since, shown_later}
+use Rattle.serve_links.proofs.Shutting.{shut_quiet}
 use Rattle.serve_links.proofs.LinkGoes.{same_line, as_lost, losing}
 use Rattle.serve_links.proofs.Walked.{walked, of_both}
 use Rattle.serve_proxy.specs.Ends.{lines_of, IsClosing, OneGives, EndsStay, EndsGoFrom, EndsGo, LineStands}
+use Rattle.serve_proxy.proofs.Conns.{conns_kept}
 use Rattle.serve_proxy.proofs.Lent.{lent_here, lent_others}
 
 -- ---- all ends, one after another
@@ -128,6 +132,8 @@ stays {Is} {h} {h'} {cs} {cs'} {ls} {ls'} core s =
         orderly = a.orderly;
         links = lines_stay h h' past ls ls' s.quiet s.links a.links;
         gone = λ conn id is. had_quiet past [] h h' cs cs' id conn (s.quiet conn) (numbers_kept (client_of cs id) (client_of cs' id) (s.clients id)) is a.gone;
+        shown = shown_since past h h' (s.quiet 0).after a.shown;
+        shut = shut_quiet s.quiet (λ id. numbers_kept (client_of cs id) (client_of cs' id) (s.clients id)) (conns_kept ls ls' s.links) a.shut;
       };
       texts = same_texts ls ls' s.links;
     }
@@ -190,6 +196,7 @@ IsSilent (Linked at dialect) = ⊥
 IsSilent (Asked at number dialect ask) = ⊥
 IsSilent (Greeted at dialect bytes) = ⊥
 IsSilent (Spelled at number ask answer bytes) = ⊥
+IsSilent (Lost at why) = ⊥
 
 pub tells_none : (steps : List Step) → AreOf IsSilent steps → (past : List Step) (j : ℕ) → TellsNone j past steps
 tells_none [] kinds past j = (refl, refl, refl, refl)
@@ -208,6 +215,7 @@ tells_none (Linked at dialect ∷ steps) kinds past j = absurd kinds.0
 tells_none (Asked at number dialect ask ∷ steps) kinds past j = absurd kinds.0
 tells_none (Greeted at dialect bytes ∷ steps) kinds past j = absurd kinds.0
 tells_none (Spelled at number ask answer bytes ∷ steps) kinds past j = absurd kinds.0
+tells_none (Lost at why ∷ steps) kinds past j = absurd kinds.0
 
 pub silent_turn : (steps : List Step) → AreOf IsSilent steps → AreOf IsOfTurn steps
 silent_turn [] kinds = tt
@@ -229,6 +237,7 @@ silent_turn (step ∷ steps) kinds = (of_turn step kinds.0, silent_turn steps ki
     of_turn (Asked at number dialect ask) is = tt
     of_turn (Greeted at dialect bytes) is = tt
     of_turn (Spelled at number ask answer bytes) is = tt
+    of_turn (Lost at why) is = absurd is
 
 pub silent_plain : (steps : List Step) → AreOf IsSilent steps → AreOf IsPlain steps
 silent_plain [] kinds = tt
@@ -250,6 +259,7 @@ silent_plain (step ∷ steps) kinds = (plain step kinds.0, silent_plain steps ki
     plain (Asked at number dialect ask) is = is
     plain (Greeted at dialect bytes) is = is
     plain (Spelled at number ask answer bytes) is = is
+    plain (Lost at why) is = is
 
 fails_silent : (steps : List Step) → AreOf IsFailure steps → AreOf IsSilent steps
 fails_silent [] kinds = tt
@@ -271,12 +281,37 @@ fails_silent (step ∷ steps) kinds = (silent step kinds.0, fails_silent steps k
     silent (Asked at number dialect ask) is = is
     silent (Greeted at dialect bytes) is = is
     silent (Spelled at number ask answer bytes) is = is
+    silent (Lost at why) is = is
 
 fails_send : (steps : List Step) → AreOf IsFailure steps → AreOf IsSending steps
 fails_send [] kinds = tt
 fails_send (step ∷ steps) kinds = (sends step kinds.0, fails_send steps kinds.1)
   where
     sends : (s : Step) → IsFailure s → IsSending s
+    sends (Settled number outcome) is = is
+    sends (NotOpened fault) is = is
+    sends (Polled client poll) is = is
+    sends (Stopped client fault) is = is
+    sends (Closed client) is = is
+    sends (LeftLine client) is = is
+    sends (Broke client) is = is
+    sends (Opened client) is = is
+    sends (Fed client piece) is = is
+    sends (Gave client bytes) is = is
+    sends (Loaded configuration generation) is = is
+    sends (Linked at dialect) is = tt
+    sends (Asked at number dialect ask) is = tt
+    sends (Greeted at dialect bytes) is = is
+    sends (Spelled at number ask answer bytes) is = is
+    sends (Lost at why) is = absurd is
+
+-- one that is given up for a cause
+gives_up_send : (cause : Cause) (steps : List Step) → AreOf (IsGivingUp (Some cause)) steps → AreOf IsSending steps
+gives_up_send cause [] kinds = tt
+gives_up_send cause (step ∷ steps) kinds = (sends step kinds.0, gives_up_send cause steps kinds.1)
+  where
+    sends : (s : Step) → IsGivingUp (Some cause) s → IsSending s
+    sends (Lost at why) is = subst (λ (o : Option Cause). IsSome o) (sym is) refl
     sends (Settled number outcome) is = is
     sends (NotOpened fault) is = is
     sends (Polled client poll) is = is
@@ -313,6 +348,7 @@ sends_turn (step ∷ steps) kinds = (of_turn step kinds.0, sends_turn steps kind
     of_turn (Asked at number dialect ask) is = tt
     of_turn (Greeted at dialect bytes) is = tt
     of_turn (Spelled at number ask answer bytes) is = tt
+    of_turn (Lost at why) is = is
 
 all_of : {Is Is' : Step → Type 0} → ((step : Step) → Is step → Is' step) → (steps : List Step) → AreOf Is steps → AreOf Is' steps
 all_of more [] kinds = tt
@@ -337,6 +373,10 @@ failing g = record { steps = g.steps; kinds = sends_turn g.steps g.kinds; walks 
 pub sending : {P Q : List Step → AnEnd → Type 0} {a b : AnEnd} → AllGoFrom P Q IsFailure a b → AllGoFrom P Q IsSending a b
 sending g = record { steps = g.steps; kinds = fails_send g.steps g.kinds; walks = g.walks; agree = g.agree; texts = g.texts }
 
+-- and so is what is given up for a cause
+pub giving_up : {P Q : List Step → AnEnd → Type 0} {cause : Cause} {a b : AnEnd} → AllGoFrom P Q (IsGivingUp (Some cause)) a b → AllGoFrom P Q IsSending a b
+giving_up {cause = cause} g = record { steps = g.steps; kinds = gives_up_send cause g.steps g.kinds; walks = g.walks; agree = g.agree; texts = g.texts }
+
 -- where all agree, what one link holds may be said to be lost
 pub may_lose : {P : List Step → AnEnd → Type 0} {Is : Step → Type 0} {a b : AnEnd} → AllGoFrom P Agrees Is a b → AllGoFrom P AgreesLosing Is a b
 may_lose {b = b} g = go_between (λ past was. was) (λ past was. losing 0 past b was) g
@@ -346,7 +386,7 @@ lost_some at g = go_between (λ past was. was) (λ past was. (at, was)) g
 
 losing_at : (at : ℕ) (past : List Step) (x : AnEnd) → Agrees past x → AgreesBut LineLost at past x
 losing_at at past x a =
-    record { orderly = a.orderly; clients = a.clients; told = a.told; links = λ j link other there. a.links j link there; this = λ link there. as_lost at past x.history link (a.links at link there); gone = a.gone }
+    record { orderly = a.orderly; clients = a.clients; told = a.told; links = λ j link other there. a.links j link there; this = λ link there. as_lost at past x.history link (a.links at link there); gone = a.gone; shown = a.shown; shut = a.shut }
 
 pub may_lose_at : {P : List Step → AnEnd → Type 0} {Is : Step → Type 0} {a b : AnEnd} (at : ℕ) → AllGoFrom P Agrees Is a b → AllGoFrom P (AgreesBut LineLost at) Is a b
 may_lose_at {b = b} at g = go_between (λ past was. was) (λ past was. losing_at at past b was) g
@@ -394,6 +434,8 @@ calls_agree {h} {cs} {ls} a b past steps silent was = record {
   told = all_told past steps cs (tells_none steps silent past) was.told;
   links = lines_told h steps past ls (silent_plain steps silent) was.links;
   gone = λ conn id is. had_quiet past steps h h cs cs id conn (untouched conn h) refl is was.gone;
+  shown = shown_later steps past h h (plain_unlost steps (silent_plain steps silent)) (none_since h) was.shown;
+  shut = was.shut;
 }
 
 calls_go :
@@ -464,6 +506,8 @@ close_none {h} {cs} {ls} client (Ok done) a b nobody ok err fresh = record {
     told = each_told (Closed client ∷ past) cs (λ j z there. told past j z there (at_told past cs j z there was.told));
     links = lines_told h (Closed client ∷ []) past ls (tt, tt) was.links;
     gone = λ conn id is. had_quiet past (Closed client ∷ []) h h cs cs id conn (untouched conn h) refl is was.gone;
+    shown = (tt, was.shown);
+    shut = was.shut;
   };
   texts = refl;
 }
@@ -515,7 +559,7 @@ line_took {h = h} {h' = h'} {cs = cs} {a = a} {b = b} links at x y call within w
     with_call :
         (past : List Step) → AgreesSent at call past (record { core = a; history = h; clients = cs; links = links }) → AgreesBut (LineCalled call) at past (record { core = a; history = h; clients = cs; links = links })
     with_call past was =
-        record { orderly = was.0.orderly; clients = was.0.clients; told = was.0.told; links = λ j link other there. was.0.links j link there; this = λ link there. (was.0.links at link there, was.1, was.2 link there); gone = was.0.gone }
+        record { orderly = was.0.orderly; clients = was.0.clients; told = was.0.told; links = λ j link other there. was.0.links j link there; this = λ link there. (was.0.links at link there, was.1, was.2 link there); gone = was.0.gone; shown = was.0.shown; shut = was.0.shut }
 
 -- one that waited was taken from it
 pub line_gave :
@@ -529,7 +573,7 @@ line_gave {h = h} {h' = h'} {cs = cs} {a = a} {b = b} links at x y call within w
         → AgreesSent at call past (record { core = b; history = h'; clients = cs; links = set links at y })
     with_call past was = (
       but_all at past (record { core = b; history = h'; clients = cs; links = set links at y })
-          (record { orderly = was.orderly; clients = was.clients; told = was.told; links = was.links; this = λ link there. (was.this link there).0; gone = was.gone }),
+          (record { orderly = was.orderly; clients = was.clients; told = was.told; links = was.links; this = λ link there. (was.this link there).0; gone = was.gone; shown = was.shown; shut = was.shut }),
       (was.this y (set_here links at y within)).1,
       λ link there. subst (λ (z : Link). AreDue past at (numbers_of (call ∷ z.waiting.items))) (same_some (sym (set_here links at y within) ∙ there)) (was.this y (set_here links at y within)).2,
     )

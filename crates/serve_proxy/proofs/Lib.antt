@@ -1,3 +1,4 @@
+pub mod Conns
 pub mod LogWalks
 pub mod Counting
 pub mod LinkTexts

@@ -38,6 +38,7 @@ use Rattle.serve_links.specs.Story.{LineState, line_of, said_asks, numbers_of, M
 use Rattle.serve_links.proofs.LinkGoes.{as_lost, line_between, line_settles, line_loses, line_asks, line_waits, line_takes}
 use Rattle.serve_links.proofs.Story.{go_between}
 use Rattle.serve_links.proofs.Due.{one_due}
+use Rattle.serve_links.proofs.Shutting.{shut_quiet}
 use Rattle.serve_proxy.specs.Ends.{lines_of, LinksTake, LinksGive, LineTakes, IsOpenAt, AsksIn, AllGoOn, AllGoBut, AllGoLosing, AllGoOr, AllGoUnless}
 use Rattle.serve_proxy.specs.declared.sockets.Sockets.{Sockets}
 use Rattle.serve_proxy.proofs.Going.{and_then, core_of, may_lose, may_lose_at, line_took, line_gave, had_quiet, numbers_kept, told_kept, set_here}
@@ -108,7 +109,7 @@ pub given :
     → MatchOption r (y.waiting.items ≡ x.waiting.items) (λ call. x.waiting.items ≡ call ∷ y.waiting.items)
     → MatchOption r (lines_of (set links at y) ≡ lines_of links) (λ call. LinksGive at call links (set links at y))
 given links at x y None within was is did = line_lent links at x y was (line_waiting x y is did)
-given links at x y (Some call) within was is did = λ h cs core. line_gave links at x y call within was (line_takes x y call is did)
+given links at x y (Some call) within was is did = λ h cs core. line_gave links at x y call within was (line_takes x y call [] y.waiting.items is did refl)
 
 -- the core gave one out
 pub polled_call :
@@ -246,6 +247,8 @@ but_clients {core = core} {h = h} {ls = ls} at cs cs' g keeps = record { steps =
       links = was.links;
       this = was.this;
       gone = λ conn id is. had_quiet past [] h h cs cs' id conn (untouched conn h) (numbers_kept (client_of cs id) (client_of cs' id) (keeps id)) is was.gone;
+      shown = was.shown;
+      shut = shut_quiet (λ d. untouched d h) (λ j. numbers_kept (client_of cs j) (client_of cs' j) (keeps j)) (λ at. refl) was.shut;
     }
 
 -- no link stands there

@@ -1,7 +1,7 @@
 -- What reads and writes of one end come to, and what they do to what agrees.
 use Rattle.std.proofs.Common.{◌≡◌, ℕ, if◌then◌else◌, List, [], ◌++◌, take, drop, refl, sym, ap, ◌∙◌, subst, append_assoc, append-nil}
 use Rattle.std.proofs.lemmas.List.{take-append-drop}
-use Rattle.serve_wire.specs.Events.{Event, role, address_of, delivered, taken, is_over, is_open}
+use Rattle.serve_wire.specs.Events.{Event, role, address_of, delivered, taken, is_over}
 use Rattle.serve_wire.specs.Agreement.{ClientAgrees, LinkAgrees, TouchesOnly}
 use Rattle.serve_wire.proofs.Steps.{equal, untouched, only_twice, only_takes, only_delivers, only_ends, only_fails}
 use Rattle.serve_wire.specs.Ends.{Reads, Sends}
@@ -21,7 +21,6 @@ read_nothing c held held' h h' same still =
       came = ap (delivered c) still ∙ sym (append-nil (delivered c h));
       same_role = ap (role c) still;
       same_address = ap (address_of c) still;
-      same_open = ap (is_open c) still;
       same_went = ap (taken c) still;
       elsewhere = subst (TouchesOnly c h) (sym still) (λ d other. untouched d h);
     }
@@ -34,7 +33,6 @@ reads_on c limit held got.Bytes held' h h' r =
       came = ap (delivered c) r.1.noted ∙ ap (λ b. if b then delivered c h ++ r.1.bytes else delivered c h) (equal c);
       same_role = ap (role c) r.1.noted;
       same_address = ap (address_of c) r.1.noted;
-      same_open = ap (is_open c) r.1.noted;
       same_went = ap (taken c) r.1.noted;
       elsewhere = subst (TouchesOnly c h) (sym r.1.noted) (only_delivers c r.1.bytes h);
     }
@@ -47,7 +45,6 @@ reads_on c limit held got.Ended held' h h' r =
       came = ap (delivered c) r.2 ∙ sym (append-nil (delivered c h));
       same_role = ap (role c) r.2;
       same_address = ap (address_of c) r.2;
-      same_open = ap (is_open c) r.2;
       same_went = ap (taken c) r.2;
       elsewhere = subst (TouchesOnly c h) (sym r.2) (only_ends c h);
     }
@@ -58,7 +55,6 @@ reads_on c limit held got.Failed held' h h' r =
       came = ap (delivered c) r.2 ∙ sym (append-nil (delivered c h));
       same_role = ap (role c) r.2;
       same_address = ap (address_of c) r.2;
-      same_open = ap (is_open c) r.2;
       same_went = ap (taken c) r.2;
       elsewhere = subst (TouchesOnly c h) (sym r.2) (only_fails c h);
     }
@@ -71,7 +67,6 @@ send_nothing c unsent unsent' h h' same still =
       went = ap (λ l. taken c h ++ l) (sym same) ∙ ap (λ x. taken c x ++ unsent') (sym still);
       same_role = ap (role c) still;
       same_address = ap (address_of c) still;
-      same_open = ap (is_open c) still;
       same_came = ap (delivered c) still;
       elsewhere = subst (TouchesOnly c h) (sym still) (λ d other. untouched d h);
     }
@@ -88,7 +83,6 @@ sends_on c unsent sent.Bytes unsent' h h' s =
           ∙ ap (λ x. taken c x ++ drop n unsent) (sym s.noted) ∙ ap (λ l. taken c h' ++ l) (sym s.unsent_is);
       same_role = ap (role c) s.noted;
       same_address = ap (address_of c) s.noted;
-      same_open = ap (is_open c) s.noted;
       same_came = ap (delivered c) s.noted;
       elsewhere = subst (TouchesOnly c h) (sym s.noted) (only_takes c (take n unsent) h);
     }
@@ -98,14 +92,13 @@ sends_on c unsent sent.Failed unsent' h h' s =
       went = ap (λ l. taken c h ++ l) (sym s.0) ∙ ap (λ x. taken c x ++ unsent') (sym s.1);
       same_role = ap (role c) s.1;
       same_address = ap (address_of c) s.1;
-      same_open = ap (is_open c) s.1;
       same_came = ap (delivered c) s.1;
       elsewhere = subst (TouchesOnly c h) (sym s.1) (only_fails c h);
     }
 
 pub sends_twice : (c : ℕ) (unsent unsent' unsent'' : List ℕ) (h h' h'' : List Event) → SendsOn c unsent unsent' h h' → SendsOn c unsent' unsent'' h' h'' → SendsOn c unsent unsent'' h h''
 sends_twice c unsent unsent' unsent'' h h' h'' a b =
-    record { went = a.went ∙ b.went; same_role = b.same_role ∙ a.same_role; same_address = b.same_address ∙ a.same_address; same_open = b.same_open ∙ a.same_open; same_came = b.same_came ∙ a.same_came; elsewhere = only_twice c h h' h'' a.elsewhere b.elsewhere }
+    record { went = a.went ∙ b.went; same_role = b.same_role ∙ a.same_role; same_address = b.same_address ∙ a.same_address; same_came = b.same_came ∙ a.same_came; elsewhere = only_twice c h h' h'' a.elsewhere b.elsewhere }
 
 -- bytes that went, and writes that took nothing, leave it standing
 pub bytes_stand : (c : ℕ) (unsent unsent' : List ℕ) (h h' : List Event) → Sends c unsent sent.Bytes unsent' h h' → Stands c h h'

@@ -1,0 +1,119 @@
+-- Connections of which none is left open but what ends have.
+use Rattle.std.proofs.Common.{◌≡◌, ◌≢◌, ℕ, Bool, true, false, if◌then◌else◌, List, Option, Some, None, inl, inr, refl, sym, ap, ◌∙◌, subst}
+use Rattle.std.specs.Prelude.{nat_eq, slice_get}
+use Rattle.std.specs.Option.{option_map, option_flatten}
+use Rattle.std.proofs.lemmas.Bool.{cases_Bool, eq-eqb, eqb-true}
+use Rattle.serve_wire.specs.Events.{Event, role, is_open}
+use Rattle.serve_wire.specs.Agreement.{IsUntouched, TouchesOnly}
+use Rattle.serve_wire.specs.Calls.{Closes}
+use Rattle.serve_wire.proofs.Steps.{equal}
+use Rattle.serve_clients.specs.declared.clients.Clients.{Clients}
+use Rattle.serve_links.specs.declared.link.Link.{Link}
+use Rattle.serve_links.specs.Shut.{client_conn, conn_of, link_conn, IsShutBut, StaysShut, AreShut}
+use Rattle.serve_links.specs.Story.{KeepsOthers}
+
+same_pair : {p q : ℕ × ℕ} → Some p ≡ Some q → p ≡ q
+same_pair e = cc
+
+none_some : {A : Type 0} {x : A} → None ≡ Some x → ⊥
+none_some e = cc
+
+false_true : false ≡ true → ⊥
+false_true e = cc
+
+clients_servers : {i j : ℕ} → ◌≡◌ {A = Option (ℕ × ℕ)} (Some (0, i)) (Some (1, j)) → ⊥
+clients_servers e = numbers (ap (λ (p : ℕ × ℕ). p.0) (same_pair e))
+  where
+    numbers : ◌≡◌ {A = ℕ} 0 1 → ⊥
+    numbers f = cc
+
+same_number : {kind i j : ℕ} → ◌≡◌ {A = Option (ℕ × ℕ)} (Some (kind, i)) (Some (kind, j)) → i ≡ j
+same_number e = ap (λ (p : ℕ × ℕ). p.1) (same_pair e)
+
+-- what was closed isn't open
+pub closed_shut : (c : ℕ) (h h' : List Event) → Closes c h h' → is_open c h' ≡ false
+closed_shut c h h' (inl closed) = ap (is_open c) closed ∙ ap (λ b. if b then false else is_open c h) (equal c)
+closed_shut c h h' (inr same) = ap (is_open c) same.0 ∙ same.1
+
+-- ---- one link
+
+-- one connection was touched: if it is open, the link has it, and any other that the link had it still has
+pub shut_by :
+    {at : ℕ} {h h' : List Event} {x y : Link} (c : ℕ) → TouchesOnly c h h' → ((d : ℕ) → nat_eq c d ≡ false → conn_of x ≡ Some d → conn_of y ≡ Some d) → (is_open c h' ≡ true → conn_of y ≡ Some c)
+    → StaysShut at h x h' y
+shut_by {at} {h} {h'} {x} {y} c only others own was d its open = elim (cases_Bool (nat_eq c d)) [ inl e ↦ mine (eqb-true c d e) | inr e ↦ other e (only d e) ]
+  where
+    mine : c ≡ d → conn_of y ≡ Some d
+    mine e = subst (λ k. conn_of y ≡ Some k) e (own (ap (λ k. is_open k h') e ∙ open))
+
+    other : nat_eq c d ≡ false → IsUntouched d h h' → conn_of y ≡ Some d
+    other e same = others d e (was d (sym same.same_role ∙ its) (sym same.same_open ∙ open))
+
+-- it is the link's, before and after
+pub shut_used : {at : ℕ} {h h' : List Event} {x y : Link} (c : ℕ) → TouchesOnly c h h' → conn_of x ≡ Some c → conn_of y ≡ Some c → StaysShut at h x h' y
+shut_used {x = x} {y = y} c only had has = shut_by c only (λ d other was. has ∙ sym had ∙ was) (λ open. has)
+
+-- it was begun, where the link had none
+pub shut_begun : {at : ℕ} {h h' : List Event} {x y : Link} (c : ℕ) → TouchesOnly c h h' → conn_of x ≡ None → conn_of y ≡ Some c → StaysShut at h x h' y
+shut_begun {x = x} {y = y} c only none has = shut_by c only (λ d other was. absurd (none_some (sym none ∙ was))) (λ open. has)
+
+-- it isn't open, and the link has what it had
+pub shut_in_vain : {at : ℕ} {h h' : List Event} {x y : Link} (c : ℕ) → TouchesOnly c h h' → is_open c h' ≡ false → conn_of y ≡ conn_of x → StaysShut at h x h' y
+shut_in_vain c only shut same = shut_by c only (λ d other was. same ∙ was) (λ open. absurd (false_true (sym shut ∙ open)))
+
+-- it was the link's, and isn't open
+pub shut_closed : {at : ℕ} {h h' : List Event} {x y : Link} (c : ℕ) → TouchesOnly c h h' → is_open c h' ≡ false → conn_of x ≡ Some c → StaysShut at h x h' y
+shut_closed {x = x} {y = y} c only shut had = shut_by c only (λ d other was. absurd (false_true (sym other ∙ eq-eqb c d (same (sym had ∙ was))))) (λ open. absurd (false_true (sym shut ∙ open)))
+  where
+    same : {m n : ℕ} → Some m ≡ Some n → m ≡ n
+    same e = cc
+
+-- no connection was touched
+pub shut_still : {at : ℕ} {h h' : List Event} {x y : Link} → ((d : ℕ) → IsUntouched d h h') → conn_of y ≡ conn_of x → StaysShut at h x h' y
+shut_still still same was d its open = same ∙ was d (sym (still d).same_role ∙ its) (sym (still d).same_open ∙ open)
+
+-- ---- all ends
+
+-- one link's connections were touched
+pub shut_line :
+    {h h' : List Event} {cs cs' : Clients} {ls ls' : List Link} (at : ℕ) → KeepsOthers (1, at) h h' → (IsShutBut (1, at) (link_conn ls at) h → IsShutBut (1, at) (link_conn ls' at) h')
+    → ((j : ℕ) → nat_eq at j ≡ false → link_conn ls' j ≡ link_conn ls j) → ((j : ℕ) → client_conn cs' j ≡ client_conn cs j) → AreShut h cs ls → AreShut h' cs' ls'
+shut_line {h} {h'} {cs} {cs'} {ls} {ls'} at keeps own others clients_are was = record {
+  clients = λ id c its open. let same = keeps.are c (λ e. clients_servers (sym its ∙ e)) in clients_are id ∙ was.clients id c (sym same.same_role ∙ its) (sym same.same_open ∙ open);
+  links = λ j. elim (cases_Bool (nat_eq at j)) [ inl e ↦ mine j (eqb-true at j e) | inr e ↦ other j e ];
+  nobodys = λ c none. let same = keeps.are c (λ e. none_some (sym none ∙ e)) in same.same_open ∙ was.nobodys c (sym same.same_role ∙ none);
+}
+  where
+    mine : (j : ℕ) → at ≡ j → IsShutBut (1, j) (link_conn ls' j) h'
+    mine j e = subst (λ k. IsShutBut (1, k) (link_conn ls' k) h') e (own (was.links at))
+
+    other : (j : ℕ) → nat_eq at j ≡ false → IsShutBut (1, j) (link_conn ls' j) h'
+    other j e c its open =
+        let same = keeps.are c (λ is. false_true (sym e ∙ eq-eqb at j (same_number (sym is ∙ its)))) in
+        others j e ∙ was.links j c (sym same.same_role ∙ its) (sym same.same_open ∙ open)
+
+-- one client's was, which it has
+pub shut_client :
+    {h h' : List Event} {cs cs' : Clients} {ls ls' : List Link} (id c : ℕ) → role c h' ≡ Some (0, id) → TouchesOnly c h h' → client_conn cs' id ≡ Some c
+    → ((j : ℕ) → client_conn cs' j ≡ client_conn cs j) → ((j : ℕ) → link_conn ls' j ≡ link_conn ls j) → AreShut h cs ls → AreShut h' cs' ls'
+shut_client {h} {h'} {cs} {cs'} {ls} {ls'} id c of_c only has clients_are links_are was = record {
+  clients = λ j d its open. elim (cases_Bool (nat_eq c d)) [ inl e ↦ mine j d its (eqb-true c d e) | inr e ↦ (let same = only d e in clients_are j ∙ was.clients j d (sym same.same_role ∙ its) (sym same.same_open ∙ open)) ];
+  links = λ at d its open. let same = other d (λ e. clients_servers (sym of_c ∙ ap (λ k. role k h') e ∙ its)) in links_are at ∙ was.links at d (sym same.same_role ∙ its) (sym same.same_open ∙ open);
+  nobodys = λ d none. let same = other d (λ e. none_some (sym none ∙ ap (λ k. role k h') (sym e) ∙ of_c)) in same.same_open ∙ was.nobodys d (sym same.same_role ∙ none);
+}
+  where
+    mine : (j d : ℕ) → role d h' ≡ Some (0, j) → c ≡ d → client_conn cs' j ≡ Some d
+    mine j d its e = subst (λ k. client_conn cs' k ≡ Some d) (same_number (sym of_c ∙ ap (λ k. role k h') e ∙ its)) (has ∙ ap (λ (k : ℕ). Some k) e)
+
+    other : (d : ℕ) → c ≢ d → IsUntouched d h h'
+    other d apart = elim (cases_Bool (nat_eq c d)) [ inl e ↦ absurd (apart (eqb-true c d e)) | inr e ↦ only d e ]
+
+-- none was
+pub shut_quiet :
+    {h h' : List Event} {cs cs' : Clients} {ls ls' : List Link} → ((d : ℕ) → IsUntouched d h h') → ((j : ℕ) → client_conn cs' j ≡ client_conn cs j) → ((j : ℕ) → link_conn ls' j ≡ link_conn ls j)
+    → AreShut h cs ls → AreShut h' cs' ls'
+shut_quiet quiet clients_are links_are was = record {
+  clients = λ j d its open. clients_are j ∙ was.clients j d (sym (quiet d).same_role ∙ its) (sym (quiet d).same_open ∙ open);
+  links = λ j d its open. links_are j ∙ was.links j d (sym (quiet d).same_role ∙ its) (sym (quiet d).same_open ∙ open);
+  nobodys = λ d none. (quiet d).same_open ∙ was.nobodys d (sym (quiet d).same_role ∙ none);
+}
