@@ -536,12 +536,14 @@ line_takes {at = at} {h = h} x y call before after is was now =
     line_moves refl (none_since h) (shut_still (quiet h) (ap conn_of is)) (ap (λ (z : Link). z.text.items) is)
     (λ past a.
     let all = called_between past at before call after (subst (λ w. MayAllGo past at w) was a.waiting) in
-    let due = due_between past at before call after (subst (λ w. AreDue past at (numbers_of w)) was a.due) in
-    ((
-      waits_with at past h x y is a (subst (λ w. MayAllGo past at w) (sym now) all.1) (subst (λ w. AreDue past at (numbers_of w)) (sym now) (due_less past at call.ticket.number (numbers_of (before ++ after)) due)),
-      all.0,
-      subst (λ w. AreDue past at (numbers_of (call ∷ w))) (sym now) due,
-    ), all_kept (1, at) h h (quiet h)))
+    let due = due_between past at before call after (subst (λ w. AreDue past at (numbers_of w)) was a.due) in (
+      (
+        waits_with at past h x y is a (subst (λ w. MayAllGo past at w) (sym now) all.1) (subst (λ w. AreDue past at (numbers_of w)) (sym now) (due_less past at call.ticket.number (numbers_of (before ++ after)) due)),
+        all.0,
+        subst (λ w. AreDue past at (numbers_of (call ∷ w))) (sym now) due,
+      ),
+      all_kept (1, at) h h (quiet h),
+    ))
 
 -- ---- answers
 
