@@ -125,8 +125,8 @@ dropped_after (Some c) h h' q = only_after c h h' (only_closed c h h' q.some)
 
 -- a connection that is open still is another one
 dropped_opens : (kept : Option ℕ) (d : ℕ) (h h' : List Event) → IsDropped kept h h' → is_open d h' ≡ true → (is_open d h ≡ true) × (kept ≢ Some d)
-dropped_opens None d h h' q open = (sym (ap (is_open d) (q.none refl)) ∙ open, λ e. none_is e)
-dropped_opens (Some c) d h h' q open = elim (cases_Bool (nat_eq c d)) [ inl e ↦ absurd (false_true (sym (closed_shut c h h' q.some) ∙ ap (λ k. is_open k h') (eqb-true c d e) ∙ open)) | inr e ↦ (sym (only_closed c h h' q.some d e).same_open ∙ open, λ is. false_true (sym e ∙ eq-eqb c d (number_is is))) ]
+dropped_opens None d h h' q on = (sym (ap (is_open d) (q.none refl)) ∙ on, λ e. none_is e)
+dropped_opens (Some c) d h h' q on = elim (cases_Bool (nat_eq c d)) [ inl e ↦ absurd (false_true (sym (closed_shut c h h' q.some) ∙ ap (λ k. is_open k h') (eqb-true c d e) ∙ on)) | inr e ↦ (sym (only_closed c h h' q.some d e).same_open ∙ on, λ is. false_true (sym e ∙ eq-eqb c d (number_is is))) ]
   where
     false_true : false ≡ true → ⊥
     false_true f = cc
@@ -170,7 +170,7 @@ opened_go {h} {h1} {h2} {h'} {cs} {cs'} {ls} id c b last new is dropped only unu
     tells d e = tells_twice d h h1 h' (same_told d h h1 (accepted d e)) (tells_twice d h1 h2 h' (dropped_tells (client_conn cs id) d h1 h2 dropped) (same_told d h2 h' (only d e)))
 
     opens : (d : ℕ) → nat_eq c d ≡ false → is_open d h' ≡ true → (is_open d h ≡ true) × (client_conn cs id ≢ Some d)
-    opens d e open = let o = dropped_opens (client_conn cs id) d h1 h2 dropped (sym (only d e).same_open ∙ open) in (sym (accepted d e).same_open ∙ o.0, o.1)
+    opens d e on = let o = dropped_opens (client_conn cs id) d h1 h2 dropped (sym (only d e).same_open ∙ on) in (sym (accepted d e).same_open ∙ o.0, o.1)
 
     after : Extends h h'
     after = extends_twice h h1 h' (only_after c h h1 accepted) (extends_twice h1 h2 h' (dropped_after (client_conn cs id) h1 h2 dropped) (only_after c h2 h' only))
@@ -326,7 +326,7 @@ gone_go {h} {h'} {cs} {cs'} {ls} id gone dropped before core does sent = record 
     links = lines_apart h h' (Closed id ∷ []) past ls (λ d at of_d. touched past was.clients d (1, at) of_d (λ e. one_zero (ap (λ (p : ℕ × ℕ). p.0) e))) (tt, tt) was.links;
     gone = gone_of past was given.1;
     shown = shown_later (Closed id ∷ []) past h h' (tt, tt) (dropped_after (client_conn cs id) h h' dropped) was.shown;
-    shut = shut_without id (λ d. (told d).0) (λ d open. dropped_opens (client_conn cs id) d h h' dropped open) (λ j other. ap (option_map (λ (x : Client). x.conn.number)) (gone_others cs cs' id gone j other)) (λ j. refl) was.shut;
+    shut = shut_without id (λ d. (told d).0) (λ d on. dropped_opens (client_conn cs id) d h h' dropped on) (λ j other. ap (option_map (λ (x : Client). x.conn.number)) (gone_others cs cs' id gone j other)) (λ j. refl) was.shut;
   };
   texts = refl;
 }

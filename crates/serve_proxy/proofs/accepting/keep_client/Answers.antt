@@ -33,7 +33,7 @@ returns-then-insert_client g c = record {
       let begins = c.insert_client.ensures.begins c.if-insert_client.true in
       and_then
       (opened_go id conn c.args.core.now c.args.core.now new is dropped (only_may conn id h2 h' c.insert_client.ensures.may) (unused_may conn id h2 h' c.insert_client.ensures.may unused)
-      (λ open. (begun_conn conn _ begins, ap (role conn) admitted ∙ ap (λ b. if b then Some (0, id) else role conn h2) (equal conn)))
+      (λ on. (begun_conn conn _ begins, ap (role conn) admitted ∙ ap (λ b. if b then Some (0, id) else role conn h2) (equal conn)))
       (λ j other. c.insert_client.ensures.others j other ∙ gone_others cs mid id c.drop_end.ensures.gone j other) (begun_agrees h2 h' id conn _ unused admitted begins) (begun_stands conn _ begins) nothing before does)
       (stays c.args.core.now (stay_links _ _ _ _ (ap (λ l. lines_of l.all.items) (c.insert_client.ensures.links ∙ ap (λ s. s.links) c.drop_end.ensures.rest))));
 }
@@ -57,7 +57,7 @@ returns g c = record {
       and_then
       (and_then
       (opened_go id conn c.args.core.now c.args.core.now new is dropped (only_twice conn h2 h3 h' (only_may conn id h2 h3 c.insert_client.ensures.may) (only_closed conn h3 h' c.close.ensures)) unused
-      (λ open. absurd (false_true (sym (closed_shut conn h3 h' c.close.ensures) ∙ open)))
+      (λ on. absurd (false_true (sym (closed_shut conn h3 h' c.close.ensures) ∙ on)))
       (λ j other. gone_others last cs' id c.remove.ensures.gone j other ∙ c.insert_client.ensures.others j other ∙ gone_others cs mid id c.drop_end.ensures.gone j other) (none_agrees h' id _ nobody) (none_stands _ nobody) nothing before does)
       (close_none id c.close-2.result c.args.core.now c.close-2.new.self nobody c.close-2.ensures.ok c.close-2.ensures.err c.close-2.ensures.fresh))
       (stays c.close-2.new.self (stay_links _ _ _ _ (ap (λ l. lines_of l.all.items) (c.insert_client.ensures.links ∙ ap (λ s. s.links) c.drop_end.ensures.rest))));
