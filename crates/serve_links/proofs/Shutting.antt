@@ -21,6 +21,10 @@ none_some e = cc
 false_true : false ≡ true → ⊥
 false_true e = cc
 
+not_open : (b : Bool) → (b ≡ true → ⊥) → b ≡ false
+not_open true no = absurd (no refl)
+not_open false no = refl
+
 clients_servers : {i j : ℕ} → ◌≡◌ {A = Option (ℕ × ℕ)} (Some (0, i)) (Some (1, j)) → ⊥
 clients_servers e = numbers (ap (λ (p : ℕ × ℕ). p.0) (same_pair e))
   where
@@ -117,3 +121,56 @@ shut_quiet quiet clients_are links_are was = record {
   links = λ j d its open. links_are j ∙ was.links j d (sym (quiet d).same_role ∙ its) (sym (quiet d).same_open ∙ open);
   nobodys = λ d none. (quiet d).same_open ∙ was.nobodys d (sym (quiet d).same_role ∙ none);
 }
+
+-- ---- clients that come and go
+
+-- a client is gone, and its connection isn't open
+pub shut_without :
+    {h h' : List Event} {cs cs' : Clients} {ls ls' : List Link} (id : ℕ) → ((d : ℕ) → role d h' ≡ role d h) → ((d : ℕ) → is_open d h' ≡ true → (is_open d h ≡ true) × (client_conn cs id ≢ Some d))
+    → ((j : ℕ) → j ≢ id → client_conn cs' j ≡ client_conn cs j) → ((j : ℕ) → link_conn ls' j ≡ link_conn ls j) → AreShut h cs ls → AreShut h' cs' ls'
+shut_without {h} {h'} {cs} {cs'} {ls} {ls'} id roles opens others links_are was = record {
+  clients = λ j d its open. client j d (sym (roles d) ∙ its) (opens d open);
+  links = λ j d its open. links_are j ∙ was.links j d (sym (roles d) ∙ its) (opens d open).0;
+  nobodys = λ d none. not_open (is_open d h') (λ open. false_true (sym (was.nobodys d (sym (roles d) ∙ none)) ∙ (opens d open).0));
+}
+  where
+    client : (j d : ℕ) → role d h ≡ Some (0, j) → (is_open d h ≡ true) × (client_conn cs id ≢ Some d) → client_conn cs' j ≡ Some d
+    client j d its open = elim (cases_Bool (nat_eq id j)) [
+      inl e ↦ absurd (open.1 (ap (client_conn cs) (eqb-true id j e) ∙ was.clients j d its open.0))
+      | inr e ↦ others j (λ same. false_true (sym e ∙ eq-eqb id j (sym same))) ∙ was.clients j d its open.0
+    ]
+
+-- and then a new one may have come in its place, by a connection that was nobody's
+pub shut_opened :
+    {h h' : List Event} {cs cs' : Clients} {ls ls' : List Link} (id c : ℕ) → ((d : ℕ) → nat_eq c d ≡ false → role d h' ≡ role d h)
+    → ((d : ℕ) → nat_eq c d ≡ false → is_open d h' ≡ true → (is_open d h ≡ true) × (client_conn cs id ≢ Some d)) → (is_open c h' ≡ true → (client_conn cs' id ≡ Some c) × (role c h' ≡ Some (0, id)))
+    → ((j : ℕ) → j ≢ id → client_conn cs' j ≡ client_conn cs j) → ((j : ℕ) → link_conn ls' j ≡ link_conn ls j) → AreShut h cs ls → AreShut h' cs' ls'
+shut_opened {h} {h'} {cs} {cs'} {ls} {ls'} id c roles opens own others links_are was = record {
+  clients = λ j d its open. elim (cases_Bool (nat_eq c d)) [ inl e ↦ mine j d its (eqb-true c d e) open | inr e ↦ client j d (sym (roles d e) ∙ its) (opens d e open) ];
+  links = λ j d its open. elim (cases_Bool (nat_eq c d)) [ inl e ↦ absurd (clients_servers (sym (mine_is d (eqb-true c d e) open).1 ∙ its)) | inr e ↦ links_are j ∙ was.links j d (sym (roles d e) ∙ its) (opens d e open).0 ];
+  nobodys = λ d none. not_open (is_open d h') (λ open. elim (cases_Bool (nat_eq c d)) [ inl e ↦ none_some (sym none ∙ (mine_is d (eqb-true c d e) open).1) | inr e ↦ false_true (sym (was.nobodys d (sym (roles d e) ∙ none)) ∙ (opens d e open).0) ]);
+}
+  where
+    mine_is : (d : ℕ) → c ≡ d → is_open d h' ≡ true → (client_conn cs' id ≡ Some d) × (role d h' ≡ Some (0, id))
+    mine_is d e = subst (λ k. is_open k h' ≡ true → (client_conn cs' id ≡ Some k) × (role k h' ≡ Some (0, id))) e own
+
+    mine : (j d : ℕ) → role d h' ≡ Some (0, j) → c ≡ d → is_open d h' ≡ true → client_conn cs' j ≡ Some d
+    mine j d its e open = let is = mine_is d e open in ap (client_conn cs') (same_number (sym its ∙ is.1)) ∙ is.0
+
+    client : (j d : ℕ) → role d h ≡ Some (0, j) → (is_open d h ≡ true) × (client_conn cs id ≢ Some d) → client_conn cs' j ≡ Some d
+    client j d its open = elim (cases_Bool (nat_eq id j)) [
+      inl e ↦ absurd (open.1 (ap (client_conn cs) (eqb-true id j e) ∙ was.clients j d its open.0))
+      | inr e ↦ others j (λ same. false_true (sym e ∙ eq-eqb id j (sym same))) ∙ was.clients j d its open.0
+    ]
+
+-- one connection was touched that was nobody's, and isn't open
+pub shut_turned :
+    {h h' : List Event} {cs : Clients} {ls : List Link} (c : ℕ) → is_open c h' ≡ false → TouchesOnly c h h' → AreShut h cs ls → AreShut h' cs ls
+shut_turned {h} {h'} {cs} {ls} c shut only was = record {
+  clients = λ j d its open. let same = other d open in was.clients j d (sym same.same_role ∙ its) (sym same.same_open ∙ open);
+  links = λ j d its open. let same = other d open in was.links j d (sym same.same_role ∙ its) (sym same.same_open ∙ open);
+  nobodys = λ d none. not_open (is_open d h') (λ open. let same = other d open in false_true (sym (was.nobodys d (sym same.same_role ∙ none)) ∙ sym same.same_open ∙ open));
+}
+  where
+    other : (d : ℕ) → is_open d h' ≡ true → IsUntouched d h h'
+    other d open = elim (cases_Bool (nat_eq c d)) [ inl e ↦ absurd (false_true (sym shut ∙ ap (λ k. is_open k h') (eqb-true c d e) ∙ open)) | inr e ↦ only d e ]
