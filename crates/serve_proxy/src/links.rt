@@ -5,7 +5,7 @@ ghost use Rattle.std.specs.Prelude.{◌≡◌, ◌↔◌, true, None, [], ◌∷
 ghost use Rattle.serve_clients.specs.declared.clients.Clients.{Clients};
 ghost use Rattle.serve_links.specs.Links.{calls_out};
 ghost use Rattle.serve_links.specs.Story.{line_of, texts_of};
-ghost use Rattle.serve_proxy.specs.Ends.{lines_of, LinksTake, LinksGive, LineStands, LineTakes, IsOpenAt, AsksIn, EndsGo, AddsLines};
+ghost use Rattle.serve_proxy.specs.Ends.{lines_of, LinksTake, LinksGive, LineStands, LineTakes, IsOpenAt, IsLateAt, AsksIn, EndsGo, AddsLines};
 
 use crate::clock::earlier;
 use crate::texts::text_at;
@@ -367,7 +367,9 @@ impl Links {
     }
 
     /// Why the link has failed by now, if it has taken too long. One over which more may have come than was read isn't late yet.
-    pub fn lateness(&self, at: usize, time: u64) -> Option<Cause> {
+    pub fn lateness(&self, at: usize, time: u64) -> Option<Cause>
+        ensures { IsLateAt result at self.now.all.items }
+    {
         match self.all.get(at) {
             Some(link) if !link.may_have_more() => link.lateness(time, &self.settings),
             _ => None,

@@ -1,6 +1,6 @@
 //! The calls of one server that are out, the one that went out first in front.
 
-ghost use Rattle.std.specs.Prelude.{◌≡◌, [], ◌∷◌, ◌++◌, ◌↔◌, true, false, IsTrue, OnOk, OnErr, IfOk, IfErr, IfSome, length, option_map};
+ghost use Rattle.std.specs.Prelude.{◌≡◌, None, [], ◌∷◌, ◌++◌, ◌↔◌, true, false, IsTrue, OnOk, OnErr, IfOk, IfErr, IfSome, length, option_map};
 ghost use Rattle.mc_types.specs.Asks.{IsAsk};
 ghost use Rattle.wire_stream.specs.Spelling.{spelling_of};
 ghost use Rattle.wire_parts.specs.Sending.{bytes_of};
@@ -224,7 +224,9 @@ impl LinkCalls {
     }
 
     /// When the first of those that are out began.
-    pub fn oldest(&self) -> Option<u64> {
+    pub fn oldest(&self) -> Option<u64>
+        ensures { self.now.sent.items ≡ [] → result ≡ None }
+    {
         match self.sent.front() {
             Some(call) => Some(call.since),
             None => None,
