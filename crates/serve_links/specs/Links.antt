@@ -1,10 +1,12 @@
 -- The links of a proxy to its servers. Source: mcgate's own.
-use Rattle.std.specs.Prelude.{◌≡◌, ℕ, ◌+◌, List, [], ◌∷◌, ◌++◌, length, None, IfSome, slice_get}
+use Rattle.std.specs.Prelude.{◌≡◌, ◌≢◌, Bool, true, false, Option, Some, ℕ, ◌+◌, List, [], ◌∷◌, ◌++◌, length, None, IfSome, slice_get}
 use Rattle.mc_types.specs.declared.call.Outcome.TheVariants.{Failed}
 use Rattle.core_accepted.specs.declared.served.ServedCore.{ServedCore}
 use Rattle.serve_links.specs.declared.calls.calls.SentCall.{SentCall}
 use Rattle.core_accepted.specs.Results.{IsSettled}
 use Rattle.serve_links.specs.declared.link.Link.{Link}
+use Rattle.serve_links.specs.declared.news.Cause.{Cause}
+use Rattle.serve_links.specs.declared.news.Cause.TheVariants as causes
 
 -- how many calls are out on these links: sent, or waiting to be sent
 abbrev pub calls_out : List Link → ℕ
@@ -36,3 +38,18 @@ IsDownAt at links = IfSome (slice_get links at) IsDown
 
 abbrev pub IsClosedAt : ℕ → List Link → Type 0
 IsClosedAt at links = IfSome (slice_get links at) (λ link. link.conn ≡ None)
+
+-- why a link is given up where too many reads were in vain
+abbrev pub vain_cause : Bool → Option Cause
+vain_cause true = Some causes.VainReads
+vain_cause false = None
+
+-- for this cause a link is late: where that is a call, calls are out
+abbrev pub IsLateBy : Cause → Link → Type 0
+IsLateBy causes.CallLate link = link.calls.sent.items ≢ []
+IsLateBy causes.ConnectLate link = Unit {0}
+IsLateBy causes.Unreachable link = ⊥
+IsLateBy causes.Closed link = ⊥
+IsLateBy causes.Broken link = ⊥
+IsLateBy causes.Foreign link = ⊥
+IsLateBy causes.VainReads link = ⊥

@@ -1,8 +1,8 @@
 //! One server's link: its connection, if it has one, and the calls that are out.
 
-ghost use Rattle.std.specs.Prelude.{◌≡◌, ◌+◌, ◌<◌, ◌++◌, false, ◌∷◌, [], None, length, MatchOption, IfOk, IfErr, OnOk, OnErr, option_map};
+ghost use Rattle.std.specs.Prelude.{◌≡◌, ◌≢◌, true, IfSome, ◌+◌, ◌<◌, ◌++◌, false, ◌∷◌, [], None, length, MatchOption, IfOk, IfErr, OnOk, OnErr, option_map};
 ghost use Rattle.mc_types.specs.declared.ask.Dialect.TheVariants.{Classic};
-ghost use Rattle.serve_links.specs.Links.{IsDown, IsTaken};
+ghost use Rattle.serve_links.specs.Links.{IsDown, IsTaken, IsLateBy, vain_cause};
 ghost use Rattle.wire_parts.specs.Sending.{bytes_of};
 ghost use Rattle.serve_links.specs.Lines.{first_asked_of, awaits_first, first_dialect, KeepsLines, HasNewEnd, OpensBy, Learns};
 
@@ -52,7 +52,9 @@ fn first_dialect(dialect: ServerDialect) -> Dialect
 }
 
 /// Why a link failed, if too many reads were in vain.
-pub fn vain(has_failed: bool) -> Option<Cause> {
+pub fn vain(has_failed: bool) -> Option<Cause>
+    ensures { result ≡ vain_cause has_failed }
+{
     if has_failed {
         Some(Cause::VainReads)
     } else {
@@ -306,7 +308,9 @@ impl Link {
     }
 
     /// When it fails if nothing comes, in milliseconds: its first call, or its connection, has taken too long then.
-    pub fn time_limit(&self, settings: &Settings) -> Option<u64> {
+    pub fn time_limit(&self, settings: &Settings) -> Option<u64>
+        ensures { self.now.is_connected ≡ true → self.now.calls.sent.items ≡ [] → result ≡ None }
+    {
         if self.conn.is_none() {
             return None;
         }
@@ -320,7 +324,9 @@ impl Link {
     }
 
     /// Why it has failed by now, if it has taken too long.
-    pub fn lateness(&self, now: u64, settings: &Settings) -> Option<Cause> {
+    pub fn lateness(&self, now: u64, settings: &Settings) -> Option<Cause>
+        ensures { IfSome result (λ cause. IsLateBy cause self.now) }
+    {
         match self.time_limit(settings) {
             Some(limit) if limit < now => {
                 if self.is_connected {
@@ -368,7 +374,8 @@ impl Link {
 
     /// A read brought whole answers, or none. Whether it has failed by that: where calls are out, and so many reads in a row brought none.
     pub fn has_read(&mut self, has_settled: bool, polls: Option<u32>) -> bool
-        ensures { self.new ≡ record self.old { failures = self.new.failures; vain_reads = self.new.vain_reads } }
+        ensures failed { result ≡ true → self.new.calls.sent.items ≢ [] }
+        ensures rest { self.new ≡ record self.old { failures = self.new.failures; vain_reads = self.new.vain_reads } }
     {
         if has_settled {
             self.failures = 0;

@@ -109,7 +109,7 @@ pub given :
     → MatchOption r (y.waiting.items ≡ x.waiting.items) (λ call. x.waiting.items ≡ call ∷ y.waiting.items)
     → MatchOption r (lines_of (set links at y) ≡ lines_of links) (λ call. LinksGive at call links (set links at y))
 given links at x y None within was is did = line_lent links at x y was (line_waiting x y is did)
-given links at x y (Some call) within was is did = λ h cs core. line_gave links at x y call within was (line_takes x y call is did)
+given links at x y (Some call) within was is did = λ h cs core. line_gave links at x y call within was (line_takes x y call [] y.waiting.items is did refl)
 
 -- the core gave one out
 pub polled_call :

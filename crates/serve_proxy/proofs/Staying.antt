@@ -1,9 +1,17 @@
 -- What stays of the ends of a proxy, and the links one by one.
-use Rattle.std.proofs.Common.{◌≡◌, ℕ, zero, suc, List, [], ◌∷◌, get_or, Some, None, refl, sym, ap, ◌∙◌, subst}
+use Rattle.std.proofs.Common.{◌≡◌, ℕ, zero, suc, Bool, true, false, List, [], ◌∷◌, get_or, Option, Some, None, Result, Ok, Err, refl, sym, ap, ◌∙◌, subst}
 use Rattle.std.proofs.Math.ListN.{set}
+use Rattle.std.specs.Prelude.{IsErr}
 use Rattle.wire_parts.specs.Sending.{bytes_of}
 use Rattle.serve_wire.specs.Events.{Event}
-use Rattle.serve_wire.specs.Flow.{ReadsOn, SendsOn}
+use Rattle.serve_wire.specs.Events.{is_over}
+use Rattle.serve_wire.specs.Flow.{ReadsOn, SendsOn, Stands, HasJustFailed}
+use Rattle.serve_wire.specs.Ends.{Reads}
+use Rattle.serve_wire.specs.declared.conn.conn.Got.{Got}
+use Rattle.serve_wire.specs.declared.conn.conn.Got.TheVariants as got
+use Rattle.serve_wire.proofs.Flows.{reads_on}
+use Rattle.serve_links.specs.declared.news.Cause.{Cause}
+use Rattle.serve_links.specs.declared.news.Cause.TheVariants as causes
 use Rattle.serve_wire.proofs.Steps.{untouched, untouched_twice}
 use Rattle.serve_wire.specs.declared.conn.conn.Conn.{Conn}
 use Rattle.serve_clients.specs.declared.clients.Clients.{Clients}
@@ -13,10 +21,11 @@ use Rattle.serve_clients.proofs.Agreeing.{keeps_none, keeps_twice, keeps_alike}
 use Rattle.serve_links.specs.declared.settings.ServerDialect.{ServerDialect}
 use Rattle.serve_links.specs.declared.link.Link.{Link}
 use Rattle.serve_links.specs.declared.link.Opening.{Opening}
-use Rattle.serve_links.specs.Lines.{KeepsLines, OpensBy}
+use Rattle.std.specs.Option.{is_some}
+use Rattle.serve_links.specs.Lines.{SameLine, KeepsLines, OpensBy}
 use Rattle.serve_links.specs.Story.{line_of}
-use Rattle.serve_links.proofs.LinkGoes.{keeps_line, line_keeps, line_reads, line_sends, line_opens as line_begins, line_shuts}
-use Rattle.serve_proxy.specs.Ends.{lines_of, IsQuiet, EndsStay, LineStands}
+use Rattle.serve_links.proofs.LinkGoes.{keeps_line, line_keeps, line_reads, line_reads_over, line_sends, line_sends_over, line_opens as line_begins, line_shuts}
+use Rattle.serve_proxy.specs.Ends.{lines_of, over_by, over_after, broken_unless, IsQuiet, EndsStay, LineStands, LineStandsUnless}
 
 -- ---- lines of links
 
@@ -36,16 +45,51 @@ kept_line x y keeps = keeps_line x y keeps
 pub line_stands : (at : ℕ) (h : List Event) (x y : Link) → line_of y ≡ line_of x → LineStands at h h x y
 line_stands at h x y same = λ core. line_keeps (λ d. untouched d h) same
 
--- something came over its connection, or went
+-- its connection was read, which gave this
 pub line_read :
-    (at : ℕ) (h h' : List Event) (x y : Link) (c d : Conn) → x.conn ≡ Some c → y ≡ record x { conn = Some d } → d.number ≡ c.number → bytes_of d.unsent ≡ bytes_of c.unsent → ReadsOn c.number c.held.items d.held.items h h'
-    → LineStands at h h' x y
-line_read at h h' x y c d was is number unsent r = λ core. line_reads x y c d was is number unsent r
+    (at : ℕ) (h h' : List Event) (x y : Link) (c d : Conn) (limit : ℕ) (what : Got) → x.conn ≡ Some c → y ≡ record x { conn = Some d } → d.number ≡ c.number → bytes_of d.unsent ≡ bytes_of c.unsent
+    → Reads c.number limit c.held.items what d.held.items h h' → LineStandsUnless (over_by what) at h h' x y
+line_read at h h' x y c d limit got.Bytes was is number unsent r = λ core. line_reads x y c d was is number unsent (reads_on c.number limit c.held.items got.Bytes d.held.items h h' r) (ap (is_over c.number) r.1.noted)
+line_read at h h' x y c d limit got.Nothing was is number unsent r = λ core. line_reads x y c d was is number unsent (reads_on c.number limit c.held.items got.Nothing d.held.items h h' r) (ap (is_over c.number) r.2)
+line_read at h h' x y c d limit got.Full was is number unsent r = λ core. line_reads x y c d was is number unsent (reads_on c.number limit c.held.items got.Full d.held.items h h' r) (ap (is_over c.number) r.2)
+line_read at h h' x y c d limit got.Ended was is number unsent r = λ core. line_reads_over (Some causes.Closed) x y c d was is number unsent (reads_on c.number limit c.held.items got.Ended d.held.items h h' r) (λ t. ([], h, r.2))
+line_read at h h' x y c d limit got.Failed was is number unsent r = λ core. line_reads_over (Some causes.Broken) x y c d was is number unsent (reads_on c.number limit c.held.items got.Failed d.held.items h h' r) (λ t. ([], h, r.2))
 
+-- it was not, as memory was refused
+pub line_unread :
+    (at : ℕ) (h h' : List Event) (x y : Link) (c d : Conn) → x.conn ≡ Some c → y ≡ record x { conn = Some d } → d.number ≡ c.number → bytes_of d.unsent ≡ bytes_of c.unsent → ReadsOn c.number c.held.items d.held.items h h' → h' ≡ h
+    → LineStands at h h' x y
+line_unread at h h' x y c d was is number unsent r same = λ core. line_reads x y c d was is number unsent r (ap (is_over c.number) same)
+
+false_true : false ≡ true → ⊥
+false_true e = cc
+
+-- where it stopped nothing is over
+pub none_after : {E : Type 0} (r : Result (Option Got) E) → IsErr r → over_after r ≡ None
+none_after (Ok got) is = absurd (false_true is)
+none_after (Err refused) is = refl
+
+-- what was to be sent went, as far as it was taken, and it stands still or has failed
 pub line_sent :
-    (at : ℕ) (h h' : List Event) (x y : Link) (c d : Conn) → x.conn ≡ Some c → y ≡ record x { conn = Some d } → d.number ≡ c.number → d.held.items ≡ c.held.items
-    → SendsOn c.number (bytes_of c.unsent) (bytes_of d.unsent) h h' → LineStands at h h' x y
-line_sent at h h' x y c d was is number held s = λ core. line_sends x y c d was is number held s
+    (at : ℕ) (h h' : List Event) (x y : Link) (c d : Conn) (has_sent : Bool) → x.conn ≡ Some c → y ≡ record x { conn = Some d } → d.number ≡ c.number → d.held.items ≡ c.held.items
+    → SendsOn c.number (bytes_of c.unsent) (bytes_of d.unsent) h h' → (has_sent ≡ true → Stands c.number h h') → (has_sent ≡ false → HasJustFailed c.number h') → LineStandsUnless (broken_unless has_sent) at h h' x y
+line_sent at h h' x y c d true was is number held s stands failed = λ core. line_sends x y c d was is number held s (stands refl)
+line_sent at h h' x y c d false was is number held s stands failed = λ core. line_sends_over (Some causes.Broken) x y c d was is number held s (λ t. ([], (failed refl).0, (failed refl).1))
+
+pub not_some : {A : Type 0} (o : Option A) → is_some o ≡ false → o ≡ None
+not_some None is = refl
+not_some (Some x) is = absurd (true_false is)
+  where
+    true_false : true ≡ false → ⊥
+    true_false e = cc
+
+-- where there was no connection, none is kept
+pub none_kept : (o p : Option Conn) → o ≡ None → SameLine o p → p ≡ None
+none_kept None p none same = same
+none_kept (Some c) p none same = absurd (some_none none)
+  where
+    some_none : {x : Conn} → Some x ≡ None → ⊥
+    some_none e = cc
 
 -- a connection was begun
 pub line_opens : (at : ℕ) (dialect : ServerDialect) (what : Opening) (h h' : List Event) (x y : Link) → OpensBy at dialect what x y h h' → LineStands at h h' x y
@@ -53,8 +97,8 @@ line_opens at dialect what h h' x y o = λ core. line_begins x y dialect what o
 
 -- or none, and its calls fail for a while
 pub line_opens_not :
-    (at : ℕ) (dialect : ServerDialect) (what : Opening) (h h' : List Event) (x y z : Link) → OpensBy at dialect what x y h h' → z.conn ≡ None → z.text.items ≡ y.text.items → z.waiting.items ≡ y.waiting.items → LineStands at h h' x z
-line_opens_not at dialect what h h' x y z o closed text waiting = λ core. line_shuts (line_begins x y dialect what o) closed text waiting
+    (at : ℕ) (dialect : ServerDialect) (what : Opening) (h h' : List Event) (x y z : Link) → OpensBy at dialect what x y h h' → y.conn ≡ None → z.conn ≡ None → z.text.items ≡ y.text.items → z.waiting.items ≡ y.waiting.items → LineStands at h h' x z
+line_opens_not at dialect what h h' x y z o none closed text waiting = λ core. line_shuts (line_begins x y dialect what o) none closed text waiting
 
 -- ---- all ends
 

@@ -1,9 +1,9 @@
 -- What a proxy's end has on its wire, and how that stays or goes on. Source: mcgate's own.
-use Rattle.std.specs.Prelude.{◌≡◌, ◌≢◌, ℕ, List, [], ◌∷◌, ◌++◌, Option, Some, None, Result, Ok, Err, true, false, ◌⊎◌, IfSome, map as each, slice_get, IsSome, MatchOption}
+use Rattle.std.specs.Prelude.{Bool, ◌≡◌, ◌≢◌, ℕ, List, [], ◌∷◌, ◌++◌, Option, Some, None, Result, Ok, Err, true, false, ◌⊎◌, IfSome, map as each, slice_get, IsSome, MatchOption}
 use Rattle.wire_parts.specs.Sending.{bytes_of}
 use Rattle.mc_types.specs.declared.ask.Dialect.{Dialect}
 use Rattle.mc_types.specs.declared.ask.Dialect.TheVariants.{Classic}
-use Rattle.serve_wire.specs.Events.{Event, role}
+use Rattle.serve_wire.specs.Events.{Event, accepts, admits, role, is_open, IsNew}
 use Rattle.serve_wire.specs.Agreement.{IsUntouched}
 use Rattle.core_commands.specs.declared.ticket.Ticket.{Ticket}
 use Rattle.route_json.specs.Configuration.{Configuration}
@@ -16,6 +16,10 @@ use Rattle.serve_links.specs.declared.calls.calls.SentCall.{SentCall}
 use Rattle.serve_links.specs.declared.link.Link.{Link}
 use Rattle.serve_links.specs.CoreSteps.{Step, Opened, Gave, Closed, Broke, Loaded, Does, Walks, AreOf, IsOfTurn, IsGivingUp, IsSending}
 use Rattle.serve_links.specs.declared.news.Cause.{Cause}
+use Rattle.serve_links.specs.declared.news.Cause.TheVariants as causes
+use Rattle.serve_wire.specs.declared.conn.conn.Got.{Got}
+use Rattle.serve_wire.specs.declared.conn.conn.Got.TheVariants as got
+use Rattle.serve_links.specs.Links.{IsLateBy}
 use Rattle.serve_proxy.specs.declared.sockets.Sockets.{Sockets}
 use Rattle.serve_links.specs.Story.{LineState, line_of, LineAgrees, LineLost, LineFails, LineCalled, LineGoesFrom, LineGoes, OneGoes, AnEnd, Agrees, AgreesGiven, AgreesBut, AgreesCalled, AgreesSent, AgreesLosing, AllGoFrom, AllGo, texts_of}
 
@@ -71,13 +75,49 @@ LineUnless (Some cause) = LineFails (Some cause)
 abbrev pub LineStandsUnless : Option Cause → ℕ → List Event → List Event → Link → Link → Type 0
 LineStandsUnless cause at h h' old new = (core : ServedCore) → LineGoesFrom LineAgrees (LineUnless cause) IsSending at core h old core h' new
 
+-- why a link's connection is over by what a read gave, if it is
+abbrev pub over_by : Got → Option Cause
+over_by got.Bytes = None
+over_by got.Nothing = None
+over_by got.Full = None
+over_by got.Ended = Some causes.Closed
+over_by got.Failed = Some causes.Broken
+
+-- the same of a read that may not have been made
+abbrev pub over_after : {E : Type 0} → Result (Option Got) E → Option Cause
+over_after (Ok None) = None
+over_after (Ok (Some what)) = over_by what
+over_after (Err refused) = None
+
+-- why a link is to be given up on which nothing is out: nothing may come over it
+abbrev pub idle_cause : Got → Option Cause
+idle_cause got.Bytes = Some causes.Foreign
+idle_cause got.Nothing = None
+idle_cause got.Full = Some causes.Foreign
+idle_cause got.Ended = Some causes.Closed
+idle_cause got.Failed = Some causes.Broken
+
+-- why it is to be given up by what was said of that, if something was
+abbrev pub cause_after : {E : Type 0} → Result (Option Cause) E → Option Cause
+cause_after (Ok cause) = cause
+cause_after (Err refused) = None
+
+-- and by whether what was to be sent could be written
+abbrev pub broken_unless : Bool → Option Cause
+broken_unless true = None
+broken_unless false = Some causes.Broken
+
+-- the link at this place is late for this cause, if there is one
+abbrev pub IsLateAt : Option Cause → ℕ → List Link → Type 0
+IsLateAt cause at links = IfSome cause (λ why. IfSome (slice_get links at) (IsLateBy why))
+
 -- wherever it stands, a link takes over this call, which may go to its server
 abbrev pub LineTakes : SentCall → Link → Link → Type 0
 LineTakes call old new = (at : ℕ) (h : List Event) (core : ServedCore) → LineGoesFrom (LineCalled call) LineAgrees IsSending at core h old core h new
 
--- wherever it stands, a link's end goes on by calls of the core; or so that what it holds may be lost
-abbrev pub LineGoesOn : ServedCore → Link → ServedCore → Link → Type 0
-LineGoesOn core old core' new = (at : ℕ) (h : List Event) → LineGoes IsOfTurn at core h old core' h new
+-- wherever it stands, a link's end goes on by calls of the core, or is to be given up then for a cause; or so that what it holds may be lost
+abbrev pub LineGoesUnless : Option Cause → ServedCore → Link → ServedCore → Link → Type 0
+LineGoesUnless cause core old core' new = (at : ℕ) (h : List Event) → LineGoesFrom LineAgrees (LineUnless cause) IsOfTurn at core h old core' h new
 
 abbrev pub LineGoesLosing : ServedCore → Link → ServedCore → Link → Type 0
 LineGoesLosing core old core' new = (at : ℕ) (h : List Event) → LineGoesFrom LineAgrees LineLost IsOfTurn at core h old core' h new
@@ -139,9 +179,19 @@ abbrev pub AllGoUnless : {W E : Type 0} → ℕ → Result (Option Cause) E → 
 AllGoUnless at (Ok cause) history core sockets core' sockets' = AllGoFrom Agrees (AgreesUnless at cause) IsOfTurn (end_of history core sockets) (end_of history core' sockets')
 AllGoUnless at (Err refused) history core sockets core' sockets' = AllGoBut at history core sockets core' sockets'
 
--- a client was opened under this id in a core that is so now, and all go on from before that
-abbrev pub AllGoOpened : {W : Type 0} → (W → List Event) → (id : ℕ) → ServedCore → Sockets W → ServedCore → Sockets W → Type 0
-AllGoOpened history id core sockets core' sockets' = (before : ServedCore) → Does (Opened id) before core → AllGoOn history before sockets core' sockets'
+-- a peer was just accepted by this new connection, and all go on from before that
+abbrev pub AllGoAccepted : {W : Type 0} → (W → List Event) → (conn : ℕ) → ServedCore → Sockets W → ServedCore → Sockets W → Type 0
+AllGoAccepted history conn core sockets core' sockets' =
+    (h : List Event) → IsNew conn h → history sockets.wire ≡ accepts conn ∷ h
+    → AllGo IsOfTurn (record { core = core; history = h; clients = sockets.clients; links = sockets.links.all.items }) (end_of history core' sockets')
+
+-- and then a client was opened under this id in a core that is so now: all go on from before both
+abbrev pub AllGoOpened : {W : Type 0} → (W → List Event) → (id conn : ℕ) → ServedCore → Sockets W → ServedCore → Sockets W → Type 0
+AllGoOpened history id conn core sockets core' sockets' = (before : ServedCore) → Does (Opened id) before core → AllGoAccepted history conn before sockets core' sockets'
+
+-- the connection may be this client's now, and nothing else happened
+abbrev pub MayAdmit : ℕ → ℕ → List Event → List Event → Type 0
+MayAdmit conn id h h' = (h' ≡ admits conn id ∷ h) ⊎ (h' ≡ h)
 
 -- nothing is to be sent to a client, or it is broken off
 abbrev pub IsAllSent : Client → Type 0
@@ -175,9 +225,9 @@ AllGoClosed history id sockets sockets' = (before core : ServedCore) → Does (C
 abbrev pub AllGoBreaking : {W : Type 0} → (W → List Event) → (id : ℕ) → Sockets W → Sockets W → Type 0
 AllGoBreaking history id sockets sockets' = (core : ServedCore) → AllGo (λ step. step ≡ Broke id) (end_of history core sockets) (end_of history core sockets')
 
--- no connection is a client's
-abbrev pub HasNoClients : List Event → Type 0
-HasNoClients h = (conn id : ℕ) → role conn h ≢ Some (0, id)
+-- no connection is anybody's, and none is open
+abbrev pub HasNoConns : List Event → Type 0
+HasNoConns h = (conn : ℕ) → (role conn h ≡ None) × (is_open conn h ≡ false)
 
 -- the line of a link to the server whose address this text names, without a connection, and without calls
 abbrev pub down_line : List ℕ → LineState

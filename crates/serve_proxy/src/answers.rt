@@ -1,9 +1,9 @@
 //! Links are read, and whole answers settle the calls that are out.
 
-ghost use Rattle.std.specs.Prelude.{◌≡◌, ℕ, false, None, IfOk};
+ghost use Rattle.std.specs.Prelude.{◌≡◌, ℕ, false, IfOk};
 ghost use Rattle.serve_clients.specs.Agrees.{KeepsEnds};
 ghost use Rattle.serve_links.specs.Story.{line_of};
-ghost use Rattle.serve_proxy.specs.Ends.{LineStands, LineGoesOn, LineGoesLosing, Stay, GoAlone, AllFailOn, AllGoOr, AllGoUnless};
+ghost use Rattle.serve_proxy.specs.Ends.{LineStandsUnless, LineGoesUnless, LineGoesLosing, over_after, Stay, GoAloneUnless, AllFailOn, AllGoOr, AllGoUnless};
 
 use crate::calls::begin_settled;
 use crate::failing::fail_link;
@@ -102,7 +102,7 @@ fn settle_line(
     is_freed: &mut bool,
     polls: Option<u32>,
 ) -> Result<Option<Cause>, AllocError>
-    ensures kept { IfOk result (λ cause. cause ≡ None → LineGoesOn core.old link.old core.new link.new) }
+    ensures goes { IfOk result (λ cause. LineGoesUnless cause core.old link.old core.new link.new) }
     ensures lost { LineGoesLosing core.old link.old core.new link.new }
     ensures ends { KeepsEnds clients.old clients.new }
 {
@@ -128,7 +128,7 @@ fn settle_all(
     polls: Option<u32>,
 ) -> Result<Option<Cause>, AllocError>
     requires { link.old.awaits_dialect ≡ false }
-    ensures kept { IfOk result (λ cause. cause ≡ None → LineGoesOn core.old link.old core.new link.new) }
+    ensures goes { IfOk result (λ cause. LineGoesUnless cause core.old link.old core.new link.new) }
     ensures lost { LineGoesLosing core.old link.old core.new link.new }
     ensures ends { KeepsEnds clients.old clients.new }
 {
@@ -147,7 +147,7 @@ fn settle_all(
 impl<W: Wire> Sockets<W> {
     // One read of the link, if something may have come over it: what it gave.
     fn read_link_once(&mut self, at: usize) -> Result<Option<Got>, AllocError>
-        ensures ends { GoAlone W.history self.old self.new }
+        ensures ends { GoAloneUnless at (over_after result) W.history self.old self.new }
     {
         let Some(link) = self.links.all.get_mut(at) else {
             return Ok(None);
@@ -176,7 +176,7 @@ impl<W: Wire> Sockets<W> {
 
     // A read of the link brought no whole answer. Why the link fails by that, if it does.
     fn read_in_vain(&mut self, at: usize) -> Option<Cause>
-        ensures ends { Stay W.history self.old self.new }
+        ensures ends { GoAloneUnless at result W.history self.old self.new }
     {
         let polls = self.links.settings.polls;
         let link = self.links.all.get_mut(at)?;
@@ -186,7 +186,7 @@ impl<W: Wire> Sockets<W> {
 
 /// One read of the link, if something may have come over its connection: what it gave.
 pub fn read_line<W: Wire>(link: &mut Link, wire: &mut W) -> Result<Option<Got>, AllocError>
-    ensures stands { (at : ℕ) → LineStands at (W.history wire.old) (W.history wire.new) link.old link.new }
+    ensures stands { (at : ℕ) → LineStandsUnless (over_after result) at (W.history wire.old) (W.history wire.new) link.old link.new }
 {
     let room = link.read_room();
     let Some(conn) = link.conn.as_mut() else {

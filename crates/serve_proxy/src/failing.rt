@@ -1,8 +1,8 @@
 //! Links fail: their connections broke, brought what is no answer, or took too long.
 
-ghost use Rattle.std.specs.Prelude.{OnOk};
+ghost use Rattle.std.specs.Prelude.{◌≡◌, OnOk};
 ghost use Rattle.serve_links.specs.Links.{IsDownAt, IsClosedAt};
-ghost use Rattle.serve_proxy.specs.Ends.{GoAlone, AllFailOn, AllGiveUp, AllGoOr};
+ghost use Rattle.serve_proxy.specs.Ends.{idle_cause, cause_after, IsLateAt, GoAloneUnless, AllFailOn, AllGiveUp, AllGoOr};
 
 use crate::answers::{read_line, serve_link};
 use crate::calls::fail_waited;
@@ -116,7 +116,9 @@ fn is_idle(link: &Link) -> bool {
 }
 
 // Why a link fails on which nothing is out, by what one read gave.
-fn idle_fault(got: Got) -> Option<Cause> {
+fn idle_fault(got: Got) -> Option<Cause>
+    ensures { result ≡ idle_cause got }
+{
     match got {
         Got::Nothing => None,
         Got::Bytes | Got::Full => Some(Cause::Foreign),
@@ -128,7 +130,7 @@ fn idle_fault(got: Got) -> Option<Cause> {
 impl<W: Wire> Sockets<W> {
     // One read of the link, where nothing is out on its connection and something may have come over it. Why it fails by that, if it does.
     fn read_idle(&mut self, at: usize) -> Result<Option<Cause>, AllocError>
-        ensures ends { GoAlone W.history self.old self.new }
+        ensures ends { GoAloneUnless at (cause_after result) W.history self.old self.new }
     {
         let Some(link) = self.links.all.get_mut(at) else {
             return Ok(None);
@@ -143,7 +145,9 @@ impl<W: Wire> Sockets<W> {
     }
 
     // Why the link has failed by now, if it has taken too long.
-    fn lateness(&self, at: usize) -> Option<Cause> {
+    fn lateness(&self, at: usize) -> Option<Cause>
+        ensures { IsLateAt result at self.now.links.all.items }
+    {
         self.links.lateness(at, self.time)
     }
 }

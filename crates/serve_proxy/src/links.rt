@@ -1,11 +1,11 @@
 //! The links to the servers, by their numbers: which of them are to be read and written, when they are late, and what there is to tell
 //! of them. Nothing here knows the core.
 
-ghost use Rattle.std.specs.Prelude.{◌≡◌, ◌↔◌, true, [], ◌∷◌, ◌++◌, drop, length, IsTrue, IsSome, IfOk, IfErr, OnOk, MatchOption};
+ghost use Rattle.std.specs.Prelude.{◌≡◌, ◌↔◌, true, None, [], ◌∷◌, ◌++◌, drop, length, IsTrue, IsSome, IfOk, IfErr, OnOk, MatchOption};
 ghost use Rattle.serve_clients.specs.declared.clients.Clients.{Clients};
 ghost use Rattle.serve_links.specs.Links.{calls_out};
 ghost use Rattle.serve_links.specs.Story.{line_of, texts_of};
-ghost use Rattle.serve_proxy.specs.Ends.{lines_of, LinksTake, LinksGive, LineStands, LineTakes, IsOpenAt, AsksIn, EndsGo, AddsLines};
+ghost use Rattle.serve_proxy.specs.Ends.{lines_of, LinksTake, LinksGive, LineStands, LineTakes, IsOpenAt, IsLateAt, AsksIn, EndsGo, AddsLines};
 
 use crate::clock::earlier;
 use crate::texts::text_at;
@@ -45,6 +45,7 @@ fn begin<W: Wire, N: Net>(
     time: u64,
     settings: &Settings,
 ) -> Opening
+    requires { link.old.conn ≡ None }
     ensures stands { LineStands at (W.history wire.old) (W.history wire.new) link.old link.new }
     ensures conn { result ≡ Opening.Begun → IsSome link.new.conn }
 {
@@ -391,7 +392,9 @@ impl Links {
     }
 
     /// Why the link has failed by now, if it has taken too long. One over which more may have come than was read isn't late yet.
-    pub fn lateness(&self, at: usize, time: u64) -> Option<Cause> {
+    pub fn lateness(&self, at: usize, time: u64) -> Option<Cause>
+        ensures { IsLateAt result at self.now.all.items }
+    {
         match self.all.get(at) {
             Some(link) if !link.may_have_more() => link.lateness(time, &self.settings),
             _ => None,

@@ -6,7 +6,7 @@ ghost use Rattle.core_accepted.specs.Loading.{IsLoaded};
 ghost use Rattle.serve_links.specs.CoreSteps.{GoesOn, Fails};
 ghost use Rattle.serve_links.specs.Links.{IsDownAt, IsClosedAt};
 ghost use Rattle.serve_links.specs.Story.{Agrees, texts_of};
-ghost use Rattle.serve_proxy.specs.Ends.{Stay, end_of, AllGoOn, AllGoOr, AllFailOn, AllLoad, HasNoClients};
+ghost use Rattle.serve_proxy.specs.Ends.{Stay, end_of, AllGoOn, AllGoOr, AllDrop, AllLoad, HasNoConns};
 ghost use Rattle.serve_proxy.specs.LogsGoOn.{LogsAreFresh};
 ghost use Rattle.serve_proxy.specs.Stillness.{IsStill};
 ghost use Rattle.serve_proxy.specs.Beginning.{BeginsFresh, BeginsUnchecked, LoadStops};
@@ -87,7 +87,7 @@ impl<W: Wire + Drop> ProxyEnd<W> {
         settings: Settings,
     ) -> Result<ProxyEnd<W>, AllocError>
         ensures core { IfOk result (λ end. BeginsFresh accepted begun settings end.core.value) }
-        ensures ends { IfOk result (λ end. HasNoClients (W.history wire) → Agrees [] (end_of W.history end.core.value end.sockets)) }
+        ensures ends { IfOk result (λ end. HasNoConns (W.history wire) → Agrees [] (end_of W.history end.core.value end.sockets)) }
         ensures texts { IfOk result (λ end. texts_of end.sockets.links.all.items ≡ servers.now) }
     {
         let links = Links::to(alloc, servers, settings)?;
@@ -104,7 +104,7 @@ impl<W: Wire + Drop> ProxyEnd<W> {
         settings: Settings,
     ) -> Result<ProxyEnd<W>, AllocError>
         ensures core { IfOk result (λ end. BeginsUnchecked tree settings end.core.value) }
-        ensures ends { IfOk result (λ end. HasNoClients (W.history wire) → Agrees [] (end_of W.history end.core.value end.sockets)) }
+        ensures ends { IfOk result (λ end. HasNoConns (W.history wire) → Agrees [] (end_of W.history end.core.value end.sockets)) }
         ensures texts { IfOk result (λ end. texts_of end.sockets.links.all.items ≡ servers.now) }
     {
         let links = Links::to(alloc, servers, settings)?;
@@ -217,7 +217,7 @@ impl<W: Wire> ProxyEnd<W> {
     /// The connection to a server is closed, and what came over it is never read: the calls that are out on it have failed.
     pub fn drop_link(&mut self, server: usize) -> Result<(), AllocError>
         ensures core { Fails self.old.core.value self.new.core.value }
-        ensures ends { AllFailOn W.history self.old.core.value self.old.sockets self.new.core.value self.new.sockets }
+        ensures ends { AllDrop W.history self.old.core.value self.old.sockets self.new.core.value self.new.sockets }
         ensures down { OnOk result (IsDownAt server self.new.sockets.links.all.items) }
         ensures closed { IsClosedAt server self.new.sockets.links.all.items }
     {

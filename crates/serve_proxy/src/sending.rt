@@ -1,7 +1,7 @@
 //! What is to be sent goes out: calls to servers, and replies to clients. Each end is written once.
 
 ghost use Rattle.std.specs.Prelude.{ℕ};
-ghost use Rattle.serve_proxy.specs.Ends.{Stay, GoAlone, LineStands, AllGoOn, AllFailOn, AllGoBreaking};
+ghost use Rattle.serve_proxy.specs.Ends.{Stay, broken_unless, GoAloneUnless, LineStandsUnless, AllGoOn, AllFailOn, AllGoBreaking};
 
 use crate::calls::begin_waiting;
 use crate::failing::fail_link;
@@ -109,7 +109,7 @@ impl<W: Wire> Sockets<W> {
 
     // What is to be sent to the server goes out, as far as it is taken. Whether the link stands still.
     fn send_unsent(&mut self, at: usize) -> bool
-        ensures ends { GoAlone W.history self.old self.new }
+        ensures ends { GoAloneUnless at (broken_unless result) W.history self.old self.new }
     {
         match self.links.all.get_mut(at) {
             Some(link) => {
@@ -131,7 +131,7 @@ fn has_much(link: &Link) -> bool {
 
 // The same of the link alone.
 fn send_line<W: Wire>(link: &mut Link, wire: &mut W) -> bool
-    ensures stands { (at : ℕ) → LineStands at (W.history wire.old) (W.history wire.new) link.old link.new }
+    ensures stands { (at : ℕ) → LineStandsUnless (broken_unless result) at (W.history wire.old) (W.history wire.new) link.old link.new }
 {
     match link.conn.as_mut() {
         Some(conn) => send(conn, wire),

@@ -1,6 +1,6 @@
 //! The calls of one server that are out, the one that went out first in front.
 
-ghost use Rattle.std.specs.Prelude.{◌≡◌, [], ◌∷◌, ◌++◌, ◌↔◌, true, false, IsTrue, OnOk, OnErr, IfOk, IfErr, IfSome, length, option_map};
+ghost use Rattle.std.specs.Prelude.{◌≡◌, None, [], ◌∷◌, ◌++◌, ◌↔◌, true, false, IsTrue, OnOk, OnErr, IfOk, IfErr, IfSome, length, option_map};
 ghost use Rattle.mc_types.specs.Asks.{IsAsk};
 ghost use Rattle.wire_stream.specs.Spelling.{spelling_of};
 ghost use Rattle.wire_parts.specs.Sending.{bytes_of};
@@ -26,13 +26,13 @@ use wire_parts::to_send::SendBuffer;
 use wire_stream::{AnswerRead, Received, read_received};
 
 // A get is bulk of whose answer more bytes than these are expected.
-const BULK_FROM: usize = 98_304;
+const BULK_FROM: usize = 65_536;
 
 // No further get that is bulk goes out while so many bytes are expected of those that are out.
 const BULK_OUT: usize = 1_310_720;
 
-// So many are expected before a server answered anything.
-const LARGEST: usize = 1_048_576;
+// So many bytes an answer is expected to take before a server answered anything.
+const EXPECTED_FIRST: usize = 524_288;
 
 // What other clients are expected to take falls by such a part at each answer that is smaller.
 const EXPECTS_PART: usize = 64;
@@ -223,7 +223,7 @@ impl LinkCalls {
             alloc,
             sent: VecDeque::new(alloc),
             bulk_out: 0,
-            expects: LARGEST,
+            expects: EXPECTED_FIRST,
             forms: MetaForms::new(),
             spares: SpareBodies::new(alloc),
         }
@@ -244,14 +244,23 @@ impl LinkCalls {
     }
 
     /// When the first of those that are out began: the one in front, but where bulk calls are out, which others passed.
-    pub fn oldest(&self) -> Option<u64> {
-        let mut oldest = self.sent.front()?.since;
-        if self.bulk_out > 0 {
-            for call in self.sent.iter() {
-                oldest = oldest.min(call.since);
-            }
+    pub fn oldest(&self) -> Option<u64>
+        ensures { self.now.sent.items ≡ [] → result ≡ None }
+    {
+        match self.sent.front() {
+            Some(call) if self.bulk_out == 0 => Some(call.since),
+            Some(call) => Some(self.oldest_of_all(call.since)),
+            None => None,
         }
-        Some(oldest)
+    }
+
+    // The earliest time at which one of those that are out began, or this.
+    fn oldest_of_all(&self, since: u64) -> u64 {
+        let mut oldest = since;
+        for call in self.sent.iter() {
+            oldest = oldest.min(call.since);
+        }
+        oldest
     }
 
     /// How many bytes the answer to this call is expected to take, where that is much, and 0 else: where it is a get of a client that expects

@@ -86,6 +86,33 @@ fn take_front(buffer: &mut BytesMut, count: usize)
     }
 }
 
+// Nothing stands in the buffer any more, and it has room for so many bytes. Where its own is too little it is made anew, as `reserve` would move
+// what stood in it, byte by byte.
+fn empty_for(buffer: &mut BytesMut, room: usize) -> Result<(), AllocError>
+    ensures none { buffer.new.items ≡ [] }
+    ensures room { OnOk result (room ≤ buffer.new.spare) }
+{
+    buffer.clear();
+    if buffer.try_reclaim(room) {
+        return Ok(());
+    }
+    *buffer = BytesMut::new(*buffer.allocator());
+    buffer.reserve(room)
+}
+
+// These bytes in a new buffer, with room for so many more after them at least.
+fn moved(held: &BytesMut, room: usize, more: usize) -> Result<BytesMut, AllocError>
+    ensures held { IfOk result (λ new. new.items ≡ held.now.items) }
+    ensures room { IfOk result (λ new. room ≤ new.spare) }
+{
+    let mut new = BytesMut::new(*held.allocator());
+    new.reserve(held.len().saturating_add(room.max(more)))?;
+    new.extend_from_slice(held.as_slice())?;
+    // This takes no memory: the room is there.
+    new.reserve(room)?;
+    Ok(new)
+}
+
 // The room of a buffer goes back where nothing stands in it, and it is more than so many bytes. What was cut off and is gone again is room
 // of it too.
 fn give_back(alloc: Global, kept: usize, buffer: &mut BytesMut)
@@ -140,8 +167,8 @@ impl Conn {
         !self.is_cut
     }
 
-    // Makes room for so many bytes after what is held. Where much has to move for that, it is copied at once into the other buffer, if that is free, in
-    // place of the moving byte by byte that `reserve` does, and no room is taken anew while both are large enough.
+    // Makes room for so many bytes after what is held. Where much has to move for that, it is copied at once into the other buffer, if that is free, or
+    // into a new one, in place of the moving byte by byte that `reserve` does. No room is taken anew while both are large enough.
     fn make_room(&mut self, room: usize) -> Result<(), AllocError>
         ensures held { self.new.held.items ≡ self.old.held.items }
         ensures room { OnOk result (room ≤ self.new.held.spare) }
@@ -149,14 +176,19 @@ impl Conn {
         ensures rest { self.new ≡ record self.old { held = self.new.held; other = self.new.other; is_cut = self.new.is_cut } }
     {
         let len = self.held.len();
-        if len < MOVED_FROM || room <= self.held.capacity() - len || !self.may_cut() {
-            return self.held.reserve(room);
+        if room <= self.held.capacity() - len {
+            return Ok(());
+        }
+        if len < MOVED_FROM && self.held.try_reclaim(room) {
+            return Ok(());
         }
         // Four times as much, up to a bound, so that it seldom has to move again.
         let more = len.saturating_mul(4).min(MOVED_ROOM);
-        self.other.clear();
-        // (while it is empty, so that nothing moves byte by byte here either)
-        self.other.reserve(len.saturating_add(room.max(more)))?;
+        if !self.may_cut() {
+            self.held = moved(&self.held, room, more)?;
+            return Ok(());
+        }
+        empty_for(&mut self.other, len.saturating_add(room.max(more)))?;
         self.other.extend_from_slice(self.held.as_slice())?;
         self.other.reserve(room)?;
         mem::swap(&mut self.held, &mut self.other);
@@ -298,8 +330,7 @@ impl Conn {
         ensures rest { self.new ≡ record self.old { held = self.new.held; other = self.new.other; is_cut = self.new.is_cut } }
     {
         let len = front.len().saturating_add(self.held.len());
-        self.other.clear();
-        self.other.reserve(len.saturating_add(room))?;
+        empty_for(&mut self.other, len.saturating_add(room))?;
         self.other.extend_from_slice(front)?;
         self.other.extend_from_slice(self.held.as_slice())?;
         // This takes no memory: the room is there, as a sum that was cut at the largest number is refused above.

@@ -1,7 +1,8 @@
-use Rattle.std.proofs.Common.{ap}
+use Rattle.std.proofs.Common.{ap, refl}
 use Rattle.serve_links.specs.Story.{line_of}
-use Rattle.serve_proxy.proofs.Staying.{line_lent, stay_links}
+use Rattle.serve_proxy.proofs.Going.{line_goes_unless}
+use Rattle.serve_proxy.proofs.Linking.{stands_in_vain}
 use Rattle.serve_proxy.proofs.sockets.Sockets.read_in_vain.Goals as goal
 
 pub returns : goal.returns
-returns g c = record { ends = stay_links _ _ _ _ (line_lent c.args.self.now.links.all.items c.args.at c.in_ok-link.link.now c.has_read.new.self c.in_ok-link.ensures.value (ap line_of c.has_read.ensures)) }
+returns g c = record { ends = line_goes_unless _ c.args.self.now.links.all.items c.args.at c.in_ok-link.link.now c.has_read.new.self c.in_ok-link.ensures.item.3.0 c.in_ok-link.ensures.value (stands_in_vain c.args.at _ c.in_ok-link.link.now c.has_read.new.self c.has_read.result c.vain.result c.vain.ensures c.has_read.ensures.failed (ap line_of c.has_read.ensures.rest)) }

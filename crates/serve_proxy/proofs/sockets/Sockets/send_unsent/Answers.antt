@@ -1,5 +1,5 @@
-use Rattle.serve_proxy.proofs.Going.{line_goes}
+use Rattle.serve_proxy.proofs.Going.{line_goes_unless}
 use Rattle.serve_proxy.proofs.sockets.Sockets.send_unsent.Goals as goal
 
 pub returns-in-Some : goal.returns-in-Some
-returns-in-Some g c = record { ends = line_goes c.args.self.now.links.all.items c.args.at c.in-Some.link.now c.send_line.new.link c.in-Some.ensures.item.3.0 c.in-Some.ensures.value (c.send_line.ensures.stands c.args.at) }
+returns-in-Some g c = record { ends = line_goes_unless _ c.args.self.now.links.all.items c.args.at c.in-Some.link.now c.send_line.new.link c.in-Some.ensures.item.3.0 c.in-Some.ensures.value (c.send_line.ensures.stands c.args.at) }
