@@ -32,6 +32,7 @@ use Rattle.serve_links.specs.declared.link.Link.{Link}
 use Rattle.serve_links.specs.CoreSteps.{Step, Polled, Does, IsOfTurn, GoesOn}
 use Rattle.serve_links.specs.Dialects.{asked_in}
 use Rattle.serve_links.specs.Settled.{SettlesSome, SettlesFront}
+use Rattle.serve_links.specs.Links.{IsTaken}
 use Rattle.serve_links.specs.Lines.{IsNewEnd, OpensBy}
 use Rattle.serve_links.specs.Talks.{SaidAsk, talk_in, IsCalledIn}
 use Rattle.serve_links.specs.Story.{LineState, line_of, said_asks, numbers_of, MayGo, LineAgrees, LineLost, LineGoesFrom, LineGoes, AnEnd, Agrees, AgreesBut, AgreesCalled, AgreesSent, AllGoFrom, fed_in, gave_in}
@@ -103,13 +104,21 @@ pub not_taken :
     (links : List Link) (at : ℕ) (x y : Link) (call given : SentCall) → x ≡ get_or links at x → (given ≡ call) × (line_of y ≡ line_of x) → (given ≡ call) × (lines_of (set links at y) ≡ lines_of links)
 not_taken links at x y call given was did = (did.0, line_lent links at x y was did.1)
 
--- of those that wait the first is taken, if it may go out
+-- of those that wait the first is taken
 pub given :
     (links : List Link) (at : ℕ) (x y : Link) (r : Option SentCall) → at < length links → x ≡ get_or links at x → y ≡ record x { waiting = y.waiting }
     → MatchOption r (y.waiting.items ≡ x.waiting.items) (λ call. x.waiting.items ≡ call ∷ y.waiting.items)
     → MatchOption r (lines_of (set links at y) ≡ lines_of links) (λ call. LinksGive at call links (set links at y))
 given links at x y None within was is did = line_lent links at x y was (line_waiting x y is did)
 given links at x y (Some call) within was is did = λ h cs core. line_gave links at x y call within was (line_takes x y call [] y.waiting.items is did refl)
+
+-- or one that may go out, wherever it stands
+pub given_from :
+    (links : List Link) (at : ℕ) (x y : Link) (r : Option SentCall) → at < length links → x ≡ get_or links at x → y ≡ record x { waiting = y.waiting }
+    → MatchOption r (y.waiting.items ≡ x.waiting.items) (λ call. IsTaken x.waiting.items call y.waiting.items)
+    → MatchOption r (lines_of (set links at y) ≡ lines_of links) (λ call. LinksGive at call links (set links at y))
+given_from links at x y None within was is did = line_lent links at x y was (line_waiting x y is did)
+given_from links at x y (Some call) within was is did = λ h cs core. line_gave links at x y call within was (line_takes x y call did.0 did.1 is did.2 did.3)
 
 -- the core gave one out
 pub polled_call :

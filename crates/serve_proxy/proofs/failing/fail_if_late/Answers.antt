@@ -11,5 +11,8 @@ returns-in_err-fail_link-in-Some g c = record { ends = or_err g.W.Wire.history c
 pub returns-in_ok-fail_link-in-Some : goal.returns-in_ok-fail_link-in-Some
 returns-in_ok-fail_link-in-Some g c = record { ends = and_then c.in_ok-read_late.ensures.ends (failing (sending (gives_up c.args.at c.fail_link.ensures.ends))) }
 
-pub returns-in-None : goal.returns-in-None
-returns-in-None g c = record { ends = c.in_ok-read_late.ensures.ends }
+pub returns-in_err-fail_waited-in-None : goal.returns-in_err-fail_waited-in-None
+returns-in_err-fail_waited-in-None g c = record { ends = or_err g.W.Wire.history c.args.core.now c.args.sockets.now _ _ c.from_residual-in_err-fail_waited-in-None.result c.from_residual-in_err-fail_waited-in-None.ensures.0 (may_lose (and_then c.in_ok-read_late.ensures.ends (failing c.fail_waited.ensures.ends))) }
+
+pub returns-in_ok-fail_waited-in-None : goal.returns-in_ok-fail_waited-in-None
+returns-in_ok-fail_waited-in-None g c = record { ends = and_then c.in_ok-read_late.ensures.ends (failing c.fail_waited.ensures.ends) }
