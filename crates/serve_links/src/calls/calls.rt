@@ -353,7 +353,8 @@ impl LinkCalls {
             AnswerRead::More => Next::More,
             AnswerRead::Foreign => Next::Foreign,
             AnswerRead::Answer(answer, used) => {
-                self.expects = used.max(self.expects - self.expects / EXPECTS_PART);
+                let kept = self.expects.saturating_sub(self.expects / EXPECTS_PART);
+                self.expects = used.max(kept);
                 match self.settle_first(core, Outcome::Answered(answer)) {
                     Some(client) => Next::Settled { client, used },
                     None => unreachable!(),
