@@ -26,6 +26,9 @@ const READ: usize = 16_384;
 
 const LONG_READ: usize = 262_144;
 
+// So many bytes are expected of each further get of a client until its first one is answered.
+const EXPECTED_FIRST: usize = 524_288;
+
 // So many bytes or more that are to be sent aren't held back.
 const HELD_BACK: usize = 65_536;
 
@@ -41,7 +44,7 @@ pub struct Client {
     waiting: usize,
     /// How many of its calls have no outcome yet.
     calls_out: usize,
-    // How many bytes the next answer to it is expected to take, once one came.
+    // How many bytes the answer to its next get is expected to take, once one was answered.
     expects: Option<usize>,
     /// Whether what is to be sent to it was held back in the turn before.
     is_held_back: bool,
@@ -148,6 +151,14 @@ impl Client {
     {
         self.settled = self.settled.saturating_add(1);
         self.calls_out = self.calls_out.saturating_sub(1);
+    }
+
+    // How many bytes the answer to its next get is expected to take, if that can be said.
+    fn expects(&self) -> Option<usize> {
+        match self.expects {
+            None if self.calls_out > 1 => Some(EXPECTED_FIRST),
+            expects => expects,
+        }
     }
 
     // One of its calls waits no longer.
@@ -551,18 +562,34 @@ impl Clients {
         }
     }
 
-    /// A call of it was settled by an answer of so many bytes: the next is expected to take as many, or a quarter of what was expected of this one
-    /// where that is more.
+    /// A call of it was settled by an answer of so many bytes. The answer to its next get is expected to take as many as that to a get, or a quarter
+    /// of what was expected of this one where that is more.
     #[tactic(auto, using(crate::proofs::Agreeing::expects_keeps))]
-    pub fn mark_answered(&mut self, id: usize, len: usize) -> Result<(), AllocError>
+    pub fn mark_answered(
+        &mut self,
+        id: usize,
+        is_get: bool,
+        len: usize,
+    ) -> Result<(), AllocError>
         ensures ends { KeepsEnds self.old self.new }
     {
-        let before = self.expects(id).unwrap_or(0);
+        if !is_get {
+            return self.mark_settled(id);
+        }
+        let before = self.expected(id);
         self.expect(id, len.max(before / 4));
         self.mark_settled(id)
     }
 
-    // The next answer to it is expected to take so many bytes.
+    // How many bytes were expected of the answers to its gets, if one was answered before.
+    fn expected(&self, id: usize) -> usize {
+        match self.all.get(id) {
+            Some(Some(client)) => client.expects.unwrap_or(0),
+            _ => 0,
+        }
+    }
+
+    // The answer to its next get is expected to take so many bytes.
     fn expect(&mut self, id: usize, len: usize)
         ensures client { Changes (one_expects len) id self.old self.new }
         ensures rest { self.new ≡ record self.old { all = self.new.all } }
@@ -572,10 +599,11 @@ impl Clients {
         }
     }
 
-    /// How many bytes the next answer to it is expected to take, if one came before.
+    /// How many bytes the answer to its next get is expected to take: much where calls of it are out and none of its gets was answered yet, and nothing is
+    /// known where it is its first call.
     pub fn expects(&self, id: usize) -> Option<usize> {
         match self.all.get(id) {
-            Some(Some(client)) => client.expects,
+            Some(Some(client)) => client.expects(),
             _ => None,
         }
     }

@@ -220,11 +220,12 @@ fn settle_in(
         if let Some(stop) = front_stop(stops, rest) {
             return Ok((used, stop));
         }
+        let is_get = calls.awaits_get();
         match settle_at(calls, core, received, used) {
             Next::Settled { client, used: len } => {
                 used = used.saturating_add(len);
                 *is_freed = true;
-                clients.mark_answered(client, len)?;
+                clients.mark_answered(client, is_get, len)?;
             }
             Next::More => return Ok((used, HeldStop::More)),
             Next::Foreign => return Ok((used, HeldStop::Foreign)),
@@ -301,11 +302,12 @@ fn settle_copied(
     ensures ends { KeepsEnds clients.old clients.new }
     ensures rest { HoldsAnew conn.old conn.new }
 {
+    let is_get = calls.awaits_get();
     match settle_first(calls, core, &Received::copied(conn.held.as_slice())) {
         Next::Settled { client, used } => {
             conn.use_up(used);
             *is_freed = true;
-            clients.mark_answered(client, used)?;
+            clients.mark_answered(client, is_get, used)?;
             Ok(HeldFront::Settled)
         }
         Next::More => Ok(HeldFront::More),
@@ -407,10 +409,11 @@ fn settle_large(
     let Ok(front) = conn.held.freeze_to(len) else {
         return settle_copied(calls, core, clients, is_freed, conn);
     };
+    let is_get = calls.awaits_get();
     match settle_shared(calls, core, &front, conn) {
         (Next::Settled { client, used }, is_kept) => {
             *is_freed = true;
-            clients.mark_answered(client, used)?;
+            clients.mark_answered(client, is_get, used)?;
             if is_kept {
                 Ok(HeldFront::Settled)
             } else {

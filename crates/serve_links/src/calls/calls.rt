@@ -34,7 +34,7 @@ const BULK_OUT: usize = 1_310_720;
 // So many bytes an answer is expected to take before a server answered anything.
 const EXPECTED_FIRST: usize = 524_288;
 
-// What other clients are expected to take falls by such a part at each answer that is smaller.
+// What the first get of a client is expected to take falls by such a part at each answer that is smaller.
 const EXPECTS_PART: usize = 64;
 
 /// A call that went out to a server.
@@ -69,7 +69,7 @@ pub struct LinkCalls {
     sent: VecDeque<SentCall>,
     // How many bytes are expected of those among them whose answers are large.
     bulk_out: usize,
-    // How many bytes an answer is expected to take to a client to which none came yet.
+    // How many bytes the answer to the first get of a client is expected to take.
     expects: usize,
     // Those of the last gets that were asked in the meta dialect.
     forms: MetaForms,
@@ -263,8 +263,26 @@ impl LinkCalls {
         oldest
     }
 
+    /// Whether the call in front is a get.
+    pub fn awaits_get(&self) -> bool {
+        match self.sent.front() {
+            Some(call) => call.ticket.ask.get().op == Op::Get,
+            None => false,
+        }
+    }
+
+    // The answer to the call in front takes so many bytes.
+    fn note_answer(&mut self, used: usize)
+        ensures { self.new ≡ record self.old { expects = self.new.expects } }
+    {
+        if self.awaits_get() {
+            let kept = self.expects.saturating_sub(self.expects / EXPECTS_PART);
+            self.expects = used.max(kept);
+        }
+    }
+
     /// How many bytes the answer to this call is expected to take, where that is much, and 0 else: where it is a get of a client that expects
-    /// so many. Of one to which no answer came yet as many are expected as other clients of this server took.
+    /// so many. Where nothing is known of the client as many are expected as the answers to other gets of this server took lately.
     pub fn bulk_of(&self, ask: &Ask, expects: Option<usize>) -> usize {
         let expects = expects.unwrap_or(self.expects);
         if ask.op == Op::Get && expects > BULK_FROM {
@@ -353,8 +371,7 @@ impl LinkCalls {
             AnswerRead::More => Next::More,
             AnswerRead::Foreign => Next::Foreign,
             AnswerRead::Answer(answer, used) => {
-                let kept = self.expects.saturating_sub(self.expects / EXPECTS_PART);
-                self.expects = used.max(kept);
+                self.note_answer(used);
                 match self.settle_first(core, Outcome::Answered(answer)) {
                     Some(client) => Next::Settled { client, used },
                     None => unreachable!(),
