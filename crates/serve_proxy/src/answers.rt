@@ -3,7 +3,7 @@
 ghost use Rattle.std.specs.Prelude.{◌≡◌, ℕ, false, IfOk};
 ghost use Rattle.serve_clients.specs.Agrees.{KeepsEnds};
 ghost use Rattle.serve_links.specs.Story.{line_of};
-ghost use Rattle.serve_proxy.specs.Ends.{LineStandsUnless, LineGoesUnless, LineGoesLosing, over_after, Stay, GoAloneUnless, AllGoOr, AllGoUnless};
+ghost use Rattle.serve_proxy.specs.Ends.{LineStandsUnless, LineGoesUnless, LineGoesLosing, over_by, over_after, AgreesUnless, Stay, GoAloneUnless, AllGoOr, AllGoUnless, AllGoFromUnless};
 
 use crate::failing::fail_link;
 use crate::sockets::Sockets;
@@ -51,12 +51,26 @@ fn read_link<W: Wire>(
     ensures ends { AllGoUnless at result W.history core.old sockets.old core.new sockets.new }
 {
     match sockets.read_link_once(at)? {
+        Some(got) => settle_read(core, sockets, at, got),
         None => Ok(None),
-        Some(Got::Nothing) => Ok(sockets.read_in_vain(at)),
-        Some(Got::Ended) => Ok(Some(Cause::Closed)),
-        Some(Got::Failed) => Ok(Some(Cause::Broken)),
-        Some(Got::Full) => Ok(Some(Cause::Foreign)),
-        Some(Got::Bytes) => learn_and_settle(core, sockets, at),
+    }
+}
+
+// A read of the link gave this, and all whole answers are settled. Why the link fails by that, if it does.
+fn settle_read<W: Wire>(
+    core: &mut ServedCore,
+    sockets: &mut Sockets<W>,
+    at: usize,
+    got: Got,
+) -> io::Result<Option<Cause>>
+    ensures ends { AllGoFromUnless (AgreesUnless at (over_by got)) at result W.history core.old sockets.old core.new sockets.new }
+{
+    match got {
+        Got::Bytes => learn_and_settle(core, sockets, at),
+        Got::Nothing => Ok(sockets.read_in_vain(at)),
+        Got::Full => Ok(Some(Cause::Foreign)),
+        Got::Ended => Ok(Some(Cause::Closed)),
+        Got::Failed => Ok(Some(Cause::Broken)),
     }
 }
 

@@ -1,7 +1,7 @@
 use Rattle.std.proofs.Common.{sym, subst}
 use Rattle.serve_proxy.specs.Ends.{GoAloneUnless}
-use Rattle.serve_proxy.proofs.Going.{line_goes_unless}
-use Rattle.serve_proxy.proofs.Linking.{idle_stands, no_cause}
+use Rattle.serve_proxy.proofs.GivenUp.{line_goes_unless}
+use Rattle.serve_proxy.proofs.GivenUp.{idle_stands, no_cause}
 use Rattle.serve_proxy.proofs.sockets.Sockets.read_idle.Goals as goal
 
 pub returns-in_err-got : goal.returns-in_err-got

@@ -1,6 +1,7 @@
 use Rattle.std.proofs.Common.{sym, subst}
 use Rattle.serve_proxy.specs.Ends.{GoAloneUnless}
-use Rattle.serve_proxy.proofs.Going.{line_goes_unless, go_stay}
+use Rattle.serve_proxy.proofs.Going.{go_stay}
+use Rattle.serve_proxy.proofs.GivenUp.{line_goes_unless}
 use Rattle.serve_proxy.proofs.Staying.{none_after}
 use Rattle.serve_proxy.proofs.sockets.Sockets.read_link_once.Goals as goal
 
