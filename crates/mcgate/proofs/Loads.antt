@@ -16,7 +16,7 @@ use Rattle.serve_links.proofs.LinkGoes.{losing}
 use Rattle.serve_links.proofs.Walked.{walks_keep_since}
 use Rattle.serve_proxy.specs.declared.proxy.ProxyEnd.{ProxyEnd}
 use Rattle.serve_proxy.specs.Beginning.{LoadStops}
-use Rattle.serve_proxy.specs.Ends.{Stay, AllGoOr, AllGrowFrom, AllGrow, IsLoadOf, HasNoClients}
+use Rattle.serve_proxy.specs.Ends.{Stay, AllGoOr, AllGrowFrom, AllGrow, IsLoadOf, HasNoConns}
 use Rattle.serve_proxy.proofs.Going.{still, and_then, stays, same_core}
 use Rattle.serve_proxy.proofs.Linking.{or_any}
 use Rattle.serve_proxy.proofs.Growing.{grows}
@@ -70,11 +70,8 @@ each_of_turn [] kinds = tt
 each_of_turn (step ∷ steps) kinds = (of_turn step kinds.0, each_of_turn steps kinds.1)
 
 -- nothing has happened
-pub no_clients : (h : List Event) → h ≡ [] → HasNoClients h
-no_clients h none = subst HasNoClients (sym none) (λ conn id is. none_some is)
-  where
-    none_some : {p : ℕ × ℕ} → ◌≡◌ {A = Option (ℕ × ℕ)} None (Some p) → ⊥
-    none_some e = cc
+pub no_conns : (h : List Event) → h ≡ [] → HasNoConns h
+no_conns h none = subst HasNoConns (sym none) (λ conn. (refl, refl))
 
 -- its servers were copied
 pub servers_on :

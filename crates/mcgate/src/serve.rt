@@ -2,7 +2,7 @@
 
 ghost use Rattle.std.specs.Prelude.{◌≡◌, IfOk, false, []};
 ghost use Rattle.serve_links.specs.Story.{Agrees, texts_of};
-ghost use Rattle.serve_proxy.specs.Ends.{HasNoClients};
+ghost use Rattle.serve_proxy.specs.Ends.{HasNoConns};
 ghost use Rattle.mcgate.specs.Judging.{Judges, JudgesText};
 ghost use Rattle.mcgate.specs.Serves.{Begins, HasServers, BeginsServing, HasServed, StaysFresh, history_of, proxy_of};
 
@@ -113,7 +113,7 @@ fn end_over(
     settings: Settings,
 ) -> Result<Proxy, AllocError>
     ensures core { IfOk result (λ end. Begins servable begun settings end.core.value) }
-    ensures ends { IfOk result (λ end. HasNoClients (history_of wire) → Agrees [] (proxy_of end)) }
+    ensures ends { IfOk result (λ end. HasNoConns (history_of wire) → Agrees [] (proxy_of end)) }
     ensures texts { IfOk result (λ end. texts_of end.sockets.links.all.items ≡ servers.now) }
 {
     let mut settings = settings;

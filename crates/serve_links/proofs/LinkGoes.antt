@@ -31,6 +31,8 @@ use Rattle.serve_links.proofs.Due.{due_less, due_first, due_last, due_behind, du
 use Rattle.serve_links.proofs.Walked.{walked, of_both}
 use Rattle.serve_links.proofs.Showing.{plain_unlost, none_since, shown_since, shown_later}
 use Rattle.serve_links.proofs.Answering.{Answers, answers_some}
+use Rattle.serve_links.specs.Shut.{conn_of, IsShutBut, StaysShut}
+use Rattle.serve_links.proofs.Shutting.{shut_used, shut_begun, shut_in_vain, shut_closed, shut_still, closed_shut}
 use Rattle.serve_links.proofs.Story.{line_stays}
 
 same_some : {A : Type 0} {x y : A} → Some x ≡ Some y → x ≡ y
@@ -41,23 +43,18 @@ none_some e = cc
 
 -- ---- connections of others
 
--- nothing but this connection was touched, which is no other's before and after
-pub keeps_by : (c : ℕ) (its : ℕ × ℕ) (h h' : List Event) → ((p : ℕ × ℕ) → (role c h ≡ Some p) ⊎ (role c h' ≡ Some p) → p ≡ its) → TouchesOnly c h h' → KeepsOthers its h h'
-keeps_by c its h h' its_own only d p of_d other = elim (cases_Bool (nat_eq c d)) [ inl e ↦ absurd (other (mine of_d (eqb-true c d e))) | inr e ↦ only d e ]
-  where
-    mine : (role d h ≡ Some p) ⊎ (role d h' ≡ Some p) → c ≡ d → p ≡ its
-    mine (inl was) e = its_own p (inl (ap (λ n. role n h) e ∙ was))
-    mine (inr is) e = its_own p (inr (ap (λ n. role n h') e ∙ is))
+-- nothing but this connection was touched, which was no other's, and is its now
+pub keeps_by : (c : ℕ) (its : ℕ × ℕ) (h h' : List Event) → ((p : ℕ × ℕ) → role c h ≡ Some p → p ≡ its) → role c h' ≡ Some its → TouchesOnly c h h' → KeepsOthers its h h'
+keeps_by c its h h' was now only = record {
+  were = λ d p of_d other. elim (cases_Bool (nat_eq c d)) [ inl e ↦ absurd (other (was p (ap (λ n. role n h) (eqb-true c d e) ∙ of_d))) | inr e ↦ only d e ];
+  are = λ d other. elim (cases_Bool (nat_eq c d)) [ inl e ↦ absurd (other (ap (λ n. role n h') (sym (eqb-true c d e)) ∙ now)) | inr e ↦ only d e ];
+}
 
 pub keeps_others : (c : ℕ) (its : ℕ × ℕ) (h h' : List Event) → role c h ≡ Some its → role c h' ≡ role c h → TouchesOnly c h h' → KeepsOthers its h h'
-keeps_others c its h h' of_c same only = keeps_by c its h h' own only
-  where
-    own : (p : ℕ × ℕ) → (role c h ≡ Some p) ⊎ (role c h' ≡ Some p) → p ≡ its
-    own p (inl was) = same_some (sym was ∙ of_c)
-    own p (inr is) = same_some (sym is ∙ same ∙ of_c)
+keeps_others c its h h' of_c same only = keeps_by c its h h' (λ p was. same_some (sym was ∙ of_c)) (same ∙ of_c) only
 
 pub all_kept : (its : ℕ × ℕ) (h h' : List Event) → ((d : ℕ) → IsUntouched d h h') → KeepsOthers its h h'
-all_kept its h h' quiet = λ d p of_d other. quiet d
+all_kept its h h' quiet = record { were = λ d p of_d other. quiet d; are = λ d other. quiet d }
 
 pub quiet : (h : List Event) (d : ℕ) → IsUntouched d h h
 quiet h d = untouched d h
@@ -105,14 +102,15 @@ losing at past x a = (
     this = λ link there. as_lost at past x.history link (a.links at link there);
     gone = a.gone;
     shown = a.shown;
+    shut = a.shut;
   },
 )
 
 -- nothing happened but at the connection, and no step is told of
 pub line_moves :
-    {Before After : ℕ → List Step → List Event → Link → Type 0} {Is : Step → Type 0} {at : ℕ} {a b : ServedCore} {h h' : List Event} {x y : Link} → b ≡ a → Extends h h' → y.text.items ≡ x.text.items
+    {Before After : ℕ → List Step → List Event → Link → Type 0} {Is : Step → Type 0} {at : ℕ} {a b : ServedCore} {h h' : List Event} {x y : Link} → b ≡ a → Extends h h' → StaysShut at h x h' y → y.text.items ≡ x.text.items
     → ((past : List Step) → Before at past h x → After at past h' y × KeepsOthers (1, at) h h') → LineGoesFrom Before After Is at a h x b h' y
-line_moves {h = h} {h' = h'} same more text moves = record { steps = []; kinds = tt; own = tt; walks = same; agrees = λ past o was. let m = moves past was in (o, m.0, m.1); shown = λ past o was shown. shown_since past h h' more shown; text = text }
+line_moves {h = h} {h' = h'} same more shut text moves = record { steps = []; kinds = tt; own = tt; walks = same; agrees = λ past o was. let m = moves past was in (o, m.0, m.1); shown = λ past o was shown. shown_since past h h' more shown; shut = shut; text = text }
 
 -- what is wanted before is there, and what is there after is more than is wanted
 pub line_between :
@@ -125,13 +123,16 @@ line_between before after g = record {
   walks = g.walks;
   agrees = λ past o was. let r = g.agrees past o (before past was) in (r.0, after (g.steps ++ past) r.1, r.2);
   shown = λ past o was shown. g.shown past o (before past was) shown;
+  shut = g.shut;
   text = g.text;
 }
 
 -- what nobody but it may have touched, one after another
 others_twice : (its : ℕ × ℕ) (h h' h'' : List Event) → KeepsOthers its h h' → KeepsOthers its h' h'' → KeepsOthers its h h''
-others_twice its h h' h'' first later d r (inl was) other = let s = first d r (inl was) other in untouched_twice d h h' h'' s (later d r (inl (s.same_role ∙ was)) other)
-others_twice its h h' h'' first later d r (inr is) other = let s = later d r (inr is) other in untouched_twice d h h' h'' (first d r (inr (sym s.same_role ∙ is)) other) s
+others_twice its h h' h'' first later = record {
+  were = λ d p was other. let s = first.were d p was other in untouched_twice d h h' h'' s (later.were d p (s.same_role ∙ was) other);
+  are = λ d other. let s = later.are d other in untouched_twice d h h' h'' (first.are d (λ is. other (s.same_role ∙ is))) s;
+}
 
 -- one after another
 pub line_then :
@@ -149,6 +150,7 @@ line_then {P} {Q} {R} {Is} {at} {a} {b} {c} {h} {h'} {h''} {x} {y} {z} g k = rec
       (both.0, both.1, others_twice (1, at) h h' h'' first.2 later.2);
   shown = λ past o was shown.
       let first = g.agrees past o was in subst (λ l. AreShown l h'') (sym (append_assoc k.steps g.steps past)) (k.shown (g.steps ++ past) first.0 first.1 (g.shown past o was shown));
+  shut = λ was. k.shut (g.shut was);
   text = k.text ∙ g.text;
 }
 
@@ -177,11 +179,19 @@ from_line at past h y o = record { conn = λ conn is. (there conn is).0; goes_on
 pub same_line : (at : ℕ) (past : List Step) (h : List Event) (x y : Link) → line_of y ≡ line_of x → LineAgrees at past h x → LineAgrees at past h y
 same_line at past h x y same a = from_line at past h y (subst (OfLine at past h) (sym same) (to_line at past h x a))
 
+-- with the same connection
+same_conn : (x y : Link) → line_of y ≡ line_of x → conn_of y ≡ conn_of x
+same_conn x y same = sym (number_in y.conn) ∙ ap (λ (s : LineState). option_map (λ (e : ℕ × List ℕ × List ℕ). e.0) s.1) same ∙ number_in x.conn
+  where
+    number_in : (o : Option Conn) → option_map (λ (e : ℕ × List ℕ × List ℕ). e.0) (option_map (λ (c : Conn). let e : ℕ × List ℕ × List ℕ = (c.number, c.held.items, bytes_of c.unsent) in e) o) ≡ option_map (λ (c : Conn). c.number) o
+    number_in None = refl
+    number_in (Some c) = refl
+
 -- where its connection is as it was
 pub line_keeps :
     {Is : Step → Type 0} {at : ℕ} {core : ServedCore} {h h' : List Event} {x y : Link} → ((d : ℕ) → IsUntouched d h h') → line_of y ≡ line_of x → LineGoes Is at core h x core h' y
 line_keeps {at = at} {h = h} {h' = h'} {x = x} {y = y} still same =
-    line_moves refl (still 0).after (ap (λ (s : LineState). s.0) same)
+    line_moves refl (still 0).after (shut_still still (same_conn x y same)) (ap (λ (s : LineState). s.0) same)
     (λ past a. (same_line at past h' x y same (line_stays h h' at [] past x (λ conn is. still conn.number) refl a), all_kept (1, at) h h' still))
 
 -- of six parts
@@ -238,7 +248,7 @@ line_reads_to :
     → ((past : List Step) → LineAgrees at past h x → ConnAgrees at past h' y d d.held.items → MayAllGo past at y.waiting.items → AreDue past at (numbers_of y.waiting.items) → After at past h' y)
     → LineGoesFrom LineAgrees After Is at core h x core h' y
 line_reads_to {After} {at = at} {h = h} {h' = h'} x y c d was is number unsent r after =
-    line_moves refl (only_after c.number h h' r.elsewhere) (ap (λ (z : Link). z.text.items) is) (λ past a. (agrees past a, keeps_others c.number (1, at) h h' (a.conn c was).is_to r.same_role r.elsewhere))
+    line_moves refl (only_after c.number h h' r.elsewhere) (shut_used c.number r.elsewhere (ap (option_map (λ (z : Conn). z.number)) was) (ap conn_of is ∙ ap (λ n. Some n) number)) (ap (λ (z : Link). z.text.items) is) (λ past a. (agrees past a, keeps_others c.number (1, at) h h' (a.conn c was).is_to r.same_role r.elsewhere))
   where
     agrees : (past : List Step) → LineAgrees at past h x → After at past h' y
     agrees past a =
@@ -283,7 +293,7 @@ line_sends_to :
     → ((past : List Step) → LineAgrees at past h x → ConnAgrees at past h' y d d.held.items → MayAllGo past at y.waiting.items → AreDue past at (numbers_of y.waiting.items) → After at past h' y)
     → LineGoesFrom LineAgrees After Is at core h x core h' y
 line_sends_to {After} {at = at} {h = h} {h' = h'} x y c d was is number held s after =
-    line_moves refl (only_after c.number h h' s.elsewhere) (ap (λ (z : Link). z.text.items) is) (λ past a. (agrees past a, keeps_others c.number (1, at) h h' (a.conn c was).is_to s.same_role s.elsewhere))
+    line_moves refl (only_after c.number h h' s.elsewhere) (shut_used c.number s.elsewhere (ap (option_map (λ (z : Conn). z.number)) was) (ap conn_of is ∙ ap (λ n. Some n) number)) (ap (λ (z : Link). z.text.items) is) (λ past a. (agrees past a, keeps_others c.number (1, at) h h' (a.conn c was).is_to s.same_role s.elsewhere))
   where
     agrees : (past : List Step) → LineAgrees at past h x → After at past h' y
     agrees past a =
@@ -323,14 +333,13 @@ first_agrees h at number text dialect t new = record {
   dialect_is = refl;
 }
 
--- a new connection is this server's only
-new_own : (at number : ℕ) (h h' : List Event) → role number h ≡ None → role number h' ≡ Some (1, at) → (p : ℕ × ℕ) → (role number h ≡ Some p) ⊎ (role number h' ≡ Some p) → p ≡ (1, at)
-new_own at number h h' none now p (inl was) = absurd (none_some (sym none ∙ was))
-new_own at number h h' none now p (inr is) = same_some (sym is ∙ now)
+-- a new connection was nobody's
+new_own : (number : ℕ) (its : ℕ × ℕ) (h : List Event) → role number h ≡ None → (p : ℕ × ℕ) → role number h ≡ Some p → p ≡ its
+new_own number its h none p was = absurd (none_some (sym none ∙ was))
 
 closed_role : (c : ℕ) (h h' : List Event) → Closes c h h' → role c h' ≡ role c h
 closed_role c h h' (inl closed) = ap (role c) closed
-closed_role c h h' (inr same) = ap (role c) same
+closed_role c h h' (inr same) = ap (role c) same.0
 
 begins :
     (at : ℕ) (core : ServedCore) (h h' : List Event) (x y : Link) (dialect : ServerDialect) (number : ℕ) → IsNew number h → h' ≡ connects number at x.text.items ∷ h → HasNewEnd number dialect x y
@@ -340,11 +349,19 @@ begins at core h h' x y dialect number new noted has = record {
   kinds = (tt, tt);
   own = (refl, tt);
   walks = (core, refl, refl);
-  agrees = λ past o a. ((tt, o), by past a y.conn refl has.conn, keeps_by number (1, at) h h' (new_own at number h h' new.no_role (ap (role number) noted ∙ ap (λ b. if b then Some (1, at) else role number h) (equal number))) (subst (TouchesOnly number h) (sym noted) (only_connects number at x.text.items h)));
+  agrees = λ past o a. ((tt, o), by past a y.conn refl has.conn, keeps_by number (1, at) h h' (new_own number (1, at) h new.no_role) (ap (role number) noted ∙ ap (λ b. if b then Some (1, at) else role number h) (equal number)) only);
   shown = λ past o a shown. shown_later (Linked at dialect ∷ []) past h h' (tt, tt) (connects number at x.text.items ∷ [], noted) shown;
+  shut = shut_begun number only (ap (option_map (λ (z : Conn). z.number)) has.none_there) (has_number y.conn has.conn);
   text = ap (λ t. t.items) has.text;
 }
   where
+    only : TouchesOnly number h h'
+    only = subst (TouchesOnly number h) (sym noted) (only_connects number at x.text.items h)
+
+    has_number : (o : Option Conn) → IsNewEnd number dialect o → option_map (λ (z : Conn). z.number) o ≡ Some number
+    has_number None end = absurd end
+    has_number (Some d) end = ap (λ n. Some n) end.0
+
     by : (past : List Step) → LineAgrees at past h x → (o : Option Conn) → y.conn ≡ o → IsNewEnd number dialect o → LineAgrees at (Linked at dialect ∷ past) h' y
     by past a None e end = absurd end
     by past a (Some d) e end =
@@ -358,7 +375,7 @@ begins at core h h' x y dialect number new noted has = record {
 
 only_closed : (c : ℕ) (h h' : List Event) → Closes c h h' → TouchesOnly c h h'
 only_closed c h h' (inl closed) = subst (TouchesOnly c h) (sym closed) (only_closes c h)
-only_closed c h h' (inr same) = subst (TouchesOnly c h) (sym same) (λ d other. untouched d h)
+only_closed c h h' (inr same) = subst (TouchesOnly c h) (sym same.0) (λ d other. untouched d h)
 
 -- one was begun, and closed
 begins_in_vain :
@@ -366,9 +383,9 @@ begins_in_vain :
 begins_in_vain at core h h' x y number new closed keeps =
     let same = keeps_line x y keeps in
     let only = only_twice number h (connects number at x.text.items ∷ h) h' (only_connects number at x.text.items h) (only_closed number (connects number at x.text.items ∷ h) h' closed) in
-    line_moves refl (only_after number h h' only) (ap (λ t. t.items) keeps.text) (λ past a. (
+    line_moves refl (only_after number h h' only) (shut_in_vain number only (closed_shut number (connects number at x.text.items ∷ h) h' closed) (same_conn x y same)) (ap (λ t. t.items) keeps.text) (λ past a. (
       same_line at past h' x y same (line_stays h h' at [] past x (λ conn is. only conn.number (new_apart number conn.number h (1, at) (a.conn conn is).is_to new.no_role)) refl a),
-      keeps_by number (1, at) h h' (new_own at number h h' new.no_role (closed_role number (connects number at x.text.items ∷ h) h' closed ∙ ap (λ b. if b then Some (1, at) else role number h) (equal number))) only,
+      keeps_by number (1, at) h h' (new_own number (1, at) h new.no_role) (closed_role number (connects number at x.text.items ∷ h) h' closed ∙ ap (λ b. if b then Some (1, at) else role number h) (equal number)) only,
     ))
 
 at_same : {Is : Step → Type 0} (at : ℕ) (core : ServedCore) (h h' : List Event) (x y : Link) → h' ≡ h → KeepsLines x y → LineGoes Is at core h x core h' y
@@ -409,6 +426,7 @@ line_learns {at} {core} {h} x y can on l = by l.told
       walks = (core, refl, refl);
       agrees = λ past o a. ((((a.conn c was).awaits_is ∙ on, takes.2), o), agreed past a, all_kept (1, at) h h (quiet h));
       shown = λ past o a shown. shown_later (step ∷ []) past h h (tt, tt) (none_since h) shown;
+      shut = shut_still (quiet h) (ap (option_map (λ (z : Conn). z.number)) is ∙ ap (λ (z : Conn). Some z.number) takes.3 ∙ sym (ap (option_map (λ (z : Conn). z.number)) was));
       text = ap (λ (z : Link). z.text.items) learnt.rest;
     }
       where
@@ -467,6 +485,7 @@ line_asks {at} {core} {h} x y c d call was is same more unsent = record {
   walks = (core, refl, refl);
   agrees = λ past o a. (((a.1, due_first past at call.ticket.number (numbers_of x.waiting.items) a.2), o), agreed past a.0 a.2, all_kept (1, at) h h (quiet h));
   shown = λ past o a shown. shown_later (step ∷ []) past h h (tt, tt) (none_since h) shown;
+  shut = shut_still (quiet h) (ap conn_of is ∙ ap (λ (z : Conn). Some z.number) same ∙ sym (ap (option_map (λ (z : Conn). z.number)) was));
   text = ap (λ (z : Link). z.text.items) is;
 }
   where
@@ -499,7 +518,7 @@ pub line_waits :
     {Is : Step → Type 0} {at : ℕ} {core : ServedCore} {h : List Event} (x y : Link) (call : SentCall) → y ≡ record x { waiting = y.waiting } → y.waiting.items ≡ x.waiting.items ++ call ∷ []
     → LineGoesFrom (LineCalled call) LineAgrees Is at core h x core h y
 line_waits {at = at} {h = h} x y call is more =
-    line_moves refl (none_since h) (ap (λ (z : Link). z.text.items) is)
+    line_moves refl (none_since h) (shut_still (quiet h) (ap conn_of is)) (ap (λ (z : Link). z.text.items) is)
     (λ past a. (
       waits_with at past h x y is a.0 (subst (λ w. MayAllGo past at w) (sym more) (one_more past at x.waiting.items call a.0.waiting a.1)) (subst (λ w. AreDue past at (numbers_of w)) (sym more) (due_behind past at x.waiting.items call a.2)),
       all_kept (1, at) h h (quiet h),
@@ -514,15 +533,17 @@ pub line_takes :
     {Is : Step → Type 0} {at : ℕ} {core : ServedCore} {h : List Event} (x y : Link) (call : SentCall) (before after : List SentCall) → y ≡ record x { waiting = y.waiting } → x.waiting.items ≡ before ++ call ∷ after
     → y.waiting.items ≡ before ++ after → LineGoesFrom LineAgrees (LineCalled call) Is at core h x core h y
 line_takes {at = at} {h = h} x y call before after is was now =
-    line_moves refl (none_since h) (ap (λ (z : Link). z.text.items) is)
+    line_moves refl (none_since h) (shut_still (quiet h) (ap conn_of is)) (ap (λ (z : Link). z.text.items) is)
     (λ past a.
     let all = called_between past at before call after (subst (λ w. MayAllGo past at w) was a.waiting) in
-    let due = due_between past at before call after (subst (λ w. AreDue past at (numbers_of w)) was a.due) in
-    ((
-      waits_with at past h x y is a (subst (λ w. MayAllGo past at w) (sym now) all.1) (subst (λ w. AreDue past at (numbers_of w)) (sym now) (due_less past at call.ticket.number (numbers_of (before ++ after)) due)),
-      all.0,
-      subst (λ w. AreDue past at (numbers_of (call ∷ w))) (sym now) due,
-    ), all_kept (1, at) h h (quiet h)))
+    let due = due_between past at before call after (subst (λ w. AreDue past at (numbers_of w)) was a.due) in (
+      (
+        waits_with at past h x y is a (subst (λ w. MayAllGo past at w) (sym now) all.1) (subst (λ w. AreDue past at (numbers_of w)) (sym now) (due_less past at call.ticket.number (numbers_of (before ++ after)) due)),
+        all.0,
+        subst (λ w. AreDue past at (numbers_of (call ∷ w))) (sym now) due,
+      ),
+      all_kept (1, at) h h (quiet h),
+    ))
 
 -- ---- answers
 
@@ -541,17 +562,18 @@ talk_answers h at text t c spelled held unsent out out' awaits dialect was = rec
 
 -- the answers in front of what is held settle calls, and this is left of it
 settles_to :
-    {After : ℕ → List Step → List Event → Link → Type 0} {at : ℕ} {core core' : ServedCore} {h : List Event} (x y : Link) (c d : Conn) (rest : List ℕ) → x.conn ≡ Some c → x.awaits_dialect ≡ false
+    {After : ℕ → List Step → List Event → Link → Type 0} {at : ℕ} {core core' : ServedCore} {h : List Event} (x y : Link) (c d : Conn) (rest : List ℕ) → x.conn ≡ Some c → y.conn ≡ Some d → x.awaits_dialect ≡ false
     → y.text.items ≡ x.text.items → y.waiting.items ≡ x.waiting.items → y.awaits_dialect ≡ x.awaits_dialect → y.dialect ≡ x.dialect → d.number ≡ c.number → bytes_of d.unsent ≡ bytes_of c.unsent
     → ((past : List Step) → ConnAgrees at past h y d rest → is_over d.number h ≡ false → MayAllGo past at y.waiting.items → AreDue past at (numbers_of y.waiting.items) → After at past h y)
     → SettlesSome x.calls.sent.items c.held.items core y.calls.sent.items rest core' → LineGoesFrom LineAgrees After IsOfTurn at core h x core' h y
-settles_to {After} {at} {core} {core'} {h} x y c d rest was off text waiting awaits speaks number unsent after s = record {
+settles_to {After} {at} {core} {core'} {h} x y c d rest was is off text waiting awaits speaks number unsent after s = record {
   steps = g.steps;
   kinds = g.kinds;
   own = g.own;
   walks = g.walks;
   agrees = λ past o a. let t = a.conn c was in let r = g.orderly past o t.out_is (t.awaits_is ∙ off) in (r.0, agreed past a r.1, all_kept (1, at) h h (quiet h));
   shown = λ past o a shown. shown_later g.steps past h h g.unlost (none_since h) shown;
+  shut = shut_still (quiet h) (ap (option_map (λ (z : Conn). z.number)) is ∙ ap (λ n. Some n) number ∙ sym (ap (option_map (λ (z : Conn). z.number)) was));
   text = text;
 }
   where
@@ -571,7 +593,7 @@ pub line_settles :
     → y.awaits_dialect ≡ x.awaits_dialect → y.dialect ≡ x.dialect → d.number ≡ c.number → bytes_of d.unsent ≡ bytes_of c.unsent → SettlesSome x.calls.sent.items c.held.items core y.calls.sent.items d.held.items core'
     → LineGoes IsOfTurn at core h x core' h y
 line_settles {at} {core} {core'} {h} x y c d was is off text waiting awaits speaks number unsent s =
-    settles_to x y c d d.held.items was off text waiting awaits speaks number unsent (λ past agrees goes_on called due. has_conn at past h y d is agrees goes_on called due) s
+    settles_to x y c d d.held.items was is off text waiting awaits speaks number unsent (λ past agrees goes_on called due. has_conn at past h y d is agrees goes_on called due) s
 
 -- or it is lost
 pub line_loses :
@@ -579,7 +601,7 @@ pub line_loses :
     → y.waiting.items ≡ x.waiting.items → y.awaits_dialect ≡ x.awaits_dialect → y.dialect ≡ x.dialect → d.number ≡ c.number → bytes_of d.unsent ≡ bytes_of c.unsent → SettlesSome x.calls.sent.items c.held.items core y.calls.sent.items rest core'
     → LineGoesFrom LineAgrees LineLost IsOfTurn at core h x core' h y
 line_loses {at} {core} {core'} {h} x y c d rest was is off text waiting awaits speaks number unsent s =
-    settles_to x y c d rest was off text waiting awaits speaks number unsent
+    settles_to x y c d rest was is off text waiting awaits speaks number unsent
     (λ past agrees goes_on called due. record { conn = λ conn there. subst (λ (z : Conn). (held : List ℕ) × ConnAgrees at past h y z held) (same_some (sym is ∙ there)) (rest, agrees); waiting = called; due = due }) s
 
 -- ---- the end of a connection
@@ -598,7 +620,7 @@ line_closes {at} {core} {h} {h'} why x y r r_is some none closed text waiting = 
     by : (o : Option Conn) → x.conn ≡ o → LineGoesFrom (LineFails why) LineAgrees (IsGivingUp why) at core h x core h' y
     by None e =
         let same = none (r_is ∙ ap (option_map (λ (z : Conn). z.number)) e) in
-        line_moves refl ([], same) text (λ past a. (left [] past a refl, all_kept (1, at) h h' (λ d. subst (IsUntouched d h) (sym same) (untouched d h))))
+        line_moves refl ([], same) (shut_still (λ d. subst (IsUntouched d h) (sym same) (untouched d h)) (ap (option_map (λ (z : Conn). z.number)) (closed ∙ sym e))) text (λ past a. (left [] past a refl, all_kept (1, at) h h' (λ d. subst (IsUntouched d h) (sym same) (untouched d h))))
     by (Some c) e = record {
       steps = Lost at why ∷ [];
       kinds = (refl, tt);
@@ -606,6 +628,7 @@ line_closes {at} {core} {h} {h'} why x y r r_is some none closed text waiting = 
       walks = (core, refl, refl);
       agrees = λ past o a. ((tt, o), left (Lost at why ∷ []) past a (ap (λ b. (if b then given_up (talk_in past at) else talk_in past at).asked) (equal at)), keeps_others c.number (1, at) h h' (a.lost.conn c e).1.is_to (closed_role c.number h h' closes_it) only);
       shown = λ past o a shown. (was_shown past a, shown_since past h h' (only_after c.number h h' only) shown);
+      shut = shut_closed c.number only (closed_shut c.number h h' closes_it) (ap (option_map (λ (z : Conn). z.number)) e);
       text = text;
     }
       where
@@ -627,11 +650,11 @@ line_closes {at} {core} {h} {h'} why x y r r_is some none closed text waiting = 
           shows = a.shows c e;
         }
 
--- it has none then, whatever became of it
+-- it had none, and has none then
 pub line_shuts :
-    {Before : ℕ → List Step → List Event → Link → Type 0} {Is : Step → Type 0} {at : ℕ} {a b : ServedCore} {h h' : List Event} {x y z : Link} → LineGoesFrom Before LineAgrees Is at a h x b h' y → z.conn ≡ None
+    {Before : ℕ → List Step → List Event → Link → Type 0} {Is : Step → Type 0} {at : ℕ} {a b : ServedCore} {h h' : List Event} {x y z : Link} → LineGoesFrom Before LineAgrees Is at a h x b h' y → y.conn ≡ None → z.conn ≡ None
     → z.text.items ≡ y.text.items → z.waiting.items ≡ y.waiting.items → LineGoesFrom Before LineAgrees Is at a h x b h' z
-line_shuts {at = at} {h' = h'} {z = z} g closed text waiting = record {
+line_shuts {at = at} {h' = h'} {z = z} g none closed text waiting = record {
   steps = g.steps;
   kinds = g.kinds;
   own = g.own;
@@ -642,6 +665,7 @@ line_shuts {at = at} {h' = h'} {z = z} g closed text waiting = record {
     r.2,
   );
   shown = g.shown;
+  shut = λ was. subst (λ o. IsShutBut (1, at) o h') (ap (option_map (λ (c : Conn). c.number)) (none ∙ sym closed)) (g.shut was);
   text = text ∙ g.text;
 }
 
@@ -693,9 +717,9 @@ last_called past at (call ∷ first) later are = last_called past at first later
 
 -- calls of it fail, while it has no connection; of those that wait the first do
 pub line_fails :
-    {why : Option Cause} {at : ℕ} {core core' : ServedCore} {h : List Event} (x y : Link) (gone : List SentCall) → Fails core core' → y.conn ≡ None → y.text.items ≡ x.text.items → x.waiting.items ≡ gone ++ y.waiting.items
+    {why : Option Cause} {at : ℕ} {core core' : ServedCore} {h : List Event} (x y : Link) (gone : List SentCall) → Fails core core' → x.conn ≡ None → y.conn ≡ None → y.text.items ≡ x.text.items → x.waiting.items ≡ gone ++ y.waiting.items
     → LineGoes (IsGivingUp why) at core h x core' h y
-line_fails {why} {at} {core} {core'} {h} x y gone f none text waiting =
+line_fails {why} {at} {core} {core'} {h} x y gone f had none text waiting =
     let own = failed_own at f.steps f.kinds in
     record {
       steps = f.steps;
@@ -709,5 +733,6 @@ line_fails {why} {at} {core} {core'} {h} x y gone f none text waiting =
         all_kept (1, at) h h (quiet h),
       );
       shown = λ past o a shown. shown_later f.steps past h h (plain_unlost f.steps own.1) (none_since h) shown;
+      shut = shut_still (quiet h) (ap (option_map (λ (z : Conn). z.number)) (none ∙ sym had));
       text = text;
     }

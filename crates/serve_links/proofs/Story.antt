@@ -1,7 +1,7 @@
 -- How the ends of a proxy go on, one after another.
 use Rattle.std.proofs.Common.{◌≡◌, ◌≢◌, ◌⊎◌, ℕ, Bool, true, false, List, [], ◌∷◌, ◌++◌, Option, Some, None, refl, sym, ap, ◌∙◌, subst, inl, inr, append_assoc, append-nil}
 use Rattle.std.specs.Prelude.{IfSome, nat_eq, slice_get}
-use Rattle.std.specs.Option.{option_map}
+use Rattle.std.specs.Option.{option_map, option_flatten}
 use Rattle.std.proofs.lemmas.Bool.{cases_Bool, eq-eqb, eqb-true}
 use Rattle.mc_types.specs.declared.ask.Ask.{Ask}
 use Rattle.mc_types.specs.declared.ask.Dialect.{Dialect}
@@ -23,6 +23,8 @@ use Rattle.serve_links.specs.Story.{fed_in, gave_in, is_open_in, is_broken_in, A
 use Rattle.serve_links.proofs.Talking.{calls_later, IsPlain, clients_plain, plain_talk, plain_orderly, server_tells_none, talk_elsewhere}
 use Rattle.serve_links.proofs.Due.{due_later}
 use Rattle.serve_links.proofs.Showing.{plain_unlost, shown_later}
+use Rattle.serve_links.specs.Shut.{conn_of, link_conn, IsShutBut, AreShut}
+use Rattle.serve_links.proofs.Shutting.{shut_line, shut_client}
 use Rattle.serve_links.proofs.Walked.{walked, of_both}
 
 -- ---- one end
@@ -269,6 +271,11 @@ one_agrees {Is} id old new x y was is others links g = agree
         other : nat_eq x.conn.number conn ≡ false → HasOrHad (g.steps ++ past) h' new.clients j conn
         other e = let same = g.only conn e in had_stays past g.steps h h' old.clients new.clients j conn (same_told conn h h' same) (numbers j) (a.gone conn j (sym same.same_role ∙ its_now))
 
+    shut : (past : List Step) → Agrees past old → AreShut h' new.clients new.links
+    shut past a =
+        let its_y = its h' (fed_in (g.steps ++ past)) (gave_in (g.steps ++ past)) id y (g.agrees past (was_of past a id x was)) in
+        shut_client id x.conn.number (ap (λ n. role n h') (sym g.number) ∙ its_y) g.only (ap (option_map (λ (z : Client). z.conn.number)) is ∙ ap (λ n. Some n) g.number) numbers (λ j. ap (λ ls. link_conn ls j) links) a.shut
+
     agree : (past : List Step) → Agrees past old → Agrees (g.steps ++ past) new
     agree past a = record {
       orderly = plain_orderly g.steps plain past a.orderly;
@@ -277,6 +284,7 @@ one_agrees {Is} id old new x y was is others links g = agree
       links = lines past a;
       gone = gone past a;
       shown = shown_later g.steps past h h' (plain_unlost g.steps plain) (only_after x.conn.number h h' g.only) a.shown;
+      shut = shut past a;
     }
 
 pub one_of_all :
@@ -302,18 +310,21 @@ line_among {Before} {After} {Is} at old new x y was is others texts clients_are 
     client past a j z there =
         let was_z = at_client h (fed_in past) (gave_in past) old.clients j z (sym (clients_are j) ∙ there) a.clients in let told = server_tells_none at g.steps g.own past j in
         let keeps = (g.agrees past a.orderly (a.this x was)).2 in
-        end_stays h h' (fed_in past) (gave_in past) (fed_in (g.steps ++ past)) (gave_in (g.steps ++ past)) j z (keeps z.conn.number (0, j) (inl (its h (fed_in past) (gave_in past) j z was_z)) (kinds_apart j at)) told.0 told.1 was_z
+        end_stays h h' (fed_in past) (gave_in past) (fed_in (g.steps ++ past)) (gave_in (g.steps ++ past)) j z (keeps.were z.conn.number (0, j) (its h (fed_in past) (gave_in past) j z was_z) (kinds_apart j at)) told.0 told.1 was_z
 
     other : (past : List Step) → AgreesBut Before at past old → (j : ℕ) (z : Link) → nat_eq at j ≡ false → slice_get new.links j ≡ Some z → LineAgrees j (g.steps ++ past) h' z
     other past a j z e there =
         let was_z = a.links j z e (sym (others j e) ∙ there) in
         let keeps = (g.agrees past a.orderly (a.this x was)).2 in
-        line_stays h h' j g.steps past z (λ conn c. keeps conn.number (1, j) (inl (was_z.conn conn c).is_to) (links_apart at j e)) (talk_elsewhere at g.steps g.own past j e) was_z
+        line_stays h h' j g.steps past z (λ conn c. keeps.were conn.number (1, j) (was_z.conn conn c).is_to (links_apart at j e)) (talk_elsewhere at g.steps g.own past j e) was_z
 
     gone : (past : List Step) → AgreesBut Before at past old → (conn j : ℕ) → role conn h' ≡ Some (0, j) → HasOrHad (g.steps ++ past) h' new.clients j conn
     gone past a conn j its_now =
-        let same = (g.agrees past a.orderly (a.this x was)).2 conn (0, j) (inr its_now) (kinds_apart j at) in
+        let same = (g.agrees past a.orderly (a.this x was)).2.are conn (λ e. kinds_apart j at (same_some (0, j) (1, at) (sym its_now ∙ e))) in
         had_stays past g.steps h h' old.clients new.clients j conn (same_told conn h h' same) (ap (option_map (λ (z : Client). z.conn.number)) (clients_are j)) (a.gone conn j (sym same.same_role ∙ its_now))
+
+    at_conn : (ls : List Link) (z : Link) → slice_get ls at ≡ Some z → link_conn ls at ≡ conn_of z
+    at_conn ls z there = ap (λ o. option_flatten (option_map conn_of o)) there
 
     agree : (past : List Step) → AgreesBut Before at past old → AgreesBut After at (g.steps ++ past) new
     agree past a = let goes = g.agrees past a.orderly (a.this x was) in record {
@@ -324,24 +335,26 @@ line_among {Before} {After} {Is} at old new x y was is others texts clients_are 
       this = λ link there. subst (After at (g.steps ++ past) h') (same_some y link (sym is ∙ there)) goes.1;
       gone = gone past a;
       shown = g.shown past a.orderly (a.this x was) a.shown;
+      shut = shut_line at goes.2 (λ was_shut. subst (λ o. IsShutBut (1, at) o h') (sym (at_conn new.links y is)) (g.shut (subst (λ o. IsShutBut (1, at) o h) (at_conn old.links x was) was_shut)))
+          (λ j e. ap (λ o. option_flatten (option_map conn_of o)) (others j e)) (λ j. ap (option_map (λ (z : Client). z.conn.number)) (clients_are j)) a.shut;
     }
 
 -- where the link at one place agrees like the others, all agree
 pub but_all : (at : ℕ) (past : List Step) (x : AnEnd) → AgreesBut LineAgrees at past x → Agrees past x
-but_all at past x a = record { orderly = a.orderly; clients = a.clients; told = a.told; links = λ j link there. elim (cases_Bool (nat_eq at j)) [ inl e ↦ mine j link there (eqb-true at j e) | inr e ↦ a.links j link e there ]; gone = a.gone; shown = a.shown }
+but_all at past x a = record { orderly = a.orderly; clients = a.clients; told = a.told; links = λ j link there. elim (cases_Bool (nat_eq at j)) [ inl e ↦ mine j link there (eqb-true at j e) | inr e ↦ a.links j link e there ]; gone = a.gone; shown = a.shown; shut = a.shut }
   where
     mine : (j : ℕ) (link : Link) → slice_get x.links j ≡ Some link → at ≡ j → LineAgrees j past x.history link
     mine j link there e = subst (λ k. LineAgrees k past x.history link) e (a.this link (ap (slice_get x.links) e ∙ there))
 
 -- and where none is there
 pub but_none : {This : ℕ → List Step → List Event → Link → Type 0} (at : ℕ) (past : List Step) (x : AnEnd) → slice_get x.links at ≡ None → AgreesBut This at past x → Agrees past x
-but_none at past x none a = record { orderly = a.orderly; clients = a.clients; told = a.told; links = λ j link there. elim (cases_Bool (nat_eq at j)) [ inl e ↦ absurd (nobody (sym none ∙ ap (slice_get x.links) (eqb-true at j e) ∙ there)) | inr e ↦ a.links j link e there ]; gone = a.gone; shown = a.shown }
+but_none at past x none a = record { orderly = a.orderly; clients = a.clients; told = a.told; links = λ j link there. elim (cases_Bool (nat_eq at j)) [ inl e ↦ absurd (nobody (sym none ∙ ap (slice_get x.links) (eqb-true at j e) ∙ there)) | inr e ↦ a.links j link e there ]; gone = a.gone; shown = a.shown; shut = a.shut }
   where
     nobody : {link : Link} → None ≡ Some link → ⊥
     nobody e = cc
 
 pub all_but : (at : ℕ) (past : List Step) (x : AnEnd) → Agrees past x → AgreesBut LineAgrees at past x
-all_but at past x a = record { orderly = a.orderly; clients = a.clients; told = a.told; links = λ j link e there. a.links j link there; this = λ link there. a.links at link there; gone = a.gone; shown = a.shown }
+all_but at past x a = record { orderly = a.orderly; clients = a.clients; told = a.told; links = λ j link e there. a.links j link there; this = λ link there. a.links at link there; gone = a.gone; shown = a.shown; shut = a.shut }
 
 -- what is wanted before is there, and what is there after is more than is wanted
 pub go_between :

@@ -368,8 +368,8 @@ impl Link {
         now: u64,
         dialect: ServerDialect,
     ) -> Result<(), AllocError>
-        requires { self.old.conn ≡ None }
-        requires { self.old.calls.sent.items ≡ [] }
+        requires unlinked { self.old.conn ≡ None }
+        requires none_out { self.old.calls.sent.items ≡ [] }
         ensures ok { OnOk result (HasNewEnd number dialect self.old self.new) }
         ensures err { OnErr result (KeepsLines self.old self.new) }
     {

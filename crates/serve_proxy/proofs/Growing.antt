@@ -24,7 +24,7 @@ use Rattle.serve_links.specs.Talks.{AreDue, IsOrderly}
 use Rattle.serve_links.proofs.Due.{none_more}
 use Rattle.serve_links.proofs.Shutting.{shut_quiet}
 use Rattle.serve_links.proofs.Walked.{walked, of_both}
-use Rattle.serve_proxy.specs.Ends.{lines_of, down_line, AddsLines, AllGrowFrom, AllGrow, IsLoadOf, HasNoClients}
+use Rattle.serve_proxy.specs.Ends.{lines_of, down_line, AddsLines, AllGrowFrom, AllGrow, IsLoadOf, HasNoConns}
 use Rattle.serve_proxy.proofs.Conns.{conns_grow}
 use Rattle.serve_proxy.proofs.Going.{agree_told, had_quiet, lines_told, get_line, texts_by_lines}
 use Rattle.serve_links.proofs.LinkGoes.{same_line, has_none}
@@ -152,8 +152,8 @@ grow_from {Is} {h} {cs} {ls} {a} {x} {b} same g = subst (λ y. AllGrow Is (recor
 -- ---- an end that begins
 
 -- no client is there, and no link has a connection
-pub new_agrees : (h : List Event) (core : ServedCore) (cs : Clients) (ls : List Link) → cs.all.items ≡ [] → AddsLines [] ls → HasNoClients h → Agrees [] (record { core = core; history = h; clients = cs; links = ls })
-new_agrees h core cs ls none adds new = record { orderly = tt; clients = λ id. subst (λ o. IfSome o (EndAgrees h (fed_in []) (gave_in []) id)) (sym (nobody id)) tt; told = λ id. subst (λ o. IfSome o (IsTold [] id)) (sym (nobody id)) tt; links = lines_grow h [] [] ls adds tt (λ at link there. absurd (none_some there)); gone = λ conn id is. absurd (new conn id is) }
+pub new_agrees : (h : List Event) (core : ServedCore) (cs : Clients) (ls : List Link) → cs.all.items ≡ [] → AddsLines [] ls → HasNoConns h → Agrees [] (record { core = core; history = h; clients = cs; links = ls })
+new_agrees h core cs ls none adds new = record { orderly = tt; clients = λ id. subst (λ o. IfSome o (EndAgrees h (fed_in []) (gave_in []) id)) (sym (nobody id)) tt; told = λ id. subst (λ o. IfSome o (IsTold [] id)) (sym (nobody id)) tt; links = lines_grow h [] [] ls adds tt (λ at link there. absurd (none_some there)); gone = λ conn id is. absurd (none_some (sym (new conn).0 ∙ is)); shown = tt; shut = record { clients = λ id conn is. absurd (none_some (sym (new conn).0 ∙ is)); links = λ at conn is. absurd (none_some (sym (new conn).0 ∙ is)); nobodys = λ conn is. (new conn).1 } }
   where
     nobody : (id : ℕ) → client_of cs id ≡ None
     nobody id = ap (λ (xs : List (Option Client)). option_flatten (slice_get xs id)) none

@@ -21,7 +21,8 @@ use Rattle.serve_clients.proofs.Agreeing.{keeps_none, keeps_twice, keeps_alike}
 use Rattle.serve_links.specs.declared.settings.ServerDialect.{ServerDialect}
 use Rattle.serve_links.specs.declared.link.Link.{Link}
 use Rattle.serve_links.specs.declared.link.Opening.{Opening}
-use Rattle.serve_links.specs.Lines.{KeepsLines, OpensBy}
+use Rattle.std.specs.Option.{is_some}
+use Rattle.serve_links.specs.Lines.{SameLine, KeepsLines, OpensBy}
 use Rattle.serve_links.specs.Story.{line_of}
 use Rattle.serve_links.proofs.LinkGoes.{keeps_line, line_keeps, line_reads, line_reads_over, line_sends, line_sends_over, line_opens as line_begins, line_shuts}
 use Rattle.serve_proxy.specs.Ends.{lines_of, over_by, over_after, broken_unless, IsQuiet, EndsStay, LineStands, LineStandsUnless}
@@ -75,14 +76,29 @@ pub line_sent :
 line_sent at h h' x y c d true was is number held s stands failed = λ core. line_sends x y c d was is number held s (stands refl)
 line_sent at h h' x y c d false was is number held s stands failed = λ core. line_sends_over (Some causes.Broken) x y c d was is number held s (λ t. ([], (failed refl).0, (failed refl).1))
 
+pub not_some : {A : Type 0} (o : Option A) → is_some o ≡ false → o ≡ None
+not_some None is = refl
+not_some (Some x) is = absurd (true_false is)
+  where
+    true_false : true ≡ false → ⊥
+    true_false e = cc
+
+-- where there was no connection, none is kept
+pub none_kept : (o p : Option Conn) → o ≡ None → SameLine o p → p ≡ None
+none_kept None p none same = same
+none_kept (Some c) p none same = absurd (some_none none)
+  where
+    some_none : {x : Conn} → Some x ≡ None → ⊥
+    some_none e = cc
+
 -- a connection was begun
 pub line_opens : (at : ℕ) (dialect : ServerDialect) (what : Opening) (h h' : List Event) (x y : Link) → OpensBy at dialect what x y h h' → LineStands at h h' x y
 line_opens at dialect what h h' x y o = λ core. line_begins x y dialect what o
 
 -- or none, and its calls fail for a while
 pub line_opens_not :
-    (at : ℕ) (dialect : ServerDialect) (what : Opening) (h h' : List Event) (x y z : Link) → OpensBy at dialect what x y h h' → z.conn ≡ None → z.text.items ≡ y.text.items → z.waiting.items ≡ y.waiting.items → LineStands at h h' x z
-line_opens_not at dialect what h h' x y z o closed text waiting = λ core. line_shuts (line_begins x y dialect what o) closed text waiting
+    (at : ℕ) (dialect : ServerDialect) (what : Opening) (h h' : List Event) (x y z : Link) → OpensBy at dialect what x y h h' → y.conn ≡ None → z.conn ≡ None → z.text.items ≡ y.text.items → z.waiting.items ≡ y.waiting.items → LineStands at h h' x z
+line_opens_not at dialect what h h' x y z o none closed text waiting = λ core. line_shuts (line_begins x y dialect what o) none closed text waiting
 
 -- ---- all ends
 

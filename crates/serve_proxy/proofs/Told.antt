@@ -1,14 +1,14 @@
 -- Clients' ends that begin and end, and what the core gave for one.
 use Rattle.std.proofs.Common.{◌≡◌, ◌≢◌, ◌⊎◌, inl, inr, ℕ, zero, suc, Bool, true, false, if◌then◌else◌, List, [], ◌∷◌, ◌++◌, length, Option, Some, None, Result, Ok, Err, refl, sym, ap, ◌∙◌, subst, append_assoc, append-nil, arith}
-use Rattle.std.proofs.lemmas.Bool.{cases_eq, cases_Bool, eqb-true}
+use Rattle.std.proofs.lemmas.Bool.{cases_eq, cases_Bool, eq-eqb, eqb-true}
 use Rattle.std.specs.Prelude.{◌==◌, ◌||◌, nat_eq, IfSome, IfErr, OnOk, slice_get, slice_set}
 use Rattle.std.specs.Option.{option_map, option_flatten}
 use Rattle.fresh_runs.specs.Overlap as log
 use Rattle.wire_parts.specs.Sending.{bytes_of}
-use Rattle.serve_wire.specs.Events.{Event, admits, ticks, accepts, role, delivered, taken, IsNew}
-use Rattle.serve_wire.specs.Agreement.{TouchesOnly, IsUntouched}
+use Rattle.serve_wire.specs.Events.{Event, admits, ticks, accepts, role, delivered, taken, is_open, IsNew}
+use Rattle.serve_wire.specs.Agreement.{Extends, TouchesOnly, IsUntouched}
 use Rattle.serve_wire.specs.Calls.{Closes}
-use Rattle.serve_wire.proofs.Steps.{unequal, apart, new_apart, untouched, only_closes, only_admits, none_accepts, none_ticks, client_begins, new_accepted}
+use Rattle.serve_wire.proofs.Steps.{equal, unequal, apart, new_apart, untouched, untouched_twice, only_closes, only_admits, only_accepts, only_after, extends_twice, none_ticks}
 use Rattle.core_proxy.specs.declared.fault.CoreFault.{CoreFault}
 use Rattle.core_proxy.specs.Faults.{OutputFault}
 use Rattle.core_proxy.specs.CoreState.{Gives, client_at, output_by}
@@ -23,10 +23,13 @@ use Rattle.serve_clients.proofs.Marked.{kept}
 use Rattle.serve_links.specs.declared.link.Link.{Link}
 use Rattle.serve_links.specs.CoreSteps.{Step, Opened, Gave, Closed, Does, AreOf, GoesBy, IsOfTurn}
 use Rattle.serve_links.specs.Story.{fed_in, gave_in, is_open_in, is_broken_in, IsTold, AreTold, TookAll, IsJustGiven, IsGone, IsUnused, HasOrHad, LinesAgree, OneGoes, Agrees, AgreesGiven, AllGoFrom, AllGo}
+use Rattle.serve_links.specs.Shut.{client_conn, AreShut}
+use Rattle.serve_links.proofs.Shutting.{closed_shut, shut_without, shut_opened, shut_turned}
+use Rattle.serve_links.proofs.Showing.{plain_unlost, shown_later}
 use Rattle.serve_links.proofs.Talking.{IsPlain, plain_talk, plain_orderly}
 use Rattle.serve_links.proofs.Story.{at_told, all_told, took_all, TellsSame, same_told, gone_stays, end_gone, had_stays, line_stays}
 use Rattle.serve_links.proofs.Walked.{walked, of_both}
-use Rattle.serve_proxy.specs.Ends.{EndsStay, EndsGo, IsAllSent, IsAllSentTo, IsClosing}
+use Rattle.serve_proxy.specs.Ends.{EndsStay, EndsGo, IsAllSent, IsAllSentTo, IsClosing, MayAdmit}
 use Rattle.serve_proxy.proofs.Staying.{quiet}
 use Rattle.serve_proxy.proofs.Going.{IsSilent, tells_none, silent_turn, silent_plain, lines_told, agree_told, had_quiet, gave_one, gave_broken, gave_state, more_given, one_touched, one_breaks, same_agrees, same_client}
 
@@ -38,11 +41,12 @@ stay_same h h' cs ls same = record { quiet = λ d. subst (IsUntouched d h) (sym 
 pub stay_ticks : (t : ℕ) (h h' : List Event) (cs : Clients) (ls : List Link) → h' ≡ ticks t ∷ h → EndsStay h h' cs cs ls ls
 stay_ticks t h h' cs ls is = record { quiet = λ d. subst (IsUntouched d h) (sym is) (none_ticks t d h); clients = keeps_none cs; links = refl }
 
-pub stay_accepts : (c : ℕ) (h h' : List Event) (cs : Clients) (ls : List Link) → h' ≡ accepts c ∷ h → EndsStay h h' cs cs ls ls
-stay_accepts c h h' cs ls is = record { quiet = λ d. subst (IsUntouched d h) (sym is) (none_accepts c d h); clients = keeps_none cs; links = refl }
+-- who was accepted is nobody's client yet
+pub accepted_role : (c : ℕ) (h h' : List Event) → IsNew c h × (h' ≡ accepts c ∷ h) → role c h' ≡ None
+accepted_role c h h' is = ap (role c) is.1 ∙ is.0.no_role
 
-pub accepted_new : (c : ℕ) (h h' : List Event) → IsNew c h × (h' ≡ accepts c ∷ h) → IsNew c h'
-accepted_new c h h' is = subst (IsNew c) (sym is.1) (new_accepted c c h is.0)
+pub accepted_only : (c : ℕ) (h h' : List Event) → h' ≡ accepts c ∷ h → TouchesOnly c h h'
+accepted_only c h h' is = subst (TouchesOnly c h) (sym is) (only_accepts c h)
 
 -- ---- clients among all
 
@@ -64,15 +68,15 @@ if_moved :
 if_moved h h' input output input' output' id None same fed gave was = tt
 if_moved h h' input output input' output' id (Some x) same fed gave was = end_moved h h' input output input' output' id x (same x.conn.number (its h input output id x was)) fed gave was
 
--- what touches a new connection alone leaves all links as they were
-lines_new :
-    (c : ℕ) (h h' : List Event) (steps past : List Step) (ls : List Link) → role c h ≡ None → TouchesOnly c h h' → AreOf IsPlain steps → LinesAgree past h ls → LinesAgree (steps ++ past) h' ls
-lines_new c h h' steps past ls none only plain was at link there =
-    line_stays h h' at steps past link (λ conn is. only conn.number (new_apart c conn.number h (1, at) ((was at link there).conn conn is).is_to none)) (plain_talk steps plain past at) (was at link there)
+-- what touches no server's connection leaves all links as they were
+lines_apart :
+    (h h' : List Event) (steps past : List Step) (ls : List Link) → ((d at : ℕ) → role d h ≡ Some (1, at) → IsUntouched d h h') → AreOf IsPlain steps → LinesAgree past h ls → LinesAgree (steps ++ past) h' ls
+lines_apart h h' steps past ls only plain was at link there =
+    line_stays h h' at steps past link (λ conn is. only conn.number at ((was at link there).conn conn is).is_to) (plain_talk steps plain past at) (was at link there)
 
--- and all clients, as one was turned away
-pub new_touched : {h h' : List Event} {cs : Clients} {ls : List Link} (c : ℕ) → role c h ≡ None → role c h' ≡ role c h → TouchesOnly c h h' → EndsGo h h' cs cs ls ls
-new_touched {h} {h'} {cs} {ls} c none same only = λ core. record {
+-- what touches a new connection alone, which isn't open then, leaves all clients as they were, too: one was turned away
+pub new_touched : {h h' : List Event} {cs : Clients} {ls : List Link} (c : ℕ) → role c h ≡ None → role c h' ≡ None → is_open c h' ≡ false → TouchesOnly c h h' → EndsGo h h' cs cs ls ls
+new_touched {h} {h'} {cs} {ls} c none none_now shut only = λ core. record {
   steps = [];
   kinds = tt;
   walks = refl;
@@ -80,8 +84,10 @@ new_touched {h} {h'} {cs} {ls} c none same only = λ core. record {
     clients = λ j. if_moved h h' (fed_in past) (gave_in past) (fed_in past) (gave_in past) j (client_of cs j) (λ d of_d. only d (new_apart c d h (0, j) of_d none)) refl refl (was.clients j);
     orderly = was.orderly;
     told = was.told;
-    links = lines_new c h h' [] past ls none only tt was.links;
-    gone = λ conn id is. had_quiet past [] h h' cs cs id conn (only conn (new_apart c conn h' (0, id) is (same ∙ none))) refl is was.gone;
+    links = lines_apart h h' [] past ls (λ d at of_d. only d (new_apart c d h (1, at) of_d none)) tt was.links;
+    gone = λ conn id is. had_quiet past [] h h' cs cs id conn (only conn (new_apart c conn h' (0, id) is none_now)) refl is was.gone;
+    shown = shown_later [] past h h' tt (only_after c h h' only) was.shown;
+    shut = shut_turned c shut only was.shut;
   };
   texts = refl;
 }
@@ -92,12 +98,53 @@ none_is e = cc
 number_is : {m n : ℕ} → ◌≡◌ {A = Option ℕ} (Some m) (Some n) → m ≡ n
 number_is e = cc
 
--- a client was opened under this id, and its end has begun, or is not there
+-- what is told of a connection doesn't change when one is closed
+closed_tells : (c d : ℕ) (h h' : List Event) → Closes c h h' → TellsSame d h h'
+closed_tells c d h h' (inl closed) = (ap (role d) closed, ap (delivered d) closed, ap (taken d) closed)
+closed_tells c d h h' (inr same) = (ap (role d) same.0, ap (delivered d) same.0, ap (taken d) same.0)
+
+pub only_closed : (c : ℕ) (h h' : List Event) → Closes c h h' → TouchesOnly c h h'
+only_closed c h h' (inl closed) = subst (TouchesOnly c h) (sym closed) (only_closes c h)
+only_closed c h h' (inr same) = subst (TouchesOnly c h) (sym same.0) (λ d other. untouched d h)
+
+tells_twice : (d : ℕ) (h h' h'' : List Event) → TellsSame d h h' → TellsSame d h' h'' → TellsSame d h h''
+tells_twice d h h' h'' a b = (b.0 ∙ a.0, b.1 ∙ a.1, b.2 ∙ a.2)
+
+-- the connection of a client was closed, if there was one
+pub record IsDropped (kept : Option ℕ) (h h' : List Event) : Type 0 where
+  pub some : IfSome kept (λ c. Closes c h h')
+  pub none : kept ≡ None → h' ≡ h
+
+pub dropped_tells : (kept : Option ℕ) (d : ℕ) (h h' : List Event) → IsDropped kept h h' → TellsSame d h h'
+dropped_tells None d h h' q = let same = q.none refl in (ap (role d) same, ap (delivered d) same, ap (taken d) same)
+dropped_tells (Some c) d h h' q = closed_tells c d h h' q.some
+
+dropped_after : (kept : Option ℕ) (h h' : List Event) → IsDropped kept h h' → Extends h h'
+dropped_after None h h' q = ([], q.none refl)
+dropped_after (Some c) h h' q = only_after c h h' (only_closed c h h' q.some)
+
+-- a connection that is open still is another one
+dropped_opens : (kept : Option ℕ) (d : ℕ) (h h' : List Event) → IsDropped kept h h' → is_open d h' ≡ true → (is_open d h ≡ true) × (kept ≢ Some d)
+dropped_opens None d h h' q on = (sym (ap (is_open d) (q.none refl)) ∙ on, λ e. none_is e)
+dropped_opens (Some c) d h h' q on = elim (cases_Bool (nat_eq c d)) [ inl e ↦ absurd (false_true (sym (closed_shut c h h' q.some) ∙ ap (λ k. is_open k h') (eqb-true c d e) ∙ on)) | inr e ↦ (sym (only_closed c h h' q.some d e).same_open ∙ on, λ is. false_true (sym e ∙ eq-eqb c d (number_is is))) ]
+  where
+    false_true : false ≡ true → ⊥
+    false_true f = cc
+
+-- no connection of another was touched
+dropped_only :
+    (id : ℕ) (o : Option Client) (h h' : List Event) → IsDropped (option_map (λ (x : Client). x.conn.number) o) h h' → IfSome o (λ x. role x.conn.number h ≡ Some (0, id))
+    → (d : ℕ) (p : ℕ × ℕ) → role d h ≡ Some p → p ≢ (0, id) → IsUntouched d h h'
+dropped_only id None h h' q is d p of_d other = subst (IsUntouched d h) (sym (q.none refl)) (untouched d h)
+dropped_only id (Some x) h h' q is d p of_d other = only_closed x.conn.number h h' q.some d (apart x.conn.number d h (0, id) p is of_d (λ same. other (sym same)))
+
+-- a client was opened under this id for a peer that was just accepted: the end of that id is gone, if there was one, and the new one has begun, or is not there
 pub opened_go :
-    {h h' : List Event} {cs cs' : Clients} {ls : List Link} (id c : ℕ) (b last : ServedCore) → role c h ≡ None → TouchesOnly c h h' → IsUnused c h' → ((j : ℕ) → j ≢ id → client_of cs' j ≡ client_of cs j)
+    {h h1 h2 h' : List Event} {cs cs' : Clients} {ls : List Link} (id c : ℕ) (b last : ServedCore) → IsNew c h → h1 ≡ accepts c ∷ h → IsDropped (client_conn cs id) h1 h2 → TouchesOnly c h2 h' → IsUnused c h'
+    → (is_open c h' ≡ true → (client_conn cs' id ≡ Some c) × (role c h' ≡ Some (0, id))) → ((j : ℕ) → j ≢ id → client_of cs' j ≡ client_of cs j)
     → IfSome (client_of cs' id) (EndAgrees h' (λ j. []) (λ j. []) id) → IfSome (client_of cs' id) (λ x. x.is_broken ≡ false) → GoesBy IsSilent b last → (before : ServedCore) → Does (Opened id) before b
     → AllGo IsOfTurn (record { core = before; history = h; clients = cs; links = ls }) (record { core = last; history = h'; clients = cs'; links = ls })
-opened_go {h} {h'} {cs} {cs'} {ls} id c b last none only unused others begun stood q before does = record {
+opened_go {h} {h1} {h2} {h'} {cs} {cs'} {ls} id c b last new is dropped only unused own others begun stood q before does = record {
   steps = q.steps ++ Opened id ∷ [];
   kinds = of_both IsOfTurn q.steps (Opened id ∷ []) (silent_turn q.steps q.kinds) (tt, tt);
   walks = walked q.steps (Opened id ∷ []) before b last (before, refl, does) q.walks;
@@ -105,23 +152,46 @@ opened_go {h} {h'} {cs} {cs'} {ls} id c b last none only unused others begun sto
     clients = agree_told h' (fed_in (Opened id ∷ past)) (gave_in (Opened id ∷ past)) (fed_in (q.steps ++ Opened id ∷ past)) (gave_in (q.steps ++ Opened id ∷ past)) cs' (λ j. let t = tells_none q.steps q.kinds (Opened id ∷ past) j in (t.0, t.1)) (mid past was.clients);
     told = all_told (Opened id ∷ past) q.steps cs' (tells_none q.steps q.kinds (Opened id ∷ past)) (told_mid past was.told);
     orderly = plain_orderly q.steps (silent_plain q.steps q.kinds) (Opened id ∷ past) (tt, was.orderly);
-    links = lines_told h' q.steps (Opened id ∷ past) ls (silent_plain q.steps q.kinds) (lines_new c h h' (Opened id ∷ []) past ls none only (tt, tt) was.links);
+    links = lines_told h' q.steps (Opened id ∷ past) ls (silent_plain q.steps q.kinds) (lines_apart h h' (Opened id ∷ []) past ls (λ d at of_d. apart_of past was.clients d (1, at) of_d (λ e. one_zero (ap (λ (p : ℕ × ℕ). p.0) e))) (tt, tt) was.links);
     gone = gone past was;
+    shown = shown_later q.steps (Opened id ∷ past) h' h' (plain_unlost q.steps (silent_plain q.steps q.kinds)) ([], refl) (shown_later (Opened id ∷ []) past h h' (tt, tt) after was.shown);
+    shut = shut_opened id c (λ d e. (tells d e).0) opens own (λ j other. ap (option_map (λ (x : Client). x.conn.number)) (others j other)) (λ j. refl) was.shut;
   });
   texts = refl;
 }
   where
-    gone : (past : List Step) → Agrees past (record { core = before; history = h; clients = cs; links = ls }) → (conn j : ℕ) → role conn h' ≡ Some (0, j) → HasOrHad (q.steps ++ Opened id ∷ past) h' cs' j conn
-    gone past was conn j is = elim (cases_Bool (nat_eq c conn)) [ inl e ↦ subst (λ k. HasOrHad (q.steps ++ Opened id ∷ past) h' cs' j k) (eqb-true c conn e) (inr (inl unused)) | inr e ↦ old (only conn e) ]
-      where
-        old : IsUntouched conn h h' → HasOrHad (q.steps ++ Opened id ∷ past) h' cs' j conn
-        old same = by (cases_eq j id)
-          where
-            told : TellsSame conn h h'
-            told = same_told conn h h' same
+    one_zero : ◌≡◌ {A = ℕ} 1 0 → ⊥
+    one_zero e = cc
 
+    accepted : TouchesOnly c h h1
+    accepted = accepted_only c h h1 is
+
+    tells : (d : ℕ) → nat_eq c d ≡ false → TellsSame d h h'
+    tells d e = tells_twice d h h1 h' (same_told d h h1 (accepted d e)) (tells_twice d h1 h2 h' (dropped_tells (client_conn cs id) d h1 h2 dropped) (same_told d h2 h' (only d e)))
+
+    opens : (d : ℕ) → nat_eq c d ≡ false → is_open d h' ≡ true → (is_open d h ≡ true) × (client_conn cs id ≢ Some d)
+    opens d e on = let o = dropped_opens (client_conn cs id) d h1 h2 dropped (sym (only d e).same_open ∙ on) in (sym (accepted d e).same_open ∙ o.0, o.1)
+
+    after : Extends h h'
+    after = extends_twice h h1 h' (only_after c h h1 accepted) (extends_twice h1 h2 h' (dropped_after (client_conn cs id) h1 h2 dropped) (only_after c h2 h' only))
+
+    apart_of : (past : List Step) → AllAgree h (fed_in past) (gave_in past) cs → (d : ℕ) (p : ℕ × ℕ) → role d h ≡ Some p → p ≢ (0, id) → IsUntouched d h h'
+    apart_of past was d p of_d other =
+        let e = new_apart c d h p of_d new.no_role in
+        untouched_twice d h h1 h' (accepted d e) (untouched_twice d h1 h2 h' (dropped_only id (client_of cs id) h1 h2 dropped (by (client_of cs id) (was id)) d p ((accepted d e).same_role ∙ of_d) other) (only d e))
+      where
+        by : (o : Option Client) → IfSome o (EndAgrees h (fed_in past) (gave_in past) id) → IfSome o (λ x. role x.conn.number h1 ≡ Some (0, id))
+        by None a = tt
+        by (Some x) a = let its_it = its h (fed_in past) (gave_in past) id x a in (accepted x.conn.number (new_apart c x.conn.number h (0, id) its_it new.no_role)).same_role ∙ its_it
+
+    gone : (past : List Step) → Agrees past (record { core = before; history = h; clients = cs; links = ls }) → (conn j : ℕ) → role conn h' ≡ Some (0, j) → HasOrHad (q.steps ++ Opened id ∷ past) h' cs' j conn
+    gone past was conn j is = elim (cases_Bool (nat_eq c conn)) [ inl e ↦ subst (λ k. HasOrHad (q.steps ++ Opened id ∷ past) h' cs' j k) (eqb-true c conn e) (inr (inl unused)) | inr e ↦ old (tells conn e) ]
+      where
+        old : TellsSame conn h h' → HasOrHad (q.steps ++ Opened id ∷ past) h' cs' j conn
+        old told = by (cases_eq j id)
+          where
             was_known : HasOrHad past h cs j conn
-            was_known = was.gone conn j (sym same.same_role ∙ is)
+            was_known = was.gone conn j (sym told.0 ∙ is)
 
             of_opened : (o : Option Client) → client_of cs j ≡ o → j ≡ id → HasOrHad past h cs j conn → HasOrHad (q.steps ++ Opened id ∷ past) h' cs' j conn
             of_opened None e here (inl now) = absurd (none_is (sym (ap (option_map (λ (x : Client). x.conn.number)) e) ∙ now))
@@ -169,7 +239,7 @@ opened_go {h} {h'} {cs} {cs'} {ls} id c b last none only unused others begun sto
         by (inr other) =
             let apart_is = unequal id j (λ e. other (sym e)) in
             subst (λ o. IfSome o (EndAgrees h' (fed_in (Opened id ∷ past)) (gave_in (Opened id ∷ past)) j)) (sym (others j other))
-            (if_moved h h' (fed_in past) (gave_in past) (fed_in (Opened id ∷ past)) (gave_in (Opened id ∷ past)) j (client_of cs j) (λ d of_d. only d (new_apart c d h (0, j) of_d none)) (of_other (nat_eq id j) (fed_in past j) apart_is) (of_other (nat_eq id j) (gave_in past j) apart_is) (was j))
+            (if_moved h h' (fed_in past) (gave_in past) (fed_in (Opened id ∷ past)) (gave_in (Opened id ∷ past)) j (client_of cs j) (λ d of_d. apart_of past was d (0, j) of_d (λ e. other (ap (λ (p : ℕ × ℕ). p.1) e))) (of_other (nat_eq id j) (fed_in past j) apart_is) (of_other (nat_eq id j) (gave_in past j) apart_is) (was j))
 
 -- what a new end has
 pub new_said : (x : Client) (c : ℕ) → x.conn.number ≡ c → (x.conn.held.items ≡ []) × (bytes_of x.conn.unsent ≡ []) → (x.is_ended ≡ false) × (x.is_broken ≡ false) → said_of x ≡ (c, [], [], false, false)
@@ -179,12 +249,12 @@ new_said x c number none stands =
 
 -- its end agrees with nothing fed and nothing given
 pub begun_agrees :
-    (h h' : List Event) (id c : ℕ) (o : Option Client) → IsNew c h → h' ≡ admits c id ∷ h → option_map said_of o ≡ Some (c, [], [], false, false) → IfSome o (EndAgrees h' (λ j. []) (λ j. []) id)
+    (h h' : List Event) (id c : ℕ) (o : Option Client) → IsUnused c h → h' ≡ admits c id ∷ h → option_map said_of o ≡ Some (c, [], [], false, false) → IfSome o (EndAgrees h' (λ j. []) (λ j. []) id)
 begun_agrees h h' id c None new is said = tt
 begun_agrees h h' id c (Some x) new is said =
     subst (λ (s : ℕ × List ℕ × List ℕ × Bool × Bool). StateAgrees h' (λ j. []) (λ j. []) id s.0 s.1 s.2 s.3 s.4) (sym (same_some said))
     (subst (λ g. StateAgrees g (λ j. []) (λ j. []) id c [] [] false false) (sym is)
-    (record { stands = λ off. client_begins h (λ j. []) (λ j. []) id c new refl refl; lost = λ on. absurd (false_true on); ended = λ on. absurd (false_true on) }))
+    (record { stands = λ off. record { is_its = ap (λ b. if b then Some (0, id) else role c h) (equal c); input_is = new.0; output_is = sym new.1 ∙ sym (append-nil (taken c h)) }; lost = λ on. absurd (false_true on); ended = λ on. absurd (false_true on) }))
   where
     same_some : {x y : ℕ × List ℕ × List ℕ × Bool × Bool} → ◌≡◌ {A = Option (ℕ × List ℕ × List ℕ × Bool × Bool)} (Some x) (Some y) → x ≡ y
     same_some e = cc
@@ -206,25 +276,28 @@ begun_stands c (Some x) said = ap (λ (s : ℕ × List ℕ × List ℕ × Bool �
 pub none_stands : (o : Option Client) → o ≡ None → IfSome o (λ x. x.is_broken ≡ false)
 none_stands o none = subst (λ p. IfSome p (λ x. x.is_broken ≡ false)) (sym none) tt
 
-pub only_closed : (c : ℕ) (h h' : List Event) → Closes c h h' → TouchesOnly c h h'
-only_closed c h h' (inl closed) = subst (TouchesOnly c h) (sym closed) (only_closes c h)
-only_closed c h h' (inr same) = subst (TouchesOnly c h) (sym same) (λ d other. untouched d h)
+pub only_may : (c id : ℕ) (h h' : List Event) → MayAdmit c id h h' → TouchesOnly c h h'
+only_may c id h h' (inl is) = subst (TouchesOnly c h) (sym is) (only_admits c id h)
+only_may c id h h' (inr same) = subst (TouchesOnly c h) (sym same) (λ d other. untouched d h)
 
-pub only_same : (c : ℕ) (h h' : List Event) → h' ≡ h → TouchesOnly c h h'
-only_same c h h' same = subst (TouchesOnly c h) (sym same) (λ d other. untouched d h)
+-- nothing came or went over it, before and after
+pub unused_new : (c : ℕ) (kept : Option ℕ) (h h1 h2 : List Event) → IsNew c h → h1 ≡ accepts c ∷ h → IsDropped kept h1 h2 → IsUnused c h2
+unused_new c kept h h1 h2 new is dropped = let same = dropped_tells kept c h1 h2 dropped in (same.1 ∙ ap (delivered c) is ∙ new.none_came, same.2 ∙ ap (taken c) is ∙ new.none_went)
 
-pub only_admitted : (c id : ℕ) (h h' : List Event) → h' ≡ admits c id ∷ h → TouchesOnly c h h'
-only_admitted c id h h' is = subst (TouchesOnly c h) (sym is) (only_admits c id h)
+pub unused_may : (c id : ℕ) (h h' : List Event) → MayAdmit c id h h' → IsUnused c h → IsUnused c h'
+unused_may c id h h' (inl is) was = (ap (delivered c) is ∙ was.0, ap (taken c) is ∙ was.1)
+unused_may c id h h' (inr same) was = (ap (delivered c) same ∙ was.0, ap (taken c) same ∙ was.1)
 
-pub unused_admitted : (c id : ℕ) (h h' : List Event) → IsNew c h → h' ≡ admits c id ∷ h → IsUnused c h'
-unused_admitted c id h h' new is = (ap (delivered c) is ∙ new.none_came, ap (taken c) is ∙ new.none_went)
+pub unused_closed : (c : ℕ) (h h' : List Event) → Closes c h h' → IsUnused c h → IsUnused c h'
+unused_closed c h h' closes was = let same = closed_tells c c h h' closes in (same.1 ∙ was.0, same.2 ∙ was.1)
 
-pub unused_same : (c : ℕ) (h h' : List Event) → IsNew c h → h' ≡ h → IsUnused c h'
-unused_same c h h' new is = (ap (delivered c) is ∙ new.none_came, ap (taken c) is ∙ new.none_went)
-
-pub unused_closed : (c : ℕ) (h h' : List Event) → IsUnused c h → Closes c h h' → IsUnused c h'
-unused_closed c h h' was (inl closed) = (ap (delivered c) closed ∙ was.0, ap (taken c) closed ∙ was.1)
-unused_closed c h h' was (inr same) = (ap (delivered c) same ∙ was.0, ap (taken c) same ∙ was.1)
+-- the connection that a new end has
+pub begun_conn : (c : ℕ) (o : Option Client) → option_map said_of o ≡ Some (c, [], [], false, false) → option_map (λ (x : Client). x.conn.number) o ≡ Some c
+begun_conn c None said = absurd (nobody said)
+  where
+    nobody : {s : ℕ × List ℕ × List ℕ × Bool × Bool} → ◌≡◌ {A = Option (ℕ × List ℕ × List ℕ × Bool × Bool)} None (Some s) → ⊥
+    nobody e = cc
+begun_conn c (Some x) said = ap (λ (o : Option (ℕ × List ℕ × List ℕ × Bool × Bool)). option_map (λ (s : ℕ × List ℕ × List ℕ × Bool × Bool). s.0) o) said
 
 -- nobody stands at a place that was emptied
 emptied : (xs : List (Option Client)) (id : ℕ) → option_flatten (slice_get (slice_set xs id None) id) ≡ None
@@ -238,17 +311,11 @@ gone_here cs cs' id gone = ap (λ xs. option_flatten (slice_get xs id)) gone ∙
 pub gone_others : (cs cs' : Clients) (id : ℕ) → cs'.all.items ≡ slice_set cs.all.items id None → (j : ℕ) → j ≢ id → client_of cs' j ≡ client_of cs j
 gone_others cs cs' id gone j other = kept cs.all.items cs'.all.items id j None other gone
 
--- what is told of a connection doesn't change when one is closed
-closed_tells : (c d : ℕ) (h h' : List Event) → Closes c h h' → TellsSame d h h'
-closed_tells c d h h' (inl closed) = (ap (role d) closed, ap (delivered d) closed, ap (taken d) closed)
-closed_tells c d h h' (inr same) = (ap (role d) same, ap (delivered d) same, ap (taken d) same)
-
 -- one was closed by the core, and is gone, and its connection was closed
 pub gone_go :
-    {h h' : List Event} {cs cs' : Clients} {ls : List Link} (id : ℕ) (r : Option ℕ) → r ≡ option_map (λ x. x.conn.number) (client_of cs id) → cs'.all.items ≡ slice_set cs.all.items id None
-    → IfSome r (λ c. Closes c h h') → (r ≡ None → h' ≡ h) → (before core : ServedCore) → Does (Closed id) before core → IsAllSentTo id cs
+    {h h' : List Event} {cs cs' : Clients} {ls : List Link} (id : ℕ) → cs'.all.items ≡ slice_set cs.all.items id None → IsDropped (client_conn cs id) h h' → (before core : ServedCore) → Does (Closed id) before core → IsAllSentTo id cs
     → AllGoFrom (AgreesGiven id) Agrees (IsClosing id) (record { core = before; history = h; clients = cs; links = ls }) (record { core = core; history = h'; clients = cs'; links = ls })
-gone_go {h} {h'} {cs} {cs'} {ls} id r is gone some none before core does sent = record {
+gone_go {h} {h'} {cs} {cs'} {ls} id gone dropped before core does sent = record {
   steps = Closed id ∷ [];
   kinds = (inr refl, tt);
   walks = (before, refl, does);
@@ -256,9 +323,10 @@ gone_go {h} {h'} {cs} {cs'} {ls} id r is gone some none before core does sent = 
     clients = λ j. clients past was.clients j (cases_eq j id);
     told = λ j. still_told past was.told j (cases_eq j id);
     orderly = (tt, was.orderly);
-    links = λ at link there.
-        line_stays h h' at (Closed id ∷ []) past link (λ conn c. touched past was.clients conn.number (1, at) ((was.links at link there).conn conn c).is_to (λ e. one_zero (ap (λ (p : ℕ × ℕ). p.0) e))) refl (was.links at link there);
+    links = lines_apart h h' (Closed id ∷ []) past ls (λ d at of_d. touched past was.clients d (1, at) of_d (λ e. one_zero (ap (λ (p : ℕ × ℕ). p.0) e))) (tt, tt) was.links;
     gone = gone_of past was given.1;
+    shown = shown_later (Closed id ∷ []) past h h' (tt, tt) (dropped_after (client_conn cs id) h h' dropped) was.shown;
+    shut = shut_without id (λ d. (told d).0) (λ d on. dropped_opens (client_conn cs id) d h h' dropped on) (λ j other. ap (option_map (λ (x : Client). x.conn.number)) (gone_others cs cs' id gone j other)) (λ j. refl) was.shut;
   };
   texts = refl;
 }
@@ -267,20 +335,14 @@ gone_go {h} {h'} {cs} {cs'} {ls} id r is gone some none before core does sent = 
     one_zero e = cc
 
     touched : (past : List Step) → AllAgree h (fed_in past) (gave_in past) cs → (d : ℕ) (p : ℕ × ℕ) → role d h ≡ Some p → p ≢ (0, id) → IsUntouched d h h'
-    touched past was d p of_d other = by (client_of cs id) refl (was id)
+    touched past was d p of_d other = dropped_only id (client_of cs id) h h' dropped (by (client_of cs id) (was id)) d p of_d other
       where
-        by : (o : Option Client) → client_of cs id ≡ o → IfSome o (EndAgrees h (fed_in past) (gave_in past) id) → IsUntouched d h h'
-        by None e a = subst (IsUntouched d h) (sym (none (is ∙ ap (option_map (λ (x : Client). x.conn.number)) e))) (untouched d h)
-        by (Some x) e a =
-            only_closed x.conn.number h h' (subst (λ o. IfSome o (λ c. Closes c h h')) (is ∙ ap (option_map (λ (x : Client). x.conn.number)) e) some) d
-            (apart x.conn.number d h (0, id) p (its h (fed_in past) (gave_in past) id x a) of_d (λ same. other (sym same)))
+        by : (o : Option Client) → IfSome o (EndAgrees h (fed_in past) (gave_in past) id) → IfSome o (λ x. role x.conn.number h ≡ Some (0, id))
+        by None a = tt
+        by (Some x) a = its h (fed_in past) (gave_in past) id x a
 
     told : (d : ℕ) → TellsSame d h h'
-    told d = by r refl
-      where
-        by : (o : Option ℕ) → r ≡ o → TellsSame d h h'
-        by None e = let same = none e in (ap (role d) same, ap (delivered d) same, ap (taken d) same)
-        by (Some c) e = closed_tells c d h h' (subst (λ o. IfSome o (λ c. Closes c h h')) e some)
+    told d = dropped_tells (client_conn cs id) d h h' dropped
 
     took :
         (past : List Step) → Agrees past (record { core = before; history = h; clients = cs; links = ls }) → (j conn : ℕ) (x : Client) → client_of cs j ≡ Some x → j ≡ id → x.conn.number ≡ conn → TookAll past h j conn

@@ -3,7 +3,7 @@ use Rattle.std.specs.Prelude.{Bool, ◌≡◌, ◌≢◌, ℕ, List, [], ◌∷�
 use Rattle.wire_parts.specs.Sending.{bytes_of}
 use Rattle.mc_types.specs.declared.ask.Dialect.{Dialect}
 use Rattle.mc_types.specs.declared.ask.Dialect.TheVariants.{Classic}
-use Rattle.serve_wire.specs.Events.{Event, role}
+use Rattle.serve_wire.specs.Events.{Event, accepts, admits, role, is_open, IsNew}
 use Rattle.serve_wire.specs.Agreement.{IsUntouched}
 use Rattle.core_commands.specs.declared.ticket.Ticket.{Ticket}
 use Rattle.route_json.specs.Configuration.{Configuration}
@@ -183,9 +183,19 @@ AllGoFromUnless Before at (Err refused) history core sockets core' sockets' = Al
 abbrev pub AllGoUnless : {W E : Type 0} → ℕ → Result (Option Cause) E → (W → List Event) → ServedCore → Sockets W → ServedCore → Sockets W → Type 0
 AllGoUnless at r history core sockets core' sockets' = AllGoFromUnless Agrees at r history core sockets core' sockets'
 
--- a client was opened under this id in a core that is so now, and all go on from before that
-abbrev pub AllGoOpened : {W : Type 0} → (W → List Event) → (id : ℕ) → ServedCore → Sockets W → ServedCore → Sockets W → Type 0
-AllGoOpened history id core sockets core' sockets' = (before : ServedCore) → Does (Opened id) before core → AllGoOn history before sockets core' sockets'
+-- a peer was just accepted by this new connection, and all go on from before that
+abbrev pub AllGoAccepted : {W : Type 0} → (W → List Event) → (conn : ℕ) → ServedCore → Sockets W → ServedCore → Sockets W → Type 0
+AllGoAccepted history conn core sockets core' sockets' =
+    (h : List Event) → IsNew conn h → history sockets.wire ≡ accepts conn ∷ h
+    → AllGo IsOfTurn (record { core = core; history = h; clients = sockets.clients; links = sockets.links.all.items }) (end_of history core' sockets')
+
+-- and then a client was opened under this id in a core that is so now: all go on from before both
+abbrev pub AllGoOpened : {W : Type 0} → (W → List Event) → (id conn : ℕ) → ServedCore → Sockets W → ServedCore → Sockets W → Type 0
+AllGoOpened history id conn core sockets core' sockets' = (before : ServedCore) → Does (Opened id) before core → AllGoAccepted history conn before sockets core' sockets'
+
+-- the connection may be this client's now, and nothing else happened
+abbrev pub MayAdmit : ℕ → ℕ → List Event → List Event → Type 0
+MayAdmit conn id h h' = (h' ≡ admits conn id ∷ h) ⊎ (h' ≡ h)
 
 -- nothing is to be sent to a client, or it is broken off
 abbrev pub IsAllSent : Client → Type 0
@@ -219,9 +229,9 @@ AllGoClosed history id sockets sockets' = (before core : ServedCore) → Does (C
 abbrev pub AllGoBreaking : {W : Type 0} → (W → List Event) → (id : ℕ) → Sockets W → Sockets W → Type 0
 AllGoBreaking history id sockets sockets' = (core : ServedCore) → AllGo (λ step. step ≡ Broke id) (end_of history core sockets) (end_of history core sockets')
 
--- no connection is a client's
-abbrev pub HasNoClients : List Event → Type 0
-HasNoClients h = (conn id : ℕ) → role conn h ≢ Some (0, id)
+-- no connection is anybody's, and none is open
+abbrev pub HasNoConns : List Event → Type 0
+HasNoConns h = (conn : ℕ) → (role conn h ≡ None) × (is_open conn h ≡ false)
 
 -- the line of a link to the server whose address this text names, without a connection, and without calls
 abbrev pub down_line : List ℕ → LineState

@@ -1,13 +1,11 @@
 //! Clients are accepted.
 
-ghost use Rattle.std.specs.Prelude.{◌≡◌, ◌≢◌, ℕ, ◌↔◌, ◌∷◌, [], IsTrue, true, false, Some};
+ghost use Rattle.std.specs.Prelude.{◌≡◌, ◌≢◌, ℕ, ◌↔◌, ◌∷◌, [], IsTrue, true, false, Some, None};
 ghost use Rattle.std.specs.Option.{option_map};
-ghost use Rattle.serve_wire.specs.Events.{IsNew, admits};
-ghost use Rattle.serve_wire.specs.Agreement.{TouchesOnly};
+ghost use Rattle.serve_wire.specs.Events.{admits, role};
 ghost use Rattle.serve_clients.specs.Marks.{client_of};
 ghost use Rattle.serve_clients.specs.Agrees.{said_of};
-ghost use Rattle.serve_links.specs.Story.{IsUnused};
-ghost use Rattle.serve_proxy.specs.Ends.{AllGoOn, AllGoOpened};
+ghost use Rattle.serve_proxy.specs.Ends.{AllGoOn, AllGoAccepted, AllGoOpened, MayAdmit};
 ghost use Rattle.serve_proxy.specs.Stillness.{MayAccept};
 
 use crate::sockets::Sockets;
@@ -97,8 +95,8 @@ fn accept_one<W: Wire>(core: &mut ServedCore, sockets: &mut Sockets<W>) -> bool
 
 // A client came: it is one more, or is told that there are too many. One for which there is no memory is closed.
 fn take_client<W: Wire>(core: &mut ServedCore, sockets: &mut Sockets<W>, conn: usize)
-    requires { IsNew conn (W.history sockets.old.wire) }
-    ensures ends { AllGoOn W.history core.old sockets.old core.new sockets.new }
+    requires { role conn (W.history sockets.old.wire) ≡ None }
+    ensures ends { AllGoAccepted W.history conn core.old sockets.old core.new sockets.new }
 {
     match core.open_client() {
         Ok(id) => keep_client(core, sockets, id, conn),
@@ -106,11 +104,12 @@ fn take_client<W: Wire>(core: &mut ServedCore, sockets: &mut Sockets<W>, conn: u
     }
 }
 
-// It is kept by its id. Where it can't be, the core closes it.
+// It is kept by its id, in place of one of that id, which no core opens while it has it. Where it can't be, the core closes it.
 fn keep_client<W: Wire>(core: &mut ServedCore, sockets: &mut Sockets<W>, id: usize, conn: usize)
-    requires { IsNew conn (W.history sockets.old.wire) }
-    ensures ends { AllGoOpened W.history id core.old sockets.old core.new sockets.new }
+    requires { role conn (W.history sockets.old.wire) ≡ None }
+    ensures ends { AllGoOpened W.history id conn core.old sockets.old core.new sockets.new }
 {
+    sockets.drop_end(id);
     if sockets.insert_client(id, conn) {
         return;
     }
@@ -122,11 +121,10 @@ fn keep_client<W: Wire>(core: &mut ServedCore, sockets: &mut Sockets<W>, id: usi
 impl<W: Wire> Sockets<W> {
     // The client's end is one of the clients'. Whether it could be.
     fn insert_client(&mut self, id: usize, conn: usize) -> bool
-        requires { IsNew conn (W.history self.old.wire) }
+        requires { role conn (W.history self.old.wire) ≡ None }
         ensures begins { result ≡ true → option_map said_of (client_of self.new.clients id) ≡ Some (conn, [], [], false, false) }
         ensures admitted { result ≡ true → W.history self.new.wire ≡ admits conn id ∷ W.history self.old.wire }
-        ensures only { TouchesOnly conn (W.history self.old.wire) (W.history self.new.wire) }
-        ensures unused { IsUnused conn (W.history self.new.wire) }
+        ensures may { MayAdmit conn id (W.history self.old.wire) (W.history self.new.wire) }
         ensures others { (other : ℕ) → other ≢ id → client_of self.new.clients other ≡ client_of self.old.clients other }
         ensures links { self.new.links ≡ self.old.links }
     {

@@ -1,7 +1,9 @@
 //! What is noted of a client, by its id, as it is served. Nothing here knows the core.
 
-ghost use Rattle.std.specs.Prelude.{◌≡◌, true};
+ghost use Rattle.std.specs.Prelude.{◌≡◌, true, None, IfSome, slice_set};
+ghost use Rattle.serve_wire.specs.Calls.{Closes};
 ghost use Rattle.serve_clients.specs.Agrees.{said_of};
+ghost use Rattle.serve_links.specs.Shut.{client_conn};
 ghost use Rattle.serve_proxy.specs.Ends.{Stay, GoAlone, AllGoClosed};
 
 use crate::sockets::{Sockets, close_if_any};
@@ -166,13 +168,23 @@ impl<W: Wire> Sockets<W> {
         }
     }
 
+    /// Nobody stands under this id, and the connection of who did is closed.
+    pub fn drop_end(&mut self, id: usize)
+        ensures some { IfSome (client_conn self.old.clients id) (λ c. Closes c (W.history self.old.wire) (W.history self.new.wire)) }
+        ensures none { client_conn self.old.clients id ≡ None → W.history self.new.wire ≡ W.history self.old.wire }
+        ensures gone { self.new.clients.all.items ≡ slice_set self.old.clients.all.items id None }
+        ensures rest { self.new ≡ record self.old { wire = self.new.wire; clients = self.new.clients } }
+    {
+        let conn = self.clients.remove(id);
+        close_if_any(&mut self.wire, conn);
+    }
+
     /// It is gone, and its connection is closed.
     pub fn remove_client(&mut self, id: usize)
         ensures ends { AllGoClosed W.history id self.old self.new }
     {
-        let conn = self.clients.remove(id);
         self.stalls.forget(id);
-        close_if_any(&mut self.wire, conn);
+        self.drop_end(id);
     }
 
     /// Its end gives back the room in which nothing is left.

@@ -1,7 +1,7 @@
 //! The links to the servers, by their numbers: which of them are to be read and written, when they are late, and what there is to tell
 //! of them. Nothing here knows the core.
 
-ghost use Rattle.std.specs.Prelude.{◌≡◌, ◌↔◌, true, [], ◌∷◌, ◌++◌, drop, length, IsTrue, IsSome, IfOk, IfErr, OnOk, MatchOption};
+ghost use Rattle.std.specs.Prelude.{◌≡◌, ◌↔◌, true, None, [], ◌∷◌, ◌++◌, drop, length, IsTrue, IsSome, IfOk, IfErr, OnOk, MatchOption};
 ghost use Rattle.serve_clients.specs.declared.clients.Clients.{Clients};
 ghost use Rattle.serve_links.specs.Links.{calls_out};
 ghost use Rattle.serve_links.specs.Story.{line_of, texts_of};
@@ -45,6 +45,7 @@ fn begin<W: Wire, N: Net>(
     time: u64,
     settings: &Settings,
 ) -> Opening
+    requires { link.old.conn ≡ None }
     ensures stands { LineStands at (W.history wire.old) (W.history wire.new) link.old link.new }
     ensures conn { result ≡ Opening.Begun → IsSome link.new.conn }
 {

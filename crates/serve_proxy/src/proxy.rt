@@ -6,7 +6,7 @@ ghost use Rattle.core_accepted.specs.Loading.{IsLoaded};
 ghost use Rattle.serve_links.specs.CoreSteps.{GoesOn, Fails};
 ghost use Rattle.serve_links.specs.Links.{IsDownAt, IsClosedAt};
 ghost use Rattle.serve_links.specs.Story.{Agrees, texts_of};
-ghost use Rattle.serve_proxy.specs.Ends.{Stay, end_of, AllGoOn, AllGoOr, AllDrop, AllLoad, HasNoClients};
+ghost use Rattle.serve_proxy.specs.Ends.{Stay, end_of, AllGoOn, AllGoOr, AllDrop, AllLoad, HasNoConns};
 ghost use Rattle.serve_proxy.specs.LogsGoOn.{LogsAreFresh};
 ghost use Rattle.serve_proxy.specs.Stillness.{IsStill};
 ghost use Rattle.serve_proxy.specs.Beginning.{BeginsFresh, BeginsUnchecked, LoadStops};
@@ -87,7 +87,7 @@ impl<W: Wire + Drop> ProxyEnd<W> {
         settings: Settings,
     ) -> Result<ProxyEnd<W>, AllocError>
         ensures core { IfOk result (λ end. BeginsFresh accepted begun settings end.core.value) }
-        ensures ends { IfOk result (λ end. HasNoClients (W.history wire) → Agrees [] (end_of W.history end.core.value end.sockets)) }
+        ensures ends { IfOk result (λ end. HasNoConns (W.history wire) → Agrees [] (end_of W.history end.core.value end.sockets)) }
         ensures texts { IfOk result (λ end. texts_of end.sockets.links.all.items ≡ servers.now) }
     {
         let links = Links::to(alloc, servers, settings)?;
@@ -104,7 +104,7 @@ impl<W: Wire + Drop> ProxyEnd<W> {
         settings: Settings,
     ) -> Result<ProxyEnd<W>, AllocError>
         ensures core { IfOk result (λ end. BeginsUnchecked tree settings end.core.value) }
-        ensures ends { IfOk result (λ end. HasNoClients (W.history wire) → Agrees [] (end_of W.history end.core.value end.sockets)) }
+        ensures ends { IfOk result (λ end. HasNoConns (W.history wire) → Agrees [] (end_of W.history end.core.value end.sockets)) }
         ensures texts { IfOk result (λ end. texts_of end.sockets.links.all.items ≡ servers.now) }
     {
         let links = Links::to(alloc, servers, settings)?;

@@ -1,12 +1,12 @@
-use Rattle.serve_proxy.proofs.Going.{and_then, stays}
-use Rattle.serve_proxy.proofs.Told.{stay_same, stay_accepts, accepted_new}
+use Rattle.serve_proxy.proofs.Going.{stays}
+use Rattle.serve_proxy.proofs.Told.{stay_same, accepted_role}
 use Rattle.serve_proxy.proofs.accepting.accept_one.Goals as goal
 
 pub take_client-requires : goal.take_client-requires
-take_client-requires g c = accepted_new c.in-Peer.conn _ _ c.in-Peer.ensures
+take_client-requires g c = accepted_role c.in-Peer.conn _ _ c.in-Peer.ensures
 
 pub returns-in-Peer : goal.returns-in-Peer
-returns-in-Peer g c = record { ends = and_then (stays c.args.core.now (stay_accepts c.in-Peer.conn _ _ _ _ c.in-Peer.ensures.1)) c.take_client.ensures.ends }
+returns-in-Peer g c = record { ends = c.take_client.ensures.ends (g.W.Wire.history c.args.sockets.now.wire) c.in-Peer.ensures.0 c.in-Peer.ensures.1 }
 
 pub returns-in-Gone : goal.returns-in-Gone
 returns-in-Gone g c = record { ends = stays c.args.core.now (stay_same _ _ _ _ c.in-Gone.ensures) }

@@ -1,28 +1,64 @@
-use Rattle.std.proofs.Common.{ap, ◌∙◌}
-use Rattle.serve_wire.proofs.Steps.{only_twice}
+use Rattle.std.proofs.Common.{◌≡◌, false, true, if◌then◌else◌, Some, ap, sym, ◌∙◌}
+use Rattle.serve_wire.specs.Events.{role, is_open}
+use Rattle.serve_wire.proofs.Steps.{equal, only_twice}
+use Rattle.serve_links.specs.Shut.{client_conn}
+use Rattle.serve_links.proofs.Shutting.{closed_shut}
 use Rattle.serve_proxy.specs.Ends.{lines_of}
 use Rattle.serve_proxy.proofs.Going.{and_then, stays, nothing, close_none}
-use Rattle.serve_proxy.proofs.Told.{opened_go, begun_agrees, begun_stands, none_agrees, none_stands, only_closed, unused_closed, gone_here, gone_others}
+use Rattle.serve_proxy.proofs.Told.{IsDropped, dropped_tells, opened_go, begun_agrees, begun_stands, begun_conn, none_agrees, none_stands, only_may, only_closed, unused_new, unused_may, unused_closed, gone_here, gone_others}
 use Rattle.serve_proxy.proofs.Staying.{stay_links}
 use Rattle.serve_proxy.proofs.accepting.keep_client.Goals as goal
 
+false_true : false ≡ true → ⊥
+false_true e = cc
+
+pub insert_client-requires : goal.insert_client-requires
+insert_client-requires g c =
+    let id = c.args.id in
+    (dropped_tells (client_conn c.args.sockets.now.clients id) c.args.conn _ _ (record { some = c.drop_end.ensures.some; none = c.drop_end.ensures.none })).0 ∙ c.requires
+
 pub returns-then-insert_client : goal.returns-then-insert_client
 returns-then-insert_client g c = record {
-  ends = λ before does. and_then (opened_go c.args.id c.args.conn c.args.core.now c.args.core.now c.requires.no_role c.insert_client.ensures.only c.insert_client.ensures.unused c.insert_client.ensures.others (begun_agrees _ _ c.args.id c.args.conn _ c.requires (c.insert_client.ensures.admitted c.if-insert_client.true) (c.insert_client.ensures.begins c.if-insert_client.true)) (begun_stands c.args.conn _ (c.insert_client.ensures.begins c.if-insert_client.true)) nothing before does) (stays c.args.core.now (stay_links _ _ _ _ (ap (λ l. lines_of l.all.items) c.insert_client.ensures.links)));
+  ends = λ before does h new is.
+      let id = c.args.id in
+      let conn = c.args.conn in
+      let cs = c.args.sockets.now.clients in
+      let mid = c.drop_end.new.self.clients in
+      let h1 = g.W.Wire.history c.args.sockets.now.wire in
+      let h2 = g.W.Wire.history c.drop_end.new.self.wire in
+      let h' = g.W.Wire.history c.insert_client.new.self.wire in
+      let dropped : IsDropped (client_conn cs id) h1 h2 = record { some = c.drop_end.ensures.some; none = c.drop_end.ensures.none } in
+      let unused = unused_new conn (client_conn cs id) h h1 h2 new is dropped in
+      let admitted = c.insert_client.ensures.admitted c.if-insert_client.true in
+      let begins = c.insert_client.ensures.begins c.if-insert_client.true in
+      and_then
+      (opened_go id conn c.args.core.now c.args.core.now new is dropped (only_may conn id h2 h' c.insert_client.ensures.may) (unused_may conn id h2 h' c.insert_client.ensures.may unused)
+      (λ on. (begun_conn conn _ begins, ap (role conn) admitted ∙ ap (λ b. if b then Some (0, id) else role conn h2) (equal conn)))
+      (λ j other. c.insert_client.ensures.others j other ∙ gone_others cs mid id c.drop_end.ensures.gone j other) (begun_agrees h2 h' id conn _ unused admitted begins) (begun_stands conn _ begins) nothing before does)
+      (stays c.args.core.now (stay_links _ _ _ _ (ap (λ l. lines_of l.all.items) (c.insert_client.ensures.links ∙ ap (λ s. s.links) c.drop_end.ensures.rest))));
 }
 
 pub returns : goal.returns
 returns g c = record {
-  ends = λ before does.
-      let cs = c.insert_client.new.self.clients in
+  ends = λ before does h new is.
+      let id = c.args.id in
+      let conn = c.args.conn in
+      let cs = c.args.sockets.now.clients in
+      let mid = c.drop_end.new.self.clients in
+      let last = c.insert_client.new.self.clients in
       let cs' = c.remove.new.self in
-      let h = g.W.Wire.history c.args.sockets.now.wire in
-      let m = g.W.Wire.history c.insert_client.new.self.wire in
+      let h1 = g.W.Wire.history c.args.sockets.now.wire in
+      let h2 = g.W.Wire.history c.drop_end.new.self.wire in
+      let h3 = g.W.Wire.history c.insert_client.new.self.wire in
       let h' = g.W.Wire.history c.close.new.self in
-      let nobody = gone_here cs cs' c.args.id c.remove.ensures.gone in
+      let nobody = gone_here last cs' id c.remove.ensures.gone in
+      let dropped : IsDropped (client_conn cs id) h1 h2 = record { some = c.drop_end.ensures.some; none = c.drop_end.ensures.none } in
+      let unused = unused_closed conn h3 h' c.close.ensures (unused_may conn id h2 h3 c.insert_client.ensures.may (unused_new conn (client_conn cs id) h h1 h2 new is dropped)) in
       and_then
       (and_then
-      (opened_go c.args.id c.args.conn c.args.core.now c.args.core.now c.requires.no_role (only_twice c.args.conn h m h' c.insert_client.ensures.only (only_closed c.args.conn m h' c.close.ensures)) (unused_closed c.args.conn m h' c.insert_client.ensures.unused c.close.ensures) (λ j other. gone_others cs cs' c.args.id c.remove.ensures.gone j other ∙ c.insert_client.ensures.others j other) (none_agrees h' c.args.id _ nobody) (none_stands _ nobody) nothing before does)
-      (close_none c.args.id c.close-2.result c.args.core.now c.close-2.new.self nobody c.close-2.ensures.ok c.close-2.ensures.err c.close-2.ensures.fresh))
-      (stays c.close-2.new.self (stay_links _ _ _ _ (ap (λ l. lines_of l.all.items) c.insert_client.ensures.links)));
+      (opened_go id conn c.args.core.now c.args.core.now new is dropped (only_twice conn h2 h3 h' (only_may conn id h2 h3 c.insert_client.ensures.may) (only_closed conn h3 h' c.close.ensures)) unused
+      (λ on. absurd (false_true (sym (closed_shut conn h3 h' c.close.ensures) ∙ on)))
+      (λ j other. gone_others last cs' id c.remove.ensures.gone j other ∙ c.insert_client.ensures.others j other ∙ gone_others cs mid id c.drop_end.ensures.gone j other) (none_agrees h' id _ nobody) (none_stands _ nobody) nothing before does)
+      (close_none id c.close-2.result c.args.core.now c.close-2.new.self nobody c.close-2.ensures.ok c.close-2.ensures.err c.close-2.ensures.fresh))
+      (stays c.close-2.new.self (stay_links _ _ _ _ (ap (λ l. lines_of l.all.items) (c.insert_client.ensures.links ∙ ap (λ s. s.links) c.drop_end.ensures.rest))));
 }

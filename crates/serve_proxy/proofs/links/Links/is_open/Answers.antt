@@ -1,5 +1,5 @@
 use Rattle.std.proofs.Common.{refl, sym, ap, ◌∙◌}
-use Rattle.serve_proxy.proofs.Staying.{stay_links}
+use Rattle.serve_proxy.proofs.Staying.{stay_links, not_some}
 use Rattle.serve_proxy.proofs.Going.{line_goes, go_stay}
 use Rattle.serve_proxy.proofs.Linking.{open_still, open_set}
 use Rattle.serve_proxy.proofs.links.Links.is_open.Goals as goal
@@ -24,3 +24,6 @@ returns-in-Failed g c = record {
 
 pub returns-then-is_some-clause-there : goal.returns-then-is_some-clause-there
 returns-then-is_some-clause-there g c = λ is. open_set c.args.self.now.all.items c.args.at c.in-Some.link.now c.in-Some.ensures.item.3.0 (sym c.is_some.ensures ∙ c.if-is_some.true)
+
+pub begin-requires : goal.begin-requires
+begin-requires g c = not_some c.in-Some.link.now.conn (sym c.is_some.ensures ∙ c.if-is_some.false)
