@@ -30,7 +30,7 @@ returns-in-Some g c =
           (line_given_up why links c.args.at x y c.in-Some.ensures.item.3.0 c.in-Some.ensures.value
           (line_then
           (line_closes why x m c.close-closed.result c.close-closed.ensures.number c.close_if_any.ensures.some c.close_if_any.ensures.none c.close-closed.ensures.conn (ap (λ t. t.items) c.close-closed.ensures.text) (ap (λ w. w.items) c.close-closed.ensures.waiting))
-          (line_fails m y c.fail_all.ensures.left.0 c.fail_all.ensures.core c.fail_all.ensures.closed (ap (λ t. t.items) c.fail_all.ensures.text) c.fail_all.ensures.left.1)))
+          (line_fails m y c.fail_all.ensures.left.0 c.fail_all.ensures.core c.close-closed.ensures.conn c.fail_all.ensures.closed (ap (λ t. t.items) c.fail_all.ensures.text) c.fail_all.ensures.left.1)))
           (stays c.fail_all.new.core (stay_clients _ _ _ _ c.fail_all.ensures.ends));
       down = on_ok c.fail_all.result _ _ (λ d. at_set IsDown links c.args.at y d) c.fail_all.ensures.down;
       closed = at_set (λ (z : Link). z.conn ≡ None) links c.args.at y c.fail_all.ensures.closed;
