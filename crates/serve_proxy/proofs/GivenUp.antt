@@ -74,6 +74,13 @@ pub idle_stands : (at : ℕ) (h h' : List Event) (x y : Link) (what : Got) (caus
 idle_stands at h h' x y what cause is s = λ core.
     subst (λ o. LineGoesFrom LineAgrees (LineUnless o) IsSending at core h x core h' y) (sym is) (line_between (λ past was. was) (λ past was. idle_agrees what at past h' y was) (s core))
 
+-- where it was read, and where it was not
+pub line_some : {h h' : List Event} {x y : Link} (at : ℕ) (v : Option Got) (what : Got) → v ≡ Some what → LineStandsUnless (over_after {E = Unit {0}} (Ok v)) at h h' x y → LineStandsUnless (over_by what) at h h' x y
+line_some {h} {h'} {x} {y} at v what is s = subst (λ o. LineStandsUnless (over_after {E = Unit {0}} (Ok o)) at h h' x y) is s
+
+pub line_none : {h h' : List Event} {x y : Link} (at : ℕ) (v : Option Got) → v ≡ None → LineStandsUnless (over_after {E = Unit {0}} (Ok v)) at h h' x y → LineStandsUnless None at h h' x y
+line_none {h} {h'} {x} {y} at v is s = subst (λ o. LineStandsUnless (over_after {E = Unit {0}} (Ok o)) at h h' x y) is s
+
 false_true : false ≡ true → ⊥
 false_true e = cc
 

@@ -66,7 +66,10 @@ fn settle_read<W: Wire>(
     ensures ends { AllGoFromUnless (AgreesUnless at (over_by got)) at result W.history core.old sockets.old core.new sockets.new }
 {
     match got {
-        Got::Bytes => learn_and_settle(core, sockets, at),
+        Got::Bytes => {
+            sockets.note_came(at);
+            learn_and_settle(core, sockets, at)
+        }
         Got::Nothing => Ok(sockets.read_in_vain(at)),
         Got::Full => Ok(Some(Cause::Foreign)),
         Got::Ended => Ok(Some(Cause::Closed)),
@@ -150,15 +153,9 @@ impl<W: Wire> Sockets<W> {
     fn read_link_once(&mut self, at: usize) -> Result<Option<Got>, AllocError>
         ensures ends { GoAloneUnless at (over_after result) W.history self.old self.new }
     {
-        let Some(link) = self.links.all.get_mut(at) else {
-            return Ok(None);
-        };
-        match read_line(link, &mut self.wire)? {
-            Some(Got::Bytes) => {
-                self.note_came(at);
-                Ok(Some(Got::Bytes))
-            }
-            got => Ok(got),
+        match self.links.all.get_mut(at) {
+            Some(link) => read_line(link, &mut self.wire),
+            None => Ok(None),
         }
     }
 

@@ -1,12 +1,12 @@
 use Rattle.std.proofs.Common.{refl}
 use Rattle.serve_links.proofs.Story.{go_between}
-use Rattle.serve_proxy.proofs.Going.{failing}
-use Rattle.serve_proxy.proofs.GivenUp.{as_before, foreign_at}
+use Rattle.serve_proxy.proofs.Going.{failing, stays}
+use Rattle.serve_proxy.proofs.GivenUp.{as_before, foreign_at, unless_after}
 use Rattle.serve_proxy.specs.Ends.{end_of}
 use Rattle.serve_proxy.proofs.answers.settle_read.Goals as goal
 
 pub returns-in-Bytes : goal.returns-in-Bytes
-returns-in-Bytes g c = record { ends = c.learn_and_settle.ensures.ends }
+returns-in-Bytes g c = record { ends = unless_after g.W.Wire.history c.args.at c.args.core.now c.args.sockets.now _ _ _ _ c.learn_and_settle.result (stays c.args.core.now c.note_came.ensures.ends) c.learn_and_settle.ensures.ends }
 
 pub returns-in-Nothing : goal.returns-in-Nothing
 returns-in-Nothing g c = record { ends = failing (c.read_in_vain.ensures.ends c.args.core.now) }
