@@ -23,7 +23,7 @@ use Rattle.serve_links.specs.Story.{said_asks, line_of, LineAgrees, LineLost, Li
 use Rattle.serve_links.proofs.LinkGoes.{as_failing, line_between, line_keeps}
 use Rattle.serve_links.proofs.Story.{go_between, all_but, but_all}
 use Rattle.serve_proxy.specs.declared.sockets.Sockets.{Sockets}
-use Rattle.serve_proxy.specs.Ends.{end_of, over_by, over_after, idle_cause, cause_after, broken_unless, IsLateAt, LineUnless, LineStandsUnless, EndsGoFrom, AgreesUnless, AllGoOn, AllGoUnless, AllGoFromUnless}
+use Rattle.serve_proxy.specs.Ends.{end_of, over_by, over_of, idle_cause, cause_after, broken_unless, IsLateAt, LineUnless, LineStandsUnless, EndsGoFrom, AgreesUnless, AllGoOn, AllGoUnless, AllGoFromUnless}
 use Rattle.serve_proxy.proofs.Going.{and_then, stays, line_lends}
 use Rattle.serve_proxy.proofs.Staying.{stay_clients}
 use Rattle.serve_proxy.proofs.Linking.{but_clients}
@@ -75,11 +75,11 @@ idle_stands at h h' x y what cause is s = λ core.
     subst (λ o. LineGoesFrom LineAgrees (LineUnless o) IsSending at core h x core h' y) (sym is) (line_between (λ past was. was) (λ past was. idle_agrees what at past h' y was) (s core))
 
 -- where it was read, and where it was not
-pub line_some : {h h' : List Event} {x y : Link} (at : ℕ) (v : Option Got) (what : Got) → v ≡ Some what → LineStandsUnless (over_after {E = Unit {0}} (Ok v)) at h h' x y → LineStandsUnless (over_by what) at h h' x y
-line_some {h} {h'} {x} {y} at v what is s = subst (λ o. LineStandsUnless (over_after {E = Unit {0}} (Ok o)) at h h' x y) is s
+pub line_some : {h h' : List Event} {x y : Link} (at : ℕ) (v : Option Got) (what : Got) → v ≡ Some what → LineStandsUnless (over_of v) at h h' x y → LineStandsUnless (over_by what) at h h' x y
+line_some {h} {h'} {x} {y} at v what is s = subst (λ o. LineStandsUnless (over_of o) at h h' x y) is s
 
-pub line_none : {h h' : List Event} {x y : Link} (at : ℕ) (v : Option Got) → v ≡ None → LineStandsUnless (over_after {E = Unit {0}} (Ok v)) at h h' x y → LineStandsUnless None at h h' x y
-line_none {h} {h'} {x} {y} at v is s = subst (λ o. LineStandsUnless (over_after {E = Unit {0}} (Ok o)) at h h' x y) is s
+pub line_none : {h h' : List Event} {x y : Link} (at : ℕ) (v : Option Got) → v ≡ None → LineStandsUnless (over_of v) at h h' x y → LineStandsUnless None at h h' x y
+line_none {h} {h'} {x} {y} at v is s = subst (λ o. LineStandsUnless (over_of o) at h h' x y) is s
 
 false_true : false ≡ true → ⊥
 false_true e = cc
@@ -203,13 +203,13 @@ unless_after history at core s m sm core' s' (Err refused) first later = and_the
 
 -- a read gave this
 pub read_some :
-    {h h' : List Event} {cs cs' : Clients} {ls ls' : List Link} (at : ℕ) (v : Option Got) (what : Got) → v ≡ Some what → EndsGoFrom Agrees (AgreesUnless at (over_after {E = Unit {0}} (Ok v))) h h' cs cs' ls ls'
+    {h h' : List Event} {cs cs' : Clients} {ls ls' : List Link} (at : ℕ) (v : Option Got) (what : Got) → v ≡ Some what → EndsGoFrom Agrees (AgreesUnless at (over_of v)) h h' cs cs' ls ls'
     → EndsGoFrom Agrees (AgreesUnless at (over_by what)) h h' cs cs' ls ls'
-read_some {h} {h'} {cs} {cs'} {ls} {ls'} at v what is did = subst (λ o. EndsGoFrom Agrees (AgreesUnless at (over_after {E = Unit {0}} (Ok o))) h h' cs cs' ls ls') is did
+read_some {h} {h'} {cs} {cs'} {ls} {ls'} at v what is did = subst (λ o. EndsGoFrom Agrees (AgreesUnless at (over_of o)) h h' cs cs' ls ls') is did
 
 pub read_none :
-    {h h' : List Event} {cs cs' : Clients} {ls ls' : List Link} (at : ℕ) (v : Option Got) → v ≡ None → EndsGoFrom Agrees (AgreesUnless at (over_after {E = Unit {0}} (Ok v))) h h' cs cs' ls ls' → EndsGoFrom Agrees Agrees h h' cs cs' ls ls'
-read_none {h} {h'} {cs} {cs'} {ls} {ls'} at v is did = subst (λ o. EndsGoFrom Agrees (AgreesUnless at (over_after {E = Unit {0}} (Ok o))) h h' cs cs' ls ls') is did
+    {h h' : List Event} {cs cs' : Clients} {ls ls' : List Link} (at : ℕ) (v : Option Got) → v ≡ None → EndsGoFrom Agrees (AgreesUnless at (over_of v)) h h' cs cs' ls ls' → EndsGoFrom Agrees Agrees h h' cs cs' ls ls'
+read_none {h} {h'} {cs} {cs'} {ls} {ls'} at v is did = subst (λ o. EndsGoFrom Agrees (AgreesUnless at (over_of o)) h h' cs cs' ls ls') is did
 
 -- and so with what was said of that
 pub idle_some :

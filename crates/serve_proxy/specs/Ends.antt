@@ -84,9 +84,12 @@ over_by got.Ended = Some causes.Closed
 over_by got.Failed = Some causes.Broken
 
 -- the same of a read that may not have been made
+abbrev pub over_of : Option Got → Option Cause
+over_of None = None
+over_of (Some what) = over_by what
+
 abbrev pub over_after : {E : Type 0} → Result (Option Got) E → Option Cause
-over_after (Ok None) = None
-over_after (Ok (Some what)) = over_by what
+over_after (Ok read) = over_of read
 over_after (Err refused) = None
 
 -- why a link is to be given up on which nothing is out: nothing may come over it
