@@ -9,7 +9,7 @@ use Rattle.serve_wire.specs.Calls.{Closes}
 use Rattle.serve_wire.proofs.Steps.{equal}
 use Rattle.serve_clients.specs.declared.clients.Clients.{Clients}
 use Rattle.serve_links.specs.declared.link.Link.{Link}
-use Rattle.serve_links.specs.Shut.{client_conn, conn_of, link_conn, IsShutBut, StaysShut, AreShut}
+use Rattle.serve_links.specs.Shut.{client_conn, link_conn, IsShutBut, AreShut}
 use Rattle.serve_links.specs.Story.{KeepsOthers}
 
 same_pair : {p q : ℕ × ℕ} → Some p ≡ Some q → p ≡ q
@@ -22,8 +22,8 @@ false_true : false ≡ true → ⊥
 false_true e = cc
 
 not_open : (b : Bool) → (b ≡ true → ⊥) → b ≡ false
-not_open true no = absurd (no refl)
-not_open false no = refl
+not_open true never = absurd (never refl)
+not_open false never = refl
 
 clients_servers : {i j : ℕ} → ◌≡◌ {A = Option (ℕ × ℕ)} (Some (0, i)) (Some (1, j)) → ⊥
 clients_servers e = numbers (ap (λ (p : ℕ × ℕ). p.0) (same_pair e))
@@ -41,40 +41,40 @@ closed_shut c h h' (inr same) = ap (is_open c) same.0 ∙ same.1
 
 -- ---- one link
 
--- one connection was touched: if it is open, the link has it, and any other that the link had it still has
+-- one connection was touched: if it is open it is the one that is kept now, and any other that was kept still is
 pub shut_by :
-    {at : ℕ} {h h' : List Event} {x y : Link} (c : ℕ) → TouchesOnly c h h' → ((d : ℕ) → nat_eq c d ≡ false → conn_of x ≡ Some d → conn_of y ≡ Some d) → (is_open c h' ≡ true → conn_of y ≡ Some c)
-    → StaysShut at h x h' y
-shut_by {at} {h} {h'} {x} {y} c only others own was d its on = elim (cases_Bool (nat_eq c d)) [ inl e ↦ mine (eqb-true c d e) | inr e ↦ other e (only d e) ]
+    {its : ℕ × ℕ} {h h' : List Event} {o o' : Option ℕ} (c : ℕ) → TouchesOnly c h h' → ((d : ℕ) → nat_eq c d ≡ false → o ≡ Some d → o' ≡ Some d) → (is_open c h' ≡ true → o' ≡ Some c)
+    → IsShutBut its o h → IsShutBut its o' h'
+shut_by {its} {h} {h'} {o} {o'} c only others own was d of_d on = elim (cases_Bool (nat_eq c d)) [ inl e ↦ mine (eqb-true c d e) | inr e ↦ other e (only d e) ]
   where
-    mine : c ≡ d → conn_of y ≡ Some d
-    mine e = subst (λ k. conn_of y ≡ Some k) e (own (ap (λ k. is_open k h') e ∙ on))
+    mine : c ≡ d → o' ≡ Some d
+    mine e = subst (λ k. o' ≡ Some k) e (own (ap (λ k. is_open k h') e ∙ on))
 
-    other : nat_eq c d ≡ false → IsUntouched d h h' → conn_of y ≡ Some d
-    other e same = others d e (was d (sym same.same_role ∙ its) (sym same.same_open ∙ on))
+    other : nat_eq c d ≡ false → IsUntouched d h h' → o' ≡ Some d
+    other e same = others d e (was d (sym same.same_role ∙ of_d) (sym same.same_open ∙ on))
 
--- it is the link's, before and after
-pub shut_used : {at : ℕ} {h h' : List Event} {x y : Link} (c : ℕ) → TouchesOnly c h h' → conn_of x ≡ Some c → conn_of y ≡ Some c → StaysShut at h x h' y
-shut_used {x = x} {y = y} c only had has = shut_by c only (λ d other was. has ∙ sym had ∙ was) (λ on. has)
+-- it is kept, before and after
+pub shut_used : {its : ℕ × ℕ} {h h' : List Event} {o o' : Option ℕ} (c : ℕ) → TouchesOnly c h h' → o ≡ Some c → o' ≡ Some c → IsShutBut its o h → IsShutBut its o' h'
+shut_used c only had has = shut_by c only (λ d other was. has ∙ sym had ∙ was) (λ on. has)
 
--- it was begun, where the link had none
-pub shut_begun : {at : ℕ} {h h' : List Event} {x y : Link} (c : ℕ) → TouchesOnly c h h' → conn_of x ≡ None → conn_of y ≡ Some c → StaysShut at h x h' y
-shut_begun {x = x} {y = y} c only none has = shut_by c only (λ d other was. absurd (none_some (sym none ∙ was))) (λ on. has)
+-- it was begun, where none was kept
+pub shut_begun : {its : ℕ × ℕ} {h h' : List Event} {o o' : Option ℕ} (c : ℕ) → TouchesOnly c h h' → o ≡ None → o' ≡ Some c → IsShutBut its o h → IsShutBut its o' h'
+shut_begun c only none has = shut_by c only (λ d other was. absurd (none_some (sym none ∙ was))) (λ on. has)
 
--- it isn't open, and the link has what it had
-pub shut_in_vain : {at : ℕ} {h h' : List Event} {x y : Link} (c : ℕ) → TouchesOnly c h h' → is_open c h' ≡ false → conn_of y ≡ conn_of x → StaysShut at h x h' y
+-- it isn't open, and what was kept is
+pub shut_in_vain : {its : ℕ × ℕ} {h h' : List Event} {o o' : Option ℕ} (c : ℕ) → TouchesOnly c h h' → is_open c h' ≡ false → o' ≡ o → IsShutBut its o h → IsShutBut its o' h'
 shut_in_vain c only shut same = shut_by c only (λ d other was. same ∙ was) (λ on. absurd (false_true (sym shut ∙ on)))
 
--- it was the link's, and isn't open
-pub shut_closed : {at : ℕ} {h h' : List Event} {x y : Link} (c : ℕ) → TouchesOnly c h h' → is_open c h' ≡ false → conn_of x ≡ Some c → StaysShut at h x h' y
-shut_closed {x = x} {y = y} c only shut had = shut_by c only (λ d other was. absurd (false_true (sym other ∙ eq-eqb c d (same (sym had ∙ was))))) (λ on. absurd (false_true (sym shut ∙ on)))
+-- it was kept, and isn't open
+pub shut_closed : {its : ℕ × ℕ} {h h' : List Event} {o o' : Option ℕ} (c : ℕ) → TouchesOnly c h h' → is_open c h' ≡ false → o ≡ Some c → IsShutBut its o h → IsShutBut its o' h'
+shut_closed c only shut had = shut_by c only (λ d other was. absurd (false_true (sym other ∙ eq-eqb c d (same (sym had ∙ was))))) (λ on. absurd (false_true (sym shut ∙ on)))
   where
     same : {m n : ℕ} → Some m ≡ Some n → m ≡ n
     same e = cc
 
 -- no connection was touched
-pub shut_still : {at : ℕ} {h h' : List Event} {x y : Link} → ((d : ℕ) → IsUntouched d h h') → conn_of y ≡ conn_of x → StaysShut at h x h' y
-shut_still still same was d its on = same ∙ was d (sym (still d).same_role ∙ its) (sym (still d).same_open ∙ on)
+pub shut_still : {its : ℕ × ℕ} {h h' : List Event} {o o' : Option ℕ} → ((d : ℕ) → IsUntouched d h h') → o' ≡ o → IsShutBut its o h → IsShutBut its o' h'
+shut_still still same was d of_d on = same ∙ was d (sym (still d).same_role ∙ of_d) (sym (still d).same_open ∙ on)
 
 -- ---- all ends
 

@@ -27,7 +27,7 @@ abbrev pub StaysShut : ℕ → List Event → Link → List Event → Link → T
 StaysShut at h link h' link' = IsShutBut (1, at) (conn_of link) h → IsShutBut (1, at) (conn_of link') h'
 
 -- each connection is closed but those that clients' ends and links have
-pub record AreShut (h : List Event) (clients : Clients) (links : List Link) : Type 0 where
-  pub clients : (id : ℕ) → IsShutBut (0, id) (client_conn clients id) h
-  pub links : (at : ℕ) → IsShutBut (1, at) (link_conn links at) h
+pub record AreShut (h : List Event) (cs : Clients) (ls : List Link) : Type 0 where
+  pub clients : (id : ℕ) → IsShutBut (0, id) (client_conn cs id) h
+  pub links : (at : ℕ) → IsShutBut (1, at) (link_conn ls at) h
   pub nobodys : (c : ℕ) → role c h ≡ None → is_open c h ≡ false

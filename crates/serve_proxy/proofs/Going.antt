@@ -391,10 +391,6 @@ losing_at at past x a =
 pub may_lose_at : {P : List Step → AnEnd → Type 0} {Is : Step → Type 0} {a b : AnEnd} (at : ℕ) → AllGoFrom P Agrees Is a b → AllGoFrom P (AgreesBut LineLost at) Is a b
 may_lose_at {b = b} at g = go_between (λ past was. was) (λ past was. losing_at at past b was) g
 
--- a link may be given up whose bytes are all there
-pub gives_up : {Q : List Step → AnEnd → Type 0} {Is : Step → Type 0} {a b : AnEnd} (at : ℕ) → AllGoFrom (AgreesBut LineLost at) Q Is a b → AllGoFrom Agrees Q Is a b
-gives_up {a = a} at g = go_between (λ past was. losing_at at past a was) (λ past was. was) g
-
 -- what is handed a call goes on without it
 pub without_call : {Q : List Step → AnEnd → Type 0} {Is : Step → Type 0} {a b : AnEnd} (number at : ℕ) (ask : Ask) → AllGoFrom Agrees Q Is a b → AllGoFrom (AgreesCalled number at ask) Q Is a b
 without_call number at ask g = go_between (λ past was. was.0) (λ past was. was) g
@@ -545,13 +541,6 @@ pub line_goes_but :
     → AllGoFrom Agrees (AgreesBut LineLost at) Is (record { core = a; history = h; clients = cs; links = links }) (record { core = b; history = h'; clients = cs; links = set links at y })
 line_goes_but {h = h} {h' = h'} {cs = cs} {a = a} {b = b} links at x y within was g =
     go_between (λ past was. all_but at past (record { core = a; history = h; clients = cs; links = links }) was) (λ past was. was) (line_lends links at x y within was g)
-
--- and was lost before, perhaps
-pub line_given_up :
-    {Is : Step → Type 0} {h h' : List Event} {cs : Clients} {a b : ServedCore} (links : List Link) (at : ℕ) (x y : Link) → at < length links → x ≡ get_or links at x → LineGoesFrom LineLost LineAgrees Is at a h x b h' y
-    → AllGoFrom (AgreesBut LineLost at) Agrees Is (record { core = a; history = h; clients = cs; links = links }) (record { core = b; history = h'; clients = cs; links = set links at y })
-line_given_up {h = h} {h' = h'} {cs = cs} {a = a} {b = b} links at x y within was g =
-    go_between (λ past was. was) (λ past was. but_all at past (record { core = b; history = h'; clients = cs; links = set links at y }) was) (line_lends links at x y within was g)
 
 -- it took over a call
 pub line_took :

@@ -8,5 +8,6 @@ pub mod Lent
 pub mod Told
 pub mod Growing
 pub mod Linking
+pub mod GivenUp
 pub mod Stalling
 pub mod Greatest

@@ -40,9 +40,9 @@ use Rattle.serve_links.proofs.LinkGoes.{as_lost, line_between, line_settles, lin
 use Rattle.serve_links.proofs.Story.{go_between}
 use Rattle.serve_links.proofs.Due.{one_due}
 use Rattle.serve_links.proofs.Shutting.{shut_quiet}
-use Rattle.serve_proxy.specs.Ends.{lines_of, LinksTake, LinksGive, LineTakes, IsOpenAt, AsksIn, AllGoOn, AllGoBut, AllGoLosing, AllGoOr, AllGoUnless}
+use Rattle.serve_proxy.specs.Ends.{lines_of, LinksTake, LinksGive, LineTakes, IsOpenAt, AsksIn, AllGoOn, AllGoLosing, AllGoOr}
 use Rattle.serve_proxy.specs.declared.sockets.Sockets.{Sockets}
-use Rattle.serve_proxy.proofs.Going.{and_then, core_of, may_lose, may_lose_at, line_took, line_gave, had_quiet, numbers_kept, told_kept, set_here}
+use Rattle.serve_proxy.proofs.Going.{and_then, core_of, may_lose, line_took, line_gave, had_quiet, numbers_kept, told_kept, set_here}
 use Rattle.serve_proxy.proofs.Staying.{line_lent}
 
 -- ---- lines
@@ -191,50 +191,16 @@ settled_some {core = core} {core' = core'} x y c d sent was off is text waiting 
 
 -- ---- what came of a read
 
--- by what there is to say of the cause
-pub unless_cause :
-    {W C : Type 0} (history : W → List Event) (at : ℕ) (core : ServedCore) (s : Sockets W) (core' : ServedCore) (s' : Sockets W) (cause : Option C) → (cause ≡ None → AllGoOn history core s core' s') → AllGoBut at history core s core' s'
-    → AllGoUnless {E = Unit {0}} at (Ok cause) history core s core' s'
-unless_cause history at core s core' s' None kept lost = kept refl
-unless_cause history at core s core' s' (Some cause) kept lost = lost
-
--- all is there whatever the cause
-pub unless_all :
-    {W C : Type 0} (history : W → List Event) (at : ℕ) (core : ServedCore) (s : Sockets W) (core' : ServedCore) (s' : Sockets W) (cause : Option C) → AllGoOn history core s core' s' → AllGoUnless {E = Unit {0}} at (Ok cause) history core s core' s'
-unless_all history at core s core' s' cause kept = unless_cause history at core s core' s' cause (λ none. kept) (may_lose_at at kept)
-
 false_true : false ≡ true → ⊥
 false_true e = cc
 
--- or it stopped
-pub unless_err :
-    {W C E : Type 0} (history : W → List Event) (at : ℕ) (core : ServedCore) (s : Sockets W) (core' : ServedCore) (s' : Sockets W) (r : Result (Option C) E) → IsErr r → AllGoBut at history core s core' s' → AllGoUnless at r history core s core' s'
-unless_err history at core s core' s' (Ok cause) is lost = absurd (false_true is)
-unless_err history at core s core' s' (Err refused) is lost = lost
-
+-- it stopped
 pub or_err :
     {W A E : Type 0} (history : W → List Event) (core : ServedCore) (s : Sockets W) (core' : ServedCore) (s' : Sockets W) (r : Result A E) → IsErr r → AllGoLosing history core s core' s' → AllGoOr r history core s core' s'
 or_err history core s core' s' (Ok done) is lost = absurd (false_true is)
 or_err history core s core' s' (Err refused) is lost = lost
 
--- where there is a cause, and where there is none
-pub unless_some :
-    {W C : Type 0} (history : W → List Event) (at : ℕ) (core : ServedCore) (s : Sockets W) (core' : ServedCore) (s' : Sockets W) (v : Option C) (cause : C) → v ≡ Some cause → AllGoUnless {E = Unit {0}} at (Ok v) history core s core' s'
-    → AllGoBut at history core s core' s'
-unless_some history at core s core' s' v cause is did = subst (λ o. AllGoUnless {E = Unit {0}} at (Ok o) history core s core' s') is did
-
-pub unless_none :
-    {W C : Type 0} (history : W → List Event) (at : ℕ) (core : ServedCore) (s : Sockets W) (core' : ServedCore) (s' : Sockets W) (v : Option C) → v ≡ None → AllGoUnless {E = Unit {0}} at (Ok v) history core s core' s' → AllGoOn history core s core' s'
-unless_none history at core s core' s' v is did = subst (λ o. AllGoUnless {E = Unit {0}} at (Ok o) history core s core' s') is did
-
 -- and before
-pub unless_after :
-    {W C E : Type 0} (history : W → List Event) (at : ℕ) (core : ServedCore) (s : Sockets W) (m : ServedCore) (sm : Sockets W) (core' : ServedCore) (s' : Sockets W) (r : Result (Option C) E) → AllGoOn history core s m sm
-    → AllGoUnless at r history m sm core' s' → AllGoUnless at r history core s core' s'
-unless_after history at core s m sm core' s' (Ok None) first later = and_then first later
-unless_after history at core s m sm core' s' (Ok (Some cause)) first later = and_then first later
-unless_after history at core s m sm core' s' (Err refused) first later = and_then first later
-
 pub then_or :
     {W A E : Type 0} (history : W → List Event) (core : ServedCore) (s : Sockets W) (m : ServedCore) (sm : Sockets W) (core' : ServedCore) (s' : Sockets W) (r : Result A E) → AllGoOn history core s m sm
     → AllGoOr r history m sm core' s' → AllGoOr r history core s core' s'
@@ -243,12 +209,12 @@ then_or history core s m sm core' s' (Err refused) first later = and_then first 
 
 -- clients have the ends that they had, while what one link holds may be lost
 pub but_clients :
-    {P : List Step → AnEnd → Type 0} {Is : Step → Type 0} {a : AnEnd} {core : ServedCore} {h : List Event} {ls : List Link} (at : ℕ) (cs cs' : Clients)
-    → AllGoFrom P (AgreesBut LineLost at) Is a (record { core = core; history = h; clients = cs; links = ls }) → KeepsEnds cs cs'
-    → AllGoFrom P (AgreesBut LineLost at) Is a (record { core = core; history = h; clients = cs'; links = ls })
-but_clients {core = core} {h = h} {ls = ls} at cs cs' g keeps = record { steps = g.steps; kinds = g.kinds; walks = g.walks; agree = λ past was. kept (g.steps ++ past) (g.agree past was); texts = g.texts }
+    {This : ℕ → List Step → List Event → Link → Type 0} {P : List Step → AnEnd → Type 0} {Is : Step → Type 0} {a : AnEnd} {core : ServedCore} {h : List Event} {ls : List Link} (at : ℕ) (cs cs' : Clients)
+    → AllGoFrom P (AgreesBut This at) Is a (record { core = core; history = h; clients = cs; links = ls }) → KeepsEnds cs cs'
+    → AllGoFrom P (AgreesBut This at) Is a (record { core = core; history = h; clients = cs'; links = ls })
+but_clients {This} {core = core} {h = h} {ls = ls} at cs cs' g keeps = record { steps = g.steps; kinds = g.kinds; walks = g.walks; agree = λ past was. kept (g.steps ++ past) (g.agree past was); texts = g.texts }
   where
-    kept : (past : List Step) → AgreesBut LineLost at past (record { core = core; history = h; clients = cs; links = ls }) → AgreesBut LineLost at past (record { core = core; history = h; clients = cs'; links = ls })
+    kept : (past : List Step) → AgreesBut This at past (record { core = core; history = h; clients = cs; links = ls }) → AgreesBut This at past (record { core = core; history = h; clients = cs'; links = ls })
     kept past was = record {
       orderly = was.orderly;
       clients = agree_still h (fed_in past) (gave_in past) cs cs' keeps was.clients;

@@ -84,9 +84,12 @@ over_by got.Ended = Some causes.Closed
 over_by got.Failed = Some causes.Broken
 
 -- the same of a read that may not have been made
+abbrev pub over_of : Option Got → Option Cause
+over_of None = None
+over_of (Some what) = over_by what
+
 abbrev pub over_after : {E : Type 0} → Result (Option Got) E → Option Cause
-over_after (Ok None) = None
-over_after (Ok (Some what)) = over_by what
+over_after (Ok read) = over_of read
 over_after (Err refused) = None
 
 -- why a link is to be given up on which nothing is out: nothing may come over it
@@ -174,10 +177,14 @@ abbrev pub AllGoOr : {W A E : Type 0} → Result A E → (W → List Event) → 
 AllGoOr (Ok done) history core sockets core' sockets' = AllGoOn history core sockets core' sockets'
 AllGoOr (Err refused) history core sockets core' sockets' = AllGoLosing history core sockets core' sockets'
 
--- the ends go on; only where the link at this place is to be given up for a cause, or it stopped, what that link holds may be lost
+-- from where this holds the ends go on; only where the link at this place is to be given up for a cause, or it stopped, what that link holds may be lost
+abbrev pub AllGoFromUnless : {W E : Type 0} → (Before : List Step → AnEnd → Type 0) → ℕ → Result (Option Cause) E → (W → List Event) → ServedCore → Sockets W → ServedCore → Sockets W → Type 0
+AllGoFromUnless Before at (Ok cause) history core sockets core' sockets' = AllGoFrom Before (AgreesUnless at cause) IsOfTurn (end_of history core sockets) (end_of history core' sockets')
+AllGoFromUnless Before at (Err refused) history core sockets core' sockets' = AllGoFrom Before (AgreesBut LineLost at) IsOfTurn (end_of history core sockets) (end_of history core' sockets')
+
+-- the same where all agree before
 abbrev pub AllGoUnless : {W E : Type 0} → ℕ → Result (Option Cause) E → (W → List Event) → ServedCore → Sockets W → ServedCore → Sockets W → Type 0
-AllGoUnless at (Ok cause) history core sockets core' sockets' = AllGoFrom Agrees (AgreesUnless at cause) IsOfTurn (end_of history core sockets) (end_of history core' sockets')
-AllGoUnless at (Err refused) history core sockets core' sockets' = AllGoBut at history core sockets core' sockets'
+AllGoUnless at r history core sockets core' sockets' = AllGoFromUnless Agrees at r history core sockets core' sockets'
 
 -- a peer was just accepted by this new connection, and all go on from before that
 abbrev pub AllGoAccepted : {W : Type 0} → (W → List Event) → (conn : ℕ) → ServedCore → Sockets W → ServedCore → Sockets W → Type 0

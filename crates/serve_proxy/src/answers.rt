@@ -3,7 +3,7 @@
 ghost use Rattle.std.specs.Prelude.{◌≡◌, ℕ, false, IfOk};
 ghost use Rattle.serve_clients.specs.Agrees.{KeepsEnds};
 ghost use Rattle.serve_links.specs.Story.{line_of};
-ghost use Rattle.serve_proxy.specs.Ends.{LineStandsUnless, LineGoesUnless, LineGoesLosing, over_after, Stay, GoAloneUnless, AllFailOn, AllGoOr, AllGoUnless};
+ghost use Rattle.serve_proxy.specs.Ends.{LineStandsUnless, LineGoesUnless, LineGoesLosing, over_by, over_after, AgreesUnless, Stay, GoAloneUnless, AllFailOn, AllGoOr, AllGoUnless, AllGoFromUnless};
 
 use crate::calls::begin_settled;
 use crate::failing::fail_link;
@@ -64,12 +64,29 @@ fn read_link<W: Wire>(
     ensures ends { AllGoUnless at result W.history core.old sockets.old core.new sockets.new }
 {
     match sockets.read_link_once(at)? {
+        Some(got) => settle_read(core, sockets, at, got),
         None => Ok(None),
-        Some(Got::Nothing) => Ok(sockets.read_in_vain(at)),
-        Some(Got::Ended) => Ok(Some(Cause::Closed)),
-        Some(Got::Failed) => Ok(Some(Cause::Broken)),
-        Some(Got::Full) => Ok(Some(Cause::Foreign)),
-        Some(Got::Bytes) => learn_and_settle(core, sockets, at),
+    }
+}
+
+// A read of the link gave this, and all whole answers are settled. Why the link fails by that, if it does.
+fn settle_read<W: Wire>(
+    core: &mut ServedCore,
+    sockets: &mut Sockets<W>,
+    at: usize,
+    got: Got,
+) -> io::Result<Option<Cause>>
+    ensures ends { AllGoFromUnless (AgreesUnless at (over_by got)) at result W.history core.old sockets.old core.new sockets.new }
+{
+    match got {
+        Got::Bytes => {
+            sockets.note_came(at);
+            learn_and_settle(core, sockets, at)
+        }
+        Got::Nothing => Ok(sockets.read_in_vain(at)),
+        Got::Full => Ok(Some(Cause::Foreign)),
+        Got::Ended => Ok(Some(Cause::Closed)),
+        Got::Failed => Ok(Some(Cause::Broken)),
     }
 }
 
@@ -149,15 +166,9 @@ impl<W: Wire> Sockets<W> {
     fn read_link_once(&mut self, at: usize) -> Result<Option<Got>, AllocError>
         ensures ends { GoAloneUnless at (over_after result) W.history self.old self.new }
     {
-        let Some(link) = self.links.all.get_mut(at) else {
-            return Ok(None);
-        };
-        match read_line(link, &mut self.wire)? {
-            Some(Got::Bytes) => {
-                self.note_came(at);
-                Ok(Some(Got::Bytes))
-            }
-            got => Ok(got),
+        match self.links.all.get_mut(at) {
+            Some(link) => read_line(link, &mut self.wire),
+            None => Ok(None),
         }
     }
 

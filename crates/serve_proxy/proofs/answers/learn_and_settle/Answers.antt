@@ -1,6 +1,6 @@
-use Rattle.serve_proxy.proofs.Going.{still, and_then, stays, line_goes_on, line_goes_but}
-use Rattle.serve_proxy.proofs.Staying.{stay_clients}
-use Rattle.serve_proxy.proofs.Linking.{unless_cause, but_clients, unless_err}
+use Rattle.serve_proxy.proofs.Going.{still, line_goes_but}
+use Rattle.serve_proxy.proofs.Linking.{but_clients}
+use Rattle.serve_proxy.proofs.GivenUp.{line_goes_to, unless_clients, unless_err}
 use Rattle.serve_proxy.proofs.answers.learn_and_settle.Goals as goal
 
 pub returns-in_default : goal.returns-in_default
@@ -11,7 +11,6 @@ returns-in_err-settle_line g c = record { ends = unless_err g.W.Wire.history c.a
 
 pub returns : goal.returns
 returns g c = record {
-  ends = unless_cause g.W.Wire.history c.args.at c.args.core.now c.args.sockets.now c.settle_line.new.core _ c.in_ok-settle_line.field-0
-      (λ none. and_then (line_goes_on c.args.sockets.now.links.all.items c.args.at c.in-Some.link.now c.settle_line.new.link c.in-Some.ensures.item.3.0 c.in-Some.ensures.value (c.in_ok-settle_line.ensures.kept none c.args.at (g.W.Wire.history c.args.sockets.now.wire))) (stays c.settle_line.new.core (stay_clients _ _ _ _ c.settle_line.ensures.ends)))
-      (but_clients c.args.at c.args.sockets.now.clients c.settle_line.new.clients (line_goes_but c.args.sockets.now.links.all.items c.args.at c.in-Some.link.now c.settle_line.new.link c.in-Some.ensures.item.3.0 c.in-Some.ensures.value (c.settle_line.ensures.lost c.args.at (g.W.Wire.history c.args.sockets.now.wire))) c.settle_line.ensures.ends);
+  ends = unless_clients c.in_ok-settle_line.field-0 c.args.at c.args.sockets.now.clients c.settle_line.new.clients
+      (line_goes_to c.in_ok-settle_line.field-0 c.args.sockets.now.links.all.items c.args.at c.in-Some.link.now c.settle_line.new.link c.in-Some.ensures.item.3.0 c.in-Some.ensures.value (c.in_ok-settle_line.ensures.goes c.args.at (g.W.Wire.history c.args.sockets.now.wire))) c.settle_line.ensures.ends;
 }

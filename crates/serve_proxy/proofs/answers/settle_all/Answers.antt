@@ -3,10 +3,11 @@ use Rattle.serve_wire.proofs.Steps.{untouched}
 use Rattle.serve_links.specs.declared.link.Link.{Link}
 use Rattle.serve_links.proofs.LinkGoes.{line_keeps}
 use Rattle.serve_proxy.proofs.Linking.{line_may_lose, settled, settled_some}
+use Rattle.serve_proxy.proofs.GivenUp.{foreign_goes, vain_goes}
 use Rattle.serve_proxy.proofs.answers.settle_all.Goals as goal
 
 pub returns-in_default : goal.returns-in_default
-returns-in_default c = record { kept = λ none at h. line_keeps (λ d. untouched d h) refl; lost = λ at h. line_may_lose (line_keeps (λ d. untouched d h) refl); ends = λ j. refl }
+returns-in_default c = record { goes = λ at h. line_keeps (λ d. untouched d h) refl; lost = λ at h. line_may_lose (line_keeps (λ d. untouched d h) refl); ends = λ j. refl }
 
 pub returns-in_err-answers-clause-lost : goal.returns-in_err-answers-clause-lost
 returns-in_err-answers-clause-lost c =
@@ -24,8 +25,8 @@ returns-then-not-answers c =
     let k = c.in-Some.conn.now in
     let d = c.settle_held.new.conn in
     record {
-      kept = λ none. absurd (let no = none in cc no);
-      lost = λ at h. settled_some x c.has_read-has_failed.new.self k d c.settle_held.new.calls.sent.items (sym c.in-Some.ensures.value) c.requires (ap (λ (z : Link). z.conn) c.has_read-has_failed.ensures) (ap (λ (z : Link). z.text.items) c.has_read-has_failed.ensures) (ap (λ (z : Link). z.waiting.items) c.has_read-has_failed.ensures) (ap (λ (z : Link). z.awaits_dialect) c.has_read-has_failed.ensures) (ap (λ (z : Link). z.dialect) c.has_read-has_failed.ensures) (ap (λ (z : Link). z.calls.sent.items) c.has_read-has_failed.ensures) c.settle_held.ensures.rest c.settle_held.ensures.front;
+      goes = λ at h. foreign_goes (settled_some x c.has_read-has_failed.new.self k d c.settle_held.new.calls.sent.items (sym c.in-Some.ensures.value) c.requires (ap (λ (z : Link). z.conn) c.has_read-has_failed.ensures.rest) (ap (λ (z : Link). z.text.items) c.has_read-has_failed.ensures.rest) (ap (λ (z : Link). z.waiting.items) c.has_read-has_failed.ensures.rest) (ap (λ (z : Link). z.awaits_dialect) c.has_read-has_failed.ensures.rest) (ap (λ (z : Link). z.dialect) c.has_read-has_failed.ensures.rest) (ap (λ (z : Link). z.calls.sent.items) c.has_read-has_failed.ensures.rest) c.settle_held.ensures.rest c.settle_held.ensures.front);
+      lost = λ at h. settled_some x c.has_read-has_failed.new.self k d c.settle_held.new.calls.sent.items (sym c.in-Some.ensures.value) c.requires (ap (λ (z : Link). z.conn) c.has_read-has_failed.ensures.rest) (ap (λ (z : Link). z.text.items) c.has_read-has_failed.ensures.rest) (ap (λ (z : Link). z.waiting.items) c.has_read-has_failed.ensures.rest) (ap (λ (z : Link). z.awaits_dialect) c.has_read-has_failed.ensures.rest) (ap (λ (z : Link). z.dialect) c.has_read-has_failed.ensures.rest) (ap (λ (z : Link). z.calls.sent.items) c.has_read-has_failed.ensures.rest) c.settle_held.ensures.rest c.settle_held.ensures.front;
       ends = c.settle_held.ensures.ends;
     }
 
@@ -35,7 +36,7 @@ returns c =
     let k = c.in-Some.conn.now in
     let d = c.settle_held.new.conn in
     record {
-      kept = λ none. λ at h. settled x c.has_read-has_failed.new.self k d c.settle_held.new.calls.sent.items (sym c.in-Some.ensures.value) c.requires (ap (λ (z : Link). z.conn) c.has_read-has_failed.ensures) (ap (λ (z : Link). z.text.items) c.has_read-has_failed.ensures) (ap (λ (z : Link). z.waiting.items) c.has_read-has_failed.ensures) (ap (λ (z : Link). z.awaits_dialect) c.has_read-has_failed.ensures) (ap (λ (z : Link). z.dialect) c.has_read-has_failed.ensures) (ap (λ (z : Link). z.calls.sent.items) c.has_read-has_failed.ensures) c.settle_held.ensures.rest (c.in_ok-answers.ensures.settled c.if-not-answers.false);
-      lost = λ at h. settled_some x c.has_read-has_failed.new.self k d c.settle_held.new.calls.sent.items (sym c.in-Some.ensures.value) c.requires (ap (λ (z : Link). z.conn) c.has_read-has_failed.ensures) (ap (λ (z : Link). z.text.items) c.has_read-has_failed.ensures) (ap (λ (z : Link). z.waiting.items) c.has_read-has_failed.ensures) (ap (λ (z : Link). z.awaits_dialect) c.has_read-has_failed.ensures) (ap (λ (z : Link). z.dialect) c.has_read-has_failed.ensures) (ap (λ (z : Link). z.calls.sent.items) c.has_read-has_failed.ensures) c.settle_held.ensures.rest c.settle_held.ensures.front;
+      goes = λ at h. vain_goes c.has_read-has_failed.result c.vain.result c.vain.ensures c.has_read-has_failed.ensures.failed (settled x c.has_read-has_failed.new.self k d c.settle_held.new.calls.sent.items (sym c.in-Some.ensures.value) c.requires (ap (λ (z : Link). z.conn) c.has_read-has_failed.ensures.rest) (ap (λ (z : Link). z.text.items) c.has_read-has_failed.ensures.rest) (ap (λ (z : Link). z.waiting.items) c.has_read-has_failed.ensures.rest) (ap (λ (z : Link). z.awaits_dialect) c.has_read-has_failed.ensures.rest) (ap (λ (z : Link). z.dialect) c.has_read-has_failed.ensures.rest) (ap (λ (z : Link). z.calls.sent.items) c.has_read-has_failed.ensures.rest) c.settle_held.ensures.rest (c.in_ok-answers.ensures.settled c.if-not-answers.false));
+      lost = λ at h. settled_some x c.has_read-has_failed.new.self k d c.settle_held.new.calls.sent.items (sym c.in-Some.ensures.value) c.requires (ap (λ (z : Link). z.conn) c.has_read-has_failed.ensures.rest) (ap (λ (z : Link). z.text.items) c.has_read-has_failed.ensures.rest) (ap (λ (z : Link). z.waiting.items) c.has_read-has_failed.ensures.rest) (ap (λ (z : Link). z.awaits_dialect) c.has_read-has_failed.ensures.rest) (ap (λ (z : Link). z.dialect) c.has_read-has_failed.ensures.rest) (ap (λ (z : Link). z.calls.sent.items) c.has_read-has_failed.ensures.rest) c.settle_held.ensures.rest c.settle_held.ensures.front;
       ends = c.settle_held.ensures.ends;
     }

@@ -1,4 +1,7 @@
-use Rattle.serve_proxy.proofs.Going.{and_then, sending, gives_up, stays}
+use Rattle.std.proofs.Common.{Some}
+use Rattle.serve_links.specs.declared.news.Cause.TheVariants as causes
+use Rattle.serve_proxy.proofs.Going.{and_then, giving_up, stays}
+use Rattle.serve_proxy.proofs.GivenUp.{sent_all, sent_not}
 use Rattle.serve_proxy.proofs.Staying.{stay_links}
 use Rattle.serve_proxy.proofs.sending.send_link.Goals as goal
 
@@ -6,16 +9,16 @@ pub loop-init : goal.loop-init
 loop-init g c = stays c.args.core.now (stay_links _ _ _ _ c.end_output.ensures.lines)
 
 pub loop-preserved : goal.loop-preserved
-loop-preserved g c = and_then (and_then c.loop.invariant (c.send_unsent.ensures.ends c.loop.core)) c.begin_waiting.ensures.ends
+loop-preserved g c = and_then (and_then c.loop.invariant (sent_all c.args.at _ c.if-not-send_unsent.false c.send_unsent.ensures.ends c.loop.core)) c.begin_waiting.ensures.ends
 
 pub returns-then-not-send_unsent : goal.returns-then-not-send_unsent
-returns-then-not-send_unsent g c = record { ends = and_then (and_then c.loop.invariant (c.send_unsent.ensures.ends c.loop.core)) (sending (gives_up c.args.at c.fail_link.ensures.ends)) }
+returns-then-not-send_unsent g c = record { ends = and_then (and_then c.loop.invariant (sent_not c.args.at _ c.if-not-send_unsent.true c.send_unsent.ensures.ends c.loop.core)) (giving_up (c.fail_link.ensures.ends (Some causes.Broken))) }
 
 pub returns-in_err-begin_waiting : goal.returns-in_err-begin_waiting
-returns-in_err-begin_waiting g c = record { ends = and_then (and_then c.loop.invariant (c.send_unsent.ensures.ends c.loop.core)) c.begin_waiting.ensures.ends }
+returns-in_err-begin_waiting g c = record { ends = and_then (and_then c.loop.invariant (sent_all c.args.at _ c.if-not-send_unsent.false c.send_unsent.ensures.ends c.loop.core)) c.begin_waiting.ensures.ends }
 
 pub returns-then-not-branch : goal.returns-then-not-branch
-returns-then-not-branch g c = record { ends = and_then (and_then c.loop.invariant (c.send_unsent.ensures.ends c.loop.core)) c.begin_waiting.ensures.ends }
+returns-then-not-branch g c = record { ends = and_then (and_then c.loop.invariant (sent_all c.args.at _ c.if-not-send_unsent.false c.send_unsent.ensures.ends c.loop.core)) c.begin_waiting.ensures.ends }
 
 pub returns : goal.returns
 returns g c = record { ends = and_then c.loop.invariant (stays c.loop.core (stay_links _ _ _ _ c.mark_output.ensures.lines)) }

@@ -1,14 +1,21 @@
-use Rattle.std.proofs.Common.{sym, subst}
+use Rattle.std.proofs.Common.{None, refl, sym, subst}
 use Rattle.serve_proxy.specs.Ends.{GoAloneUnless}
-use Rattle.serve_proxy.proofs.Going.{line_goes_unless}
-use Rattle.serve_proxy.proofs.Linking.{idle_stands, no_cause}
+use Rattle.serve_proxy.proofs.GivenUp.{line_goes_unless, idle_stands, line_some, line_none, no_cause}
 use Rattle.serve_proxy.proofs.sockets.Sockets.read_idle.Goals as goal
 
 pub returns-in_err-got : goal.returns-in_err-got
-returns-in_err-got g c = record { ends = subst (λ o. GoAloneUnless c.args.at o g.W.Wire.history c.args.self.now _) (sym (no_cause c.from_residual.result c.from_residual.ensures.0)) (line_goes_unless _ c.args.self.now.links.all.items c.args.at c.in-Some.link.now c.read_line.new.link c.in-Some.ensures.item.3.0 c.in-Some.ensures.value (c.in_err-got.ensures.stands c.args.at)) }
+returns-in_err-got g c = record {
+  ends = subst (λ o. GoAloneUnless c.args.at o g.W.Wire.history c.args.self.now _) (sym (no_cause c.from_residual.result c.from_residual.ensures.0))
+      (line_goes_unless None c.args.self.now.links.all.items c.args.at c.in-Some.link.now c.read_line.new.link c.in-Some.ensures.item.3.0 c.in-Some.ensures.value (c.in_err-got.ensures.stands c.args.at));
+}
 
 pub returns-in-Some-2 : goal.returns-in-Some-2
-returns-in-Some-2 g c = record { ends = line_goes_unless _ c.args.self.now.links.all.items c.args.at c.in-Some.link.now c.read_line.new.link c.in-Some.ensures.item.3.0 c.in-Some.ensures.value (idle_stands c.args.at _ _ c.in-Some.link.now c.read_line.new.link _ c.idle_fault.result c.idle_fault.ensures (c.in_ok-got.ensures.stands c.args.at)) }
+returns-in-Some-2 g c = record {
+  ends = line_goes_unless _ c.args.self.now.links.all.items c.args.at c.in-Some.link.now c.read_line.new.link c.in-Some.ensures.item.3.0 c.in-Some.ensures.value
+      (idle_stands c.args.at _ _ c.in-Some.link.now c.read_line.new.link c.in-Some-2.got c.idle_fault.result c.idle_fault.ensures (line_some c.args.at _ c.in-Some-2.got c.in-Some-2.is (c.in_ok-got.ensures.stands c.args.at)));
+}
 
 pub returns-in-None : goal.returns-in-None
-returns-in-None g c = record { ends = line_goes_unless _ c.args.self.now.links.all.items c.args.at c.in-Some.link.now c.read_line.new.link c.in-Some.ensures.item.3.0 c.in-Some.ensures.value (c.in_ok-got.ensures.stands c.args.at) }
+returns-in-None g c = record {
+  ends = line_goes_unless None c.args.self.now.links.all.items c.args.at c.in-Some.link.now c.read_line.new.link c.in-Some.ensures.item.3.0 c.in-Some.ensures.value (line_none c.args.at _ c.in-None.is (c.in_ok-got.ensures.stands c.args.at));
+}

@@ -1,7 +1,7 @@
 use Rattle.std.proofs.Common.{ap, refl}
 use Rattle.serve_links.specs.Story.{line_of}
-use Rattle.serve_proxy.proofs.Going.{line_goes_unless}
-use Rattle.serve_proxy.proofs.Linking.{stands_in_vain}
+use Rattle.serve_proxy.proofs.GivenUp.{line_goes_unless}
+use Rattle.serve_proxy.proofs.GivenUp.{stands_in_vain}
 use Rattle.serve_proxy.proofs.sockets.Sockets.read_in_vain.Goals as goal
 
 pub returns : goal.returns

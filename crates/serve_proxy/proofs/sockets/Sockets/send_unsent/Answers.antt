@@ -1,4 +1,4 @@
-use Rattle.serve_proxy.proofs.Going.{line_goes_unless}
+use Rattle.serve_proxy.proofs.GivenUp.{line_goes_unless}
 use Rattle.serve_proxy.proofs.sockets.Sockets.send_unsent.Goals as goal
 
 pub returns-in-Some : goal.returns-in-Some
