@@ -32,7 +32,7 @@ const BULK_FROM: usize = 65_536;
 const BULK_OUT: usize = 1_310_720;
 
 // So many bytes an answer is expected to take before a server answered anything.
-const EXPECTED_FIRST: usize = 524_288;
+const EXPECTED_FIRST: usize = 1_048_576;
 
 // What the first get of a client is expected to take falls by such a part at each answer that is smaller.
 const EXPECTS_PART: usize = 64;
