@@ -268,7 +268,7 @@ impl Link {
         self.waiting.remove(place)
     }
 
-    /// Whether the first of those that wait has waited too long to go out by now: half of the time that it has, so that as much is left for its answer.
+    /// Whether the first of those that wait has waited too long to go out by now.
     pub fn has_waited_long(&self, now: u64, settings: &Settings) -> bool {
         match self.waiting_limit(settings) {
             Some(limit) => limit < now,
@@ -279,7 +279,7 @@ impl Link {
     /// Until when the first of those that wait may wait, in milliseconds.
     pub fn waiting_limit(&self, settings: &Settings) -> Option<u64> {
         match self.oldest_waiting() {
-            Some(since) => Some(since.saturating_add(settings.call_ms / 2)),
+            Some(since) => Some(since.saturating_add(settings.call_ms)),
             None => None,
         }
     }

@@ -57,7 +57,7 @@ fn send_looked<W: Wire, N: Net>(
     sockets.links.mark_output(at)
 }
 
-// The call, which may have waited while nothing was looked at, has half of its time for its answer at least.
+// However long the call waited, it has half of a call's time for its answer at least.
 fn renewed(call: SentCall, time: u64, call_ms: u64) -> SentCall
     ensures { result ≡ record call { since = result.since } }
 {
