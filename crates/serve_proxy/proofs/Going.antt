@@ -403,6 +403,7 @@ without_sent at call g = go_between (λ past was. was.0) (λ past was. was) g
 pub sent_clients :
     {h : List Event} {ls : List Link} (at : ℕ) (call : SentCall) (core : ServedCore) (cs cs' : Clients) → KeepsEnds cs cs'
     → AllGoFrom (AgreesSent at call) (AgreesSent at call) IsSending (record { core = core; history = h; clients = cs; links = ls }) (record { core = core; history = h; clients = cs'; links = ls })
+unfolding stays
 sent_clients {h} {ls} at call core cs cs' keeps =
     let g : AllGo IsSending (record { core = core; history = h; clients = cs; links = ls }) (record { core = core; history = h; clients = cs'; links = ls }) = stays core (record { quiet = λ d. untouched d h; clients = keeps; links = refl }) in
     record { steps = []; kinds = tt; walks = refl; agree = λ past was. (g.agree past was.0, was.1, was.2); texts = refl }
