@@ -26,6 +26,7 @@ use Rattle.serve_links.specs.Story.{fed_in, gave_in, is_open_in, is_broken_in, I
 use Rattle.serve_links.specs.Shut.{client_conn, AreShut}
 use Rattle.serve_links.proofs.Shutting.{closed_shut, shut_without, shut_opened, shut_turned}
 use Rattle.serve_links.proofs.Showing.{plain_unlost, shown_later}
+use Rattle.serve_links.specs.Talks.{Talk}
 use Rattle.serve_links.proofs.Talking.{IsPlain, plain_talk, plain_orderly}
 use Rattle.serve_links.proofs.Story.{at_told, all_told, took_all, TellsSame, same_told, gone_stays, end_gone, had_stays, line_stays}
 use Rattle.serve_links.proofs.Walked.{walked, of_both}
@@ -88,6 +89,7 @@ new_touched {h} {h'} {cs} {ls} c none none_now shut only = λ core. record {
     gone = λ conn id is. had_quiet past [] h h' cs cs id conn (only conn (new_apart c conn h' (0, id) is none_now)) refl is was.gone;
     shown = shown_later [] past h h' tt (only_after c h h' only) was.shown;
     shut = shut_turned c shut only was.shut;
+    unlinked = was.unlinked;
   };
   texts = refl;
 }
@@ -156,6 +158,7 @@ opened_go {h} {h1} {h2} {h'} {cs} {cs'} {ls} id c b last new is dropped only unu
     gone = gone past was;
     shown = shown_later q.steps (Opened id ∷ past) h' h' (plain_unlost q.steps (silent_plain q.steps q.kinds)) ([], refl) (shown_later (Opened id ∷ []) past h h' (tt, tt) after was.shown);
     shut = shut_opened id c (λ d e. (tells d e).0) opens own (λ j other. ap (option_map (λ (x : Client). x.conn.number)) (others j other)) (λ j. refl) was.shut;
+    unlinked = λ at none. ap (λ (t : Talk). t.out) (plain_talk q.steps (silent_plain q.steps q.kinds) (Opened id ∷ past) at) ∙ was.unlinked at none;
   });
   texts = refl;
 }
@@ -327,6 +330,7 @@ gone_go {h} {h'} {cs} {cs'} {ls} id gone dropped before core does sent = record 
     gone = gone_of past was given.1;
     shown = shown_later (Closed id ∷ []) past h h' (tt, tt) (dropped_after (client_conn cs id) h h' dropped) was.shown;
     shut = shut_without id (λ d. (told d).0) (λ d on. dropped_opens (client_conn cs id) d h h' dropped on) (λ j other. ap (option_map (λ (x : Client). x.conn.number)) (gone_others cs cs' id gone j other)) (λ j. refl) was.shut;
+    unlinked = was.unlinked;
   };
   texts = refl;
 }
