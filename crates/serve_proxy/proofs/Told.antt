@@ -8,7 +8,8 @@ use Rattle.wire_parts.specs.Sending.{bytes_of}
 use Rattle.serve_wire.specs.Events.{Event, admits, ticks, accepts, role, delivered, taken, is_open, IsNew}
 use Rattle.serve_wire.specs.Agreement.{Extends, TouchesOnly, IsUntouched}
 use Rattle.serve_wire.specs.Calls.{Closes}
-use Rattle.serve_wire.proofs.Steps.{equal, unequal, apart, new_apart, untouched, untouched_twice, only_closes, only_admits, only_accepts, only_after, extends_twice, none_ticks}
+use Rattle.serve_wire.proofs.Steps.{equal, unequal, apart, new_apart, untouched, untouched_twice, only_admits, only_accepts, only_after, extends_twice, none_ticks}
+use Rattle.serve_wire.proofs.Touching.{only_same, only_closed}
 use Rattle.core_proxy.specs.declared.fault.CoreFault.{CoreFault}
 use Rattle.core_proxy.specs.Faults.{OutputFault}
 use Rattle.core_proxy.specs.CoreState.{Gives, client_at, output_by}
@@ -104,10 +105,6 @@ number_is e = cc
 closed_tells : (c d : ℕ) (h h' : List Event) → Closes c h h' → TellsSame d h h'
 closed_tells c d h h' (inl closed) = (ap (role d) closed, ap (delivered d) closed, ap (taken d) closed)
 closed_tells c d h h' (inr same) = (ap (role d) same.0, ap (delivered d) same.0, ap (taken d) same.0)
-
-pub only_closed : (c : ℕ) (h h' : List Event) → Closes c h h' → TouchesOnly c h h'
-only_closed c h h' (inl closed) = subst (TouchesOnly c h) (sym closed) (only_closes c h)
-only_closed c h h' (inr same) = subst (TouchesOnly c h) (sym same.0) (λ d other. untouched d h)
 
 tells_twice : (d : ℕ) (h h' h'' : List Event) → TellsSame d h h' → TellsSame d h' h'' → TellsSame d h h''
 tells_twice d h h' h'' a b = (b.0 ∙ a.0, b.1 ∙ a.1, b.2 ∙ a.2)
@@ -281,7 +278,7 @@ none_stands o none = subst (λ p. IfSome p (λ x. x.is_broken ≡ false)) (sym n
 
 pub only_may : (c id : ℕ) (h h' : List Event) → MayAdmit c id h h' → TouchesOnly c h h'
 only_may c id h h' (inl is) = subst (TouchesOnly c h) (sym is) (only_admits c id h)
-only_may c id h h' (inr same) = subst (TouchesOnly c h) (sym same) (λ d other. untouched d h)
+only_may c id h h' (inr same) = only_same c h h' same
 
 -- nothing came or went over it, before and after
 pub unused_new : (c : ℕ) (kept : Option ℕ) (h h1 h2 : List Event) → IsNew c h → h1 ≡ accepts c ∷ h → IsDropped kept h1 h2 → IsUnused c h2
