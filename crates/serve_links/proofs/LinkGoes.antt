@@ -12,7 +12,8 @@ use Rattle.serve_wire.specs.Flow.{ReadsOn, SendsOn, Stands}
 use Rattle.serve_wire.specs.Calls.{Closes}
 use Rattle.serve_wire.specs.Agreement.{Extends, IsUntouched, TouchesOnly}
 use Rattle.serve_wire.specs.declared.conn.conn.Conn.{Conn}
-use Rattle.serve_wire.proofs.Steps.{only_after, equal, new_apart, untouched, untouched_twice, only_twice, only_connects, only_closes, address_begins}
+use Rattle.serve_wire.proofs.Steps.{only_after, equal, new_apart, untouched, untouched_twice, only_twice, only_connects, address_begins}
+use Rattle.serve_wire.proofs.Touching.{only_closed}
 use Rattle.core_accepted.specs.declared.served.ServedCore.{ServedCore}
 use Rattle.serve_links.specs.declared.calls.calls.SentCall.{SentCall}
 use Rattle.serve_links.specs.declared.settings.ServerDialect.{ServerDialect}
@@ -77,14 +78,14 @@ talk_as {h} {at} {text} {text'} {t} {t'} {c} {c'} {held} {held'} {unsent} {unsen
 
 -- a link that has this connection
 pub has_conn : (at : ℕ) (past : List Step) (h : List Event) (y : Link) (d : Conn) → y.conn ≡ Some d → ConnAgrees at past h y d d.held.items → is_over d.number h ≡ false → MayAllGo past at y.waiting.items → AreDue past at (numbers_of y.waiting.items) → LineAgrees at past h y
-has_conn at past h y d is agrees goes_on waiting due = record { conn = λ conn there. subst (λ (z : Conn). ConnAgrees at past h y z z.held.items) (same_some (sym is ∙ there)) agrees; goes_on = λ conn there. subst (λ (z : Conn). is_over z.number h ≡ false) (same_some (sym is ∙ there)) goes_on; waiting = waiting; due = due }
+has_conn at past h y d is agrees goes_on waiting due = record { conn = λ conn there. subst (λ (z : Conn). ConnAgrees at past h y z z.held.items) (same_some (sym is ∙ there)) agrees; goes_on = λ conn there. subst (λ (z : Conn). is_over z.number h ≡ false) (same_some (sym is ∙ there)) goes_on; waiting = waiting; due = due; none_out = λ none. absurd (none_some (sym none ∙ is)) }
 
 -- and one that has none
-pub has_none : (at : ℕ) (past : List Step) (h : List Event) (y : Link) → y.conn ≡ None → MayAllGo past at y.waiting.items → AreDue past at (numbers_of y.waiting.items) → LineAgrees at past h y
-has_none at past h y is waiting due = record { conn = λ conn there. absurd (none_some (sym is ∙ there)); goes_on = λ conn there. absurd (none_some (sym is ∙ there)); waiting = waiting; due = due }
+pub has_none : (at : ℕ) (past : List Step) (h : List Event) (y : Link) → y.conn ≡ None → MayAllGo past at y.waiting.items → AreDue past at (numbers_of y.waiting.items) → (talk_in past at).out ≡ [] → LineAgrees at past h y
+has_none at past h y is waiting due out = record { conn = λ conn there. absurd (none_some (sym is ∙ there)); goes_on = λ conn there. absurd (none_some (sym is ∙ there)); waiting = waiting; due = due; none_out = λ none. out }
 
 pub as_lost : (at : ℕ) (past : List Step) (h : List Event) (x : Link) → LineAgrees at past h x → LineLost at past h x
-as_lost at past h x a = record { conn = λ conn is. (conn.held.items, a.conn conn is); waiting = a.waiting; due = a.due }
+as_lost at past h x a = record { conn = λ conn is. (conn.held.items, a.conn conn is); waiting = a.waiting; due = a.due; none_out = a.none_out }
 
 -- one that agrees, whose connection shows why it is to be given up
 pub as_failing : (why : Option Cause) (at : ℕ) (past : List Step) (h : List Event) (x : Link) → ((conn : Conn) → x.conn ≡ Some conn → ShowsWhy why (talk_in past at) conn.number h) → LineAgrees at past h x → LineFails why at past h x
@@ -102,6 +103,7 @@ losing at past x a = (
     this = λ link there. as_lost at past x.history link (a.links at link there);
     gone = a.gone;
     shown = a.shown;
+    unlinked = a.unlinked;
     shut = a.shut;
   },
 )
@@ -157,7 +159,7 @@ line_then {P} {Q} {R} {Is} {at} {a} {b} {c} {h} {h'} {h''} {x} {y} {z} g k = rec
 -- ---- a link that has the same
 
 abbrev OfConn : ℕ → List Step → List Event → List ℕ → List SaidAsk → Bool → Dialect → Option (ℕ × List ℕ × List ℕ) → Type 0
-OfConn at past h text out awaits dialect None = Unit {0}
+OfConn at past h text out awaits dialect None = (talk_in past at).out ≡ []
 OfConn at past h text out awaits dialect (Some e) = TalkAgrees h at text (talk_in past at) e.0 e.1 e.2 out awaits dialect × (is_over e.0 h ≡ false)
 
 abbrev OfLine : ℕ → List Step → List Event → LineState → Type 0
@@ -167,14 +169,17 @@ to_line : (at : ℕ) (past : List Step) (h : List Event) (x : Link) → LineAgre
 to_line at past h x a = (by x.conn refl, a.waiting, a.due)
   where
     by : (o : Option Conn) → x.conn ≡ o → OfConn at past h x.text.items (said_asks x.calls.sent.items) x.awaits_dialect x.dialect (option_map (λ (c : Conn). (c.number, c.held.items, bytes_of c.unsent)) o)
-    by None e = tt
+    by None e = a.none_out e
     by (Some c) e = (a.conn c e, a.goes_on c e)
 
 from_line : (at : ℕ) (past : List Step) (h : List Event) (y : Link) → OfLine at past h (line_of y) → LineAgrees at past h y
-from_line at past h y o = record { conn = λ conn is. (there conn is).0; goes_on = λ conn is. (there conn is).1; waiting = o.1; due = o.2 }
+from_line at past h y o = record { conn = λ conn is. (there conn is).0; goes_on = λ conn is. (there conn is).1; waiting = o.1; due = o.2; none_out = λ none. there_none none }
   where
     there : (conn : Conn) → y.conn ≡ Some conn → ConnAgrees at past h y conn conn.held.items × (is_over conn.number h ≡ false)
     there conn is = subst (λ (q : Option Conn). OfConn at past h y.text.items (said_asks y.calls.sent.items) y.awaits_dialect y.dialect (option_map (λ (c : Conn). (c.number, c.held.items, bytes_of c.unsent)) q)) is o.0
+
+    there_none : y.conn ≡ None → (talk_in past at).out ≡ []
+    there_none none = subst (λ (q : Option Conn). OfConn at past h y.text.items (said_asks y.calls.sent.items) y.awaits_dialect y.dialect (option_map (λ (c : Conn). (c.number, c.held.items, bytes_of c.unsent)) q)) none o.0
 
 pub same_line : (at : ℕ) (past : List Step) (h : List Event) (x y : Link) → line_of y ≡ line_of x → LineAgrees at past h x → LineAgrees at past h y
 same_line at past h x y same a = from_line at past h y (subst (OfLine at past h) (sym same) (to_line at past h x a))
@@ -237,7 +242,7 @@ pub over_so :
     (why : Option Cause) (at : ℕ) (past : List Step) (h : List Event) (y : Link) (d : Conn) → y.conn ≡ Some d → ConnAgrees at past h y d d.held.items → ShowsWhy why (talk_in past at) d.number h → MayAllGo past at y.waiting.items
     → AreDue past at (numbers_of y.waiting.items) → LineFails why at past h y
 over_so why at past h y d is agrees shows waiting due = record {
-  lost = record { conn = λ conn there. (conn.held.items, subst (λ (z : Conn). ConnAgrees at past h y z z.held.items) (same_some (sym is ∙ there)) agrees); waiting = waiting; due = due };
+  lost = record { conn = λ conn there. (conn.held.items, subst (λ (z : Conn). ConnAgrees at past h y z z.held.items) (same_some (sym is ∙ there)) agrees); waiting = waiting; due = due; none_out = λ none. absurd (none_some (sym none ∙ is)) };
   shows = λ conn there. subst (λ (z : Conn). ShowsWhy why (talk_in past at) z.number h) (same_some (sym is ∙ there)) shows;
 }
 
@@ -373,10 +378,6 @@ begins at core h h' x y dialect number new noted has = record {
         (calls_later (Linked at dialect ∷ []) past at y.waiting.items (subst (λ w. MayAllGo past at w) (sym (ap (λ w. w.items) has.waiting)) a.waiting))
         (due_later (Linked at dialect ∷ []) past at (numbers_of y.waiting.items) (ap (λ (t : Talk). t.asked) talk) (subst (λ w. AreDue past at (numbers_of w)) (sym (ap (λ w. w.items) has.waiting)) a.due))
 
-only_closed : (c : ℕ) (h h' : List Event) → Closes c h h' → TouchesOnly c h h'
-only_closed c h h' (inl closed) = subst (TouchesOnly c h) (sym closed) (only_closes c h)
-only_closed c h h' (inr same) = subst (TouchesOnly c h) (sym same.0) (λ d other. untouched d h)
-
 -- one was begun, and closed
 begins_in_vain :
     (at : ℕ) (core : ServedCore) (h h' : List Event) (x y : Link) (number : ℕ) → IsNew number h → Closes number (connects number at x.text.items ∷ h) h' → KeepsLines x y → LineGoes IsSending at core h x core h' y
@@ -511,6 +512,7 @@ waits_with at past h x y is a waiting due = record {
   goes_on = λ conn there. a.goes_on conn (sym (ap (λ (z : Link). z.conn) is) ∙ there);
   waiting = waiting;
   due = due;
+  none_out = λ none. a.none_out (sym (ap (λ (z : Link). z.conn) is) ∙ none);
 }
 
 -- it waits
@@ -602,7 +604,7 @@ pub line_loses :
     → LineGoesFrom LineAgrees LineLost IsOfTurn at core h x core' h y
 line_loses {at} {core} {core'} {h} x y c d rest was is off text waiting awaits speaks number unsent s =
     settles_to x y c d rest was is off text waiting awaits speaks number unsent
-    (λ past agrees goes_on called due. record { conn = λ conn there. subst (λ (z : Conn). (held : List ℕ) × ConnAgrees at past h y z held) (same_some (sym is ∙ there)) (rest, agrees); waiting = called; due = due }) s
+    (λ past agrees goes_on called due. record { conn = λ conn there. subst (λ (z : Conn). (held : List ℕ) × ConnAgrees at past h y z held) (same_some (sym is ∙ there)) (rest, agrees); waiting = called; due = due; none_out = λ none. absurd (none_some (sym none ∙ is)) }) s
 
 -- ---- the end of a connection
 
@@ -612,21 +614,21 @@ pub line_closes :
     → y.text.items ≡ x.text.items → y.waiting.items ≡ x.waiting.items → LineGoesFrom (LineFails why) LineAgrees (IsGivingUp why) at core h x core h' y
 line_closes {at} {core} {h} {h'} why x y r r_is some none closed text waiting = by x.conn refl
   where
-    left : (steps past : List Step) → LineFails why at past h x → (talk_in (steps ++ past) at).asked ≡ (talk_in past at).asked → LineAgrees at (steps ++ past) h' y
-    left steps past a same =
+    left : (steps past : List Step) → LineFails why at past h x → (talk_in (steps ++ past) at).asked ≡ (talk_in past at).asked → (talk_in (steps ++ past) at).out ≡ [] → LineAgrees at (steps ++ past) h' y
+    left steps past a same none_out =
         has_none at (steps ++ past) h' y closed (calls_later steps past at y.waiting.items (subst (λ w. MayAllGo past at w) (sym waiting) a.lost.waiting))
-        (due_later steps past at (numbers_of y.waiting.items) same (subst (λ w. AreDue past at (numbers_of w)) (sym waiting) a.lost.due))
+        (due_later steps past at (numbers_of y.waiting.items) same (subst (λ w. AreDue past at (numbers_of w)) (sym waiting) a.lost.due)) none_out
 
     by : (o : Option Conn) → x.conn ≡ o → LineGoesFrom (LineFails why) LineAgrees (IsGivingUp why) at core h x core h' y
     by None e =
         let same = none (r_is ∙ ap (option_map (λ (z : Conn). z.number)) e) in
-        line_moves refl ([], same) (shut_still (λ d. subst (IsUntouched d h) (sym same) (untouched d h)) (ap (option_map (λ (z : Conn). z.number)) (closed ∙ sym e))) text (λ past a. (left [] past a refl, all_kept (1, at) h h' (λ d. subst (IsUntouched d h) (sym same) (untouched d h))))
+        line_moves refl ([], same) (shut_still (λ d. subst (IsUntouched d h) (sym same) (untouched d h)) (ap (option_map (λ (z : Conn). z.number)) (closed ∙ sym e))) text (λ past a. (left [] past a refl (a.lost.none_out e), all_kept (1, at) h h' (λ d. subst (IsUntouched d h) (sym same) (untouched d h))))
     by (Some c) e = record {
       steps = Lost at why ∷ [];
       kinds = (refl, tt);
       own = (refl, tt);
       walks = (core, refl, refl);
-      agrees = λ past o a. ((tt, o), left (Lost at why ∷ []) past a (ap (λ b. (if b then given_up (talk_in past at) else talk_in past at).asked) (equal at)), keeps_others c.number (1, at) h h' (a.lost.conn c e).1.is_to (closed_role c.number h h' closes_it) only);
+      agrees = λ past o a. ((tt, o), left (Lost at why ∷ []) past a (ap (λ b. (if b then given_up (talk_in past at) else talk_in past at).asked) (equal at)) (ap (λ b. (if b then given_up (talk_in past at) else talk_in past at).out) (equal at)), keeps_others c.number (1, at) h h' (a.lost.conn c e).1.is_to (closed_role c.number h h' closes_it) only);
       shown = λ past o a shown. (was_shown past a, shown_since past h h' (only_after c.number h h' only) shown);
       shut = shut_closed c.number only (closed_shut c.number h h' closes_it) (ap (option_map (λ (z : Conn). z.number)) e);
       text = text;
@@ -661,7 +663,7 @@ line_shuts {at = at} {h' = h'} {z = z} g none closed text waiting = record {
   walks = g.walks;
   agrees = λ past o was. let r = g.agrees past o was in (
     r.0,
-    has_none at (g.steps ++ past) h' z closed (subst (λ w. MayAllGo (g.steps ++ past) at w) (sym waiting) r.1.waiting) (subst (λ w. AreDue (g.steps ++ past) at (numbers_of w)) (sym waiting) r.1.due),
+    has_none at (g.steps ++ past) h' z closed (subst (λ w. MayAllGo (g.steps ++ past) at w) (sym waiting) r.1.waiting) (subst (λ w. AreDue (g.steps ++ past) at (numbers_of w)) (sym waiting) r.1.due) (r.1.none_out none),
     r.2,
   );
   shown = g.shown;
@@ -729,7 +731,8 @@ line_fails {why} {at} {core} {core'} {h} x y gone f had none text waiting =
       agrees = λ past o a. (
         plain_orderly f.steps own.1 past o,
         has_none at (f.steps ++ past) h y none (calls_later f.steps past at y.waiting.items (last_called past at gone y.waiting.items (subst (λ w. MayAllGo past at w) waiting a.waiting)))
-            (due_later f.steps past at (numbers_of y.waiting.items) (ap (λ (t : Talk). t.asked) (plain_talk f.steps own.1 past at)) (due_last past at gone y.waiting.items (subst (λ w. AreDue past at (numbers_of w)) waiting a.due))),
+            (due_later f.steps past at (numbers_of y.waiting.items) (ap (λ (t : Talk). t.asked) (plain_talk f.steps own.1 past at)) (due_last past at gone y.waiting.items (subst (λ w. AreDue past at (numbers_of w)) waiting a.due)))
+            (ap (λ (t : Talk). t.out) (plain_talk f.steps own.1 past at) ∙ a.none_out had),
         all_kept (1, at) h h (quiet h),
       );
       shown = λ past o a shown. shown_later f.steps past h h (plain_unlost f.steps own.1) (none_since h) shown;

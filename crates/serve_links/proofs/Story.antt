@@ -97,6 +97,7 @@ line_stays h h' at steps past link same told was = record {
   goes_on = λ conn is. (same conn is).same_over ∙ was.goes_on conn is;
   waiting = calls_later steps past at link.waiting.items was.waiting;
   due = due_later steps past at (numbers_of link.waiting.items) (ap (λ (t : Talk). t.asked) told) was.due;
+  none_out = λ none. ap (λ (t : Talk). t.out) told ∙ was.none_out none;
 }
 
 -- ---- connections of clients
@@ -284,6 +285,7 @@ one_agrees {Is} id old new x y was is others links g = agree
       links = lines past a;
       gone = gone past a;
       shown = shown_later g.steps past h h' (plain_unlost g.steps plain) (only_after x.conn.number h h' g.only) a.shown;
+      unlinked = λ at none. ap (λ (t : Talk). t.out) (plain_talk g.steps plain past at) ∙ a.unlinked at (ap (λ (ls : List Link). slice_get ls at) (sym links) ∙ none);
       shut = shut past a;
     }
 
@@ -326,6 +328,12 @@ line_among {Before} {After} {Is} at old new x y was is others texts clients_are 
     at_conn : (ls : List Link) (z : Link) → slice_get ls at ≡ Some z → link_conn ls at ≡ conn_of z
     at_conn ls z there = ap (λ o. option_flatten (option_map conn_of o)) there
 
+    unlinked : (past : List Step) → AgreesBut Before at past old → (j : ℕ) → slice_get new.links j ≡ None → (talk_in (g.steps ++ past) j).out ≡ []
+    unlinked past a j none = elim (cases_Bool (nat_eq at j)) [ inl e ↦ absurd (none_is_some (sym none ∙ ap (slice_get new.links) (sym (eqb-true at j e)) ∙ is)) | inr e ↦ ap (λ (t : Talk). t.out) (talk_elsewhere at g.steps g.own past j e) ∙ a.unlinked j (sym (others j e) ∙ none) ]
+      where
+        none_is_some : {z : Link} → None ≡ Some z → ⊥
+        none_is_some e = cc
+
     agree : (past : List Step) → AgreesBut Before at past old → AgreesBut After at (g.steps ++ past) new
     agree past a = let goes = g.agrees past a.orderly (a.this x was) in record {
       orderly = goes.0;
@@ -335,26 +343,27 @@ line_among {Before} {After} {Is} at old new x y was is others texts clients_are 
       this = λ link there. subst (After at (g.steps ++ past) h') (same_some y link (sym is ∙ there)) goes.1;
       gone = gone past a;
       shown = g.shown past a.orderly (a.this x was) a.shown;
+      unlinked = unlinked past a;
       shut = shut_line at goes.2 (λ was_shut. subst (λ o. IsShutBut (1, at) o h') (sym (at_conn new.links y is)) (g.shut (subst (λ o. IsShutBut (1, at) o h) (at_conn old.links x was) was_shut)))
           (λ j e. ap (λ o. option_flatten (option_map conn_of o)) (others j e)) (λ j. ap (option_map (λ (z : Client). z.conn.number)) (clients_are j)) a.shut;
     }
 
 -- where the link at one place agrees like the others, all agree
 pub but_all : (at : ℕ) (past : List Step) (x : AnEnd) → AgreesBut LineAgrees at past x → Agrees past x
-but_all at past x a = record { orderly = a.orderly; clients = a.clients; told = a.told; links = λ j link there. elim (cases_Bool (nat_eq at j)) [ inl e ↦ mine j link there (eqb-true at j e) | inr e ↦ a.links j link e there ]; gone = a.gone; shown = a.shown; shut = a.shut }
+but_all at past x a = record { orderly = a.orderly; clients = a.clients; told = a.told; links = λ j link there. elim (cases_Bool (nat_eq at j)) [ inl e ↦ mine j link there (eqb-true at j e) | inr e ↦ a.links j link e there ]; gone = a.gone; shown = a.shown; unlinked = a.unlinked; shut = a.shut }
   where
     mine : (j : ℕ) (link : Link) → slice_get x.links j ≡ Some link → at ≡ j → LineAgrees j past x.history link
     mine j link there e = subst (λ k. LineAgrees k past x.history link) e (a.this link (ap (slice_get x.links) e ∙ there))
 
 -- and where none is there
 pub but_none : {This : ℕ → List Step → List Event → Link → Type 0} (at : ℕ) (past : List Step) (x : AnEnd) → slice_get x.links at ≡ None → AgreesBut This at past x → Agrees past x
-but_none at past x none a = record { orderly = a.orderly; clients = a.clients; told = a.told; links = λ j link there. elim (cases_Bool (nat_eq at j)) [ inl e ↦ absurd (nobody (sym none ∙ ap (slice_get x.links) (eqb-true at j e) ∙ there)) | inr e ↦ a.links j link e there ]; gone = a.gone; shown = a.shown; shut = a.shut }
+but_none at past x none a = record { orderly = a.orderly; clients = a.clients; told = a.told; links = λ j link there. elim (cases_Bool (nat_eq at j)) [ inl e ↦ absurd (nobody (sym none ∙ ap (slice_get x.links) (eqb-true at j e) ∙ there)) | inr e ↦ a.links j link e there ]; gone = a.gone; shown = a.shown; unlinked = a.unlinked; shut = a.shut }
   where
     nobody : {link : Link} → None ≡ Some link → ⊥
     nobody e = cc
 
 pub all_but : (at : ℕ) (past : List Step) (x : AnEnd) → Agrees past x → AgreesBut LineAgrees at past x
-all_but at past x a = record { orderly = a.orderly; clients = a.clients; told = a.told; links = λ j link e there. a.links j link there; this = λ link there. a.links at link there; gone = a.gone; shown = a.shown; shut = a.shut }
+all_but at past x a = record { orderly = a.orderly; clients = a.clients; told = a.told; links = λ j link e there. a.links j link there; this = λ link there. a.links at link there; gone = a.gone; shown = a.shown; unlinked = a.unlinked; shut = a.shut }
 
 -- what is wanted before is there, and what is there after is more than is wanted
 pub go_between :

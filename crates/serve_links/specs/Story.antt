@@ -183,18 +183,20 @@ pub record TalkAgrees (h : List Event) (at : ℕ) (text : List ℕ) (talk : Talk
 abbrev pub ConnAgrees : ℕ → List Step → List Event → Link → Conn → List ℕ → Type 0
 ConnAgrees at past h link conn held = TalkAgrees h at link.text.items (talk_in past at) conn.number held (bytes_of conn.unsent) (said_asks link.calls.sent.items) link.awaits_dialect link.dialect
 
--- a link agrees with these calls, its connection is not over, and all calls that wait for it may go there, and weren't asked yet
+-- a link agrees with these calls, its connection is not over, and all calls that wait for it may go there, and weren't asked yet; without a connection no call is out there
 pub record LineAgrees (at : ℕ) (past : List Step) (h : List Event) (link : Link) : Type 0 where
   pub conn : (conn : Conn) → link.conn ≡ Some conn → ConnAgrees at past h link conn conn.held.items
   pub goes_on : (conn : Conn) → link.conn ≡ Some conn → is_over conn.number h ≡ false
   pub waiting : MayAllGo past at link.waiting.items
   pub due : AreDue past at (numbers_of link.waiting.items)
+  pub none_out : link.conn ≡ None → (talk_in past at).out ≡ []
 
 -- the same of a link whose bytes were lost, or whose connection is over: it agrees but for what it holds
 pub record LineLost (at : ℕ) (past : List Step) (h : List Event) (link : Link) : Type 0 where
   pub conn : (conn : Conn) → link.conn ≡ Some conn → (held : List ℕ) × ConnAgrees at past h link conn held
   pub waiting : MayAllGo past at link.waiting.items
   pub due : AreDue past at (numbers_of link.waiting.items)
+  pub none_out : link.conn ≡ None → (talk_in past at).out ≡ []
 
 -- this has happened
 abbrev pub HasHappened : Event → List Event → Type 0
@@ -323,6 +325,7 @@ pub record Agrees (past : List Step) (x : AnEnd) : Type 0 where
   pub links : LinesAgree past x.history x.links
   pub gone : (conn id : ℕ) → role conn x.history ≡ Some (0, id) → HasOrHad past x.history x.clients id conn
   pub shown : AreShown past x.history
+  pub unlinked : (at : ℕ) → slice_get x.links at ≡ None → (talk_in past at).out ≡ []
   pub shut : AreShut x.history x.clients x.links
 
 -- the same, but that this holds of the link at one place
@@ -334,6 +337,7 @@ pub record AgreesBut (This : ℕ → List Step → List Event → Link → Type 
   pub this : (link : Link) → slice_get x.links at ≡ Some link → This at past x.history link
   pub gone : (conn id : ℕ) → role conn x.history ≡ Some (0, id) → HasOrHad past x.history x.clients id conn
   pub shown : AreShown past x.history
+  pub unlinked : (at : ℕ) → slice_get x.links at ≡ None → (talk_in past at).out ≡ []
   pub shut : AreShut x.history x.clients x.links
 
 -- all agree, and the core just gave all that it had for this client

@@ -32,7 +32,7 @@ use Rattle.serve_links.specs.declared.calls.calls.SentCall.{SentCall}
 use Rattle.serve_links.specs.declared.link.Link.{Link}
 use Rattle.serve_links.specs.declared.news.Cause.{Cause}
 use Rattle.serve_links.specs.CoreSteps.{Step, Opened, NotOpened, Fed, Polled, Stopped, Settled, Gave, Closed, LeftLine, Broke, Loaded, Linked, Asked, Greeted, Spelled, Lost, Does, Walks, AreOf, GoesBy, IsOfTurn, IsFailure, IsSending, IsGivingUp, Fails}
-use Rattle.serve_links.specs.Talks.{AreDue, IsOfClients}
+use Rattle.serve_links.specs.Talks.{Talk, AreDue, IsOfClients}
 use Rattle.serve_links.specs.Pieces.{FeedsHeld}
 use Rattle.serve_links.specs.Story.{fed_in, gave_in, is_open_in, is_broken_in, AgreesWith, IsTold, AreTold, TellsNone, HasOrHad, numbers_of, LineState, line_of, LineAgrees, LineLost, LineCalled, LinesAgree, OneGoes, LineGoesFrom, LineGoes, AnEnd, Agrees, AgreesGiven, AgreesBut, AgreesCalled, AgreesLosing, AllGoFrom, AllGo, texts_of, AgreesSent}
 use Rattle.serve_links.proofs.Reading.{breaks_now}
@@ -118,6 +118,14 @@ pub had_quiet :
     → role conn h' ≡ Some (0, id) → ((d j : ℕ) → role d h ≡ Some (0, j) → HasOrHad past h cs j d) → HasOrHad (steps ++ past) h' cs' id conn
 had_quiet past steps h h' cs cs' id conn same ends is was = had_stays past steps h h' cs cs' id conn (same_told conn h h' same) ends (was conn id (sym same.same_role ∙ is))
 
+-- where no link stands, none stood with the same lines
+none_there : (ls ls' : List Link) → lines_of ls' ≡ lines_of ls → (at : ℕ) → slice_get ls' at ≡ None → slice_get ls at ≡ None
+none_there ls ls' same at none = of_none (slice_get ls at) (get_line ls at ∙ ap (λ l. slice_get l at) (sym same) ∙ sym (get_line ls' at) ∙ ap (option_map line_of) none)
+  where
+    of_none : (o : Option Link) → option_map line_of o ≡ None → o ≡ None
+    of_none None e = refl
+    of_none (Some link) e = absurd (none_some (sym e))
+
 pub stays :
     {Is : Step → Type 0} {h h' : List Event} {cs cs' : Clients} {ls ls' : List Link} (core : ServedCore) → EndsStay h h' cs cs' ls ls'
     → AllGo Is (record { core = core; history = h; clients = cs; links = ls }) (record { core = core; history = h'; clients = cs'; links = ls' })
@@ -134,6 +142,7 @@ stays {Is} {h} {h'} {cs} {cs'} {ls} {ls'} core s =
         gone = λ conn id is. had_quiet past [] h h' cs cs' id conn (s.quiet conn) (numbers_kept (client_of cs id) (client_of cs' id) (s.clients id)) is a.gone;
         shown = shown_since past h h' (s.quiet 0).after a.shown;
         shut = shut_quiet s.quiet (λ id. numbers_kept (client_of cs id) (client_of cs' id) (s.clients id)) (conns_kept ls ls' s.links) a.shut;
+        unlinked = λ at none. a.unlinked at (none_there ls ls' s.links at none);
       };
       texts = same_texts ls ls' s.links;
     }
@@ -386,7 +395,7 @@ lost_some at g = go_between (λ past was. was) (λ past was. (at, was)) g
 
 losing_at : (at : ℕ) (past : List Step) (x : AnEnd) → Agrees past x → AgreesBut LineLost at past x
 losing_at at past x a =
-    record { orderly = a.orderly; clients = a.clients; told = a.told; links = λ j link other there. a.links j link there; this = λ link there. as_lost at past x.history link (a.links at link there); gone = a.gone; shown = a.shown; shut = a.shut }
+    record { orderly = a.orderly; clients = a.clients; told = a.told; links = λ j link other there. a.links j link there; this = λ link there. as_lost at past x.history link (a.links at link there); gone = a.gone; shown = a.shown; shut = a.shut; unlinked = a.unlinked }
 
 pub may_lose_at : {P : List Step → AnEnd → Type 0} {Is : Step → Type 0} {a b : AnEnd} (at : ℕ) → AllGoFrom P Agrees Is a b → AllGoFrom P (AgreesBut LineLost at) Is a b
 may_lose_at {b = b} at g = go_between (λ past was. was) (λ past was. losing_at at past b was) g
@@ -403,6 +412,7 @@ without_sent at call g = go_between (λ past was. was.0) (λ past was. was) g
 pub sent_clients :
     {h : List Event} {ls : List Link} (at : ℕ) (call : SentCall) (core : ServedCore) (cs cs' : Clients) → KeepsEnds cs cs'
     → AllGoFrom (AgreesSent at call) (AgreesSent at call) IsSending (record { core = core; history = h; clients = cs; links = ls }) (record { core = core; history = h; clients = cs'; links = ls })
+unfolding stays
 sent_clients {h} {ls} at call core cs cs' keeps =
     let g : AllGo IsSending (record { core = core; history = h; clients = cs; links = ls }) (record { core = core; history = h; clients = cs'; links = ls }) = stays core (record { quiet = λ d. untouched d h; clients = keeps; links = refl }) in
     record { steps = []; kinds = tt; walks = refl; agree = λ past was. (g.agree past was.0, was.1, was.2); texts = refl }
@@ -436,6 +446,7 @@ calls_agree {h} {cs} {ls} a b past steps silent was = record {
   gone = λ conn id is. had_quiet past steps h h cs cs id conn (untouched conn h) refl is was.gone;
   shown = shown_later steps past h h (plain_unlost steps (silent_plain steps silent)) (none_since h) was.shown;
   shut = was.shut;
+  unlinked = λ at none. ap (λ (t : Talk). t.out) (plain_talk steps (silent_plain steps silent) past at) ∙ was.unlinked at none;
 }
 
 calls_go :
@@ -508,6 +519,7 @@ close_none {h} {cs} {ls} client (Ok done) a b nobody ok err fresh = record {
     gone = λ conn id is. had_quiet past (Closed client ∷ []) h h cs cs id conn (untouched conn h) refl is was.gone;
     shown = (tt, was.shown);
     shut = was.shut;
+    unlinked = was.unlinked;
   };
   texts = refl;
 }
@@ -552,7 +564,7 @@ line_took {h = h} {h' = h'} {cs = cs} {a = a} {b = b} links at x y call within w
     with_call :
         (past : List Step) → AgreesSent at call past (record { core = a; history = h; clients = cs; links = links }) → AgreesBut (LineCalled call) at past (record { core = a; history = h; clients = cs; links = links })
     with_call past was =
-        record { orderly = was.0.orderly; clients = was.0.clients; told = was.0.told; links = λ j link other there. was.0.links j link there; this = λ link there. (was.0.links at link there, was.1, was.2 link there); gone = was.0.gone; shown = was.0.shown; shut = was.0.shut }
+        record { orderly = was.0.orderly; clients = was.0.clients; told = was.0.told; links = λ j link other there. was.0.links j link there; this = λ link there. (was.0.links at link there, was.1, was.2 link there); gone = was.0.gone; shown = was.0.shown; shut = was.0.shut; unlinked = was.0.unlinked }
 
 -- one that waited was taken from it
 pub line_gave :
@@ -566,7 +578,7 @@ line_gave {h = h} {h' = h'} {cs = cs} {a = a} {b = b} links at x y call within w
         → AgreesSent at call past (record { core = b; history = h'; clients = cs; links = set links at y })
     with_call past was = (
       but_all at past (record { core = b; history = h'; clients = cs; links = set links at y })
-          (record { orderly = was.orderly; clients = was.clients; told = was.told; links = was.links; this = λ link there. (was.this link there).0; gone = was.gone; shown = was.shown; shut = was.shut }),
+          (record { orderly = was.orderly; clients = was.clients; told = was.told; links = was.links; this = λ link there. (was.this link there).0; gone = was.gone; shown = was.shown; shut = was.shut; unlinked = was.unlinked }),
       (was.this y (set_here links at y within)).1,
       λ link there. subst (λ (z : Link). AreDue past at (numbers_of (call ∷ z.waiting.items))) (same_some (sym (set_here links at y within) ∙ there)) (was.this y (set_here links at y within)).2,
     )

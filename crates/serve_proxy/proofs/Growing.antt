@@ -20,7 +20,7 @@ use Rattle.serve_links.specs.declared.link.Link.{Link}
 use Rattle.serve_links.specs.Links.{IsDown}
 use Rattle.serve_links.specs.CoreSteps.{Step, Loaded}
 use Rattle.serve_links.specs.Story.{fed_in, gave_in, IsTold, said_asks, numbers_of, LineState, line_of, LineAgrees, LinesAgree, AnEnd, Agrees, AllGoFrom, texts_of, MayAllGo}
-use Rattle.serve_links.specs.Talks.{AreDue, IsOrderly}
+use Rattle.serve_links.specs.Talks.{talk_in, AreDue, IsOrderly}
 use Rattle.serve_links.proofs.Due.{none_more}
 use Rattle.serve_links.proofs.Shutting.{shut_quiet}
 use Rattle.serve_links.proofs.Walked.{walked, of_both}
@@ -67,10 +67,15 @@ same_some e = cc
 none_some : {A : Type 0} {x : A} → None ≡ Some x → ⊥
 none_some e = cc
 
-in_both : {A : Type 0} (xs ys : List A) (at : ℕ) (z : A) → slice_get (xs ++ ys) at ≡ Some z → (slice_get xs at ≡ Some z) ⊎ ((k : ℕ) × (slice_get ys k ≡ Some z))
-in_both [] ys at z is = inr (at, is)
+in_both : {A : Type 0} (xs ys : List A) (at : ℕ) (z : A) → slice_get (xs ++ ys) at ≡ Some z → (slice_get xs at ≡ Some z) ⊎ ((slice_get xs at ≡ None) × (k : ℕ) × (slice_get ys k ≡ Some z))
+in_both [] ys at z is = inr (refl, at, is)
 in_both (x ∷ xs) ys zero z is = inl is
 in_both (x ∷ xs) ys (suc at) z is = in_both xs ys at z is
+
+in_first : {A : Type 0} (xs ys : List A) (at : ℕ) → slice_get (xs ++ ys) at ≡ None → slice_get xs at ≡ None
+in_first [] ys at none = refl
+in_first (x ∷ xs) ys zero none = none
+in_first (x ∷ xs) ys (suc at) none = in_first xs ys at none
 
 is_down : (texts : List (List ℕ)) (k : ℕ) (line : LineState) → slice_get (each down_line texts) k ≡ Some line → (line.1 ≡ None) × (line.3 ≡ [])
 is_down [] k line is = absurd (none_some is)
@@ -81,16 +86,28 @@ no_conn : (o : Option Conn) → option_map (λ (x : Conn). let e : ℕ × List �
 no_conn None is = refl
 no_conn (Some conn) is = absurd (none_some (sym is))
 
-pub lines_grow : (h : List Event) (past : List Step) (ls ls' : List Link) → AddsLines ls ls' → IsOrderly past → LinesAgree past h ls → LinesAgree past h ls'
-lines_grow h past ls ls' adds orderly was at link there = by (in_both (lines_of ls) (each down_line adds.0) at (line_of link) (ap (λ l. slice_get l at) (sym adds.1) ∙ sym (get_line ls' at) ∙ ap (option_map line_of) there))
+-- no link stands where no line does
+none_of : (ls : List Link) (at : ℕ) → slice_get (lines_of ls) at ≡ None → slice_get ls at ≡ None
+none_of ls at none = by (slice_get ls at) (get_line ls at ∙ none)
+  where
+    by : (o : Option Link) → option_map line_of o ≡ None → o ≡ None
+    by None e = refl
+    by (Some link) e = absurd (none_some (sym e))
+
+-- nor where none stands among more
+none_before : (ls ls' : List Link) → AddsLines ls ls' → (at : ℕ) → slice_get ls' at ≡ None → slice_get ls at ≡ None
+none_before ls ls' adds at none = none_of ls at (in_first (lines_of ls) (each down_line adds.0) at (ap (λ l. slice_get l at) (sym adds.1) ∙ sym (get_line ls' at) ∙ ap (option_map line_of) none))
+
+pub lines_grow : (h : List Event) (past : List Step) (ls ls' : List Link) → AddsLines ls ls' → IsOrderly past → ((at : ℕ) → slice_get ls at ≡ None → (talk_in past at).out ≡ []) → LinesAgree past h ls → LinesAgree past h ls'
+lines_grow h past ls ls' adds orderly unlinked was at link there = by (in_both (lines_of ls) (each down_line adds.0) at (line_of link) (ap (λ l. slice_get l at) (sym adds.1) ∙ sym (get_line ls' at) ∙ ap (option_map line_of) there))
   where
     of_old : (o : Option Link) → slice_get ls at ≡ o → option_map line_of o ≡ Some (line_of link) → LineAgrees at past h link
     of_old None e l = absurd (none_some l)
     of_old (Some x) e l = same_line at past h x link (sym (same_some l)) (was at x e)
 
-    by : (slice_get (lines_of ls) at ≡ Some (line_of link)) ⊎ ((k : ℕ) × (slice_get (each down_line adds.0) k ≡ Some (line_of link))) → LineAgrees at past h link
+    by : (slice_get (lines_of ls) at ≡ Some (line_of link)) ⊎ ((slice_get (lines_of ls) at ≡ None) × (k : ℕ) × (slice_get (each down_line adds.0) k ≡ Some (line_of link))) → LineAgrees at past h link
     by (inl old) = of_old (slice_get ls at) refl (get_line ls at ∙ old)
-    by (inr new) = let down = is_down adds.0 new.0 (line_of link) new.1 in has_none at past h link (no_conn link.conn down.0) (subst (λ w. MayAllGo past at w) (sym down.1) tt) (subst (λ w. AreDue past at (numbers_of w)) (sym down.1) (none_more past at orderly))
+    by (inr new) = let down = is_down adds.0 new.1 (line_of link) new.2 in has_none at past h link (no_conn link.conn down.0) (subst (λ w. MayAllGo past at w) (sym down.1) tt) (subst (λ w. AreDue past at (numbers_of w)) (sym down.1) (none_more past at orderly)) (unlinked at (none_of ls at new.0))
 
 texts_both : (lines : List LineState) (texts : List (List ℕ)) → each (λ (p : LineState). p.0) (lines ++ each down_line texts) ≡ each (λ (p : LineState). p.0) lines ++ texts
 texts_both [] [] = refl
@@ -123,7 +140,7 @@ pub links_grow :
     {Is : Step → Type 0} {h : List Event} {cs : Clients} {ls ls' : List Link} (core : ServedCore) → AddsLines ls ls'
     → AllGrow Is (record { core = core; history = h; clients = cs; links = ls }) (record { core = core; history = h; clients = cs; links = ls' })
 links_grow {h = h} {ls = ls} {ls' = ls'} core adds =
-    record { steps = []; kinds = tt; walks = refl; agree = λ past was. record { orderly = was.orderly; clients = was.clients; told = was.told; links = lines_grow h past ls ls' adds was.orderly was.links; gone = was.gone; shown = was.shown; shut = shut_quiet (λ d. untouched d h) (λ j. refl) (conns_grow ls ls' adds) was.shut }; texts = (adds.0, texts_grow ls ls' adds) }
+    record { steps = []; kinds = tt; walks = refl; agree = λ past was. record { orderly = was.orderly; clients = was.clients; told = was.told; links = lines_grow h past ls ls' adds was.orderly was.unlinked was.links; gone = was.gone; shown = was.shown; shut = shut_quiet (λ d. untouched d h) (λ j. refl) (conns_grow ls ls' adds) was.shut; unlinked = λ at none. was.unlinked at (none_before ls ls' adds at none) }; texts = (adds.0, texts_grow ls ls' adds) }
 
 -- a configuration was loaded, which tells nothing of clients
 pub load_grows :
@@ -134,14 +151,14 @@ load_grows {h} {cs} {ls} configuration generation a b loaded =
       steps = Loaded configuration generation ∷ [];
       kinds = ((generation, refl), tt);
       walks = (a, refl, loaded);
-      agree = λ past was. record { orderly = (tt, was.orderly); clients = agree_told h (fed_in past) (gave_in past) (fed_in (Loaded configuration generation ∷ past)) (gave_in (Loaded configuration generation ∷ past)) cs (λ j. (refl, refl)) was.clients; told = was.told; links = lines_told h (Loaded configuration generation ∷ []) past ls (tt, tt) was.links; gone = λ conn id is. had_quiet past (Loaded configuration generation ∷ []) h h cs cs id conn (untouched conn h) refl is was.gone; shown = (tt, was.shown); shut = was.shut };
+      agree = λ past was. record { orderly = (tt, was.orderly); clients = agree_told h (fed_in past) (gave_in past) (fed_in (Loaded configuration generation ∷ past)) (gave_in (Loaded configuration generation ∷ past)) cs (λ j. (refl, refl)) was.clients; told = was.told; links = lines_told h (Loaded configuration generation ∷ []) past ls (tt, tt) was.links; gone = λ conn id is. had_quiet past (Loaded configuration generation ∷ []) h h cs cs id conn (untouched conn h) refl is was.gone; shown = (tt, was.shown); shut = was.shut; unlinked = was.unlinked };
       texts = ([], sym (append-nil (texts_of ls)));
     }
 
 -- it was, or it is as it was
 pub same_grows :
     {Is : Step → Type 0} {h : List Event} {cs : Clients} {ls : List Link} (a b : ServedCore) → b ≡ a → AllGrow Is (record { core = a; history = h; clients = cs; links = ls }) (record { core = b; history = h; clients = cs; links = ls })
-same_grows {Is} {h} {cs} {ls} a b same = record { steps = []; kinds = tt; walks = same; agree = λ past was. record { orderly = was.orderly; clients = was.clients; told = was.told; links = was.links; gone = was.gone; shown = was.shown; shut = was.shut }; texts = ([], sym (append-nil (texts_of ls))) }
+same_grows {Is} {h} {cs} {ls} a b same = record { steps = []; kinds = tt; walks = same; agree = λ past was. record { orderly = was.orderly; clients = was.clients; told = was.told; links = was.links; gone = was.gone; shown = was.shown; shut = was.shut; unlinked = was.unlinked }; texts = ([], sym (append-nil (texts_of ls))) }
 
 -- from a core that is the same
 pub grow_from :
@@ -153,7 +170,7 @@ grow_from {Is} {h} {cs} {ls} {a} {x} {b} same g = subst (λ y. AllGrow Is (recor
 
 -- no client is there, and no link has a connection
 pub new_agrees : (h : List Event) (core : ServedCore) (cs : Clients) (ls : List Link) → cs.all.items ≡ [] → AddsLines [] ls → HasNoConns h → Agrees [] (record { core = core; history = h; clients = cs; links = ls })
-new_agrees h core cs ls none adds new = record { orderly = tt; clients = λ id. subst (λ o. IfSome o (EndAgrees h (fed_in []) (gave_in []) id)) (sym (nobody id)) tt; told = λ id. subst (λ o. IfSome o (IsTold [] id)) (sym (nobody id)) tt; links = lines_grow h [] [] ls adds tt (λ at link there. absurd (none_some there)); gone = λ conn id is. absurd (none_some (sym (new conn).0 ∙ is)); shown = tt; shut = record { clients = λ id conn is. absurd (none_some (sym (new conn).0 ∙ is)); links = λ at conn is. absurd (none_some (sym (new conn).0 ∙ is)); nobodys = λ conn is. (new conn).1 } }
+new_agrees h core cs ls none adds new = record { orderly = tt; clients = λ id. subst (λ o. IfSome o (EndAgrees h (fed_in []) (gave_in []) id)) (sym (nobody id)) tt; told = λ id. subst (λ o. IfSome o (IsTold [] id)) (sym (nobody id)) tt; links = lines_grow h [] [] ls adds tt (λ at none. refl) (λ at link there. absurd (none_some there)); gone = λ conn id is. absurd (none_some (sym (new conn).0 ∙ is)); shown = tt; shut = record { clients = λ id conn is. absurd (none_some (sym (new conn).0 ∙ is)); links = λ at conn is. absurd (none_some (sym (new conn).0 ∙ is)); nobodys = λ conn is. (new conn).1 }; unlinked = λ at none. refl }
   where
     nobody : (id : ℕ) → client_of cs id ≡ None
     nobody id = ap (λ (xs : List (Option Client)). option_flatten (slice_get xs id)) none

@@ -224,6 +224,7 @@ but_clients {This} {core = core} {h = h} {ls = ls} at cs cs' g keeps = record { 
       gone = λ conn id is. had_quiet past [] h h cs cs' id conn (untouched conn h) (numbers_kept (client_of cs id) (client_of cs' id) (keeps id)) is was.gone;
       shown = was.shown;
       shut = shut_quiet (λ d. untouched d h) (λ j. numbers_kept (client_of cs j) (client_of cs' j) (keeps j)) (λ at. refl) was.shut;
+      unlinked = was.unlinked;
     }
 
 -- no link stands there

@@ -8,7 +8,8 @@ use Rattle.wire_parts.specs.Sending.{bytes_of}
 use Rattle.serve_wire.specs.Events.{Event, admits, ticks, accepts, role, delivered, taken, is_open, IsNew}
 use Rattle.serve_wire.specs.Agreement.{Extends, TouchesOnly, IsUntouched}
 use Rattle.serve_wire.specs.Calls.{Closes}
-use Rattle.serve_wire.proofs.Steps.{equal, unequal, apart, new_apart, untouched, untouched_twice, only_closes, only_admits, only_accepts, only_after, extends_twice, none_ticks}
+use Rattle.serve_wire.proofs.Steps.{equal, unequal, apart, new_apart, untouched, untouched_twice, only_admits, only_accepts, only_after, extends_twice, none_ticks}
+use Rattle.serve_wire.proofs.Touching.{only_same, only_closed}
 use Rattle.core_proxy.specs.declared.fault.CoreFault.{CoreFault}
 use Rattle.core_proxy.specs.Faults.{OutputFault}
 use Rattle.core_proxy.specs.CoreState.{Gives, client_at, output_by}
@@ -26,6 +27,7 @@ use Rattle.serve_links.specs.Story.{fed_in, gave_in, is_open_in, is_broken_in, I
 use Rattle.serve_links.specs.Shut.{client_conn, AreShut}
 use Rattle.serve_links.proofs.Shutting.{closed_shut, shut_without, shut_opened, shut_turned}
 use Rattle.serve_links.proofs.Showing.{plain_unlost, shown_later}
+use Rattle.serve_links.specs.Talks.{Talk}
 use Rattle.serve_links.proofs.Talking.{IsPlain, plain_talk, plain_orderly}
 use Rattle.serve_links.proofs.Story.{at_told, all_told, took_all, TellsSame, same_told, gone_stays, end_gone, had_stays, line_stays}
 use Rattle.serve_links.proofs.Walked.{walked, of_both}
@@ -88,6 +90,7 @@ new_touched {h} {h'} {cs} {ls} c none none_now shut only = λ core. record {
     gone = λ conn id is. had_quiet past [] h h' cs cs id conn (only conn (new_apart c conn h' (0, id) is none_now)) refl is was.gone;
     shown = shown_later [] past h h' tt (only_after c h h' only) was.shown;
     shut = shut_turned c shut only was.shut;
+    unlinked = was.unlinked;
   };
   texts = refl;
 }
@@ -102,10 +105,6 @@ number_is e = cc
 closed_tells : (c d : ℕ) (h h' : List Event) → Closes c h h' → TellsSame d h h'
 closed_tells c d h h' (inl closed) = (ap (role d) closed, ap (delivered d) closed, ap (taken d) closed)
 closed_tells c d h h' (inr same) = (ap (role d) same.0, ap (delivered d) same.0, ap (taken d) same.0)
-
-pub only_closed : (c : ℕ) (h h' : List Event) → Closes c h h' → TouchesOnly c h h'
-only_closed c h h' (inl closed) = subst (TouchesOnly c h) (sym closed) (only_closes c h)
-only_closed c h h' (inr same) = subst (TouchesOnly c h) (sym same.0) (λ d other. untouched d h)
 
 tells_twice : (d : ℕ) (h h' h'' : List Event) → TellsSame d h h' → TellsSame d h' h'' → TellsSame d h h''
 tells_twice d h h' h'' a b = (b.0 ∙ a.0, b.1 ∙ a.1, b.2 ∙ a.2)
@@ -156,6 +155,7 @@ opened_go {h} {h1} {h2} {h'} {cs} {cs'} {ls} id c b last new is dropped only unu
     gone = gone past was;
     shown = shown_later q.steps (Opened id ∷ past) h' h' (plain_unlost q.steps (silent_plain q.steps q.kinds)) ([], refl) (shown_later (Opened id ∷ []) past h h' (tt, tt) after was.shown);
     shut = shut_opened id c (λ d e. (tells d e).0) opens own (λ j other. ap (option_map (λ (x : Client). x.conn.number)) (others j other)) (λ j. refl) was.shut;
+    unlinked = λ at none. ap (λ (t : Talk). t.out) (plain_talk q.steps (silent_plain q.steps q.kinds) (Opened id ∷ past) at) ∙ was.unlinked at none;
   });
   texts = refl;
 }
@@ -278,7 +278,7 @@ none_stands o none = subst (λ p. IfSome p (λ x. x.is_broken ≡ false)) (sym n
 
 pub only_may : (c id : ℕ) (h h' : List Event) → MayAdmit c id h h' → TouchesOnly c h h'
 only_may c id h h' (inl is) = subst (TouchesOnly c h) (sym is) (only_admits c id h)
-only_may c id h h' (inr same) = subst (TouchesOnly c h) (sym same) (λ d other. untouched d h)
+only_may c id h h' (inr same) = only_same c h h' same
 
 -- nothing came or went over it, before and after
 pub unused_new : (c : ℕ) (kept : Option ℕ) (h h1 h2 : List Event) → IsNew c h → h1 ≡ accepts c ∷ h → IsDropped kept h1 h2 → IsUnused c h2
@@ -327,6 +327,7 @@ gone_go {h} {h'} {cs} {cs'} {ls} id gone dropped before core does sent = record 
     gone = gone_of past was given.1;
     shown = shown_later (Closed id ∷ []) past h h' (tt, tt) (dropped_after (client_conn cs id) h h' dropped) was.shown;
     shut = shut_without id (λ d. (told d).0) (λ d on. dropped_opens (client_conn cs id) d h h' dropped on) (λ j other. ap (option_map (λ (x : Client). x.conn.number)) (gone_others cs cs' id gone j other)) (λ j. refl) was.shut;
+    unlinked = was.unlinked;
   };
   texts = refl;
 }

@@ -1,5 +1,5 @@
 -- What reads and writes of one end come to, and what they do to what agrees.
-use Rattle.std.proofs.Common.{◌≡◌, ℕ, if◌then◌else◌, List, [], ◌++◌, take, drop, refl, sym, ap, ◌∙◌, subst, append_assoc, append-nil}
+use Rattle.std.proofs.Common.{◌≡◌, ◌⊎◌, inl, inr, ℕ, if◌then◌else◌, List, [], ◌++◌, take, drop, refl, sym, ap, ◌∙◌, subst, append_assoc, append-nil}
 use Rattle.std.proofs.lemmas.List.{take-append-drop}
 use Rattle.serve_wire.specs.Events.{Event, role, address_of, delivered, taken, is_over}
 use Rattle.serve_wire.specs.Agreement.{ClientAgrees, LinkAgrees, TouchesOnly}
@@ -106,6 +106,20 @@ bytes_stand c unsent unsent' h h' s = ap (is_over c) s.noted
 
 pub nothing_stands : (c : ℕ) (unsent unsent' : List ℕ) (h h' : List Event) → Sends c unsent sent.Nothing unsent' h h' → Stands c h h'
 nothing_stands c unsent unsent' h h' s = ap (is_over c) s.1
+
+-- the same, one write after others, in the words of a loop
+pub sends_then :
+    (c c' : ℕ) (unsent unsent' unsent'' : List ℕ) (h h' h'' : List Event) (what : Sent) → c' ≡ c → SendsOn c unsent unsent' h h' → Sends c' unsent' what unsent'' h' h'' → SendsOn c unsent unsent'' h h''
+sends_then c c' unsent unsent' unsent'' h h' h'' what same a s =
+    sends_twice c unsent unsent' unsent'' h h' h'' a (subst (λ n. SendsOn n unsent' unsent'' h' h'') same (sends_on c' unsent' what unsent'' h' h'' s))
+
+pub stands_then :
+    (c c' : ℕ) (unsent' unsent'' : List ℕ) (h h' h'' : List Event) (what : Sent) → c' ≡ c → (what ≡ sent.Bytes) ⊎ (what ≡ sent.Nothing) → Stands c h h' → Sends c' unsent' what unsent'' h' h'' → Stands c h h''
+stands_then c c' unsent' unsent'' h h' h'' what same is a s = subst (λ n. Stands n h' h'') same (by is) ∙ a
+  where
+    by : (what ≡ sent.Bytes) ⊎ (what ≡ sent.Nothing) → Stands c' h' h''
+    by (inl e) = bytes_stand c' unsent' unsent'' h' h'' (subst (λ w. Sends c' unsent' w unsent'' h' h'') e s)
+    by (inr e) = nothing_stands c' unsent' unsent'' h' h'' (subst (λ w. Sends c' unsent' w unsent'' h' h'') e s)
 
 -- ---- what agrees
 

@@ -1,11 +1,12 @@
 use Rattle.std.proofs.Common.{◌≡◌, false, true, if◌then◌else◌, Some, ap, sym, ◌∙◌}
 use Rattle.serve_wire.specs.Events.{role, is_open}
 use Rattle.serve_wire.proofs.Steps.{equal, only_twice}
+use Rattle.serve_wire.proofs.Touching.{only_closed}
 use Rattle.serve_links.specs.Shut.{client_conn}
 use Rattle.serve_links.proofs.Shutting.{closed_shut}
 use Rattle.serve_proxy.specs.Ends.{lines_of}
 use Rattle.serve_proxy.proofs.Going.{and_then, stays, nothing, close_none}
-use Rattle.serve_proxy.proofs.Told.{IsDropped, dropped_tells, opened_go, begun_agrees, begun_stands, begun_conn, none_agrees, none_stands, only_may, only_closed, unused_new, unused_may, unused_closed, gone_here, gone_others}
+use Rattle.serve_proxy.proofs.Told.{IsDropped, dropped_tells, opened_go, begun_agrees, begun_stands, begun_conn, none_agrees, none_stands, only_may, unused_new, unused_may, unused_closed, gone_here, gone_others}
 use Rattle.serve_proxy.proofs.Staying.{stay_links}
 use Rattle.serve_proxy.proofs.accepting.keep_client.Goals as goal
 
