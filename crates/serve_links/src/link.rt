@@ -235,14 +235,6 @@ impl Link {
         self.waiting.pop_front()
     }
 
-    /// When the first of the calls that wait began.
-    fn oldest_waiting(&self) -> Option<u64> {
-        match self.waiting.front() {
-            Some(call) => Some(call.since),
-            None => None,
-        }
-    }
-
     // The place of the first that may go out: those that are bulk may have no room.
     fn place_to_go(&self) -> Option<usize> {
         let mut place = 0usize;
@@ -268,18 +260,18 @@ impl Link {
         self.waiting.remove(place)
     }
 
-    /// Whether the first of those that wait has waited too long to go out by now.
-    pub fn has_waited_long(&self, now: u64, settings: &Settings) -> bool {
-        match self.waiting_limit(settings) {
-            Some(limit) => limit < now,
+    /// Whether the first of those that wait has waited too long to go out, by the clock of calls that wait.
+    pub fn has_waited_long(&self, pace: u64, settings: &Settings) -> bool {
+        match self.waiting.front() {
+            Some(call) => call.paced.saturating_add(settings.call_ms) < pace,
             None => false,
         }
     }
 
     /// Until when the first of those that wait may wait, in milliseconds.
     pub fn waiting_limit(&self, settings: &Settings) -> Option<u64> {
-        match self.oldest_waiting() {
-            Some(since) => Some(since.saturating_add(settings.call_ms)),
+        match self.waiting.front() {
+            Some(call) => Some(call.since.saturating_add(settings.call_ms)),
             None => None,
         }
     }

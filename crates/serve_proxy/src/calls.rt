@@ -47,6 +47,7 @@ fn send_looked<W: Wire, N: Net>(
         ticket,
         client: id,
         since: time,
+        paced: sockets.links.pace(),
         bulk,
         dialect: sockets.links.dialect_of(at),
     };
@@ -192,7 +193,7 @@ fn fail_next<W: Wire>(
 ) -> Result<bool, AllocError>
     ensures ends { AllFailOn W.history core.old sockets.old core.new sockets.new }
 {
-    match sockets.links.next_too_late(at, sockets.time) {
+    match sockets.links.next_too_late(at) {
         None => Ok(false),
         Some(call) => refuse_waited(core, sockets, at, call),
     }

@@ -60,6 +60,7 @@ pub fn look_at_idle<W: Wire>(
 pub fn fail_late<W: Wire>(core: &mut ServedCore, sockets: &mut Sockets<W>) -> io::Result<()>
     ensures ends { AllGoOr result W.history core.old sockets.old core.new sockets.new }
 {
+    sockets.links.look(sockets.time);
     if !sockets.links.may_be_late(sockets.time) {
         return Ok(());
     }

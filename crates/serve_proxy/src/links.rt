@@ -101,6 +101,9 @@ pub struct Links {
     pub late_from: Option<u64>,
     /// Whether there may be something to tell of a link.
     pub has_news: bool,
+    // What the clock showed when calls that wait were looked at last, and their own clock, which goes on by little where much time has passed since: then the process stood still.
+    looked: u64,
+    pace: u64,
 }
 
 impl Links {
@@ -125,7 +128,24 @@ impl Links {
             with_output: Vec::new(alloc),
             late_from: None,
             has_news: false,
+            looked: 0,
+            pace: 0,
         }
+    }
+
+    /// The clock shows this.
+    pub fn look(&mut self, time: u64)
+        ensures lines { lines_of self.new.all.items ≡ lines_of self.old.all.items }
+    {
+        let passed = time.saturating_sub(self.looked);
+        self.looked = time;
+        let most = (self.settings.call_ms / 8).saturating_add(1);
+        self.pace = self.pace.saturating_add(passed.min(most));
+    }
+
+    /// What the clock of calls that wait shows.
+    pub fn pace(&self) -> u64 {
+        self.pace
     }
 
     /// Servers that have no link yet get one, without a connection.
@@ -370,11 +390,11 @@ impl Links {
     }
 
     /// The first of the calls that wait for it, if that has waited too long to go out.
-    pub fn next_too_late(&mut self, at: usize, time: u64) -> Option<SentCall>
+    pub fn next_too_late(&mut self, at: usize) -> Option<SentCall>
         ensures call { MatchOption result (lines_of self.new.all.items ≡ lines_of self.old.all.items) (λ call. LinksGive at call self.old.all.items self.new.all.items) }
     {
         let link = self.all.get_mut(at)?;
-        if !link.has_waited_long(time, &self.settings) {
+        if !link.has_waited_long(self.pace, &self.settings) {
             return None;
         }
         link.next_waiting()

@@ -133,6 +133,7 @@ impl Link {
             ticket,
             client: 0,
             since: 7,
+            paced: 7,
             bulk: 0,
             dialect,
         };

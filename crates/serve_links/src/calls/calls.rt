@@ -31,9 +31,6 @@ const BULK_FROM: usize = 65_536;
 // No further get that is bulk goes out while so many bytes are expected of those that are out.
 const BULK_OUT: usize = 1_310_720;
 
-// So many bytes an answer is expected to take before a server answered anything.
-const EXPECTED_FIRST: usize = 1_048_576;
-
 // What the first get of a client is expected to take falls by such a part at each answer that is smaller.
 const EXPECTS_PART: usize = 64;
 
@@ -45,6 +42,8 @@ pub struct SentCall {
     pub client: usize,
     /// When it began, in milliseconds: also where it waited before it went out.
     pub since: u64,
+    /// The same by the clock of calls that wait, which doesn't count how long the process stood still.
+    pub paced: u64,
     /// How many bytes its answer is expected to take, where that is much; 0 for all other calls.
     pub bulk: usize,
     /// In which dialect its server is asked for a classic get; all else is asked as it is.
@@ -223,7 +222,7 @@ impl LinkCalls {
             alloc,
             sent: VecDeque::new(alloc),
             bulk_out: 0,
-            expects: EXPECTED_FIRST,
+            expects: 0,
             forms: MetaForms::new(),
             spares: SpareBodies::new(alloc),
         }
