@@ -27,7 +27,7 @@ const READ: usize = 16_384;
 const LONG_READ: usize = 262_144;
 
 // So many bytes are expected of each further get of a client until its first one is answered.
-const EXPECTED_FIRST: usize = 1_048_576;
+const EXPECTED_FIRST: usize = 524_288;
 
 // So many bytes or more that are to be sent aren't held back.
 const HELD_BACK: usize = 65_536;

@@ -270,17 +270,97 @@ taken 9 => get a\r\nget b\r\n
 A client leaves 2 MB of replies untaken: of its commands 32 begin at once, and then not one more for each of 20 replies.
 host 127.0.0.1:5001
 peer 9
--- 9 * 8 + 23 * 9
-awaits 279
+awaits 7
+sends END\r\n
+-- 9 * 8 + 23 * 9 more
+awaits 286
 sends «20 VALUE k# 0 100000\r\n<data>\r\nEND\r\n»
 answers 127.0.0.1:5001
 peer 1
 window 1000
+sends get a\r\n
+awaits 5
 sends «64 get k#\r\n»
 calls 0
 proxy <one server>
 turn 60
-took 9 «52 get k#\r\n» => no
+took 9 get a\r\n«52 get k#\r\n» => no
+
+Small gets pass the large ones of another client that wait for their turn.
+host 127.0.0.1:5001
+peer 9
+awaits 7
+sends END\r\n
+awaits 14
+sends VALUE a 0 100000\r\n<data>\r\nEND\r\n
+-- 9 * 8 + 5 * 9, of which 1.3 MB are expected, and 7
+awaits 138
+sends «14 VALUE k# 0 100000\r\n<data>\r\nEND\r\n»END\r\n
+awaits 192
+sends «6 END\r\n»
+answers 127.0.0.1:5001
+peer 2
+sends get t\r\n
+until 100
+sends get s\r\n
+calls 0
+peer 1
+sends get a\r\n
+awaits 100025
+sends «20 get k#\r\n»
+calls 20
+proxy <one server>
+turn 60
+taken 2 => END\r\nEND\r\n
+took 9 get t\r\nget a\r\n«14 get k#\r\n»get s\r\nget k15\r\nget k16\r\nget k17\r\nget k18\r\nget k19\r\nget k20\r\n => yes
+
+Of a client of which nothing is known four gets go out before an answer comes.
+host 127.0.0.1:5001
+peer 9
+awaits 32
+sends «4 END\r\n»
+awaits 56
+sends «3 END\r\n»
+answers 127.0.0.1:5001
+peer 1
+sends «7 get k#\r\n»
+calls 0
+proxy <one server>
+turn 20
+taken 1 => END\r\nEND\r\nEND\r\nEND\r\nEND\r\nEND\r\nEND\r\n
+
+A call that has waited a second for its place fails alone, and nobody's before it: its connection stands.
+host 127.0.0.1:5001
+peer 9
+awaits 7
+until 700
+sends END\r\n
+awaits 14
+until 1150
+sends END\r\n
+awaits 21
+sends END\r\n
+answers 127.0.0.1:5001
+peer 1
+sends get a\r\n
+calls 0
+peer 2
+sends get b\r\n
+calls 0
+peer 3
+sends get c\r\n
+awaits 26
+until 1500
+sends get d\r\n
+calls 0
+narrow-proxy <one server>
+turn 60
+taken 1 => END\r\n
+taken 2 => END\r\n
+taken 3 => SERVER_ERROR call failed\r\nEND\r\n
+taken 9 => get a\r\nget b\r\nget d\r\n
+open 9 => yes
+news => server 0: connected
 
 A client breaks off while its call is out: the answer is no other client's.
 host 127.0.0.1:5001
@@ -343,12 +423,14 @@ host 127.0.0.1:5002
 peer 8
 awaits 7
 sends END\r\n
+awaits 14
+sends VALUE c 0 1\r\n1\r\nEND\r\n
 -- 9 * 8 + 3 * 9 more, 7, and 16
-awaits 106
-sends «12 VALUE b# 0 100000\r\n<data>\r\nEND\r\n»
 awaits 113
+sends «12 VALUE b# 0 100000\r\n<data>\r\nEND\r\n»
+awaits 120
 sends VALUE k 0 1\r\n8\r\nEND\r\n
-awaits 129
+awaits 136
 sends NOT_STORED\r\n
 answers 127.0.0.1:5001
 peer 9
@@ -361,6 +443,8 @@ sends get k\r\n
 calls 0
 peer 2
 room 1000
+sends get c\r\n
+awaits 22
 sends «12 get b#\r\n»delete k\r\n
 calls 20
 peer 3
@@ -498,17 +582,25 @@ news => server 0: connected; 1 stalled
 Where more than three million bytes are to be sent to all, the client is closed to which most are.
 host 127.0.0.1:5001
 peer 9
-awaits 261
+awaits 7
+sends END\r\n
+awaits 268
 sends «30 VALUE k# 0 100000\r\n<data>\r\nEND\r\n»
-awaits 333
+awaits 275
+sends END\r\n
+awaits 347
 sends «9 VALUE k# 0 100000\r\n<data>\r\nEND\r\n»
 answers 127.0.0.1:5001
 peer 1
 room 300000
+sends get a\r\n
+awaits 5
 sends «30 get k#\r\n»
 calls 0
 peer 2
 room 300000
+sends get a\r\n
+awaits 5
 sends «9 get k#\r\n»
 calls 3000
 proxy <one server>
@@ -524,22 +616,26 @@ Megabytes of commands at once come to the server as they are, and as many of ans
 host 127.0.0.1:5001
 peer 9
 piece 99991
--- 9 * (19 + 100,000 + 2) + 21 * (20 + 100,000 + 2)
-awaits 3000651
+awaits 7
+sends END\r\n
+-- 9 * (19 + 100,000 + 2) + 21 * (20 + 100,000 + 2) more
+awaits 3000658
 sends «30 STORED\r\n»
 -- 9 * 8 + 21 * 9 more
-awaits 3000912
+awaits 3000919
 sends «30 VALUE k# 0 100000\r\n<data>\r\nEND\r\n»
 answers 127.0.0.1:5001
 peer 1
 piece 70001
 window 300000
+sends get a\r\n
+awaits 5
 sends «30 set k# 0 0 100000\r\n<data>\r\n»«30 get k#\r\n»
 calls 0
 proxy <one server>
 turn 400
-took 9 «30 set k# 0 0 100000\r\n<data>\r\n»«30 get k#\r\n» => yes
-took 1 «30 STORED\r\n»«30 VALUE k# 0 100000\r\n<data>\r\nEND\r\n» => yes"
+took 9 get a\r\n«30 set k# 0 0 100000\r\n<data>\r\n»«30 get k#\r\n» => yes
+took 1 END\r\n«30 STORED\r\n»«30 VALUE k# 0 100000\r\n<data>\r\nEND\r\n» => yes"
 }
 
 // How servers are asked: as clients wrote it, or as each tells.
@@ -547,6 +643,14 @@ fn settings(server_dialect: ServerDialect) -> Settings {
     Settings {
         server_dialect,
         ..Settings::usual()
+    }
+}
+
+// A server has one place.
+fn narrow() -> Settings {
+    Settings {
+        places: 1,
+        ..settings(ServerDialect::Classic)
     }
 }
 
@@ -708,11 +812,11 @@ impl Scripted<'_> {
         }
     }
 
-    fn begin(&mut self, text: &str, server_dialect: ServerDialect) -> Result<(), Fail> {
+    fn begin(&mut self, text: &str, settings: Settings) -> Result<(), Fail> {
         let Some(wire) = self.wire.take() else {
             return Err("the proxy has begun")?;
         };
-        self.proxy = Some(begin(self.rt, wire, text, settings(server_dialect))?);
+        self.proxy = Some(begin(self.rt, wire, text, settings)?);
         self.config = text.to_string(self.rt.alloc())?;
         Ok(())
     }
@@ -745,8 +849,9 @@ impl Scripted<'_> {
                 Ok(())
             }
             "calls" | "answers" => self.place(verb, text),
-            "proxy" => self.begin(text, ServerDialect::Classic),
-            "auto-proxy" => self.begin(text, ServerDialect::Auto),
+            "proxy" => self.begin(text, settings(ServerDialect::Classic)),
+            "auto-proxy" => self.begin(text, settings(ServerDialect::Auto)),
+            "narrow-proxy" => self.begin(text, narrow()),
             "turn" => self.turn_often(text.parse::<usize>()?),
             "bounds" => self.bound(text),
             _ => self.script(verb, text),
