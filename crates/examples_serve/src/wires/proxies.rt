@@ -546,21 +546,29 @@ taken 2 => END\r\n
 Two clients take nothing after 300,000 bytes. One for whom much more is held is closed ten seconds later; one for whom little is stays.
 host 127.0.0.1:5001
 peer 9
--- 9 * 8 + 21 * 9
-awaits 261
+awaits 7
+sends END\r\n
+-- 9 * 8 + 21 * 9 more
+awaits 268
 sends «30 VALUE k# 0 100000\r\n<data>\r\nEND\r\n»
--- 9 * 8
-awaits 333
+awaits 275
+sends END\r\n
+-- 9 * 8 more
+awaits 347
 sends «9 VALUE k# 0 100000\r\n<data>\r\nEND\r\n»
-awaits 340
+awaits 354
 sends END\r\n
 answers 127.0.0.1:5001
 peer 1
 room 300000
+sends get a\r\n
+awaits 5
 sends «30 get k#\r\n»
 calls 0
 peer 2
 room 300000
+sends get a\r\n
+awaits 5
 sends «9 get k#\r\n»
 calls 3000
 peer 3
