@@ -84,10 +84,6 @@ line_none {h} {h'} {x} {y} at v is s = subst (λ o. LineStandsUnless (over_of o)
 false_true : false ≡ true → ⊥
 false_true e = cc
 
-pub no_cause : {E : Type 0} (r : Result (Option Cause) E) → IsErr r → cause_after r ≡ None
-no_cause (Ok cause) is = absurd (false_true is)
-no_cause (Err refused) is = refl
-
 -- a link that is late shows that
 late_shows : (cause : Cause) (at : ℕ) (past : List Step) (h : List Event) (y : Link) (conn : Conn) → IsLateBy cause y → LineAgrees at past h y → y.conn ≡ Some conn → ShowsWhy (Some cause) (talk_in past at) conn.number h
 late_shows causes.CallLate at past h y conn late a there = out_some at past h y conn a there late
@@ -227,6 +223,12 @@ pub sent_not :
     {h h' : List Event} {cs cs' : Clients} {ls ls' : List Link} (at : ℕ) (has_sent : Bool) → has_sent ≡ false → EndsGoFrom Agrees (AgreesUnless at (broken_unless has_sent)) h h' cs cs' ls ls'
     → EndsGoFrom Agrees (AgreesBut (LineFails (Some causes.Broken)) at) h h' cs cs' ls ls'
 sent_not {h} {h'} {cs} {cs'} {ls} {ls'} at has_sent is did = subst (λ b. EndsGoFrom Agrees (AgreesUnless at (broken_unless b)) h h' cs cs' ls ls') is did
+
+-- where it stopped nothing is to be given up
+pub idle_stopped :
+    {E : Type 0} {h h' : List Event} {cs cs' : Clients} {ls ls' : List Link} (at : ℕ) (r : Result (Option Cause) E) → IsErr r → EndsGoFrom Agrees Agrees h h' cs cs' ls ls' → EndsGoFrom Agrees (AgreesUnless at (cause_after r)) h h' cs cs' ls ls'
+idle_stopped at (Ok cause) is g = absurd (false_true is)
+idle_stopped at (Err refused) is g = g
 
 -- nothing more was done
 pub as_before : {P : List Step → AnEnd → Type 0} {Is : Step → Type 0} {a : AnEnd} → AllGoFrom P P Is a a

@@ -1,11 +1,10 @@
-use Rattle.std.proofs.Common.{None, refl, sym, subst}
-use Rattle.serve_proxy.specs.Ends.{GoAloneUnless}
-use Rattle.serve_proxy.proofs.GivenUp.{line_goes_unless, idle_stands, line_some, line_none, no_cause}
+use Rattle.std.proofs.Common.{None}
+use Rattle.serve_proxy.proofs.GivenUp.{line_goes_unless, idle_stands, line_some, line_none, idle_stopped}
 use Rattle.serve_proxy.proofs.sockets.Sockets.read_idle.Goals as goal
 
 pub returns-in_err-got : goal.returns-in_err-got
 returns-in_err-got g c = record {
-  ends = subst (λ o. GoAloneUnless c.args.at o g.W.Wire.history c.args.self.now _) (sym (no_cause c.from_residual.result c.from_residual.ensures.0))
+  ends = idle_stopped c.args.at c.from_residual.result c.from_residual.ensures.0
       (line_goes_unless None c.args.self.now.links.all.items c.args.at c.in-Some.link.now c.read_line.new.link c.in-Some.ensures.item.3.0 c.in-Some.ensures.value (c.in_err-got.ensures.stands c.args.at));
 }
 
