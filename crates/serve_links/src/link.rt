@@ -260,8 +260,19 @@ impl Link {
         self.waiting.remove(place)
     }
 
-    /// Whether the first of those that wait has waited too long to go out, by the clock of calls that wait.
-    pub fn has_waited_long(&self, pace: u64, settings: &Settings) -> bool {
+    /// The first of the calls that wait, if it has waited too long to go out, by the clock of calls that wait.
+    pub fn next_too_late(&mut self, pace: u64, settings: &Settings) -> Option<SentCall>
+        ensures waiting { MatchOption result (self.new.waiting.items ≡ self.old.waiting.items) (λ call. self.old.waiting.items ≡ call ∷ self.new.waiting.items) }
+        ensures rest { self.new ≡ record self.old { waiting = self.new.waiting } }
+    {
+        if !self.has_waited_long(pace, settings) {
+            return None;
+        }
+        self.next_waiting()
+    }
+
+    // Whether the first of those that wait has waited so long.
+    fn has_waited_long(&self, pace: u64, settings: &Settings) -> bool {
         match self.waiting.front() {
             Some(call) => call.paced.saturating_add(settings.call_ms) < pace,
             None => false,

@@ -393,11 +393,9 @@ impl Links {
     pub fn next_too_late(&mut self, at: usize) -> Option<SentCall>
         ensures call { MatchOption result (lines_of self.new.all.items ≡ lines_of self.old.all.items) (λ call. LinksGive at call self.old.all.items self.new.all.items) }
     {
-        let link = self.all.get_mut(at)?;
-        if !link.has_waited_long(self.pace, &self.settings) {
-            return None;
-        }
-        link.next_waiting()
+        let pace = self.pace;
+        let settings = self.settings;
+        self.all.get_mut(at)?.next_too_late(pace, &settings)
     }
 
     /// The call is written to the link, or given back.
