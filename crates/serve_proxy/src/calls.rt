@@ -1,5 +1,6 @@
 //! A call that the core makes goes to its server's link: it is written there, waits there, or has failed.
 
+ghost use Rattle.std.specs.Prelude.{◌≡◌};
 ghost use Rattle.serve_links.specs.Story.{AgreesSent};
 ghost use Rattle.serve_proxy.specs.Ends.{AgreesTicket, AllSendFrom, AllFailOn};
 
