@@ -15,8 +15,11 @@ false_true e = cc
 
 pub insert_client-requires : goal.insert_client-requires
 insert_client-requires g c =
-    let id = c.args.id in
-    (dropped_tells (client_conn c.args.sockets.now.clients id) c.args.conn _ _ (record { some = c.drop_end.ensures.some; none = c.drop_end.ensures.none })).0 ∙ c.requires
+    let kept = client_conn c.args.sockets.now.clients c.args.id in
+    let h1 = g.W.Wire.history c.args.sockets.now.wire in
+    let h2 = g.W.Wire.history c.drop_end.new.self.wire in
+    let dropped : IsDropped kept h1 h2 = record { some = c.drop_end.ensures.some; none = c.drop_end.ensures.none } in
+    (dropped_tells kept c.args.conn h1 h2 dropped).0 ∙ c.requires
 
 pub returns-then-insert_client : goal.returns-then-insert_client
 returns-then-insert_client g c = record {
