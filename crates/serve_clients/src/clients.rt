@@ -565,12 +565,7 @@ impl Clients {
     /// A call of it was settled by an answer of so many bytes. The answer to its next get is expected to take as many as that to a get, or a quarter
     /// of what was expected of this one where that is more.
     #[tactic(auto, using(crate::proofs::Agreeing::expects_keeps))]
-    pub fn mark_answered(
-        &mut self,
-        id: usize,
-        is_get: bool,
-        len: usize,
-    ) -> Result<(), AllocError>
+    pub fn mark_answered(&mut self, id: usize, is_get: bool, len: usize) -> Result<(), AllocError>
         ensures ends { KeepsEnds self.old self.new }
     {
         if !is_get {

@@ -270,14 +270,13 @@ impl LinkCalls {
         }
     }
 
-    // The answer to the call in front takes so many bytes.
-    fn note_answer(&mut self, used: usize)
-        ensures { self.new ≡ record self.old { expects = self.new.expects } }
-    {
-        if self.awaits_get() {
-            let kept = self.expects.saturating_sub(self.expects / EXPECTS_PART);
-            self.expects = used.max(kept);
+    // How many bytes are expected after the answer to the call in front, which takes so many.
+    fn expects_after(&self, used: usize) -> usize {
+        if !self.awaits_get() {
+            return self.expects;
         }
+        let kept = self.expects.saturating_sub(self.expects / EXPECTS_PART);
+        used.max(kept)
     }
 
     /// How many bytes the answer to this call is expected to take, where that is much, and 0 else: where it is a get of a client that expects
@@ -370,9 +369,12 @@ impl LinkCalls {
             AnswerRead::More => Next::More,
             AnswerRead::Foreign => Next::Foreign,
             AnswerRead::Answer(answer, used) => {
-                self.note_answer(used);
+                let expects = self.expects_after(used);
                 match self.settle_first(core, Outcome::Answered(answer)) {
-                    Some(client) => Next::Settled { client, used },
+                    Some(client) => {
+                        self.expects = expects;
+                        Next::Settled { client, used }
+                    }
                     None => unreachable!(),
                 }
             }
