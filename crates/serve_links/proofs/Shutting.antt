@@ -1,7 +1,6 @@
 -- Connections of which none is left open but what ends have.
 use Rattle.std.proofs.Common.{◌≡◌, ◌≢◌, ℕ, Bool, true, false, if◌then◌else◌, List, Option, Some, None, inl, inr, refl, sym, ap, ◌∙◌, subst}
-use Rattle.std.specs.Prelude.{nat_eq, slice_get}
-use Rattle.std.specs.Option.{option_map, option_flatten}
+use Rattle.std.specs.Prelude.{nat_eq}
 use Rattle.std.proofs.lemmas.Bool.{cases_Bool, eq-eqb, eqb-true}
 use Rattle.serve_wire.specs.Events.{Event, role, is_open}
 use Rattle.serve_wire.specs.Agreement.{IsUntouched, TouchesOnly}

@@ -5,8 +5,8 @@ use Rattle.std.specs.Option.{option_map, option_flatten}
 use Rattle.serve_wire.specs.declared.conn.conn.Conn.{Conn}
 use Rattle.wire_parts.specs.Sending.{bytes_of}
 use Rattle.serve_links.specs.declared.link.Link.{Link}
-use Rattle.serve_links.specs.Shut.{conn_of, link_conn}
-use Rattle.serve_links.specs.Story.{LineState, line_of}
+use Rattle.serve_links.specs.Shut.{link_conn}
+use Rattle.serve_links.specs.Story.{LineState}
 use Rattle.serve_proxy.specs.Ends.{lines_of, down_line, AddsLines}
 
 abbrev conn_by : LineState → Option ℕ

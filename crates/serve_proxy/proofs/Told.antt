@@ -24,7 +24,7 @@ use Rattle.serve_clients.proofs.Marked.{kept}
 use Rattle.serve_links.specs.declared.link.Link.{Link}
 use Rattle.serve_links.specs.CoreSteps.{Step, Opened, Gave, Closed, Does, AreOf, GoesBy, IsOfTurn}
 use Rattle.serve_links.specs.Story.{fed_in, gave_in, is_open_in, is_broken_in, IsTold, AreTold, TookAll, IsJustGiven, IsGone, IsUnused, HasOrHad, LinesAgree, OneGoes, Agrees, AgreesGiven, AllGoFrom, AllGo}
-use Rattle.serve_links.specs.Shut.{client_conn, AreShut}
+use Rattle.serve_links.specs.Shut.{client_conn}
 use Rattle.serve_links.proofs.Shutting.{closed_shut, shut_without, shut_opened, shut_turned}
 use Rattle.serve_links.proofs.Showing.{plain_unlost, shown_later}
 use Rattle.serve_links.specs.Talks.{Talk}

@@ -1,5 +1,5 @@
 -- What a proxy's end has on its wire, and how that stays or goes on. Source: mcgate's own.
-use Rattle.std.specs.Prelude.{Bool, ◌≡◌, ◌≢◌, ℕ, List, [], ◌∷◌, ◌++◌, Option, Some, None, Result, Ok, Err, true, false, ◌⊎◌, IfSome, map as each, slice_get, IsSome, MatchOption}
+use Rattle.std.specs.Prelude.{Bool, ◌≡◌, ℕ, List, [], ◌∷◌, ◌++◌, Option, Some, None, Result, Ok, Err, true, false, ◌⊎◌, IfSome, map as each, slice_get, IsSome, MatchOption}
 use Rattle.wire_parts.specs.Sending.{bytes_of}
 use Rattle.mc_types.specs.declared.ask.Dialect.{Dialect}
 use Rattle.mc_types.specs.declared.ask.Dialect.TheVariants.{Classic}

@@ -1,5 +1,5 @@
 -- Which connection a call of a wire touches: its own alone.
-use Rattle.std.proofs.Common.{◌≡◌, ℕ, List, ◌∷◌, take, inl, inr, sym, subst}
+use Rattle.std.proofs.Common.{◌≡◌, ℕ, List, take, inl, inr, sym, subst}
 use Rattle.serve_wire.specs.Events.{Event}
 use Rattle.serve_wire.specs.Agreement.{TouchesOnly}
 use Rattle.serve_wire.specs.Calls.{Reads, Writes, Closes}

@@ -1,5 +1,5 @@
 use Rattle.std.proofs.Common.{◌≡◌, false, true, if◌then◌else◌, Some, ap, sym, ◌∙◌}
-use Rattle.serve_wire.specs.Events.{role, is_open}
+use Rattle.serve_wire.specs.Events.{role}
 use Rattle.serve_wire.proofs.Steps.{equal, only_twice}
 use Rattle.serve_wire.proofs.Touching.{only_closed}
 use Rattle.serve_links.specs.Shut.{client_conn}
