@@ -23,6 +23,7 @@ fn read_told(alloc: Global, bytes: &[u8]) -> Result<String, AllocError> {
     match read_request(bytes) {
         Read::More => "more".to_string(alloc),
         Read::TooLong => "too long".to_string(alloc),
+        Read::OtherProtocol => "closed".to_string(alloc),
         Read::Request(Request::Classic(_)) => "classic".to_string(alloc),
         Read::Request(Request::Meta(_)) => "meta".to_string(alloc),
         Read::Refused { why, used, skip } => refused(alloc, bytes.len(), why, used, skip),

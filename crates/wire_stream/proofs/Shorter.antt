@@ -10,10 +10,11 @@ use Rattle.wire_parts.specs.Message.{Served, Refusal}
 use Rattle.wire_parts.specs.Stream.{Place, Stands, Closed, skipped, through_newline, after_own}
 use Rattle.wire_parts.proofs.Streams.{some_taken, fewer_left}
 use Rattle.wire_stream.specs.Both.{both_grammar, own_by}
+use Rattle.wire_stream.proofs.OtherProtocols.{some_other}
 use Rattle.wire_stream.specs.Message.{Message, Begins}
 use Rattle.wire_stream.specs.Stream.{after_message}
 use Rattle.wire_stream.specs.Held.{held_at}
-use Rattle.wire_stream.specs.TextProtocol.{Said, Whole, LongLine, ReadsNext}
+use Rattle.wire_stream.specs.TextProtocol.{Said, Whole, LongLine, OtherProtocol, ReadsNext}
 
 -- a message takes a byte at least
 pub takes_some : (bytes : List ℕ) (message : Message) (used : ℕ) → Begins bytes message used → 1 ≤ used
@@ -53,14 +54,17 @@ after_len (Refusal why skip) rest = skipped_len skip rest
 -- fewer bytes are held at the place after a message
 pub next_len : (place : Place) (message : Said) (next : Place) → ReadsNext place message next → length (held_at next) < length (held_at place)
 next_len (Stands Nothing held) (Whole message) next r =
-    let at : length (held_at next) ≡ length (held_at (after_message message (drop r.0 held))) = ap (λ (p : Place). length (held_at p)) r.2 in
+    let at : length (held_at next) ≡ length (held_at (after_message message (drop r.0 held))) = ap (λ (p : Place). length (held_at p)) r.2.0 in
     let within = after_len message (drop r.0 held) in
     let less = fewer held message r.0 r.1 in
     omega (arith, at, within, less)
 next_len (Stands Nothing held) LongLine next r =
-    let at : length (held_at next) ≡ 0 = ap (λ (p : Place). length (held_at p)) r.1 in
+    let at : length (held_at next) ≡ 0 = ap (λ (p : Place). length (held_at p)) r.1.0 in
     let long = r.0.long in
     omega (arith, at, long)
+next_len (Stands Nothing held) OtherProtocol next r =
+    let at : length (held_at next) ≡ 0 = ap (λ (p : Place). length (held_at p)) r.1 in
+    omega (arith, at, some_other held r.0)
 next_len (Stands (Bytes n) held) said next r = absurd r
 next_len (Stands ThroughNewline held) said next r = absurd r
 next_len Closed said next r = absurd r
