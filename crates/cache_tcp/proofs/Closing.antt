@@ -39,9 +39,9 @@ own_closes (Some Quit) rest = (λ e. refl, λ e. refl)
 pub closes : ClosesAfterLast
 closes (Stands Nothing held) next (Whole (Served order block)) r =
     let is = own_closes (own_by order) (drop r.0 held) in
-    (λ e. is.0 (sym r.2.0 ∙ e), λ e. r.2.0 ∙ is.1 e)
-closes (Stands Nothing held) next (Whole (Refusal why skip)) r = (λ e. skipped_stands skip (drop r.0 held) (sym r.2.0 ∙ e), λ e. absurd e)
-closes (Stands Nothing held) next LongLine r = (λ e. tt, λ e. r.1.0)
+    (λ e. is.0 (sym r.2 ∙ e), λ e. r.2 ∙ is.1 e)
+closes (Stands Nothing held) next (Whole (Refusal why skip)) r = (λ e. skipped_stands skip (drop r.0 held) (sym r.2 ∙ e), λ e. absurd e)
+closes (Stands Nothing held) next LongLine r = (λ e. tt, λ e. r.1)
 closes (Stands Nothing held) next OtherProtocol r = (λ e. tt, λ e. r.1)
 closes (Stands (Bytes n) held) next said r = absurd r
 closes (Stands ThroughNewline held) next said r = absurd r

@@ -1,5 +1,5 @@
 -- A line means the same in its dialect as among both.
-use Rattle.std.proofs.Common.{◌≡◌, ℕ, ◌+◌, ◌-◌, true, false, List, [], ◌∷◌, length, take, drop, Option, Some, None, Result, Ok, Err, inl, inr, refl, sym, ap, subst, ◌∙◌}
+use Rattle.std.proofs.Common.{◌≡◌, ℕ, ◌+◌, ◌-◌, true, false, List, [], ◌∷◌, length, take, drop, Option, Some, None, Result, Ok, Err, inl, inr, refl, sym, ap, ◌∙◌}
 use Rattle.text_words.specs.Line.{TakesLine, without_cr}
 use Rattle.text_words.specs.Word.{words, text_at, IsNextWord}
 use Rattle.text_words.proofs.Stays.{taken_line}
@@ -25,7 +25,7 @@ use Rattle.wire_stream.specs.declared.requests.reader.Read.TheVariants as reads
 use Rattle.wire_stream.specs.Both.{Order, Classic, Meta, both_grammar, order_by, order_of, skip_by, skip_of, mapped, lift_found}
 use Rattle.wire_stream.specs.OtherProtocol.{is_binary, ends_as_http, IsHttp, IsText, is_http}
 use Rattle.wire_stream.specs.Message.{IsMeant, Reads, message_in, used_of}
-use Rattle.wire_stream.proofs.OtherProtocols.{refused_order, order_refused, http_line, http_text, served_text}
+use Rattle.wire_stream.proofs.OtherProtocols.{refused_order, order_refused, same_reason, http_line, http_text}
 
 block_lifted : {A B : Type 0} (f : A → B) (o : A) (used : ℕ) (block : List ℕ) (end : End) → with_block (f o) used block end ≡ lift_found f (with_block o used block end)
 block_lifted f o used block Open = refl
@@ -61,12 +61,6 @@ meta_by line word ws used rest is none =
     let order : order_of line ≡ mapped Meta (metas.order_of line) = ap order_of is ∙ order_meta (verb_of word) word ws refl none ∙ ap (λ (l : List Word). mapped Meta (metas.order_of l)) (sym is) in
     let skip : skip_of line ≡ metas.skip_of line = ap skip_of is ∙ skip_meta (verb_of word) word ws refl none ∙ ap (λ (l : List Word). metas.skip_of l) (sym is) in
     ap (λ (r : Result Order RefusalReason). meaning_of both_grammar r (skip_of line) used rest) order ∙ ap (λ (k : Skip). meaning_of both_grammar (mapped Meta (metas.order_of line)) k used rest) skip ∙ meta_lifted (metas.order_of line) (metas.skip_of line) used rest
-
-abbrev found_as : RefusalReason → Skip → ℕ → Found Order
-found_as why skip n = Some (Refusal why skip, n)
-
-same_reason : (v w : RefusalReason) (s t : Skip) (m n : ℕ) → found_as v s m ≡ found_as w t n → v ≡ w
-same_reason v w s t m n e = cc
 
 -- the first word of a line that was taken
 module _ (bytes : List ℕ) (end used : ℕ) (line : TakesLine bytes end used) where
@@ -109,27 +103,27 @@ module _ (bytes : List ℕ) (end used : ℕ) (line : TakesLine bytes end used) w
       }
 
   other_meant : (why : RefusalReason) (skip : Skip) (n : ℕ) → meant ≡ Some (Refusal why skip, n) → (why ≡ Unknown) × (ends_as_http (take end bytes) ≡ true) → IsHttp bytes
-  other_meant why skip n e is = meant_http skip n (e ∙ ap (λ (w : RefusalReason). found_as w skip n) is.0) is.1
+  other_meant why skip n e is = meant_http skip n (e ∙ ap (λ (w : RefusalReason). Some (Refusal w skip, n)) is.0) is.1
 
   refused_text : (why : RefusalReason) (skip : Skip) (n : ℕ) → is_binary bytes ≡ false → meant ≡ Some (Refusal why skip, n) → is_http (take end bytes) why ≡ false → IsText bytes
-  refused_text why skip n no e not (inl is) = cc
-  refused_text why skip n no e not (inr h) =
+  refused_text why skip n is_not e other (inl is) = cc
+  refused_text why skip n is_not e other (inr h) =
       let is = http_meant h in
-      let unknown : why ≡ Unknown = same_reason why Unknown skip is.0 n is.1 (sym e ∙ is.2.0) in
-      let so : is_http (take end bytes) why ≡ true = ap (is_http (take end bytes)) unknown ∙ is.2.1 in
+      let unknown : why ≡ Unknown = same_reason why Unknown skip is.0 n is.1 (sym e ∙ is.2) in
+      let so : is_http (take end bytes) why ≡ true = ap (is_http (take end bytes)) unknown ∙ is.3 in
       cc
 
   more_text : is_binary bytes ≡ false → meant ≡ None → IsText bytes
-  more_text no e (inl is) = cc
-  more_text no e (inr h) = let is = http_meant h in let apart : None ≡ Some (Refusal Unknown is.0, is.1) = sym e ∙ is.2.0 in cc
+  more_text is_not e (inl is) = cc
+  more_text is_not e (inr h) = let is = http_meant h in let apart : ◌≡◌ {A = Found Order} None (Some (Refusal Unknown is.0, is.1)) = sym e ∙ is.2 in cc
 
   -- what is read after the first line is what the bytes begin with, where that is no binary message
   pub reads_meant : (r : Read) → is_binary bytes ≡ false → IsMeant (take end bytes) bytes r meant → Reads bytes r
-  reads_meant (reads.Request r) no h = record { placed = h.0; begins = begins_meant both_grammar bytes end used (message_in bytes r) (used_of r) line h.1 }
-  reads_meant (reads.Refused why n skip) no h = (begins_meant both_grammar bytes end used (Refusal why skip) n line h.0, refused_text why skip n no h.0 h.1)
-  reads_meant reads.OtherProtocol no h = inr (other_meant h.0 h.1 h.2.0 h.2.1.0 (http_text (take end bytes) h.0 h.2.1.1))
-  reads_meant reads.TooLong no h = absurd h
-  reads_meant reads.More no h = let none = none_begins both_grammar bytes end used line h in (none.0, none.1, more_text no h)
+  reads_meant (reads.Request r) is_not h = record { placed = h.0; begins = begins_meant both_grammar bytes end used (message_in bytes r) (used_of r) line h.1 }
+  reads_meant (reads.Refused why n skip) is_not h = (begins_meant both_grammar bytes end used (Refusal why skip) n line h.0, refused_text why skip n is_not h.0 h.1)
+  reads_meant reads.OtherProtocol is_not h = inr (other_meant h.0 h.1 h.2 h.3 (http_text (take end bytes) h.0 h.4))
+  reads_meant reads.TooLong is_not h = absurd h
+  reads_meant reads.More is_not h = let none = none_begins both_grammar bytes end used line h in (none.0, none.1, more_text is_not h)
 
   pub no_word : words (take end bytes) ≡ [] → meaning both_grammar (take (used - 1) bytes) (drop used bytes) ≡ Some (Refusal Unknown Nothing, used)
   no_word none =

@@ -54,12 +54,12 @@ after_len (Refusal why skip) rest = skipped_len skip rest
 -- fewer bytes are held at the place after a message
 pub next_len : (place : Place) (message : Said) (next : Place) → ReadsNext place message next → length (held_at next) < length (held_at place)
 next_len (Stands Nothing held) (Whole message) next r =
-    let at : length (held_at next) ≡ length (held_at (after_message message (drop r.0 held))) = ap (λ (p : Place). length (held_at p)) r.2.0 in
+    let at : length (held_at next) ≡ length (held_at (after_message message (drop r.0 held))) = ap (λ (p : Place). length (held_at p)) r.2 in
     let within = after_len message (drop r.0 held) in
     let less = fewer held message r.0 r.1 in
     omega (arith, at, within, less)
 next_len (Stands Nothing held) LongLine next r =
-    let at : length (held_at next) ≡ 0 = ap (λ (p : Place). length (held_at p)) r.1.0 in
+    let at : length (held_at next) ≡ 0 = ap (λ (p : Place). length (held_at p)) r.1 in
     let long = r.0.long in
     omega (arith, at, long)
 next_len (Stands Nothing held) OtherProtocol next r =

@@ -101,12 +101,7 @@ pub fn read_request(bytes: &[u8]) -> Read
         Line::TooLong => return Read::TooLong,
         Line::At { end, used } => match next_word(&bytes[..end], 0) {
             None => {
-                return of_refused(
-                    &bytes[..end],
-                    RefusalReason::Unknown,
-                    used,
-                    Skip::Nothing,
-                );
+                return of_refused(&bytes[..end], RefusalReason::Unknown, used, Skip::Nothing);
             }
             Some(first) => match dialect_of(&bytes[..end][first.start..first.end]) {
                 Dialect::Classic => {
