@@ -22,6 +22,13 @@ a long line closes
 (65535 x) => nothing
 x => CLIENT_ERROR line too long|closed
 
+HTTP closes, and so does the binary protocol
+GET / HTTP/1.1 => nothing
+|set a 0 0 1|1| => ERROR|closed
+
+nothing that was in its body is held
+no HTTP/1.1|set a 0 0 1|1|get a| => ERROR|closed
+
 hits and misses of one get
 set a 5 0 2|xy|set c 0 0 0|| => STORED|STORED|
 get a b c d| => VALUE a 5 2|xy|VALUE c 0 0||END|

@@ -54,7 +54,7 @@ fn answer_piece(alloc: Global, bytes: &[u8], out: &mut BytesMut) -> Result<u64, 
     let mut count: u64 = 0;
     for _ in 0..bytes.len() {
         match read_request(rest) {
-            Read::More | Read::TooLong | Read::Refused { .. } => break,
+            Read::More | Read::TooLong | Read::OtherProtocol | Read::Refused { .. } => break,
             Read::Request(request) => {
                 let asks = answer_request(alloc, &request, rest, out)?;
                 count = count.saturating_add(asks);

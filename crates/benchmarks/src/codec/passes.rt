@@ -65,7 +65,7 @@ pub fn read_messages(bytes: &[u8]) -> CodecCounts {
     let mut rest = bytes;
     for _ in 0..bytes.len() {
         match read_request(rest) {
-            Read::More | Read::TooLong => break,
+            Read::More | Read::TooLong | Read::OtherProtocol => break,
             Read::Refused { why, used, skip } => {
                 counts.refuse();
                 rest = after_refused(rest, why, used, skip);
@@ -104,7 +104,7 @@ pub fn read_asks(alloc: Global, bytes: &[u8]) -> Result<CodecCounts, AllocError>
     let mut rest = bytes;
     for _ in 0..bytes.len() {
         match read_request(rest) {
-            Read::More | Read::TooLong => break,
+            Read::More | Read::TooLong | Read::OtherProtocol => break,
             Read::Refused { why, used, skip } => {
                 counts.refuse();
                 rest = after_refused(rest, why, used, skip);
@@ -145,7 +145,7 @@ pub fn exchanges_of(alloc: Global, bytes: &[u8]) -> Result<Vec<Exchange>, AllocE
     let mut rest = bytes;
     for _ in 0..bytes.len() {
         match read_request(rest) {
-            Read::More | Read::TooLong => break,
+            Read::More | Read::TooLong | Read::OtherProtocol => break,
             Read::Refused { why, used, skip } => rest = after_refused(rest, why, used, skip),
             Read::Request(request) => {
                 add_exchanges(alloc, &request, rest, &mut exchanges)?;

@@ -46,6 +46,12 @@ set a 0 0 4294967296\r\nmn\r\n => CLIENT_ERROR bad number\r\n m4
 # Long keys.
 get «250 \x80»\r\n => c256
 get «100 \x80»\x7f«149 \x80»\r\n => CLIENT_ERROR bad key\r\n
+# Nothing is read behind a line of HTTP, or of the binary protocol; but a block may hold what it likes.
+POST / HTTP/1.1\r\nHost: a\r\n\r\nset a 0 0 1\r\n1\r\n => closed and more
+get a\r\nno HTTP/1.0\nget a\r\n => c7 closed and more
+mn\r\n\x80\n\x00\x01a\x00\x00\r\nget a\r\n => m4 closed and more
+set a 0 0 11\r\nGET HTTP/1.1\r\nget / HTTP/1.1\r\n => CLIENT_ERROR bad data chunk\r\n c16
+set a 0 0 12\r\nGET HTTP/1.1\r\nset a 0 0 1\r\n\x80\r\n => c28 c16
 # Both dialects, with refusals and data blocks between.
 get a b\r\nmg a v q\r\nms a 3 T0\r\nx\r\n\r\nmg a z\r\nset b 0 0 1 noreply\r\ny\r\nmn\r\nms a 1\r\nxyz\r\nversion\r\nmd b q\r\nquit\r\n => c9 m10 m16 CLIENT_ERROR flag not served\r\n c24 m4 CLIENT_ERROR bad data chunk\r\n c9 m8 c6"
 }
@@ -78,6 +84,11 @@ fn take_one(alloc: Global, stream: &mut TextStream, out: &mut String) -> Result<
         Read::Refused { why, used, skip } if used <= stream.held().len() => {
             stream.pass_refused(used, skip);
             push_refusal(alloc, out, why)?;
+            Ok(true)
+        }
+        Read::OtherProtocol => {
+            stream.close();
+            push_word(out, "closed")?;
             Ok(true)
         }
         _ => Ok(false),
