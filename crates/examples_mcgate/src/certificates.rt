@@ -1,6 +1,6 @@
 //! Worked certificates: what is read of their texts, written again, or what is wrong with them; and verdicts by them.
 
-use examples_tables::tellers::{Teller, halves, wrong};
+use examples_tables::tellers::{Teller, halves, rows_hold};
 use gate_certificate::{Named, certificate_text, read_certificate, verify};
 use std::alloc::{AllocError, Global};
 use std::test::Fail;
@@ -40,8 +40,7 @@ impl Teller for OfTexts {
 
 #[test]
 fn certificates_are_read_and_written(rt: HostRuntime) -> Result<(), Fail> {
-    assert_eq!(rt; wrong::<OfTexts>(rt.alloc(), texts())?.as_str(), "");
-    Ok(())
+    rows_hold::<OfTexts>(rt.alloc(), texts())
 }
 
 // Whole configurations, certificates, and the verdicts.
@@ -96,9 +95,5 @@ impl Teller for OfCertificates {
 
 #[test]
 fn verdicts_by_certificates(rt: HostRuntime) -> Result<(), Fail> {
-    assert_eq!(rt;
-        wrong::<OfCertificates>(rt.alloc(), verdicts())?.as_str(),
-        ""
-    );
-    Ok(())
+    rows_hold::<OfCertificates>(rt.alloc(), verdicts())
 }

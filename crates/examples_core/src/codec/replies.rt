@@ -3,7 +3,7 @@
 use crate::codec::OfAsks;
 use crate::escapes::spelled;
 use bytes::BytesMut;
-use examples_tables::tellers::wrong;
+use examples_tables::tellers::rows_hold;
 use mc_types::{Answer, Ask, Body, ErrorText, OwnText};
 use std::alloc::{AllocError, Global};
 use std::test::Fail;
@@ -126,8 +126,7 @@ pub fn values_told(alloc: Global, ask: &Ask, bytes: &[u8]) -> Result<String, All
 
 #[test]
 fn shown_of_answers(rt: HostRuntime) -> Result<(), Fail> {
-    assert_eq!(rt; wrong::<OfAsks>(rt.alloc(), table())?.as_str(), "");
-    Ok(())
+    rows_hold::<OfAsks>(rt.alloc(), table())
 }
 
 fn hit(alloc: Global) -> Result<Answer, AllocError> {

@@ -2,7 +2,7 @@
 //! and that of `k6` (993d8254), by a second program.
 
 use crate::trees::{place_of, tree_of};
-use examples_tables::tellers::{Teller, halves, wrong};
+use examples_tables::tellers::{Teller, halves, rows_hold};
 use mc_types::{Key, ServerId};
 use route_json::ConfigFault;
 use route_tree::{Plain, PlainForm, Tree, TreeForm};
@@ -127,6 +127,5 @@ impl Teller for OfPlainTrees {
 
 #[test]
 fn plain_trees(rt: HostRuntime) -> Result<(), Fail> {
-    assert_eq!(rt; wrong::<OfPlainTrees>(rt.alloc(), table())?.as_str(), "");
-    Ok(())
+    rows_hold::<OfPlainTrees>(rt.alloc(), table())
 }

@@ -3,7 +3,7 @@
 //! Generations are written as in `growth`.
 
 use crate::growth::{beginning, configuration, fault_line};
-use examples_tables::tellers::{Teller, between, halves, number_of, wrong};
+use examples_tables::tellers::{Teller, between, halves, number_of, rows_hold};
 use gate_growth::ledger::Beginning;
 use gate_history::laws::{histories_are_determined, written_is_read};
 use gate_history::writing::write_line;
@@ -189,11 +189,7 @@ impl Teller for OfRemembrances {
 fn histories(rt: HostRuntime) -> Result<(), Fail> {
     written_is_read();
     histories_are_determined();
-    assert_eq!(rt; wrong::<OfFiles>(rt.alloc(), files())?.as_str(), "");
-    assert_eq!(rt; wrong::<OfVerdicts>(rt.alloc(), verdicts())?.as_str(), "");
-    assert_eq!(rt;
-        wrong::<OfRemembrances>(rt.alloc(), remembrances())?.as_str(),
-        ""
-    );
-    Ok(())
+    rows_hold::<OfFiles>(rt.alloc(), files())?;
+    rows_hold::<OfVerdicts>(rt.alloc(), verdicts())?;
+    rows_hold::<OfRemembrances>(rt.alloc(), remembrances())
 }

@@ -2,7 +2,7 @@
 
 use crate::escapes::{bytes_of, spelled};
 use crate::reads::refused;
-use examples_tables::tellers::{Teller, wrong};
+use examples_tables::tellers::{Teller, rows_hold};
 use std::alloc::{AllocError, Global};
 use std::test::Fail;
 use wire_parts::RefusalReason;
@@ -40,6 +40,5 @@ impl Teller for OfBoth {
 
 #[test]
 fn dialects_mixed(rt: HostRuntime) -> Result<(), Fail> {
-    assert_eq!(rt; wrong::<OfBoth>(rt.alloc(), table())?.as_str(), "");
-    Ok(())
+    rows_hold::<OfBoth>(rt.alloc(), table())
 }
