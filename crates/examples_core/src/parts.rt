@@ -40,6 +40,6 @@ fn lines(alloc: Global) -> Result<Vec<u8>, AllocError> {
 
 #[test]
 fn refusal_lines(rt: HostRuntime) -> Result<(), Fail> {
-    assert_eq!(rt; lines(rt.alloc())?.as_slice(), wanted());
+    assert!(rt; lines(rt.alloc())?.as_slice() == wanted());
     Ok(())
 }

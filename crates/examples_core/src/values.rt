@@ -1,5 +1,6 @@
 //! Tests: keys, opaque texts, bodies and copies.
 
+use examples_tables::tables::same_bytes;
 use mc_types::{
     Answer, Ask, Body, Code, Dialect, ErrorText, Fields, Key, KeyFault, Op, Opaque, Outcome,
     OwnText, Token, Tokens,
@@ -22,17 +23,30 @@ fn key_lengths(rt: HostRuntime) {
 fn copies_with_ample_memory(rt: HostRuntime) -> Result<(), Fail> {
     let alloc = rt.alloc();
     let body = Body::from_slice(alloc, b"xyz")?;
-    assert_eq!(rt; body.copy()?.as_slice(), b"xyz".as_slice());
-    assert_eq!(rt; body.len(), 3);
-    assert_eq!(rt;
+    same_bytes(
+        "copies_with_ample_memory",
+        body.copy()?.as_slice(),
+        b"xyz".as_slice(),
+    )?;
+    assert!(rt; body.len() == 3);
+    same_bytes(
+        "copies_with_ample_memory",
         Body::from_vec(b"xyz".to_vec(alloc)?)?.as_slice(),
-        b"xyz".as_slice()
-    );
-    assert_eq!(rt; Body::empty().copy()?.len(), 0);
+        b"xyz".as_slice(),
+    )?;
+    assert!(rt; Body::empty().copy()?.len() == 0);
     let text = ErrorText::passed(Body::from_slice(alloc, b"busy")?);
-    assert_eq!(rt; text.copy()?.as_bytes(), b"busy".as_slice());
+    same_bytes(
+        "copies_with_ample_memory",
+        text.copy()?.as_bytes(),
+        b"busy".as_slice(),
+    )?;
     let own = ErrorText::own(OwnText::CallFailed);
-    assert_eq!(rt; own.copy()?.as_bytes(), b"call failed".as_slice());
+    same_bytes(
+        "copies_with_ample_memory",
+        own.copy()?.as_bytes(),
+        b"call failed".as_slice(),
+    )?;
     let mut tokens = Tokens::new(alloc);
     tokens.push(Token::Cas)?;
     tokens.push(Token::Value)?;

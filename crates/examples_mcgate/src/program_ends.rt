@@ -1,6 +1,6 @@
 //! The program from its arguments to its exit status. In tables `⏎` is a line end.
 
-use examples_tables::tables::unfolded;
+use examples_tables::tables::{same, unfolded};
 use examples_tables::tellers::{Teller, halves, rows_hold};
 use fault_words::fault_in_words;
 use fault_words::script::BadLine;
@@ -253,8 +253,7 @@ fn a_key_with_a_space(rt: HostRuntime) -> Result<(), Fail> {
     let mut given = arguments_of(rt.alloc(), "mcgate where --config c")?;
     given.push(String::from_str(rt.alloc(), "a b")?)?;
     let words = words_of_arguments(rt.alloc(), given.as_slice())?;
-    assert_eq!(rt; words.as_str(), "no key");
-    Ok(())
+    same("a_key_with_a_space", words.as_str(), "no key")
 }
 
 // Arguments, and what the printed text begins with.
@@ -291,7 +290,7 @@ fn inputs_of_files(rt: HostRuntime) -> Result<(), Fail> {
     let Ok(text) = text_of(&rt, Some("/dev/null")) else {
         return Err(Fail::from("not read"));
     };
-    assert_eq!(rt; text.as_str(), "");
+    same("inputs_of_files", text.as_str(), "")?;
     for path in ["/dev/null/x", "/"] {
         let read = text_of(&rt, Some(path));
         assert!(rt; matches!(read, Err(InputFault::Device)), "at {path}");
@@ -332,7 +331,7 @@ fn files_that_give_no_input(rt: HostRuntime) -> Result<(), Fail> {
     ];
     for (path, want) in cases {
         let told = told_of_file(&rt, path)?;
-        assert_eq!(rt; told.as_str(), want, "at {path}");
+        same("files_that_give_no_input", told.as_str(), want)?;
     }
     Ok(())
 }
@@ -608,6 +607,5 @@ fn trees_that_are_refused(rt: HostRuntime) -> Result<(), Fail> {
         let told = told_of_route(rt.alloc(), line, route)?;
         all.push_str(told.as_str())?;
     }
-    assert_eq!(rt; all.as_str(), refusals());
-    Ok(())
+    same("trees_that_are_refused", all.as_str(), refusals())
 }

@@ -6,6 +6,7 @@ use crate::codec::OfAsks;
 use crate::codec::answers::told_of_read;
 use crate::escapes::spelled;
 use bytes::BytesMut;
+use examples_tables::tables::same_bytes;
 use examples_tables::tellers::rows_hold;
 use mc_types::{Ask, Dialect, SpareBodies};
 use std::alloc::{AllocError, Global};
@@ -83,9 +84,9 @@ fn told_by(bytes: &[u8], dialect: Dialect) -> Option<usize> {
 fn what_a_server_speaks(rt: HostRuntime) -> Result<(), Fail> {
     let mut out = BytesMut::new(rt.alloc());
     write_noop(&mut out)?;
-    assert_eq!(rt; out.as_slice(), b"mn\r\n".as_slice());
-    assert_eq!(rt; told_by(b"MN\r\nEN\r\n", Dialect::Meta), Some(4));
-    assert_eq!(rt; told_by(b"ERROR\r\n", Dialect::Classic), Some(7));
+    same_bytes("what_a_server_speaks", out.as_slice(), b"mn\r\n".as_slice())?;
+    assert!(rt; told_by(b"MN\r\nEN\r\n", Dialect::Meta) == Some(4));
+    assert!(rt; told_by(b"ERROR\r\n", Dialect::Classic) == Some(7));
     assert!(rt; matches!(read_dialect(b"MN\r"), DialectRead::More));
     assert!(rt; matches!(read_dialect(b"EN\r\n"), DialectRead::Foreign));
     Ok(())

@@ -2,6 +2,7 @@
 
 use crate::escapes::{bytes_of, spelled};
 use bytes::BytesMut;
+use examples_tables::tables::same_bytes;
 use examples_tables::tellers::{Teller, push_word, rows_hold};
 use std::alloc::{AllocError, Global};
 use std::test::Fail;
@@ -236,9 +237,9 @@ fn a_line_too_long(rt: HostRuntime) -> Result<(), Fail> {
 fn the_answer_to_a_line_too_long(rt: HostRuntime) -> Result<(), Fail> {
     let mut out = BytesMut::new(rt.alloc());
     write_long_line(&mut out)?;
-    assert_eq!(rt;
+    same_bytes(
+        "the_answer_to_a_line_too_long",
         out.as_slice(),
-        b"CLIENT_ERROR line too long\r\n".as_slice()
-    );
-    Ok(())
+        b"CLIENT_ERROR line too long\r\n".as_slice(),
+    )
 }

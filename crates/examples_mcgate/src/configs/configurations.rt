@@ -2,6 +2,7 @@
 
 ghost use Rattle.std.specs.Prelude.{◌<◌, ◌≤◌};
 
+use examples_tables::tables::same;
 use examples_tables::tellers::{Teller, between, rows_hold};
 use mc_types::{Key, Op, ServerId};
 use route_json::addresses::Servers;
@@ -402,8 +403,7 @@ impl Teller for OfNumberings {
 fn configuration_faults(rt: HostRuntime) -> Result<(), Fail> {
     rows_hold::<OfWhole>(rt.alloc(), texts())?;
     let none = ConfigFault::NoMemory.to_string(rt.alloc())?;
-    assert_eq!(rt; none.as_str(), "out of memory");
-    Ok(())
+    same("configuration_faults", none.as_str(), "out of memory")
 }
 
 #[test]
@@ -453,10 +453,14 @@ fn last_of_pool(alloc: Global, count: u32, last: u32) -> Result<String, AllocErr
 
 #[test]
 fn one_pool(rt: HostRuntime) -> Result<(), Fail> {
-    assert_eq!(rt; pool_shown(rt.alloc(), 3)?.as_str(), "Pool s0:1 s1:1 s2:1");
-    assert_eq!(rt;
+    same(
+        "one_pool",
+        pool_shown(rt.alloc(), 3)?.as_str(),
+        "Pool s0:1 s1:1 s2:1",
+    )?;
+    same(
+        "one_pool",
         last_of_pool(rt.alloc(), 1024, 1023)?.as_str(),
-        "1024 s1023:1"
-    );
-    Ok(())
+        "1024 s1023:1",
+    )
 }
