@@ -8,4 +8,6 @@ mod faults;
 mod inputs;
 #[cfg(test)]
 mod program_ends;
+#[cfg(test)]
+mod slots;
 mod verdicts;

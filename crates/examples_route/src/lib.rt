@@ -21,4 +21,6 @@ mod places;
 #[cfg(test)]
 mod route_trees;
 #[cfg(test)]
+mod tables;
+#[cfg(test)]
 mod trees;
