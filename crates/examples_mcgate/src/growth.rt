@@ -1,6 +1,6 @@
 //! Worked verdicts of the ledger, on generations of trees by which a fleet grows and shrinks.
 //!
-//! A pool is written by its slots, each a server's letter. `ab+cd` is the pool `ab` with deletes to both; `ab/cd` reads `ab` and
+//! A pool is written by its slots, each a server's letter: as a list, or where a letter stands twice as a table. `ab+cd` is the pool `ab` with deletes to both; `ab/cd` reads `ab` and
 //! then `cd`, and writes and deletes both; `cd<ab` is the cold `cd` warmed from `ab`, with deletes to both; `ab#cd` is `ab`, and
 //! `cd` for keys that begin with `k:`.
 
@@ -51,8 +51,23 @@ own own: ab; ab>cd => 1; generation=2 server=a residue=0/2
 own own: ab>cd => generation=1 server=a residue=0/2"#
 }
 
-fn push_servers(out: &mut String, slots: &str) -> Result<(), AllocError> {
-    for (at, server) in slots.chars().enumerate() {
+fn has(letters: &str, letter: char) -> bool {
+    letters.chars().any(|other| other == letter)
+}
+
+// The letters of a word, each once.
+fn distinct(alloc: Global, word: &str) -> Result<String, AllocError> {
+    let mut letters = String::new(alloc);
+    for letter in word.chars() {
+        if !has(letters.as_str(), letter) {
+            letters.push(letter)?;
+        }
+    }
+    Ok(letters)
+}
+
+fn push_servers(out: &mut String, letters: &str) -> Result<(), AllocError> {
+    for (at, server) in letters.chars().enumerate() {
         if at > 0 {
             out.push_str(",")?;
         }
@@ -61,13 +76,30 @@ fn push_servers(out: &mut String, slots: &str) -> Result<(), AllocError> {
     Ok(())
 }
 
-fn push_pool(out: &mut String, at: usize, slots: &str) -> Result<(), AllocError> {
+// The places of a word's letters.
+fn push_places(out: &mut String, letters: &str, word: &str) -> Result<(), AllocError> {
+    for (at, server) in word.chars().enumerate() {
+        if at > 0 {
+            out.push_str(",")?;
+        }
+        let place = letters.chars().position(|other| other == server);
+        write!(out, "{}", place.unwrap_or(0))?;
+    }
+    Ok(())
+}
+
+fn push_pool(alloc: Global, out: &mut String, at: usize, slots: &str) -> Result<(), AllocError> {
+    let letters = distinct(alloc, slots)?;
     if at > 0 {
         out.push_str(",")?;
     }
     write!(out, "\"{at}\":")?;
     out.push_str("{\"servers\":[")?;
-    push_servers(out, slots)?;
+    push_servers(out, letters.as_str())?;
+    if letters.len() < slots.len() {
+        out.push_str("],\"slots\":[")?;
+        push_places(out, letters.as_str(), slots)?;
+    }
     out.push_str("]}")
 }
 
@@ -109,7 +141,7 @@ pub fn configuration(alloc: Global, tree: &str) -> Result<String, AllocError> {
     let mut out = String::from_str(alloc, "{\"pools\":{")?;
     let mut pools = 0;
     for slots in tree.split(is_other) {
-        push_pool(&mut out, pools, slots)?;
+        push_pool(alloc, &mut out, pools, slots)?;
         pools = pools.wrapping_add(1);
     }
     out.push_str("},\"route\":")?;

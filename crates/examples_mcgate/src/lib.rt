@@ -27,5 +27,9 @@ mod program_ends;
 #[cfg(test)]
 mod route_trees;
 #[cfg(test)]
+mod slots;
+#[cfg(test)]
+mod tables;
+#[cfg(test)]
 mod trees;
 mod verdicts;

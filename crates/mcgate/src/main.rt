@@ -10,6 +10,7 @@ mod remembering;
 mod serve;
 mod serving;
 mod sharing;
+mod slots;
 mod special;
 mod started;
 mod warnings;
@@ -36,6 +37,7 @@ use mcgate_check::Form;
 use mcgate_check::status::{BAD_INPUT, DONE, REFUSED};
 use route_json::Config;
 use serve::{Judged, Servable, judge_text, look_up_only, serve_to_end};
+use slots::run_slots;
 use special::{is_special, special_line};
 use started::{Begun, Started, begin, refused_after};
 use std::alloc::{AllocError, Global};
@@ -451,6 +453,7 @@ fn run<R: Files + Input + AllocGlobal + Env + Net + Clock + Print + Eprint, W: W
         Job::CheckFleet(job) => check_fleet(rt, &job, out, details),
         Job::Where { file, keys } => run_where(rt, file, &keys, out, details),
         Job::Certify { file } => run_certify(rt, file, out, details),
+        Job::Slots(job) => run_slots(rt, &job, out, details),
         Job::Loopback { file } => run_loopback(rt, file, out, details),
         Job::Cache(job) => serve_cache(rt, job, details),
         Job::Serve(job) => run_serve(rt, job, out, details),

@@ -10,6 +10,7 @@ use crate::fleets::arguments::{FleetJob, fleet_job, is_of_fleet, with_fleet};
 use crate::history_arguments::{HISTORY_HELP, history_command, history_job};
 use crate::loopback_arguments::{LOOPBACK_HELP, loopback_command, loopback_job};
 use crate::serve_arguments::{SERVE_HELP, ServeJob, serve_command, serve_job};
+use crate::slots::arguments::{SLOTS_HELP, SlotsJob, slots_command, slots_job};
 use clap::error::ErrorKind;
 use clap::{Arg, ArgAction, ArgMatches, Command, Error};
 use mc_types::{Key, KeyFault};
@@ -61,6 +62,8 @@ pub enum Job<'a> {
     Certify {
         file: Option<&'a str>,
     },
+    /// Print a configuration with a table of slots.
+    Slots(SlotsJob<'a>),
     /// Run a script, of a file or of standard input, over TCP.
     Loopback {
         file: Option<&'a str>,
@@ -113,6 +116,8 @@ usage: mcgate check [--explain | --dot | --history HISTORY] [FILE]
        mcgate serve --config FILE --listen HOST:PORT [--any]
                                      serve a configuration that the gate accepts, between clients and servers
        mcgate history FILE           print what serve --history FILE remembers
+       mcgate slots [--add ADDR | --remove ADDR] [--pool NAME] [--after FILE ..] [FILE]
+                                     print a configuration with a table of slots in a pool, of a server more or less
        mcgate cache --listen HOST:PORT --capacity C
                                      be a memcached server of C items
        mcgate loopback [SCRIPT]      run a script with proxy, clients and servers as ends of TCP connections
@@ -282,6 +287,7 @@ fn command<'a>(alloc: Global) -> Result<Command<'a>, AllocError> {
         .subcommand(cache_command(alloc)?)?
         .subcommand(loopback_command(alloc)?)?
         .subcommand(history_command(alloc)?)?
+        .subcommand(slots_command(alloc)?)?
         .subcommand(help_command(alloc)?)?
         .subcommand(serve_command(alloc)?)
 }
@@ -374,6 +380,7 @@ fn help_on<'a>(name: &str) -> Result<Job<'a>, ArgumentsFault> {
         "loopback" => Ok(Job::Print(LOOPBACK_HELP)),
         "serve" => Ok(Job::Print(SERVE_HELP)),
         "history" => Ok(Job::Print(HISTORY_HELP)),
+        "slots" => Ok(Job::Print(SLOTS_HELP)),
         "help" => Ok(Job::Print(HELP)),
         _ => Err(ArgumentsFault::Refused),
     }
@@ -403,6 +410,7 @@ fn plain_job<'a>(given: &ArgMatches<'a>) -> Job<'a> {
 
 /// What the arguments ask for, the program's name first: `check [--explain | --dot | --history HISTORY | --fleet [--with FILE ..]] [FILE]`,
 /// `certify [FILE]`, `replay [--any] [--config FILE] [SCRIPT]`, `where --config FILE KEY..`, `history FILE`,
+/// `slots [--add ADDR | --remove ADDR] [--pool NAME] [--after FILE ..] [FILE]`,
 /// `cache --listen HOST:PORT --capacity C [--memory-mb N] [--turns N]`, `loopback [SCRIPT]`, `serve` with its flags, or none
 /// at all after it, which is `replay`. Also `help [COMMAND]`, `-h` and `--help`, before or after a command, and `--version`.
 ///
@@ -423,6 +431,7 @@ pub fn read_arguments<'a>(
         Some(("loopback", given)) => Ok(loopback_job(given)),
         Some(("serve", given)) => serve_job(given),
         Some(("history", given)) => history_job(given),
+        Some(("slots", given)) => slots_job(alloc, given),
         Some(("help", given)) => help_job(given),
         Some((_, given)) => Ok(replay_job(given)),
         None => Ok(plain_job(&matches)),

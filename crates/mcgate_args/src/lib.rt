@@ -17,3 +17,4 @@ pub mod input_text;
 pub mod loopback_arguments;
 pub mod refusal_details;
 pub mod serve_arguments;
+pub mod slots;

@@ -55,6 +55,33 @@ fn server_lists() -> &'static str {
 [«1024 "h:1:16",»"h:2"] => too many servers in A"#
 }
 
+// What stands after `"servers":` of a pool that has a table of slots.
+fn tables() -> &'static str {
+    r#"["a:1","a:2"],"slots":[0,1,1] => accepted
+["a:1","a:2"],"slots":[0] => accepted
+["a:1","a:2"],"slots":[2] => bad field slots
+["a:1","a:2"],"slots":[-1] => bad field slots
+["a:1","a:2"],"slots":[-0] => bad field slots
+["a:1","a:2"],"slots":[1.0] => bad field slots
+["a:1","a:2"],"slots":["a:1"] => bad field slots
+["a:1","a:2"],"slots":[1,18446744073709551616] => bad field slots
+["a:1","a:2"],"slots":[] => bad field slots
+["a:1","a:2"],"slots":{"0":1} => bad field slots
+["a:1","a:2"],"slots":null => bad field slots
+["a:1","a:1"],"slots":[0,1] => accepted
+# At most 2,048, and no weights beside them.
+["a:1","a:2"],"slots":[0«2047 ,1»] => accepted
+["a:1","a:2"],"slots":[0«2048 ,1»] => bad field slots
+["a:1:1","a:2"],"slots":[0,1] => accepted
+["a:1:2","a:2"],"slots":[0,1] => bad field slots
+# The list comes first.
+[],"slots":[] => empty pool A
+["a:0"],"slots":[] => bad address a:0
+5,"slots":[] => bad field servers
+[«128 "h:1:16",»"h:2"],"slots":[] => too many slots in A
+["a:1"],"slots":[1],"slot":[0] => bad field slot"#
+}
+
 // Routes over pool A of two servers and B of one.
 fn routes() -> &'static str {
     r#""PoolRoute|Z" => no pool Z
@@ -136,6 +163,12 @@ fn weighted_set_ups() -> &'static str {
 "MissFailoverRoute|Pool|W" => 2 servers: MissFailover; Server h:1; Server h:2"#
 }
 
+// Routes over pool W of three servers, the last of which has no slot.
+fn table_set_ups() -> &'static str {
+    r#""PoolRoute|W" => 3 servers: Pool h:2 h:1 h:1 h:2
+"AllSyncRoute|Pool|W" => 3 servers: AllSync; Server h:1; Server h:2; Server h:3"#
+}
+
 // Whole configurations whose servers are told too, and what comes after the last.
 fn numberings() -> &'static str {
     r#"# Servers are numbered by their first appearance.
@@ -165,6 +198,10 @@ fn pools() -> &'static str {
 
 fn weighted() -> &'static str {
     r#"{"pools":{"W":{"servers":["h:1:2","h:2"]}},"route":"#
+}
+
+fn slotted() -> &'static str {
+    r#"{"pools":{"W":{"slots":[1,0,0,1],"servers":["h:1","h:2","h:3"]}},"route":"#
 }
 
 fn null_route() -> &'static str {
@@ -372,6 +409,18 @@ impl Teller for OfWeightedPools {
     }
 }
 
+struct OfTables;
+
+impl Teller for OfTables {
+    fn told(alloc: Global, route: &str) -> Result<String, AllocError> {
+        let text = between(alloc, slotted(), route, "}")?;
+        match read_config(alloc, text.as_str()) {
+            Ok(config) => shown_with_count(alloc, &config),
+            Err(fault) => fault.to_string(alloc),
+        }
+    }
+}
+
 // The addresses of servers 0 to 3.
 fn push_four(out: &mut String, servers: &Servers) -> Result<(), AllocError> {
     for number in 0..4 {
@@ -412,6 +461,12 @@ fn faults_of_servers(rt: HostRuntime) -> Result<(), Fail> {
 }
 
 #[test]
+fn faults_of_tables(rt: HostRuntime) -> Result<(), Fail> {
+    assert_eq!(rt; wrong::<OfServers>(rt.alloc(), tables())?.as_str(), "");
+    Ok(())
+}
+
+#[test]
 fn faults_of_routes(rt: HostRuntime) -> Result<(), Fail> {
     rows_hold::<OfRoutes>(rt.alloc(), routes())
 }
@@ -424,6 +479,15 @@ fn usual_set_ups(rt: HostRuntime) -> Result<(), Fail> {
 #[test]
 fn weighted_pools(rt: HostRuntime) -> Result<(), Fail> {
     rows_hold::<OfWeightedPools>(rt.alloc(), weighted_set_ups())
+}
+
+#[test]
+fn pools_with_tables(rt: HostRuntime) -> Result<(), Fail> {
+    assert_eq!(rt;
+        wrong::<OfTables>(rt.alloc(), table_set_ups())?.as_str(),
+        ""
+    );
+    Ok(())
 }
 
 #[test]
