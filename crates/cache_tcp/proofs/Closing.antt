@@ -8,7 +8,7 @@ use Rattle.wire_parts.specs.declared.skip.Skip.TheVariants.{Nothing, Bytes, Thro
 use Rattle.wire_parts.specs.Message.{Served, Refusal}
 use Rattle.wire_parts.specs.Stream.{Stands, Closed, skipped, through_newline, after_own}
 use Rattle.wire_stream.specs.Both.{own_by}
-use Rattle.wire_stream.specs.TextProtocol.{Whole, LongLine}
+use Rattle.wire_stream.specs.TextProtocol.{Whole, LongLine, OtherProtocol}
 use Rattle.cache_tcp.specs.Laws.{ClosesAfterLast}
 
 stands : (skip : Skip) (held : List ℕ) → Stands skip held ≡ Closed → ⊥
@@ -42,6 +42,7 @@ closes (Stands Nothing held) next (Whole (Served order block)) r =
     (λ e. is.0 (sym r.2 ∙ e), λ e. r.2 ∙ is.1 e)
 closes (Stands Nothing held) next (Whole (Refusal why skip)) r = (λ e. skipped_stands skip (drop r.0 held) (sym r.2 ∙ e), λ e. absurd e)
 closes (Stands Nothing held) next LongLine r = (λ e. tt, λ e. r.1)
+closes (Stands Nothing held) next OtherProtocol r = (λ e. tt, λ e. r.1)
 closes (Stands (Bytes n) held) next said r = absurd r
 closes (Stands ThroughNewline held) next said r = absurd r
 closes Closed next said r = absurd r

@@ -7,7 +7,7 @@ use Rattle.wire_parts.specs.declared.proxy_command.ProxyCommand.TheVariants.{Qui
 use Rattle.wire_stream.specs.Both.{own_by}
 use Rattle.wire_parts.specs.Message.{Served, Refusal}
 use Rattle.wire_parts.specs.Stream.{Place, Closed}
-use Rattle.wire_stream.specs.TextProtocol.{Said, Whole, LongLine, ReadsNext, memcached_text}
+use Rattle.wire_stream.specs.TextProtocol.{Said, Whole, LongLine, OtherProtocol, ReadsNext, memcached_text}
 use Rattle.cache_server.specs.Contents.{Contents}
 use Rattle.cache_tcp.specs.ConnectionServing.{out_of_memory, ServesTo, Feeds}
 use Rattle.cache_tcp.specs.Steps.{Spot, Stage, at_front, Runs, text_of}
@@ -19,11 +19,12 @@ PiecesAreOne =
     → Feeds moment place a old s between middle → Feeds moment between b middle t next new
     → Feeds moment place (a ++ b) old (s ++ t) next new
 
--- `quit`, or a line that is too long
+-- `quit`, a line that is too long, or what is of another protocol
 abbrev pub IsLast : Said → Type 0
 IsLast (Whole (Served order block)) = own_by order ≡ Some Quit
 IsLast (Whole (Refusal why skip)) = ⊥
 IsLast LongLine = Unit {0}
+IsLast OtherProtocol = Unit {0}
 
 -- a stream is closed by these messages and by no other
 abbrev pub ClosesAfterLast : Type 0

@@ -14,10 +14,10 @@ use Rattle.wire_stream.specs.Message.{message_in}
 use Rattle.wire_stream.specs.Asks.{asks_of}
 use Rattle.wire_stream.specs.Stream.{after_message}
 use Rattle.wire_stream.specs.Held.{held_at, IsReadAt}
-use Rattle.wire_stream.specs.TextProtocol.{Said, Whole, LongLine, ReadsNext, asks_in}
+use Rattle.wire_stream.specs.TextProtocol.{Said, Whole, LongLine, OtherProtocol, ReadsNext, asks_in}
 use Rattle.wire_stream.proofs.ReaderLaws.{reader_is}
 use Rattle.wire_stream.specs.Fronts.{AsksNone}
-use Rattle.wire_stream.proofs.Fronts.{read_front, refused_is_some, long_is_some, more_stuck, front_is, reads_front}
+use Rattle.wire_stream.proofs.Fronts.{read_front, refused_is_some, long_is_some, other_is_some, more_stuck, front_is, reads_front}
 use Rattle.core_client.specs.declared.client.Client.{Client}
 use Rattle.core_client.specs.declared.client.Pending.{Pending}
 use Rattle.core_client.specs.ClientState.{dialect, front_by}
@@ -27,6 +27,7 @@ use Rattle.core_client.specs.Nexts.{IsLater}
 abbrev pub IsRead : Place → Read → Said → Type 0
 IsRead place reads.More message = ⊥
 IsRead place reads.TooLong message = message ≡ LongLine
+IsRead place reads.OtherProtocol message = message ≡ OtherProtocol
 IsRead place (reads.Refused why used skip) message = message ≡ Whole (Refusal why skip)
 IsRead place (reads.Request request) message = message ≡ Whole (message_in (held_at place) request)
 
@@ -35,11 +36,14 @@ pub is_read : (place : Place) (read : Read) → IsReadAt place read → (message
 is_read place reads.More is message next here = more_stuck place is message next here
 is_read place reads.TooLong is message next here =
     let f = read_front place reads.TooLong is long_is_some in
-    (reader_is.one_message place message LongLine next Closed here (subst (λ (p : Place). ReadsNext p LongLine Closed) (sym f.1) (f.2, refl))).0
+    (reader_is.one_message place message LongLine next Closed here (subst (λ (p : Place). ReadsNext p LongLine Closed) (sym f.1) (f.2.0, refl, f.2.1))).0
+is_read place reads.OtherProtocol is message next here =
+    let f = read_front place reads.OtherProtocol is other_is_some in
+    (reader_is.one_message place message OtherProtocol next Closed here (subst (λ (p : Place). ReadsNext p OtherProtocol Closed) (sym f.1) (f.2, refl))).0
 is_read place (reads.Refused why used skip) is message next here =
     let f = read_front place (reads.Refused why used skip) is (refused_is_some why used skip) in
     let after : Place = after_message (Refusal why skip) (drop used f.0) in
-    (reader_is.one_message place message (Whole (Refusal why skip)) next after here (subst (λ (p : Place). ReadsNext p (Whole (Refusal why skip)) after) (sym f.1) (used, f.2, refl))).0
+    (reader_is.one_message place message (Whole (Refusal why skip)) next after here (subst (λ (p : Place). ReadsNext p (Whole (Refusal why skip)) after) (sym f.1) (used, f.2.0, refl, f.2.1))).0
 is_read place (reads.Request request) is message next here = (reader_is.one_message place message (Whole (message_in (held_at place) request)) next _ here (reads_front place request (front_is place request is))).0
 
 no_ask : {A : Type 0} (asks : List Ask) (i : ℕ) (ask : Ask) → asks ≡ [] → slice_get asks i ≡ Some ask → A
@@ -52,6 +56,7 @@ none_asked place read is none message next here = by read none (is_read place re
     by : (read : Read) → AsksNone place read → IsRead place read message → asks_in message ≡ []
     by reads.More none e = absurd none
     by reads.TooLong none e = ap asks_in e
+    by reads.OtherProtocol none e = ap asks_in e
     by (reads.Refused why used skip) none e = ap asks_in e
     by (reads.Request request) none e = ap asks_in e ∙ none
 

@@ -5,7 +5,7 @@ use Rattle.fresh_runs.specs.Protocol.{Protocol}
 use Rattle.fresh_runs.specs.Overlap.{Front, Slot, is_last_slot, start_front}
 use Rattle.wire_stream.specs.Asks.{quiet_of}
 use Rattle.wire_stream.specs.Held.{held_at}
-use Rattle.wire_stream.specs.TextProtocol.{memcached_text, Said, Whole, LongLine}
+use Rattle.wire_stream.specs.TextProtocol.{memcached_text, Said, Whole, LongLine, OtherProtocol}
 use Rattle.core_client.specs.declared.client.Pending.{Pending}
 use Rattle.core_client.specs.declared.client.Client.{Client}
 
@@ -19,6 +19,7 @@ Message = Said
 abbrev pub quiet_in : Message → Bool
 quiet_in (Whole message) = quiet_of message
 quiet_in LongLine = false
+quiet_in OtherProtocol = false
 
 -- a client that isn't there said nothing
 abbrev pub front_by : Option Client → Front dialect

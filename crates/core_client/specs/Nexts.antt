@@ -57,6 +57,7 @@ pub record IsLater (depth : ℕ) (x : Client) : Type 0 where
 abbrev pub HasKey : ℕ → Client → Read → Type 0
 HasKey depth x reads.More = ⊥
 HasKey depth x reads.TooLong = ⊥
+HasKey depth x reads.OtherProtocol = ⊥
 HasKey depth x (reads.Refused why used skip) = ⊥
 HasKey depth x (reads.Request request) = CanAskBelow depth request x
 

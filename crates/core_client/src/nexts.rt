@@ -91,6 +91,7 @@ impl Client {
         match read {
             Read::More => self.nothing(),
             Read::TooLong => self.passing(read),
+            Read::OtherProtocol => self.passing(read),
             Read::Refused { .. } => self.passing(read),
             Read::Request(request) => {
                 if request.asks() == 0 {

@@ -11,7 +11,7 @@ use Rattle.core_commands.specs.declared.command.Command.{Command}
 use Rattle.core_proxy.specs.declared.proxy.Core.{Core}
 use Rattle.core_proxy.specs.CoreState.{client_at, command_at}
 use Rattle.core_client.specs.ClientState.{dropped_by}
-use Rattle.core_proxy.specs.Settles.{is_idle, HasIdle, freed, FreesSome, DropsBy, TakesOut}
+use Rattle.core_proxy.specs.Settles.{is_idle, HasIdle, asked_by, freed, FreesSome, DropsBy, TakesOut}
 use Rattle.core_proxy.specs.Ending.{Drops}
 use Rattle.core_commands.specs.declared.key_lines.Standing.{Standing}
 use Rattle.core_commands.specs.Lines as line
@@ -38,7 +38,10 @@ dropped_is None e = absurd cc
 dropped_is (Some x) e = (x, refl, e)
 
 pub none_yet : (core : Core) (client : ℕ) → FreesSome core client core
-none_yet core client = record { numbers = []; idle = tt; goes = λ _. goes_nowhere core; kept = λ n command e. e; clients = λ c. refl; tree = refl; limits = refl; number = refl; lines = refl }
+none_yet core client = record { numbers = []; idle = tt; goes = λ _. goes_nowhere core; kept = λ n command e. e; calls = λ n. refl; clients = λ c. refl; tree = refl; limits = refl; number = refl; lines = refl }
+
+none_asked : (a : Command) → a.is_out ≡ false → asked_by (Some a) ≡ None
+none_asked a off = rw off refl
 
 -- one more command of the client is broken off
 pub one_more : (old now new : Core) (client n : ℕ) → FreesSome old client now → HasIdle client now.commands n → ((m : ℕ) → command_at new m ≡ cond (nat_eq n m) None (command_at now m)) → ((c : ℕ) → client_at new c ≡ client_at now c) → new.tree ≡ now.tree → new.limits ≡ now.limits → new.number ≡ now.number → new.lines ≡ now.lines → FreesSome old client new
@@ -68,6 +71,11 @@ one_more old now new client n some idle commands clients tree limits number line
             | true ↦ λ e. no_command e
             | false ↦ λ e. e
           ]) (sym (commands m) ∙ e));
+      calls = λ m.
+          ap asked_by (commands m) ∙ (elim (nat_eq n m) as (λ b. nat_eq n m ≡ b → asked_by (cond b None (command_at now m)) ≡ asked_by (command_at now m)) [
+            | true ↦ λ same. sym (subst (λ k. asked_by (command_at now k) ≡ None) (eqb-true n m same) (ap asked_by idle.1 ∙ none_asked a parts.1))
+            | false ↦ λ _. refl
+          ]) refl ∙ some.calls m;
       clients = λ c. clients c ∙ some.clients c;
       tree = tree ∙ some.tree;
       limits = limits ∙ some.limits;

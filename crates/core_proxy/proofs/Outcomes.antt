@@ -11,7 +11,7 @@ use Rattle.core_client.specs.ClientState.{dialect, output_by, dropped_by}
 use Rattle.core_proxy.specs.CoreState.{client_at, command_at, is_call, has_call_out, IsHeld}
 use Rattle.core_proxy.specs.Steps.{Resolves}
 use Rattle.core_commands.specs.Lines as line
-use Rattle.core_proxy.specs.Settles.{TakesOutcome, FitsCall, SettlesBy, Settles, AreIdle, freed, FreesSome, FreesIdle, DropsBy, TakesOut, Breaks}
+use Rattle.core_proxy.specs.Settles.{TakesOutcome, asked_by, FitsCall, SettlesBy, Settles, AreIdle, freed, FreesSome, FreesIdle, DropsBy, TakesOut, Breaks}
 use Rattle.core_proxy.proofs.Broken.{settles_alone, settles_then, settles_as, breaks}
 use Rattle.core_proxy.proofs.Came.{Came}
 use Rattle.core_proxy.proofs.Chains.{Then}
@@ -139,6 +139,7 @@ module _ (old mid out new : Core) (number : ℕ) (a : Command) (outcome : Outcom
         are = were_idle some.numbers some.idle;
         goes = all;
         gone = frees_idle.1;
+        others = λ n differs. some.calls n ∙ ap asked_by (taken.commands n ∙ ap (λ z. cond z None (command_at old n)) differs);
         lines = some.lines ∙ taken.lines;
         output = λ c. ap output_by (some.clients c) ∙ (elim (nat_eq a.client c) as (λ z. nat_eq a.client c ≡ z → output_by (client_at out c) ≡ output_by (client_at old c)) [
           | true ↦ λ same. subst (λ d. output_by (client_at out d) ≡ output_by (client_at old d)) (eqb-true a.client c same) (outputs (client_at old a.client) (client_at out a.client) taken.client_is)

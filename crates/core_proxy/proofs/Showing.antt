@@ -7,7 +7,7 @@ use Rattle.mc_types.specs.declared.answer.Answer.{Answer}
 use Rattle.fresh_runs.specs.Overlap.{Slot, Shows, slot_in, behind_head}
 use Rattle.fresh_runs.proofs.OverlapSteps.{walks_lead}
 use Rattle.wire_stream.specs.Asks.{asks_of, quiet_of}
-use Rattle.wire_stream.specs.TextProtocol.{Whole, LongLine, asks_in, shown_by, shown_of}
+use Rattle.wire_stream.specs.TextProtocol.{Whole, LongLine, OtherProtocol, asks_in, shown_by, shown_of}
 use Rattle.wire_stream.specs.Replies.{is_last, shown_text}
 use Rattle.route_tree.specs.At.{tree_at}
 use Rattle.route_tree.specs.Word.{tree_words}
@@ -26,6 +26,8 @@ shown_is : (message : Message) (index : ℕ) (ask : Ask) (reply : Answer) → sl
 shown_is (Whole message) index ask reply at = ap (λ o. shown_by (quiet_of message) (asks_of message) index o reply) at
 shown_is LongLine zero ask reply at = absurd cc
 shown_is LongLine (suc i) ask reply at = absurd cc
+shown_is OtherProtocol zero ask reply at = absurd cc
+shown_is OtherProtocol (suc i) ask reply at = absurd cc
 
 slot_shown : (pending : Pending) (slot : Slot dialect) (reply : Answer) → IsSlot pending slot → shown_of slot.message slot.index reply ≡ shown_text pending.quiet pending.last pending.ask reply
 slot_shown pending slot reply s =

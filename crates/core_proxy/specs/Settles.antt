@@ -75,12 +75,13 @@ HasNoIdle core client = IsAllOut client core.commands
 abbrev pub freed : List ℕ → List (Entry dialect)
 freed numbers = each log.Frees numbers
 
--- of the commands of a client for whom nothing is done any more some were broken off, of which no call is out
+-- of the commands of a client for whom nothing is done any more some were broken off, of which no call is out; the calls that are out stay
 pub record FreesSome (old : Core) (client : ℕ) (new : Core) : Type 0 where
   pub numbers : List ℕ
   pub idle : AreIdle old client numbers
   pub goes : dropped_by (client_at old client) ≡ true → GoesBy old (λ entries. entries ≡ freed numbers) new
   pub kept : (n : ℕ) (command : Command) → command_at new n ≡ Some command → command_at old n ≡ Some command
+  pub calls : (n : ℕ) → asked new n ≡ asked old n
   pub clients : (c : ℕ) → client_at new c ≡ client_at old c
   pub tree : new.tree ≡ old.tree
   pub limits : new.limits ≡ old.limits
@@ -106,7 +107,7 @@ pub record TakesOut (old : Core) (number client : ℕ) (new : Core) : Type 0 whe
   pub number_is : new.number ≡ old.number
   pub lines : new.lines ≡ line.others client old.lines
 
--- memory was refused: the command of this number has the result of its call all the same, nothing is done for its client any more, which keeps its output and stands in no line of a key, and its commands of which no call is out are broken off
+-- memory was refused: the command of this number has the result of its call all the same, nothing is done for its client any more, which keeps its output and stands in no line of a key, and its commands of which no call is out are broken off; of the calls that are out each but this one stays
 pub record Breaks (old : Core) (number : ℕ) (outcome : Outcome) (new : Core) : Type 0 where
   pub command : Command
   pub was : command_at old number ≡ Some command
@@ -115,6 +116,7 @@ pub record Breaks (old : Core) (number : ℕ) (outcome : Outcome) (new : Core) :
   pub are : AreIdle old command.client numbers
   pub goes : SettlesBy old number command outcome (λ more. more ≡ freed numbers ++ log.Frees number ∷ log.Drops command.client ∷ []) new
   pub gone : HasNoIdle new command.client
+  pub others : (n : ℕ) → nat_eq number n ≡ false → asked new n ≡ asked old n
   pub output : (c : ℕ) → output_by (client_at new c) ≡ output_by (client_at old c)
   pub lines : new.lines ≡ line.others command.client old.lines
 

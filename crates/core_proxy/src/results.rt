@@ -60,7 +60,7 @@ impl Core {
     ///
     /// `NoTicket` where no call of the ticket's number is out in this core, which is then as it was. `NoMemory`: the call had
     /// its outcome all the same; nothing is done for the command's client any more, whose output so far is kept, which stands in no
-    /// line of a key, and whose commands of which no call is out are broken off.
+    /// line of a key, and whose commands of which no call is out are broken off; the other calls that are out stay.
     pub fn settle(&mut self, ticket: Ticket, outcome: Outcome) -> Result<(), CoreFault>
         requires fits { FitsCall self.old ticket.number outcome }
         ensures ok { OnOk result (Settles self.old ticket.number outcome self.new) }

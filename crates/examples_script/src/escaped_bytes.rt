@@ -1,5 +1,6 @@
 //! Tests: bytes as they are printed.
 
+use examples_tables::tables::same;
 use std::test::Fail;
 use text_words::escapes::{Escaped, EscapedByte};
 
@@ -7,8 +8,11 @@ use text_words::escapes::{Escaped, EscapedByte};
 fn printed_bytes(rt: HostRuntime) -> Result<(), Fail> {
     let bytes = b"a~ \r\n\\\t\x00\x7f\xe9\xff".as_slice();
     let text = format!(in rt.alloc(); "{}", Escaped(bytes))?;
-    assert_eq!(rt; text.as_str(), "a~ \\r\\n\\\\\\x09\\x00\\x7f\\xe9\\xff");
+    same(
+        "printed_bytes",
+        text.as_str(),
+        "a~ \\r\\n\\\\\\x09\\x00\\x7f\\xe9\\xff",
+    )?;
     let byte = format!(in rt.alloc(); "{}", EscapedByte(31))?;
-    assert_eq!(rt; byte.as_str(), "\\x1f");
-    Ok(())
+    same("printed_bytes", byte.as_str(), "\\x1f")
 }

@@ -32,6 +32,14 @@ ask 0 get k\r\nquit\r\n => END\r\n
 closed 0 => yes
 clients => 0
 
+HTTP closes behind the answers.
+cache
+connect => 0
+ask 0 mn\r\nPOST / HTTP/1.1\r\nHost: a\r\n\r\nset a 0 0 1\r\n1\r\n => MN\r\nERROR\r\n
+closed 0 => yes
+connect => 1
+ask 1 get a\r\n => END\r\n
+
 What comes behind the end is dropped: the system would take the reply away from the client if bytes were left unread.
 cache
 connect => 0

@@ -259,6 +259,10 @@ impl About<'_, '_> {
                     "the weights of the pool make more than {SLOT_LIMIT} in all"
                 )
             }
+            Trouble::NoPlace(count) => write!(
+                words,
+                "expected a place in servers: there are {count}, counted from 0"
+            ),
             Trouble::TooDeep => {
                 write!(
                     words,

@@ -23,7 +23,7 @@ pub const OPERATIONS: [&str; 12] = [
 
 const CONFIG: [&str; 2] = ["pools", "route"];
 
-const POOL: [&str; 1] = ["servers"];
+const POOL: [&str; 2] = ["servers", "slots"];
 
 const POOL_ROUTE: [&str; 2] = ["type", "pool"];
 

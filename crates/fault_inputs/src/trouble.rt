@@ -29,6 +29,8 @@ pub enum Trouble<'a> {
     /// It has so many.
     TooManyServers(&'a str, usize),
     TooManySlots(&'a str),
+    /// No server of the pool's list, which has so many, stands at the place that a slot names.
+    NoPlace(usize),
     TooDeep,
     /// No route has this short text.
     NoShort(&'a str),
@@ -58,6 +60,7 @@ impl Trouble<'_> {
             ) => *name == found.as_str(),
             (Trouble::Missing(_, name), ConfigFault::BadField(found)) => { *name == found.as_str() }
             (Trouble::Wanted(_), ConfigFault::BadField(_) | ConfigFault::NotJson) => true,
+            (Trouble::NoPlace(_), ConfigFault::BadField(found)) => found.as_str() == "slots",
             (Trouble::NoServer(text), ConfigFault::BadAddress(found)) => { *text == found.as_str() }
             (Trouble::EmptyPool(name), ConfigFault::EmptyPool(found)) => { *name == found.as_str() }
             (Trouble::TooManyServers(name, _), ConfigFault::TooManyServers(found)) => {

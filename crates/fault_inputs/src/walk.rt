@@ -13,6 +13,9 @@ use std::collections::BTreeMap;
 /// The greatest exptime of a route.
 const MAX_EXPTIME: u64 = 2_147_483_647;
 
+/// What a table of slots is.
+const TABLE: &str = "a list of 1 to 2048 places in servers";
+
 /// A walk: where it is, and which pools it met.
 #[derive(Drop)]
 pub struct Walk<'a> {
@@ -65,6 +68,18 @@ fn has_too_many_slots(items: &[Value]) -> bool {
         slots = slots.saturating_add(slots_of(item));
     }
     slots > SLOT_LIMIT
+}
+
+fn has_weights(items: &[Value]) -> bool {
+    items.iter().any(|item| slots_of(item) != 1)
+}
+
+// Whether a value is a place in a list of so many.
+fn is_place(count: usize, value: &Value) -> bool {
+    match value.as_u64() {
+        Some(place) => place < count as u64,
+        None => false,
+    }
 }
 
 fn exptime(value: &Value) -> Result<(), Stop<'_>> {
@@ -188,6 +203,40 @@ impl<'a> Walk<'a> {
         self.enter(Step::Name("servers"))?;
         self.servers(name, servers)?;
         self.leave();
+        match value.get("slots") {
+            Some(slots) => self.table(servers, slots),
+            None => Ok(()),
+        }
+    }
+
+    // A table of slots beside a list of servers.
+    fn table(&mut self, servers: &Value, value: &'a Value) -> Result<(), Stop<'a>> {
+        self.enter(Step::Name("slots"))?;
+        let (Value::Array(servers), Value::Array(items)) = (servers, value) else {
+            return fail(Trouble::Wanted(TABLE));
+        };
+        if items.is_empty() || items.len() > SLOT_LIMIT as usize {
+            return fail(Trouble::Wanted(TABLE));
+        }
+        if has_weights(servers) {
+            return fail(Trouble::Wanted(
+                "servers without weights: a table says how many slots each has",
+            ));
+        }
+        self.slots(servers.len(), items)?;
+        self.leave();
+        Ok(())
+    }
+
+    // The slots of a table, each a place in a list of so many servers.
+    fn slots(&mut self, servers: usize, items: &'a [Value]) -> Result<(), Stop<'a>> {
+        for (number, item) in items.iter().enumerate() {
+            self.enter(Step::Number(number))?;
+            if !is_place(servers, item) {
+                return fail(Trouble::NoPlace(servers));
+            }
+            self.leave();
+        }
         Ok(())
     }
 

@@ -23,12 +23,24 @@ pub enum Command {
     Cache,
     Loopback,
     History,
+    Plan,
     Help,
 }
 
 /// The names of the commands.
-pub const COMMANDS: [&str; 9] = [
-    "check", "certify", "replay", "where", "serve", "cache", "loopback", "history", "help",
+pub const COMMANDS: [&str; 10] = [
+    "check", "certify", "replay", "where", "serve", "cache", "loopback", "history", "plan", "help",
+];
+
+const CHECK_FLAGS: [&str; 8] = [
+    "help",
+    "explain",
+    "dot",
+    "fleet",
+    "with",
+    "history",
+    "opened",
+    "new-servers",
 ];
 
 const SERVE_FLAGS: [&str; 23] = [
@@ -113,6 +125,7 @@ impl Command {
             "cache" => Some(Command::Cache),
             "loopback" => Some(Command::Loopback),
             "history" => Some(Command::History),
+            "plan" => Some(Command::Plan),
             "help" => Some(Command::Help),
             _ => None,
         }
@@ -129,6 +142,7 @@ impl Command {
             Command::Cache => "cache",
             Command::Loopback => "loopback",
             Command::History => "history",
+            Command::Plan => "plan",
             Command::Help => "help",
         }
     }
@@ -137,10 +151,12 @@ impl Command {
     pub fn usage(self) -> &'static str {
         match self {
             Command::Check => {
-                "mcgate check [--explain | --dot | --history FILE | --fleet [--with FILE ..]] [FILE]"
+                "mcgate check [--explain | --dot] [--history FILE] [--opened WORD] [--new-servers WORD] [FILE], or mcgate check --fleet [--with FILE ..] [FILE]"
             }
             Command::Certify => "mcgate certify [FILE]",
-            Command::Replay => "mcgate replay [--any] [--config FILE] [SCRIPT]",
+            Command::Replay => {
+                "mcgate replay [--any] [--opened WORD] [--new-servers WORD] [--config FILE] [SCRIPT]"
+            }
             Command::Where => "mcgate where --config FILE KEY..",
             Command::Serve => {
                 "mcgate serve --config FILE --listen HOST:PORT [--any] [--check] [FLAG N ..]"
@@ -149,6 +165,7 @@ impl Command {
                 "mcgate cache --listen HOST:PORT --capacity C [--memory-mb N] [--turns N]",
             Command::Loopback => "mcgate loopback [SCRIPT]",
             Command::History => "mcgate history FILE",
+            Command::Plan => "mcgate plan [--opened WORD] [--new-servers WORD] OLD NEW",
             Command::Help => "mcgate help [COMMAND]",
         }
     }
@@ -156,8 +173,9 @@ impl Command {
     /// The names of its flags.
     pub fn flags(self) -> &'static [&'static str] {
         match self {
-            Command::Check => &["help", "explain", "dot", "fleet", "with", "history"],
-            Command::Replay => &["help", "any", "config"],
+            Command::Check => &CHECK_FLAGS,
+            Command::Replay => &["help", "any", "opened", "new-servers", "config"],
+            Command::Plan => &["help", "opened", "new-servers"],
             Command::Where => &["help", "config"],
             Command::Serve => &SERVE_FLAGS,
             Command::Cache => &CACHE_FLAGS,
@@ -184,6 +202,7 @@ impl Command {
             | Command::Loopback
             | Command::History
             | Command::Help => 1,
+            Command::Plan => 2,
             Command::Where => usize::MAX,
             Command::Serve | Command::Cache => 0,
         }
@@ -193,6 +212,7 @@ impl Command {
     pub fn least_words(self) -> usize {
         match self {
             Command::Where | Command::History => 1,
+            Command::Plan => 2,
             _ => 0,
         }
     }
@@ -200,7 +220,7 @@ impl Command {
     /// What those words are.
     pub fn word(self) -> &'static str {
         match self {
-            Command::Check | Command::Certify | Command::History => "FILE",
+            Command::Check | Command::Certify | Command::History | Command::Plan => "FILE",
             Command::Replay | Command::Loopback => "SCRIPT",
             Command::Where => "KEY",
             Command::Serve | Command::Cache => "",

@@ -1,9 +1,9 @@
 -- The pools that a configuration's text names. Source: mcgate's own.
-use Rattle.std.specs.Prelude.{ℕ, List, [], ◌∷◌, codes, Option, Some, None, option_to_list, replicate, position, map}
+use Rattle.std.specs.Prelude.{ℕ, List, [], ◌∷◌, codes, Option, Some, None, option_to_list, option_map, option_and_then, replicate, position, slice_get, map}
 use Rattle.std.specs.List.{flat_map}
 use Rattle.std.specs.Str.{bytes_eq}
 use Rattle.serde_json.specs.Data.{Data, null, boolean, number, string, array, object, Items, no_items, item, Members, no_members, member}
-use Rattle.serde_json.specs.Find.{get, as_str}
+use Rattle.serde_json.specs.Find.{get, as_number, as_str, as_u64}
 use Rattle.route_json.specs.NumberedServers.{Addresses}
 use Rattle.route_json.specs.ServerTexts.{server_in}
 use Rattle.gate_gaps.specs.declared.pools.Member.{Member}
@@ -65,9 +65,28 @@ servers_of ms = map (λ (m : Member). m.server) ms
 abbrev pub slots_of : List Member → List ℕ
 slots_of ms = flat_map (λ (m : Member). replicate m.weight m.server) ms
 
+-- the server at the place of the list that a value of a table names
+abbrev pub placed : List Member → Data → Option ℕ
+placed ms d = option_map (λ (m : Member). m.server) (option_and_then (slice_get ms) (option_and_then as_u64 (as_number d)))
+
+abbrev pub table_of : List Member → List Data → List ℕ
+table_of ms ds = flat_map (λ d. option_to_list (placed ms d)) ds
+
+-- the slots of a table, or those that weights make
+abbrev pub slots_or : List Member → Option Data → List ℕ
+slots_or ms None = slots_of ms
+slots_or ms (Some null) = slots_of ms
+slots_or ms (Some (boolean b)) = slots_of ms
+slots_or ms (Some (number n)) = slots_of ms
+slots_or ms (Some (string s)) = slots_of ms
+slots_or ms (Some (array ds)) = table_of ms (values ds)
+slots_or ms (Some (object os)) = slots_of ms
+
 -- the pool of a name and an object
 abbrev pub pool_of : Addresses → List ℕ × Data → NamedPool
-pool_of servers m = (m.0, servers_of (members_in servers (get (codes "servers") m.1)), slots_of (members_in servers (get (codes "servers") m.1)))
+pool_of servers m =
+    let ms = members_in servers (get (codes "servers") m.1) in
+    (m.0, servers_of ms, slots_or ms (get (codes "slots") m.1))
 
 abbrev pub pools_of : Addresses → List (List ℕ × Data) → NamedPools
 pools_of servers ms = map (pool_of servers) ms

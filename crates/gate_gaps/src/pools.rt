@@ -6,7 +6,7 @@ ghost use Rattle.serde_json.specs.Find.{get};
 ghost use Rattle.serde_json.specs.Read.{read};
 ghost use Rattle.serde_json.specs.View.{view, items_view, members_view};
 ghost use Rattle.route_json.specs.ServerTexts.{server_in};
-ghost use Rattle.gate_gaps.specs.Pools.{with_weight, member_at, member_of, members_of, members_in, servers_of, slots_of, pool_of, pools_of, object_in, pools_at, pools_in, values, members};
+ghost use Rattle.gate_gaps.specs.Pools.{with_weight, member_at, member_of, members_of, members_in, servers_of, slots_of, placed, table_of, slots_or, pool_of, pools_of, object_in, pools_at, pools_in, values, members};
 
 use mc_types::ServerId;
 use route_json::addresses::{Servers, read_server};
@@ -14,8 +14,8 @@ use serde_json::{Map, Value};
 use std::alloc::{AllocError, Global};
 use std::marker::Model;
 
-/// A pool of a configuration: its name, the servers of its list in order, and its slots, in which each server stands as often in a
-/// row as its weight says.
+/// A pool of a configuration: its name, the servers of its list in order, and its slots: those of its table, or each server as
+/// often in a row as its weight says.
 #[derive(Drop)]
 pub struct ConfigPool {
     name: String,
@@ -152,6 +152,48 @@ fn slots_of(alloc: Global, members: &[Member]) -> Result<Vec<ServerId>, AllocErr
     Ok(slots)
 }
 
+// The server at the place of the list that a value of a table names, if there is one.
+fn placed(members: &[Member], item: &Value) -> Option<ServerId>
+    ensures { result ≡ placed members.now (view item.now) }
+{
+    let place = item.as_u64()?;
+    if place >= members.len() as u64 {
+        return None;
+    }
+    Some(members[place as usize].server)
+}
+
+// Adds the server of a slot.
+fn add_slot(slots: &mut Vec<ServerId>, server: Option<ServerId>) -> Result<(), AllocError>
+    ensures { IfOk result (λ _. slots.new.items ≡ slots.old.items ++ option_to_list server) }
+{
+    if let Some(server) = server {
+        slots.push(server)?;
+    }
+    Ok(())
+}
+
+// The slots that a table says.
+fn table_of(alloc: Global, members: &[Member], items: &[Value]) -> Result<Vec<ServerId>, AllocError>
+    ensures { IfOk result (λ slots. slots.items ≡ table_of members.now (values (items_view items.now))) }
+{
+    let mut slots = Vec::new(alloc);
+    for item in items {
+        add_slot(&mut slots, placed(members, item))?;
+    }
+    Ok(slots)
+}
+
+// The slots of a pool's object.
+fn slots_or(alloc: Global, members: &[Member], value: &Value) -> Result<Vec<ServerId>, AllocError>
+    ensures { IfOk result (λ slots. slots.items ≡ slots_or members.now (get (codes "slots") (view value.now))) }
+{
+    match value.get("slots") {
+        Some(Value::Array(items)) => table_of(alloc, members, items),
+        _ => slots_of(alloc, members),
+    }
+}
+
 // The pool of this name and object.
 fn pool_of(
     alloc: Global,
@@ -165,7 +207,7 @@ fn pool_of(
     Ok(ConfigPool {
         name: String::from_str(alloc, name)?,
         servers: servers_of(alloc, &members)?,
-        slots: slots_of(alloc, &members)?,
+        slots: slots_or(alloc, &members, value)?,
     })
 }
 

@@ -19,8 +19,9 @@ use Rattle.wire_stream.specs.Asks.{asks_of, IsClientAsk}
 use Rattle.wire_stream.specs.Spelling.{spelling_of, message_of}
 use Rattle.wire_stream.proofs.RequestLaws.{asks_are_read_back, messages_are_one_ask}
 use Rattle.wire_stream.specs.Replies.{is_failure, is_last, ends_with}
-use Rattle.wire_stream.specs.TextProtocol.{Whole, LongLine, memcached_text}
+use Rattle.wire_stream.specs.TextProtocol.{Whole, LongLine, OtherProtocol, memcached_text}
 use Rattle.wire_stream.proofs.Shorter.{takes_some}
+use Rattle.wire_stream.proofs.OtherProtocols.{some_other, asking_text}
 use Rattle.gate_coverage.specs.declared.deleting.Deleting.TheVariants as kinds
 use Rattle.gate_coverage.specs.Cover.{IsTaking}
 use Rattle.gate_coverage.proofs.Choices.{either_right}
@@ -32,6 +33,7 @@ use Rattle.mcgate_check.specs.Commands.{read_text, delete_text}
 pub quiet_start : IsStuck memcached_text (Stands Nothing [])
 quiet_start (Whole message) next r = let some = takes_some [] message r.0 r.1 in let all = used_within both_grammar [] message r.0 r.1 in absurd (omega (arith, some, all))
 quiet_start LongLine next r = absurd (omega (arith, r.0.long))
+quiet_start OtherProtocol next r = absurd (omega (arith, some_other [] r.0))
 
 module _ (ask : Ask) (text : List ℕ) (reply : Answer) (is : IsClientAsk ask) (spelled : spelling_of ask ≡ text) (stands : after_message (message_of ask) [] ≡ Stands Nothing []) where
   begins : Begins text (message_of ask) (length text)
@@ -48,7 +50,7 @@ module _ (ask : Ask) (text : List ℕ) (reply : Answer) (is : IsClientAsk ask) (
   ends = subst (λ (l : List Ask). ends_with l 0 reply ≡ true) (sym alone) (either_right (is_failure reply) (is_last (ask ∷ []) 0) refl)
 
   pub one_ask : IsOneAsk memcached_text (Stands Nothing []) text ask reply (Whole (message_of ask)) (Stands Nothing [])
-  one_ask = record { reads = (length text, begins, left); asks = alone; ends = ends; stuck = quiet_start }
+  one_ask = record { reads = (length text, begins, left, asking_text text (message_of ask) (length text) begins (λ none. absurd (let e = sym alone ∙ none in cc))); asks = alone; ends = ends; stuck = quiet_start }
 
 delete_spelled : (key : List ℕ) → spelling_of (delete_of kinds.Delete key) ≡ delete_text key
 delete_spelled key = append-nil (delete_text key)

@@ -63,7 +63,7 @@ fn break_answer(answer: &mut BytesMut, failing: Option<Manner>) -> Result<bool, 
 fn is_whole(bytes: &[u8]) -> bool {
     match read_request(bytes) {
         Read::More => false,
-        Read::Request(_) | Read::Refused { .. } | Read::TooLong => true,
+        Read::Request(_) | Read::Refused { .. } | Read::TooLong | Read::OtherProtocol => true,
     }
 }
 

@@ -11,7 +11,7 @@ use Rattle.route_json.specs.ServerTexts.{server_in}
 use Rattle.route_json.specs.Fault.{Fault}
 use Rattle.route_json.specs.Fields.{only, value_or, list_or, object_or}
 use Rattle.route_json.specs.Servers.{Addresses, numbered_at, numbered, server_or}
-use Rattle.route_json.specs.Pools.{server_of, few_slots, servers_in, pool_list, pool_object, pool_of, pools_in}
+use Rattle.route_json.specs.Pools.{server_of, few_slots, servers_in, pool_list, slots_or, pool_object, pool_of, pools_in}
 use Rattle.route_json.specs.Reading.{Reading, then_read, ◌>>=◌, pure, each, named, members, values}
 use Rattle.route_json.specs.Configs.{tree_of, object_after, config_after, read_after}
 
@@ -90,7 +90,9 @@ list_adds pool ds = λ known. elim (cases_Bool (length ds == 0)) [
 
 pool_object_adds : (name : List ℕ) (d : Data) → Adds (pool_object name d)
 pool_object_adds name d = then_adds (pure (only holders.Pool d)) _ (pure_adds (only holders.Pool d)) (λ u.
-    then_adds (pure (list_or (codes "servers") (get (codes "servers") d))) _ (pure_adds _) (λ ds. list_adds name (values ds)))
+    then_adds (pure (list_or (codes "servers") (get (codes "servers") d))) _ (pure_adds _) (λ ds.
+    then_adds (pool_list name (values ds)) _ (list_adds name (values ds)) (λ servers.
+    then_adds (pure (slots_or servers (get (codes "slots") d))) _ (pure_adds _) (λ slots. same))))
 
 pool_adds : (name : List ℕ) (d : Data) → Adds (pool_of name d)
 pool_adds name (object ms) = pool_object_adds name (object ms)

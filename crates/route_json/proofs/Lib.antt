@@ -5,6 +5,7 @@ pub mod Adding
 pub mod Each
 pub mod Numbers
 pub mod Slots
+pub mod Tables
 pub mod Gives
 pub mod Fitting
 pub mod RouteSteps

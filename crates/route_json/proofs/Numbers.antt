@@ -4,10 +4,10 @@ use Rattle.std.proofs.lemmas.Bool.Decides.{nat_tests}
 use Rattle.serde_json.specs.View.{items_view}
 use Rattle.serde_json.specs.declared.value.Value.{Value}
 use Rattle.std.proofs.Common.{string_bytes}
-use Rattle.route_json.specs.declared.pools.Pool.{Pool}
+use Rattle.route_json.specs.declared.pools.NamedPool.{NamedPool}
 use Rattle.route_json.specs.declared.pools.WeightedServer.{WeightedServer}
 use Rattle.route_json.specs.Fault.{Fault, EmptyPool, TooManyServers}
-use Rattle.route_json.specs.Pools.{Pools, AllBelow, AreWeighted, IsPool, ArePools, pools_of, servers_in, pool_list}
+use Rattle.route_json.specs.Pools.{Pools, Slotted, slotted, AllBelow, AreWeighted, IsPool, ArePools, pools_of, servers_in, pool_list}
 use Rattle.route_json.specs.Reading.{Reading, values}
 use Rattle.route_json.specs.Servers.{Addresses}
 use Rattle.route_json.proofs.Each.{Goes, goes, values_length}
@@ -24,11 +24,21 @@ pub below_push : (b : ℕ) (xs : List ℕ) (x : ℕ) → AllBelow b xs → x < b
 below_push b [] x h lt = (lt, tt)
 below_push b (y ∷ ys) x h lt = (h.0, below_push b ys x h.1 lt)
 
+below_more : (b d : ℕ) (xs : List ℕ) → b ≤ d → AllBelow b xs → AllBelow d xs
+below_more b d [] le h = tt
+below_more b d (x ∷ xs) le h = (omega (arith, h.0), below_more b d xs le h.1)
+
+pool_more : (b d : ℕ) (p : Slotted) → b ≤ d → IsPool b p → IsPool d p
+pool_more b d p le h = record {
+  servers = (h.servers.0, h.servers.1, weighted_more b d p.servers le h.servers.2);
+  slots = (h.slots.0, h.slots.1, below_more b d p.slots le h.slots.2);
+}
+
 pools_more : (b d : ℕ) (ps : Pools) → b ≤ d → ArePools b ps → ArePools d ps
 pools_more b d [] le h = tt
-pools_more b d (p ∷ ps) le h = ((h.0.0, h.0.1, weighted_more b d p.1 le h.0.2), pools_more b d ps le h.1)
+pools_more b d (p ∷ ps) le h = (pool_more b d p.1 le h.0, pools_more b d ps le h.1)
 
-pools_push : (b : ℕ) (ps : Pools) (p : List ℕ × List WeightedServer) → ArePools b ps → IsPool b p.1 → ArePools b (ps ++ p ∷ [])
+pools_push : (b : ℕ) (ps : Pools) (p : List ℕ × Slotted) → ArePools b ps → IsPool b p.1 → ArePools b (ps ++ p ∷ [])
 pools_push b [] p h good = (good, tt)
 pools_push b (q ∷ qs) p h good = (h.0, pools_push b qs p h.1 good)
 
@@ -48,13 +58,13 @@ module _ {X : Type 0} (read : X → Reading Addresses WeightedServer) (all : Res
     many = ap length is ∙ length-append done (s ∷ []) ∙ ap (λ j. j + 1) h.many;
   }
 
-module _ {X : Type 0} (read : X → Reading Addresses (List ℕ × List WeightedServer)) (all : Result (Pools × Addresses) Fault) where
+module _ {X : Type 0} (read : X → Reading Addresses (List ℕ × Slotted)) (all : Result (Pools × Addresses) Fault) where
   -- a loop over the pools
   pub record ManyPools (left : List X) (done : Pools) (known : Addresses) : Type 0 where
     pub reads : Goes read all left done known
     pub good : ArePools (length known) done
 
-  pub pools_go : (xs left : List X) (x : X) (p : List ℕ × List WeightedServer) (done done' : Pools) (known known' : Addresses) → ManyPools xs done known → xs ≡ x ∷ left → read x known ≡ Ok (p, known') → done' ≡ done ++ p ∷ [] → IsPool (length known') p.1 → length known ≤ length known' → ManyPools left done' known'
+  pub pools_go : (xs left : List X) (x : X) (p : List ℕ × Slotted) (done done' : Pools) (known known' : Addresses) → ManyPools xs done known → xs ≡ x ∷ left → read x known ≡ Ok (p, known') → done' ≡ done ++ p ∷ [] → IsPool (length known') p.1 → length known ≤ length known' → ManyPools left done' known'
   pools_go xs left x p done done' known known' h at e is good le = record {
     reads = goes read all xs left x p done done' known known' h.reads at e is;
     good = subst (ArePools (length known')) (sym is) (pools_push (length known') done p (pools_more (length known) (length known') done le h.good) good);
@@ -73,9 +83,9 @@ module _ (pool : List ℕ) (vs : List Value) (known : Addresses) where
   pub list_some : 0 < length vs → length vs ≤ 1024 → pool_list pool (values (items_view vs)) known ≡ servers_in pool (values (items_view vs)) known
   list_some some few = by_length (length vs) (values_length vs) ∙ (by_count (length vs) _ _ _).1 some few
 
-pub pools_of_push : (ps : List Pool) (p : Pool) → pools_of (ps ++ p ∷ []) ≡ pools_of ps ++ (string_bytes p.name, p.servers.items) ∷ []
+pub pools_of_push : (ps : List NamedPool) (p : NamedPool) → pools_of (ps ++ p ∷ []) ≡ pools_of ps ++ (string_bytes p.name, slotted p.pool) ∷ []
 pools_of_push [] p = refl
-pools_of_push (q ∷ qs) p = ap (λ rest. (string_bytes q.name, q.servers.items) ∷ rest) (pools_of_push qs p)
+pools_of_push (q ∷ qs) p = ap (λ rest. (string_bytes q.name, slotted q.pool) ∷ rest) (pools_of_push qs p)
 
 pub server_at_below : (b : ℕ) (ss : List WeightedServer) (i : ℕ) (s : WeightedServer) → AreWeighted b ss → i < length ss → s ≡ get_or ss i s → s.server < b
 server_at_below b [] i s h lt e = absurd (omega arith)

@@ -4,7 +4,7 @@ use Rattle.std.proofs.lemmas.List.{length-replicate, replicate_more}
 use Rattle.route_tree.specs.Route.{Pool}
 use Rattle.route_json.specs.declared.pools.WeightedServer.{WeightedServer}
 use Rattle.route_json.specs.Fits.{IsLeaf}
-use Rattle.route_json.specs.Pools.{AllBelow, AreWeighted, IsPool, slots_of}
+use Rattle.route_json.specs.Pools.{AllBelow, AreWeighted, IsServerList, AreSlots, Slotted, IsPool, slots_of}
 
 pub slot_count_cons : (s : WeightedServer) (ss : List WeightedServer) → length (slots_of (s ∷ ss)) ≡ s.weight + length (slots_of ss)
 slot_count_cons s ss = length-append (replicate s.weight s.server) (slots_of ss) ∙ ap (λ n. n + length (slots_of ss)) (length-replicate s.weight s.server)
@@ -29,10 +29,14 @@ slots_below : (b : ℕ) (ss : List WeightedServer) → AreWeighted b ss → AllB
 slots_below b [] h = tt
 slots_below b (s ∷ ss) h = below_append b (replicate s.weight s.server) (slots_of ss) (below_replicate b s.weight s.server h.0) (slots_below b ss h.3)
 
-pub pool_is_leaf : (b : ℕ) (ss : List WeightedServer) (slots : List ℕ) → IsPool b ss → slots ≡ slots_of ss → IsLeaf b (Pool slots)
-pool_is_leaf b ss slots h is = subst (λ l. IsLeaf b (Pool l)) (sym is) (record {
-  good = (slots_some b ss h.0 h.2, h.1);
-  below = slots_below b ss h.2;
+-- the slots that weights make are slots
+pub weights_make_slots : (b : ℕ) (ss : List WeightedServer) (slots : List ℕ) → slots ≡ slots_of ss → IsServerList b ss → AreSlots b slots
+weights_make_slots b ss slots is h = subst (AreSlots b) (sym is) (slots_some b ss h.0 h.2, h.1, slots_below b ss h.2)
+
+pub pool_is_leaf : (b : ℕ) (pool : Slotted) (slots : List ℕ) → IsPool b pool → slots ≡ pool.slots → IsLeaf b (Pool slots)
+pool_is_leaf b pool slots h is = subst (λ l. IsLeaf b (Pool l)) (sym is) (record {
+  good = (h.slots.0, h.slots.1);
+  below = h.slots.2;
   deep = omega arith;
   many = omega arith;
 })

@@ -1,7 +1,7 @@
 -- What a configuration means: the tree and the servers that a JSON value stands for, or its first fault.
 -- Source: mcgate's own, under mcrouter's names of routes.
 use Rattle.route_tree.specs.declared.limits.TheConstants.{DEPTH_LIMIT}
-use Rattle.std.specs.Prelude.{[], codes, Option, Some, None, Result, Ok, Err}
+use Rattle.std.specs.Prelude.{[], codes, Option, Some, None, Result, Err}
 use Rattle.serde_json.specs.Data.{Data, object}
 use Rattle.serde_json.specs.Find.{get}
 use Rattle.route_tree.specs.Route.{Route}
@@ -9,14 +9,9 @@ use Rattle.route_json.specs.declared.names.holders.Holder.TheVariants as holders
 use Rattle.route_json.specs.Fault.{Fault, NotJson}
 use Rattle.route_json.specs.Fields.{only, value_or, object_or}
 use Rattle.route_json.specs.Pools.{Pools, pools_in}
-use Rattle.route_json.specs.Reading.{Reading, ◌>>=◌, fail, pure}
+use Rattle.route_json.specs.Reading.{Reading, ◌>>=◌, fail, pure, result_of}
 use Rattle.route_json.specs.Routes.{route}
 use Rattle.route_json.specs.Servers.{Addresses}
-
--- what a reading gave, without what is known after it
-abbrev pub result_of : {S A : Type 0} → Result (A × S) Fault → Result A Fault
-result_of (Ok x) = Ok x.0
-result_of (Err e) = Err e
 
 -- the route of the whole tree: its levels, counted from 0, of weight 1
 abbrev pub tree_of : Pools → Data → Result Route Fault

@@ -22,7 +22,7 @@ own_fields kinds.Error = []
 -- the fields of each kind of object
 abbrev pub fields_of : Holder → List (List ℕ)
 fields_of holders.Config = codes "pools" ∷ codes "route" ∷ []
-fields_of holders.Pool = codes "servers" ∷ []
+fields_of holders.Pool = codes "servers" ∷ codes "slots" ∷ []
 fields_of (holders.Route kind) = codes "type" ∷ own_fields kind
 
 -- the kinds of routes by the names of their types

@@ -30,6 +30,11 @@ abbrev pub pure : {S A : Type 0} → Result A Fault → Reading S A
 pure (Ok x) known = Ok (x, known)
 pure (Err e) known = Err e
 
+-- what a reading gave, without what is known after it
+abbrev pub result_of : {S A : Type 0} → Result (A × S) Fault → Result A Fault
+result_of (Ok x) = Ok x.0
+result_of (Err e) = Err e
+
 -- each of a list in order, up to the first fault
 abbrev pub each : {S X A : Type 0} → (X → Reading S A) → List X → Reading S (List A)
 each read [] = give []

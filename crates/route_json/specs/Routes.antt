@@ -18,8 +18,7 @@ use Rattle.route_json.specs.declared.names.holders.Holder.TheVariants as holders
 use Rattle.route_json.specs.Names.{kind_of, op_of, rest_after}
 use Rattle.route_json.specs.Fault.{Fault, BadField, TooDeep, TooManyNodes, UnknownType, NoPool, EmptyChildren, BadPrefix}
 use Rattle.route_json.specs.Fields.{only, value_or, text_or, object_or, exptime_or, op_or}
-use Rattle.route_json.specs.declared.pools.WeightedServer.{WeightedServer}
-use Rattle.route_json.specs.Pools.{Pools, servers_of, slots_of}
+use Rattle.route_json.specs.Pools.{Pools, Slotted, pool_named}
 use Rattle.route_json.specs.Reading.{Reading, ◌>>=◌, give, fail, pure, each, values, members, named}
 
 -- one route of this weight more, of at most ROUTE_LIMIT
@@ -57,23 +56,23 @@ listed lists.AllSync rs = forms.AllSync rs
 listed lists.Failover rs = forms.Failover rs
 listed lists.MissFailover rs = forms.MissFailover rs
 
--- the servers of a pool that has to be there
-abbrev pub known_pool : List ℕ → Option (List WeightedServer) → Result (List WeightedServer) Fault
-known_pool name (Some servers) = Ok servers
+-- a pool that has to be there
+abbrev pub known_pool : List ℕ → Option Slotted → Result Slotted Fault
+known_pool name (Some pool) = Ok pool
 known_pool name None = Err (NoPool name)
 
 module _ (pools : Pools) where
   -- the route over a pool's slots
   abbrev pub pool_route : List ℕ → Reading ℕ Route
   pool_route name = do
-    servers ← pure (known_pool name (servers_of name pools))
-    give (forms.Pool (slots_of servers))
+    pool ← pure (known_pool name (pool_named name pools))
+    give (forms.Pool pool.slots)
 
   -- one child for each server of a pool
   abbrev pub server_routes : ℕ → ℕ → List ℕ → Reading ℕ (List Route)
   server_routes levels weight name = do
-    servers ← pure (known_pool name (servers_of name pools))
-    each (λ s. leaf levels weight (Server s.server)) servers
+    pool ← pure (known_pool name (pool_named name pools))
+    each (λ s. leaf levels weight (Server s.server)) pool.servers
 
   -- ---- short texts
 

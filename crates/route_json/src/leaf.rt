@@ -7,14 +7,14 @@ ghost use Rattle.route_tree.specs.Form.{route_of_form, routes_of};
 ghost use Rattle.route_json.specs.Fault.{Gives};
 ghost use Rattle.route_json.specs.Names.{kind_of, rest_after};
 ghost use Rattle.route_json.specs.Fits.{IsLeaf, Fits, AllFit, NodeFits};
-ghost use Rattle.route_json.specs.Pools.{AreWeighted, IsPool, servers_of};
+ghost use Rattle.route_json.specs.Pools.{slotted, AreWeighted, IsPool, pool_named};
 ghost use Rattle.route_json.specs.Reading.{each};
 ghost use Rattle.route_json.specs.Routes.{leaf, kind_or, policy_op, prefix_of, listed, known_pool, pool_route, server_routes, short_list, short, text_children};
 
 use crate::fault::ConfigFault;
 use crate::names::{Kind, Lists, kind_of, op_of, rest_after};
 use crate::place::{Below, RouteCount};
-use crate::pools::{Pools, WeightedServer, slots_of};
+use crate::pools::{Pool, Pools, WeightedServer};
 use mc_types::{Key, Op, ServerId};
 use route_tree::{Tree, TreeForm};
 use std::alloc::Global;
@@ -73,16 +73,12 @@ pub fn listed(lists: Lists, trees: Vec<Tree>) -> TreeForm
     }
 }
 
-fn known_pool<'a>(
-    alloc: Global,
-    pools: &'a Pools,
-    name: &str,
-) -> Result<&'a [WeightedServer], ConfigFault>
-    ensures gives { Gives (λ s. s.now) result (known_pool name.now (servers_of name.now pools.now.0)) }
-    ensures good { IfOk result (λ s. IsPool (length pools.now.1) s.now) }
+fn known_pool<'a>(alloc: Global, pools: &'a Pools, name: &str) -> Result<&'a Pool, ConfigFault>
+    ensures gives { Gives (λ p. slotted p.now) result (known_pool name.now (pool_named name.now pools.now.0)) }
+    ensures good { IfOk result (λ p. IsPool (length pools.now.1) (slotted p.now)) }
 {
-    match pools.servers_of(name) {
-        Some(servers) => Ok(servers),
+    match pools.pool_named(name) {
+        Some(pool) => Ok(pool),
         None => Err(ConfigFault::NoPool(String::from_str(alloc, name)?)),
     }
 }
@@ -92,8 +88,8 @@ pub fn pool_route(alloc: Global, pools: &Pools, name: &str) -> Result<TreeForm, 
     ensures gives { (n : ℕ) → Gives (λ f. (route_of_form f, n)) result (pool_route pools.now.0 name.now n) }
     ensures leaf { IfOk result (λ f. IsLeaf (length pools.now.1) (route_of_form f)) }
 {
-    let servers = known_pool(alloc, pools, name)?;
-    Ok(TreeForm::Pool(slots_of(alloc, servers)?))
+    let pool = known_pool(alloc, pools, name)?;
+    Ok(TreeForm::Pool(Vec::from_slice(alloc, &pool.slots)?))
 }
 
 /// One child for each text of a pool, whatever its weight; `NoPool` where there is none of this name.
@@ -108,8 +104,8 @@ pub fn server_routes(
     ensures fits { IfOk result (λ v. AllFit (length pools.now.1) below.levels below.weight count.old.routes v.items count.new.routes) }
     ensures some { IfOk result (λ v. 0 < length v.items) }
 {
-    let servers = known_pool(alloc, pools, name)?;
-    each_server(alloc, pools, count, below, servers)
+    let pool = known_pool(alloc, pools, name)?;
+    each_server(alloc, pools, count, below, &pool.servers)
 }
 
 fn each_server(

@@ -15,6 +15,7 @@ mod place;
 mod pools;
 mod route;
 mod selector;
+mod table;
 
 pub use addresses::Servers;
 pub use config::{Config, read_config, read_config_after};

@@ -3,7 +3,7 @@
 ghost use Rattle.std.specs.Prelude.{◌≡◌, ◌++◌, ℕ, ◌<◌, ◌≤◌, IfOk, IfSome, length, option_map, replicate};
 ghost use Rattle.serde_json.specs.View.{view, items_view, members_view};
 ghost use Rattle.route_json.specs.Fault.{Gives};
-ghost use Rattle.route_json.specs.Pools.{pools_of, slots_of, AreWeighted, IsPool, ArePools, servers_of, server_of, few_slots, servers_in, pool_list, pool_object, pool_of, pools_in};
+ghost use Rattle.route_json.specs.Pools.{pools_of, slotted, slots_of, AreWeighted, IsServerList, IsPool, ArePools, pool_named, server_of, few_slots, servers_in, pool_list, pool_object, pool_of, pools_in};
 ghost use Rattle.route_json.specs.Reading.{each, values};
 
 use crate::addresses::Servers;
@@ -12,6 +12,7 @@ use crate::fault::ConfigFault;
 use crate::fields::{list_field, only};
 use crate::names::Holder;
 use crate::numbering::server_of_text;
+use crate::table::slots_or;
 use mc_types::ServerId;
 use route_tree::{POOL_LIMIT, SLOT_LIMIT};
 use serde_json::{Map, Value};
@@ -25,17 +26,24 @@ pub struct WeightedServer {
     pub weight: u32,
 }
 
-/// A pool of servers, in order.
+/// A pool: its servers, one for each of its texts, and the server of each of its slots.
 #[derive(Drop)]
 pub struct Pool {
-    pub name: String,
     pub servers: Vec<WeightedServer>,
+    pub slots: Vec<ServerId>,
+}
+
+/// A pool and its name.
+#[derive(Drop)]
+pub struct NamedPool {
+    pub name: String,
+    pub pool: Pool,
 }
 
 /// The pools of a configuration and its servers. No pool is empty or has more than 2,048 slots.
 #[derive(Drop)]
 pub struct Pools {
-    list: Vec<Pool>,
+    list: Vec<NamedPool>,
     servers: Servers,
 }
 
@@ -65,20 +73,17 @@ impl Pools {
         let mut list = Vec::new(alloc);
         for (name, value) in map.iter() {
             let text = name.as_str();
-            let numbers = read_pool(alloc, &mut servers, text, value)?;
+            let pool = read_pool(alloc, &mut servers, text, value)?;
             let name = String::from_str(alloc, text)?;
-            list.push(Pool {
-                name,
-                servers: numbers,
-            })?;
+            list.push(NamedPool { name, pool })?;
         }
         Ok(Pools { list, servers })
     }
 
-    /// The servers of the pool of this name, one for each of its texts.
-    pub fn servers_of(&self, name: &str) -> Option<&[WeightedServer]>
-        ensures found { option_map (λ s. s.now) result ≡ servers_of name.now self.now.0 }
-        ensures good { IfSome result (λ s. IsPool (length self.now.1) s.now) }
+    /// The pool of this name.
+    pub fn pool_named(&self, name: &str) -> Option<&Pool>
+        ensures found { option_map (λ p. slotted p.now) result ≡ pool_named name.now self.now.0 }
+        ensures good { IfSome result (λ p. IsPool (length self.now.1) (slotted p.now)) }
     {
         find(&self.list, name)
     }
@@ -91,7 +96,7 @@ impl Pools {
     }
 }
 
-/// The slots of a pool: each server as often in a row as its weight says. The only error is out of memory.
+/// The slots of a pool without a table: each server as often in a row as its weight says. The only error is out of memory.
 pub fn slots_of(alloc: Global, servers: &[WeightedServer]) -> Result<Vec<ServerId>, AllocError>
     ensures { IfOk result (λ v. v.items ≡ slots_of servers.now) }
 {
@@ -123,15 +128,15 @@ fn slot_count(servers: &[WeightedServer]) -> u32
     count
 }
 
-fn find<'a>(list: &'a [Pool], name: &str) -> Option<&'a [WeightedServer]>
-    ensures found { option_map (λ s. s.now) result ≡ servers_of name.now (pools_of list.now) }
-    ensures good { (bound : ℕ) → ArePools bound (pools_of list.now) → IfSome result (λ s. IsPool bound s.now) }
+fn find<'a>(list: &'a [NamedPool], name: &str) -> Option<&'a Pool>
+    ensures found { option_map (λ p. slotted p.now) result ≡ pool_named name.now (pools_of list.now) }
+    ensures good { (bound : ℕ) → ArePools bound (pools_of list.now) → IfSome result (λ p. IsPool bound (slotted p.now)) }
 {
     match list {
         [] => None,
-        [pool, rest @ ..] => {
-            if pool.name.as_str() == name {
-                Some(pool.servers.as_slice())
+        [named, rest @ ..] => {
+            if named.name.as_str() == name {
+                Some(&named.pool)
             } else {
                 find(rest, name)
             }
@@ -144,9 +149,9 @@ fn read_pool(
     servers: &mut Servers,
     name: &str,
     value: &Value,
-) -> Result<Vec<WeightedServer>, ConfigFault>
-    ensures gives { Gives (λ v. (v.items, servers.new)) result (pool_of name.now (view value.now) servers.old) }
-    ensures good { IfOk result (λ v. IsPool (length servers.new) v.items) }
+) -> Result<Pool, ConfigFault>
+    ensures gives { Gives (λ p. (slotted p, servers.new)) result (pool_of name.now (view value.now) servers.old) }
+    ensures good { IfOk result (λ p. IsPool (length servers.new) (slotted p)) }
     ensures more { length servers.old ≤ length servers.new }
 {
     match value {
@@ -160,14 +165,19 @@ fn read_pool_object(
     servers: &mut Servers,
     name: &str,
     value: &Value,
-) -> Result<Vec<WeightedServer>, ConfigFault>
-    ensures gives { Gives (λ v. (v.items, servers.new)) result (pool_object name.now (view value.now) servers.old) }
-    ensures good { IfOk result (λ v. IsPool (length servers.new) v.items) }
+) -> Result<Pool, ConfigFault>
+    ensures gives { Gives (λ p. (slotted p, servers.new)) result (pool_object name.now (view value.now) servers.old) }
+    ensures good { IfOk result (λ p. IsPool (length servers.new) (slotted p)) }
     ensures more { length servers.old ≤ length servers.new }
 {
     only(alloc, Holder::Pool, value)?;
     let items = list_field(alloc, "servers", value)?;
-    read_list(alloc, servers, name, items)
+    let listed = read_list(alloc, servers, name, items)?;
+    let slots = slots_or(alloc, &listed, value)?;
+    Ok(Pool {
+        servers: listed,
+        slots,
+    })
 }
 
 fn read_list(
@@ -177,7 +187,7 @@ fn read_list(
     items: &[Value],
 ) -> Result<Vec<WeightedServer>, ConfigFault>
     ensures gives { Gives (λ v. (v.items, servers.new)) result (pool_list name.now (values (items_view items.now)) servers.old) }
-    ensures good { IfOk result (λ v. IsPool (length servers.new) v.items) }
+    ensures good { IfOk result (λ v. IsServerList (length servers.new) v.items) }
     ensures more { length servers.old ≤ length servers.new }
 {
     if items.is_empty() {
@@ -198,7 +208,7 @@ fn read_servers(
     requires some { 0 < length items.now }
     requires few { length items.now ≤ POOL_LIMIT }
     ensures gives { Gives (λ v. (v.items, servers.new)) result (servers_in name.now (values (items_view items.now)) servers.old) }
-    ensures good { IfOk result (λ v. IsPool (length servers.new) v.items) }
+    ensures good { IfOk result (λ v. IsServerList (length servers.new) v.items) }
     ensures more { length servers.old ≤ length servers.new }
 {
     let pool = read_each(alloc, servers, name, items)?;

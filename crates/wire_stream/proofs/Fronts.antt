@@ -1,5 +1,6 @@
 -- What stands at the front of a connection's stream, and where it stands after it.
 use Rattle.std.proofs.Common.{◌≡◌, ℕ, ◌≤◌, List, length, drop, Some, refl, sym, ap, ◌∙◌, subst, slice_get}
+use Rattle.text_words.specs.Word.{text_at}
 use Rattle.mc_types.specs.declared.ask.Ask.{Ask}
 use Rattle.fresh_runs.specs.Protocol.{IsStuck}
 use Rattle.wire_parts.specs.declared.refusal.RefusalReason.{RefusalReason}
@@ -8,18 +9,23 @@ use Rattle.wire_parts.specs.declared.skip.Skip.TheVariants.{Nothing, Bytes, Thro
 use Rattle.wire_parts.specs.Message.{Refusal}
 use Rattle.wire_parts.specs.Stream.{Place, Stands, Closed}
 use Rattle.wire_parts.proofs.Streams.{used_within}
+use Rattle.wire_classic.specs.Places as texts
 use Rattle.wire_classic.specs.Order.{Retrieval, Storage, Swapping, Deletion, Touching, Counting, OfItself}
 use Rattle.wire_meta.specs.Order as metas
+use Rattle.wire_meta.specs.Places as meta_places
 use Rattle.wire_stream.specs.declared.requests.reader.Read.{Read}
 use Rattle.wire_stream.specs.declared.requests.reader.Read.TheVariants as reads
 use Rattle.wire_stream.specs.declared.requests.request.Request.{Request}
+use Rattle.wire_stream.specs.declared.requests.request.Request.TheVariants as requests
 use Rattle.wire_stream.specs.Both.{Order, Classic, Meta, both_grammar}
+use Rattle.wire_stream.specs.OtherProtocol.{IsText}
 use Rattle.wire_stream.specs.Message.{Message, Reads, IsReadFrom, message_in, used_of}
 use Rattle.wire_stream.specs.Asks.{asks_by}
 use Rattle.wire_stream.specs.Stream.{after_order, after_message}
 use Rattle.wire_stream.specs.Held.{held_at, IsReadAt}
-use Rattle.wire_stream.specs.TextProtocol.{Whole, LongLine, ReadsNext, memcached_text}
+use Rattle.wire_stream.specs.TextProtocol.{Whole, LongLine, OtherProtocol, ReadsNext, memcached_text}
 use Rattle.wire_stream.specs.Fronts.{IsFront}
+use Rattle.wire_stream.proofs.OtherProtocols.{served_text}
 
 -- a request with an ask is no `quit`: after it the stream goes on
 pub served_after : (order : Order) (block rest : List ℕ) (i : ℕ) (ask : Ask) → slice_get (asks_by order block) i ≡ Some ask → after_order order rest ≡ Stands Nothing rest
@@ -49,10 +55,14 @@ refused_is_some why used skip e = cc
 pub long_is_some : reads.TooLong ≡ reads.More → ⊥
 long_is_some e = cc
 
+pub other_is_some : reads.OtherProtocol ≡ reads.More → ⊥
+other_is_some e = cc
+
 -- where nothing is read, no message is there
 pub more_stuck : (place : Place) → IsReadAt place reads.More → IsStuck memcached_text place
 more_stuck (Stands Nothing held) is (Whole message) next r = is.1 message r.0 r.1
 more_stuck (Stands Nothing held) is LongLine next r = is.0 r.0
+more_stuck (Stands Nothing held) is OtherProtocol next r = is.2 r.0
 more_stuck (Stands (Bytes n) held) is said next r = r
 more_stuck (Stands ThroughNewline held) is said next r = r
 more_stuck Closed is said next r = r
@@ -67,12 +77,17 @@ front_is place request is =
       read = subst (λ (l : List ℕ). IsReadFrom l request) held f.2;
     }
 
+-- a request is text
+request_text : (held : List ℕ) (request : Request) → IsReadFrom held request → IsText held
+request_text held (requests.Classic r) is = served_text held (Classic (texts.order_in held r.command)) (text_at held r.block) r.used is.begins
+request_text held (requests.Meta r) is = served_text held (Meta (meta_places.order_in held r.command)) (text_at held r.block) r.used is.begins
+
 -- the request at the front is the next message
 pub reads_front : (place : Place) (request : Request) → IsFront place request → ReadsNext place (Whole (message_in (held_at place) request)) (after_message (message_in (held_at place) request) (drop (used_of request) (held_at place)))
 reads_front place request front =
     let held = held_at place in
     let m : Message = message_in held request in
-    subst (λ (p : Place). ReadsNext p (Whole m) (after_message m (drop (used_of request) held))) (sym front.stands) (used_of request, front.read.begins, refl)
+    subst (λ (p : Place). ReadsNext p (Whole m) (after_message m (drop (used_of request) held))) (sym front.stands) (used_of request, front.read.begins, refl, request_text held request front.read)
 
 -- what the request at the front uses is held
 pub used_held : (place : Place) (request : Request) → IsFront place request → used_of request ≤ length (held_at place)
@@ -82,4 +97,4 @@ used_held place request front = used_within both_grammar (held_at place) (messag
 pub used_refused : (place : Place) (why : RefusalReason) (used : ℕ) (skip : Skip) → IsReadAt place (reads.Refused why used skip) → used ≤ length (held_at place)
 used_refused place why used skip is =
     let f = read_front place (reads.Refused why used skip) is (refused_is_some why used skip) in
-    subst (λ (p : Place). used ≤ length (held_at p)) (sym f.1) (used_within both_grammar f.0 (Refusal why skip) used f.2)
+    subst (λ (p : Place). used ≤ length (held_at p)) (sym f.1) (used_within both_grammar f.0 (Refusal why skip) used f.2.0)

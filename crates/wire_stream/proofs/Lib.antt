@@ -1,4 +1,5 @@
 pub mod WordLengths
+pub mod OtherProtocols
 pub mod Lifting
 pub mod Dialects
 pub mod RequestLaws

@@ -1,7 +1,8 @@
 -- A line means the same in its dialect as among both.
-use Rattle.std.proofs.Common.{◌≡◌, ℕ, ◌+◌, ◌-◌, List, [], ◌∷◌, length, take, drop, Option, Some, None, Result, Ok, Err, refl, sym, ap, ◌∙◌}
+use Rattle.std.proofs.Common.{◌≡◌, ℕ, ◌+◌, ◌-◌, true, false, List, [], ◌∷◌, length, take, drop, Option, Some, None, Result, Ok, Err, inl, inr, refl, sym, ap, ◌∙◌}
 use Rattle.text_words.specs.Line.{TakesLine, without_cr}
 use Rattle.text_words.specs.Word.{words, text_at, IsNextWord}
+use Rattle.text_words.proofs.Stays.{taken_line}
 use Rattle.text_words.specs.declared.word.Span.{Span}
 use Rattle.wire_parts.specs.declared.refusal.RefusalReason.{RefusalReason}
 use Rattle.wire_parts.specs.declared.refusal.RefusalReason.TheVariants.{Unknown}
@@ -10,7 +11,7 @@ use Rattle.wire_parts.specs.declared.skip.Skip.TheVariants.{Nothing}
 use Rattle.wire_parts.specs.declared.block.End.{End}
 use Rattle.wire_parts.specs.declared.block.End.TheVariants.{Open, Good, Bad}
 use Rattle.wire_parts.specs.Tests.{Word}
-use Rattle.wire_parts.specs.Message.{Refusal, meaning, meaning_of, with_rest, with_block, end_of}
+use Rattle.wire_parts.specs.Message.{Found, Refusal, meaning, meaning_of, with_rest, with_block, end_of}
 use Rattle.wire_parts.proofs.Fronts.{line_text, begins_meant, none_begins}
 use Rattle.wire_classic.specs.Order as texts
 use Rattle.wire_classic.specs.CommandWords as text_words
@@ -22,7 +23,9 @@ use Rattle.wire_meta.specs.CommandWords.{verb_of}
 use Rattle.wire_stream.specs.declared.requests.reader.Read.{Read}
 use Rattle.wire_stream.specs.declared.requests.reader.Read.TheVariants as reads
 use Rattle.wire_stream.specs.Both.{Order, Classic, Meta, both_grammar, order_by, order_of, skip_by, skip_of, mapped, lift_found}
+use Rattle.wire_stream.specs.OtherProtocol.{is_binary, ends_as_http, IsHttp, IsText, is_http}
 use Rattle.wire_stream.specs.Message.{IsMeant, Reads, message_in, used_of}
+use Rattle.wire_stream.proofs.OtherProtocols.{refused_order, order_refused, same_reason, http_line, http_text}
 
 block_lifted : {A B : Type 0} (f : A → B) (o : A) (used : ℕ) (block : List ℕ) (end : End) → with_block (f o) used block end ≡ lift_found f (with_block o used block end)
 block_lifted f o used block Open = refl
@@ -70,12 +73,57 @@ module _ (bytes : List ℕ) (end used : ℕ) (line : TakesLine bytes end used) w
   pub means_meta : (first : Span) → IsNextWord (take end bytes) 0 first → text_words.verb_of (text_at (take end bytes) first) ≡ None → meaning both_grammar (take (used - 1) bytes) (drop used bytes) ≡ lift_found Meta (meaning meta_grammar (take (used - 1) bytes) (drop used bytes))
   means_meta first h none = meta_by _ (text_at (take end bytes) first) (words (drop first.end (take end bytes))) (length (take (used - 1) bytes) + 1) (drop used bytes) (line_words first h) none
 
-  -- what is read after the first line is what the bytes begin with
-  pub reads_meant : (r : Read) → IsMeant bytes r (meaning both_grammar (take (used - 1) bytes) (drop used bytes)) → Reads bytes r
-  reads_meant (reads.Request r) h = record { placed = h.0; begins = begins_meant both_grammar bytes end used (message_in bytes r) (used_of r) line h.1 }
-  reads_meant (reads.Refused why n skip) h = begins_meant both_grammar bytes end used (Refusal why skip) n line h
-  reads_meant reads.TooLong h = absurd h
-  reads_meant reads.More h = none_begins both_grammar bytes end used line h
+  abbrev text : List ℕ
+  text = take (used - 1) bytes
+
+  abbrev rest : List ℕ
+  rest = drop used bytes
+
+  abbrev meant : Found Order
+  meant = meaning both_grammar text rest
+
+  -- a line of HTTP is refused as no command
+  http_meant : (h : IsHttp bytes) → (skip : Skip) × (n : ℕ) × (meant ≡ Some (Refusal Unknown skip, n)) × (ends_as_http (take end bytes) ≡ true)
+  http_meant h =
+      let same : h.text ≡ text = http_line bytes text rest (taken_line bytes end used line) h in
+      let ws = words (without_cr text) in
+      let unknown : order_of ws ≡ Err Unknown = ap (λ t. order_of (words (without_cr t))) (sym same) ∙ h.unknown in
+      (skip_of ws, length text + 1, order_refused (order_of ws) (skip_of ws) (length text + 1) rest unknown, ap ends_as_http (sym (ap without_cr same ∙ (line_text bytes end used line).0)) ∙ h.ends)
+
+  -- a line that is refused so, and ends so, is one of HTTP
+  meant_http : (skip : Skip) (n : ℕ) → meant ≡ Some (Refusal Unknown skip, n) → ends_as_http (take end bytes) ≡ true → IsHttp bytes
+  meant_http skip n e ends =
+      let ws = words (without_cr text) in
+      record {
+        text = text;
+        rest = rest;
+        line = taken_line bytes end used line;
+        unknown = refused_order (order_of ws) (skip_of ws) (length text + 1) rest skip n e;
+        ends = ap ends_as_http (line_text bytes end used line).0 ∙ ends;
+      }
+
+  other_meant : (why : RefusalReason) (skip : Skip) (n : ℕ) → meant ≡ Some (Refusal why skip, n) → (why ≡ Unknown) × (ends_as_http (take end bytes) ≡ true) → IsHttp bytes
+  other_meant why skip n e is = meant_http skip n (e ∙ ap (λ (w : RefusalReason). Some (Refusal w skip, n)) is.0) is.1
+
+  refused_text : (why : RefusalReason) (skip : Skip) (n : ℕ) → is_binary bytes ≡ false → meant ≡ Some (Refusal why skip, n) → is_http (take end bytes) why ≡ false → IsText bytes
+  refused_text why skip n is_not e other (inl is) = cc
+  refused_text why skip n is_not e other (inr h) =
+      let is = http_meant h in
+      let unknown : why ≡ Unknown = same_reason why Unknown skip is.0 n is.1 (sym e ∙ is.2) in
+      let so : is_http (take end bytes) why ≡ true = ap (is_http (take end bytes)) unknown ∙ is.3 in
+      cc
+
+  more_text : is_binary bytes ≡ false → meant ≡ None → IsText bytes
+  more_text is_not e (inl is) = cc
+  more_text is_not e (inr h) = let is = http_meant h in let apart : ◌≡◌ {A = Found Order} None (Some (Refusal Unknown is.0, is.1)) = sym e ∙ is.2 in cc
+
+  -- what is read after the first line is what the bytes begin with, where that is no binary message
+  pub reads_meant : (r : Read) → is_binary bytes ≡ false → IsMeant (take end bytes) bytes r meant → Reads bytes r
+  reads_meant (reads.Request r) is_not h = record { placed = h.0; begins = begins_meant both_grammar bytes end used (message_in bytes r) (used_of r) line h.1 }
+  reads_meant (reads.Refused why n skip) is_not h = (begins_meant both_grammar bytes end used (Refusal why skip) n line h.0, refused_text why skip n is_not h.0 h.1)
+  reads_meant reads.OtherProtocol is_not h = inr (other_meant h.0 h.1 h.2 h.3 (http_text (take end bytes) h.0 h.4))
+  reads_meant reads.TooLong is_not h = absurd h
+  reads_meant reads.More is_not h = let none = none_begins both_grammar bytes end used line h in (none.0, none.1, more_text is_not h)
 
   pub no_word : words (take end bytes) ≡ [] → meaning both_grammar (take (used - 1) bytes) (drop used bytes) ≡ Some (Refusal Unknown Nothing, used)
   no_word none =

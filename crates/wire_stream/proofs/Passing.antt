@@ -2,6 +2,7 @@
 use Rattle.std.proofs.Common.{◌≡◌, ℕ, List, [], ◌++◌, drop, Option, refl, sym, ap, ◌∙◌, subst}
 use Rattle.wire_parts.specs.declared.proxy_command.ProxyCommand.{ProxyCommand}
 use Rattle.wire_parts.specs.declared.refusal.RefusalReason.{RefusalReason}
+use Rattle.wire_parts.specs.declared.refusal.RefusalReason.TheVariants.{Unknown}
 use Rattle.wire_parts.specs.declared.skip.Skip.{Skip}
 use Rattle.wire_parts.specs.declared.skip.Skip.TheVariants.{Nothing}
 use Rattle.wire_parts.specs.Message.{Refusal}
@@ -14,10 +15,10 @@ use Rattle.wire_stream.specs.Asks.{asks_of, own_of}
 use Rattle.wire_stream.specs.Stream.{after_message}
 use Rattle.wire_stream.specs.Held.{held_at, IsReadAt}
 use Rattle.wire_stream.specs.Replies.{refusal_text, long_line_text}
-use Rattle.wire_stream.specs.TextProtocol.{Said, Whole, LongLine, ReadsNext, own_passed, asks_in, passed_text}
+use Rattle.wire_stream.specs.TextProtocol.{Said, Whole, LongLine, OtherProtocol, ReadsNext, own_passed, asks_in, passed_text}
 use Rattle.wire_stream.specs.declared.connection.front.Passed.TheVariants.{Own, Refused}
 use Rattle.wire_stream.specs.Fronts.{PassesMessage, told_of}
-use Rattle.wire_stream.proofs.Fronts.{read_front, refused_is_some, long_is_some, front_is, reads_front}
+use Rattle.wire_stream.proofs.Fronts.{read_front, refused_is_some, long_is_some, other_is_some, front_is, reads_front}
 use Rattle.wire_stream.proofs.ConnectionRequests.{own_next, own_text}
 
 passes : (old new : Place) (output output' : List ℕ) (message : Said) (next : Place) → ReadsNext old message next → asks_in message ≡ [] → new ≡ next → output' ≡ output ++ passed_text message → PassesMessage old output (told_of message) new output'
@@ -27,7 +28,13 @@ passes old new output output' message next reads asks place_is output_is = recor
 pub long_line_passed : (old new : Place) (output output' : List ℕ) → IsReadAt old reads.TooLong → new ≡ Closed → output' ≡ output ++ long_line_text → PassesMessage old output Refused new output'
 long_line_passed old new output output' is place_is output_is =
     let f = read_front old reads.TooLong is long_is_some in
-    passes old new output output' LongLine Closed (subst (λ (p : Place). ReadsNext p LongLine Closed) (sym f.1) (f.2, refl)) refl place_is output_is
+    passes old new output output' LongLine Closed (subst (λ (p : Place). ReadsNext p LongLine Closed) (sym f.1) (f.2.0, refl, f.2.1)) refl place_is output_is
+
+-- what is of another protocol
+pub other_passed : (old new : Place) (output output' : List ℕ) → IsReadAt old reads.OtherProtocol → new ≡ Closed → output' ≡ output ++ refusal_text Unknown → PassesMessage old output Refused new output'
+other_passed old new output output' is place_is output_is =
+    let f = read_front old reads.OtherProtocol is other_is_some in
+    passes old new output output' OtherProtocol Closed (subst (λ (p : Place). ReadsNext p OtherProtocol Closed) (sym f.1) (f.2, refl)) refl place_is output_is
 
 -- a refused message
 pub refused_passed : (old new : Place) (output output' : List ℕ) (why : RefusalReason) (used : ℕ) (skip : Skip) → IsReadAt old (reads.Refused why used skip)
@@ -35,7 +42,7 @@ pub refused_passed : (old new : Place) (output output' : List ℕ) (why : Refusa
 refused_passed old new output output' why used skip is goes output_is =
     let f = read_front old (reads.Refused why used skip) is (refused_is_some why used skip) in
     let next : Place = skipped skip (drop used f.0) in
-    passes old new output output' (Whole (Refusal why skip)) next (subst (λ (p : Place). ReadsNext p (Whole (Refusal why skip)) next) (sym f.1) (used, f.2, refl)) refl (goes f.0 f.1) output_is
+    passes old new output output' (Whole (Refusal why skip)) next (subst (λ (p : Place). ReadsNext p (Whole (Refusal why skip)) next) (sym f.1) (used, f.2.0, refl, f.2.1)) refl (goes f.0 f.1) output_is
 
 told_own : (held : List ℕ) (request : Request) → told_of (Whole (message_in held request)) ≡ Own
 told_own held (Classic r) = refl

@@ -7,8 +7,9 @@ use Rattle.wire_parts.specs.Stream.{Place, Stands, Closed, extended, skipped}
 use Rattle.wire_stream.specs.Stream.{after_message}
 use Rattle.wire_parts.proofs.Streams.{begins_still, one_message, used_within, after_message-append, too_long_begins_nothing}
 use Rattle.wire_stream.specs.Both.{both_grammar}
+use Rattle.wire_stream.proofs.OtherProtocols.{other_still, text_still, long_still}
 use Rattle.wire_parts.proofs.Streams.{skipped-append}
-use Rattle.wire_stream.specs.TextProtocol.{Said, Whole, LongLine, ReadsNext, TextIsReader}
+use Rattle.wire_stream.specs.TextProtocol.{Said, Whole, LongLine, OtherProtocol, ReadsNext, TextIsReader}
 
 -- a place has one next message at most
 one_next : (place : Place) (m n : Said) (p q : Place) → ReadsNext place m p → ReadsNext place n q → (m ≡ n) × (p ≡ q)
@@ -19,6 +20,11 @@ one_next (Stands Nothing held) (Whole m) (Whole n) p q a b =
 one_next (Stands Nothing held) (Whole m) LongLine p q a b = absurd (too_long_begins_nothing both_grammar held [] m a.0 b.0 (begins_still both_grammar held [] m a.0 a.1))
 one_next (Stands Nothing held) LongLine (Whole n) p q a b = absurd (too_long_begins_nothing both_grammar held [] n b.0 a.0 (begins_still both_grammar held [] n b.0 b.1))
 one_next (Stands Nothing held) LongLine LongLine p q a b = (refl, a.1 ∙ sym b.1)
+one_next (Stands Nothing held) OtherProtocol OtherProtocol p q a b = (refl, a.1 ∙ sym b.1)
+one_next (Stands Nothing held) (Whole m) OtherProtocol p q a b = absurd (a.3 b.0)
+one_next (Stands Nothing held) OtherProtocol (Whole n) p q a b = absurd (b.3 a.0)
+one_next (Stands Nothing held) LongLine OtherProtocol p q a b = absurd (a.2 b.0)
+one_next (Stands Nothing held) OtherProtocol LongLine p q a b = absurd (b.2 a.0)
 one_next (Stands (Bytes k) held) m n p q a b = absurd a
 one_next (Stands ThroughNewline held) m n p q a b = absurd a
 one_next Closed m n p q a b = absurd a
@@ -28,8 +34,9 @@ next_stays : (place : Place) (m : Said) (p : Place) (more : List ℕ) → ReadsN
 next_stays (Stands Nothing held) (Whole m) p more a =
     let within = used_within both_grammar held m a.0 a.1 in
     let next : after_message m (drop a.0 (held ++ more)) ≡ extended (after_message m (drop a.0 held)) more = ap (after_message m) (drop-append-le a.0 held more within) ∙ after_message-append both_grammar m (drop a.0 held) more in
-    (a.0, begins_still both_grammar held more m a.0 a.1, ap (λ (q : Place). extended q more) a.2 ∙ sym next)
-next_stays (Stands Nothing held) LongLine p more a = (too_long_stays held more a.0, ap (λ (q : Place). extended q more) a.1)
+    (a.0, begins_still both_grammar held more m a.0 a.1, ap (λ (q : Place). extended q more) a.2 ∙ sym next, text_still held more a.1.text a.1.rest a.1.line a.3)
+next_stays (Stands Nothing held) LongLine p more a = (too_long_stays held more a.0, ap (λ (q : Place). extended q more) a.1, long_still held more a.0 a.2)
+next_stays (Stands Nothing held) OtherProtocol p more a = (other_still held more a.0, ap (λ (q : Place). extended q more) a.1)
 next_stays (Stands (Bytes k) held) m p more a = absurd a
 next_stays (Stands ThroughNewline held) m p more a = absurd a
 next_stays Closed m p more a = absurd a

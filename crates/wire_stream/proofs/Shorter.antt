@@ -10,10 +10,11 @@ use Rattle.wire_parts.specs.Message.{Served, Refusal}
 use Rattle.wire_parts.specs.Stream.{Place, Stands, Closed, skipped, through_newline, after_own}
 use Rattle.wire_parts.proofs.Streams.{some_taken, fewer_left}
 use Rattle.wire_stream.specs.Both.{both_grammar, own_by}
+use Rattle.wire_stream.proofs.OtherProtocols.{some_other}
 use Rattle.wire_stream.specs.Message.{Message, Begins}
 use Rattle.wire_stream.specs.Stream.{after_message}
 use Rattle.wire_stream.specs.Held.{held_at}
-use Rattle.wire_stream.specs.TextProtocol.{Said, Whole, LongLine, ReadsNext}
+use Rattle.wire_stream.specs.TextProtocol.{Said, Whole, LongLine, OtherProtocol, ReadsNext}
 
 -- a message takes a byte at least
 pub takes_some : (bytes : List ℕ) (message : Message) (used : ℕ) → Begins bytes message used → 1 ≤ used
@@ -61,6 +62,9 @@ next_len (Stands Nothing held) LongLine next r =
     let at : length (held_at next) ≡ 0 = ap (λ (p : Place). length (held_at p)) r.1 in
     let long = r.0.long in
     omega (arith, at, long)
+next_len (Stands Nothing held) OtherProtocol next r =
+    let at : length (held_at next) ≡ 0 = ap (λ (p : Place). length (held_at p)) r.1 in
+    omega (arith, at, some_other held r.0)
 next_len (Stands (Bytes n) held) said next r = absurd r
 next_len (Stands ThroughNewline held) said next r = absurd r
 next_len Closed said next r = absurd r

@@ -9,7 +9,7 @@ use Rattle.wire_stream.specs.declared.requests.request.Request.{Request}
 use Rattle.wire_stream.specs.Message.{IsReadFrom, message_in}
 use Rattle.wire_stream.specs.Asks.{asks_of}
 use Rattle.wire_stream.specs.Held.{held_at, IsReadAt}
-use Rattle.wire_stream.specs.TextProtocol.{Said, Whole, LongLine, ReadsNext, asks_in, passed_text}
+use Rattle.wire_stream.specs.TextProtocol.{Said, Whole, LongLine, OtherProtocol, ReadsNext, asks_in, passed_text}
 use Rattle.wire_stream.specs.declared.connection.front.Front.{Front}
 use Rattle.wire_stream.specs.declared.connection.front.Front.TheVariants as fronts
 use Rattle.wire_stream.specs.declared.connection.front.Passed.{Passed}
@@ -24,6 +24,7 @@ pub record IsFront (place : Place) (request : Request) : Type 0 where
 abbrev pub AsksNone : Place → Read → Type 0
 AsksNone place reads.More = ⊥
 AsksNone place reads.TooLong = Unit {0}
+AsksNone place reads.OtherProtocol = Unit {0}
 AsksNone place (reads.Refused why used skip) = Unit {0}
 AsksNone place (reads.Request request) = asks_of (message_in (held_at place) request) ≡ []
 
@@ -38,6 +39,7 @@ abbrev pub told_of : Said → Passed
 told_of (Whole (Served order block)) = Own
 told_of (Whole (Refusal why skip)) = Refused
 told_of LongLine = Refused
+told_of OtherProtocol = Refused
 
 -- from one place of the stream, with this output, a message that asks no server was answered: the stream goes to the place after it, the output goes on by its answer, and it is told what the message was
 pub record PassesMessage (old : Place) (output : List ℕ) (passed : Passed) (new : Place) (output' : List ℕ) : Type 0 where

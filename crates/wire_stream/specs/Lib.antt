@@ -1,4 +1,5 @@
 pub mod Both
+pub mod OtherProtocol
 pub mod Message
 pub mod Asks
 pub mod Stream

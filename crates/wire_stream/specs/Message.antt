@@ -1,7 +1,9 @@
 -- What the bytes of a client begin with, in either dialect.
-use Rattle.std.specs.Prelude.{◌≡◌, ℕ, List, Some, None}
+use Rattle.std.specs.Prelude.{◌≡◌, ℕ, true, false, List, Some, None}
 use Rattle.text_words.specs.Line.{IsTooLong}
 use Rattle.text_words.specs.Word.{text_at}
+use Rattle.wire_parts.specs.declared.refusal.RefusalReason.{RefusalReason}
+use Rattle.wire_parts.specs.declared.skip.Skip.{Skip}
 use Rattle.wire_parts.specs.Message as parts
 use Rattle.wire_parts.specs.Message.{Served, Refusal}
 use Rattle.wire_classic.specs.Places as text_places
@@ -13,6 +15,7 @@ use Rattle.wire_stream.specs.declared.requests.request.Request.TheVariants as re
 use Rattle.wire_stream.specs.declared.requests.reader.Read.{Read}
 use Rattle.wire_stream.specs.declared.requests.reader.Read.TheVariants as reads
 use Rattle.wire_stream.specs.Both.{Order, Classic, Meta, both_grammar}
+use Rattle.wire_stream.specs.OtherProtocol.{IsOtherProtocol, IsText, is_http}
 
 -- a message: one that is served, with its data block, or one that is refused, with what is passed over after it
 abbrev pub Message : Type 0
@@ -46,16 +49,18 @@ pub record IsReadFrom (bytes : List ℕ) (r : Request) : Type 0 where
   pub placed : IsPlaced bytes r
   pub begins : Begins bytes (message_in bytes r) (used_of r)
 
--- what was read after a line is what it means
-abbrev pub IsMeant : List ℕ → Read → Found → Type 0
-IsMeant bytes (reads.Request r) found = IsPlaced bytes r × (found ≡ Some (message_in bytes r, used_of r))
-IsMeant bytes (reads.Refused why used skip) found = found ≡ Some (Refusal why skip, used)
-IsMeant bytes reads.More found = found ≡ None
-IsMeant bytes reads.TooLong found = ⊥
+-- what was read after a line of this text is what it means
+abbrev pub IsMeant : List ℕ → List ℕ → Read → Found → Type 0
+IsMeant text bytes (reads.Request r) found = IsPlaced bytes r × (found ≡ Some (message_in bytes r, used_of r))
+IsMeant text bytes (reads.Refused why used skip) found = (found ≡ Some (Refusal why skip, used)) × (is_http text why ≡ false)
+IsMeant text bytes reads.OtherProtocol found = (why : RefusalReason) × (skip : Skip) × (used : ℕ) × (found ≡ Some (Refusal why skip, used)) × (is_http text why ≡ true)
+IsMeant text bytes reads.More found = found ≡ None
+IsMeant text bytes reads.TooLong found = ⊥
 
 -- what the bytes of a client begin with
 abbrev pub Reads : List ℕ → Read → Type 0
 Reads bytes (reads.Request r) = IsReadFrom bytes r
-Reads bytes (reads.Refused why used skip) = Begins bytes (Refusal why skip) used
-Reads bytes reads.TooLong = IsTooLong bytes
-Reads bytes reads.More = (¬ IsTooLong bytes) × ((message : Message) (used : ℕ) → ¬ Begins bytes message used)
+Reads bytes (reads.Refused why used skip) = Begins bytes (Refusal why skip) used × IsText bytes
+Reads bytes reads.TooLong = IsTooLong bytes × IsText bytes
+Reads bytes reads.OtherProtocol = IsOtherProtocol bytes
+Reads bytes reads.More = (¬ IsTooLong bytes) × ((message : Message) (used : ℕ) → ¬ Begins bytes message used) × IsText bytes

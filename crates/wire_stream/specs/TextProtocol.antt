@@ -6,24 +6,28 @@ use Rattle.mc_types.specs.declared.answer.Answer.{Answer}
 use Rattle.fresh_runs.specs.Protocol.{Protocol, IsReader}
 use Rattle.fresh_runs.specs.OverlapStream.{EndsWithLast}
 use Rattle.wire_parts.specs.declared.proxy_command.ProxyCommand.{ProxyCommand}
+use Rattle.wire_parts.specs.declared.refusal.RefusalReason.TheVariants.{Unknown}
 use Rattle.wire_parts.specs.declared.skip.Skip.TheVariants.{Nothing, Bytes, ThroughNewline}
 use Rattle.wire_parts.specs.Message.{Served, Refusal}
 use Rattle.wire_parts.specs.Stream.{Place, Stands, Closed, extended}
 use Rattle.wire_stream.specs.Both.{own_by}
+use Rattle.wire_stream.specs.OtherProtocol.{IsOtherProtocol, IsText}
 use Rattle.wire_stream.specs.Message.{Message, Begins}
 use Rattle.wire_stream.specs.Asks.{asks_of, quiet_of}
 use Rattle.wire_stream.specs.Stream.{after_message}
 use Rattle.wire_stream.specs.Replies.{shown_text, is_last, ends_with, own_answer, refusal_text, long_line_text}
 
--- what a client says: a message, or a line without an end in its first 65,536 bytes
+-- what a client says: a message, a line without an end in its first 65,536 bytes, or what is of another protocol
 pub data Said : Type 0 where
   Whole : Message → Said
   LongLine : Said
+  OtherProtocol : Said
 
--- the message at the front, and where the reader stands after it; a line that is too long closes the stream
+-- the message at the front, and where the reader stands after it; a line that is too long closes the stream, and so does another protocol
 abbrev pub ReadsNext : Place → Said → Place → Type 0
-ReadsNext (Stands Nothing held) (Whole message) next = (used : ℕ) × Begins held message used × (next ≡ after_message message (drop used held))
-ReadsNext (Stands Nothing held) LongLine next = IsTooLong held × (next ≡ Closed)
+ReadsNext (Stands Nothing held) (Whole message) next = (used : ℕ) × Begins held message used × (next ≡ after_message message (drop used held)) × IsText held
+ReadsNext (Stands Nothing held) LongLine next = IsTooLong held × (next ≡ Closed) × IsText held
+ReadsNext (Stands Nothing held) OtherProtocol next = IsOtherProtocol held × (next ≡ Closed)
 ReadsNext (Stands (Bytes n) held) said next = ⊥
 ReadsNext (Stands ThroughNewline held) said next = ⊥
 ReadsNext Closed said next = ⊥
@@ -31,6 +35,7 @@ ReadsNext Closed said next = ⊥
 abbrev pub asks_in : Said → List Ask
 asks_in (Whole message) = asks_of message
 asks_in LongLine = []
+asks_in OtherProtocol = []
 
 abbrev pub own_passed : Option ProxyCommand → List ℕ
 own_passed None = []
@@ -41,6 +46,7 @@ abbrev pub passed_text : Said → List ℕ
 passed_text (Whole (Served order block)) = own_passed (own_by order)
 passed_text (Whole (Refusal why skip)) = refusal_text why
 passed_text LongLine = long_line_text
+passed_text OtherProtocol = refusal_text Unknown
 
 abbrev pub shown_by : Bool → List Ask → ℕ → Option Ask → Answer → List ℕ
 shown_by quiet asks i None reply = []
@@ -50,6 +56,7 @@ shown_by quiet asks i (Some ask) reply = shown_text quiet (is_last asks i) ask r
 abbrev pub shown_of : Said → ℕ → Answer → List ℕ
 shown_of (Whole message) i reply = shown_by (quiet_of message) (asks_of message) i (slice_get (asks_of message) i) reply
 shown_of LongLine i reply = []
+shown_of OtherProtocol i reply = []
 
 abbrev pub ends_at : Said → ℕ → Answer → Bool
 ends_at said i reply = ends_with (asks_in said) i reply

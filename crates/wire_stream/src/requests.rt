@@ -2,6 +2,7 @@
 //! and how asks are written to a server, each in its dialect.
 
 pub mod laws;
+pub mod other_protocol;
 pub mod reader;
 pub mod request;
 pub mod writer;

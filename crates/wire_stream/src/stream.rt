@@ -79,7 +79,7 @@ impl TextStream {
         }
     }
 
-    /// Whether nothing is read any more: after `quit`, or a line that was too long.
+    /// Whether nothing is read any more: after `quit`, a line that was too long, or what was of another protocol.
     pub fn is_closed(&self) -> bool
         ensures { IsTrue result ↔ (self.now ≡ Closed) }
     {

@@ -1,7 +1,7 @@
 //! Words and what is wrong with them, names that are near, addresses that are none.
 
 use crate::faults::OfFaults;
-use examples_tables::tellers::wrong;
+use examples_tables::tellers::rows_hold;
 use fault_words::{address_trouble, fault_in_words, key_fault_in_words, nearest};
 use std::alloc::{AllocError, Global};
 use std::test::Fail;
@@ -9,7 +9,9 @@ use std::test::Fail;
 fn faults() -> &'static str {
     "words: mcgate chek => mcgate: unknown command chek; did you mean check?
 words: mcgate serv => mcgate: unknown command serv; did you mean serve?
-words: mcgate play => mcgate: unknown command play; did you mean replay?
+words: mcgate play => mcgate: unknown command play; did you mean plan?
+words: mcgate plan a => mcgate plan: a FILE is missing
+words: mcgate replay --opened empty => mcgate replay: --opened empty: expected any or own
 words: mcgate flush => mcgate: unknown command flush
 words: mcgate --any => mcgate: --any stands after a command
 words: mcgate --verson => mcgate: unknown flag --verson; did you mean --version?
@@ -119,7 +121,7 @@ pub fn told_of_address(alloc: Global, text: &str) -> Result<String, AllocError> 
 #[test]
 fn faults_of_words(rt: HostRuntime) -> Result<(), Fail> {
     for table in [faults(), no_keys(), near(), addresses()] {
-        assert_eq!(rt; wrong::<OfFaults>(rt.alloc(), table)?.as_str(), "");
+        rows_hold::<OfFaults>(rt.alloc(), table)?;
     }
     Ok(())
 }

@@ -1,7 +1,7 @@
 //! Worked certificates of routes.
 
 use examples_tables::tables::configuration;
-use examples_tables::tellers::{Teller, wrong};
+use examples_tables::tellers::{Teller, rows_hold};
 use mcgate_check::certifying::run_certify;
 use std::alloc::{AllocError, Global};
 use std::test::Fail;
@@ -30,6 +30,5 @@ impl Teller for OfRoutes {
 
 #[test]
 fn certificates_of_routes(rt: HostRuntime) -> Result<(), Fail> {
-    assert_eq!(rt; wrong::<OfRoutes>(rt.alloc(), written())?.as_str(), "");
-    Ok(())
+    rows_hold::<OfRoutes>(rt.alloc(), written())
 }

@@ -1,5 +1,6 @@
 //! Pictures of worked configurations, written out by hand.
 
+use examples_tables::tables::{same, same_bytes};
 use gate_check::Gap;
 use gate_coverage::Deleting;
 use gate_gaps::quoting::Quoted;
@@ -56,8 +57,11 @@ fn gap_picture(alloc: Global, text: &str, gap: &Gap, way: &[WayStep]) -> Result<
 #[test]
 fn tree_without_marks(rt: HostRuntime) -> Result<(), Fail> {
     let out = picture(rt.alloc(), failover_text())?;
-    assert_eq!(rt; out.as_slice(), failover_lines().as_bytes());
-    Ok(())
+    same_bytes(
+        "tree_without_marks",
+        out.as_slice(),
+        failover_lines().as_bytes(),
+    )
 }
 
 fn selectors_text() -> &'static str {
@@ -199,8 +203,7 @@ fn alike_lines() -> &'static str {
 #[test]
 fn alike_children(rt: HostRuntime) -> Result<(), Fail> {
     let out = picture(rt.alloc(), alike_text())?;
-    assert_eq!(rt; out.as_slice(), alike_lines().as_bytes());
-    Ok(())
+    same_bytes("alike_children", out.as_slice(), alike_lines().as_bytes())
 }
 
 // What a picture of this configuration ends with, whose gap's read goes to the second child of the third failover.
@@ -240,6 +243,9 @@ fn way_within_a_run(rt: HostRuntime) -> Result<(), Fail> {
 #[test]
 fn quoted_bytes(rt: HostRuntime) -> Result<(), Fail> {
     let text = format!(in rt.alloc(); "{}", Quoted(b"a~\"\\\r\x7f\xff"))?;
-    assert_eq!(rt; text.as_str(), "a~\\\"\\\\\\\\\\\\r\\\\x7f\\\\xff");
-    Ok(())
+    same(
+        "quoted_bytes",
+        text.as_str(),
+        "a~\\\"\\\\\\\\\\\\r\\\\x7f\\\\xff",
+    )
 }

@@ -5,7 +5,7 @@
 use examples_tables::faults::faults_hold;
 use examples_tables::tables::{Printer, all_hold, expanded, same, told};
 use mcgate_check::{Form, run_check};
-use mcgate_replay::run_replay;
+use mcgate_replay::{Judging, run_replay};
 use std::alloc::{AllocError, Global};
 use std::test::Fail;
 
@@ -447,11 +447,21 @@ set a 5 0 3\r\nxyz|\r\n
 set a 5 0 3\r\nxyz\r|\n"#
 }
 
+/// What is printed of a script whose trees are judged so, with the status.
+pub fn printed_by(alloc: Global, judging: Judging, script: &str) -> Result<String, Fail> {
+    let mut out = Vec::new(alloc);
+    let status = run_replay(alloc, judging, script, &mut out);
+    told(alloc, status, out.as_slice())
+}
+
+/// Over any trees, or over those that the gate accepts.
+pub fn judging_of(any: bool) -> Judging {
+    if any { Judging::Any } else { Judging::Asked }
+}
+
 /// What is printed of a script, with the status; with `any` whatever the gate says of its trees.
 pub fn printed(alloc: Global, any: bool, script: &str) -> Result<String, Fail> {
-    let mut out = Vec::new(alloc);
-    let status = run_replay(alloc, any, script, &mut out);
-    told(alloc, status, out.as_slice())
+    printed_by(alloc, judging_of(any), script)
 }
 
 // The same of an example's lines.
@@ -603,8 +613,11 @@ fn a_set_that_never_ends(rt: HostRuntime) -> Result<(), Fail> {
         r#"pool 1
 > 0 set a 0 0 3\r\nxy"#,
     )?;
-    assert_eq!(rt; got.as_str(), "0\ndone 0 commands 0 calls 0 stale\n");
-    Ok(())
+    same(
+        "a_set_that_never_ends",
+        got.as_str(),
+        "0\ndone 0 commands 0 calls 0 stale\n",
+    )
 }
 
 // So many letters between two texts.
@@ -634,7 +647,7 @@ fn key_lengths(rt: HostRuntime) -> Result<(), Fail> {
     ];
     for (length, want) in cases {
         let got = of_letters(rt.alloc(), "pool 1\n> 0 get ", length, "\\r\\n")?;
-        assert_eq!(rt; got.as_str(), want, "at {length}");
+        same("key_lengths", got.as_str(), want)?;
     }
     Ok(())
 }
@@ -643,22 +656,22 @@ fn key_lengths(rt: HostRuntime) -> Result<(), Fail> {
 fn largest_data(rt: HostRuntime) -> Result<(), Fail> {
     let head = "pool 1\n> 0 set a 0 0 1048576\\r\\n";
     let largest = of_letters(rt.alloc(), head, 1_048_576, "\\r\\n")?;
-    assert_eq!(rt;
+    same(
+        "largest_data",
         largest.as_str(),
-        "0\n< 0 STORED\\r\\n\ndone 1 commands 1 calls 0 stale\n"
-    );
-    Ok(())
+        "0\n< 0 STORED\\r\\n\ndone 1 commands 1 calls 0 stale\n",
+    )
 }
 
 #[test]
 fn larger_data(rt: HostRuntime) -> Result<(), Fail> {
     let head = "pool 1\n> 0 set a 0 0 1048577\\r\\n";
     let larger = of_letters(rt.alloc(), head, 1_048_577, "\\r\\nget a\\r\\n")?;
-    assert_eq!(rt;
+    same(
+        "larger_data",
         larger.as_str(),
-        "0\n< 0 SERVER_ERROR object too large for cache\\r\\nEND\\r\\n\ndone 1 commands 1 calls 0 stale\n"
-    );
-    Ok(())
+        "0\n< 0 SERVER_ERROR object too large for cache\\r\\nEND\\r\\n\ndone 1 commands 1 calls 0 stale\n",
+    )
 }
 
 // Items under the keys k0, k1 and so on.
@@ -675,11 +688,11 @@ fn the_oldest_of_1025_held_items_is_pushed_out(rt: HostRuntime) -> Result<(), Fa
     let mut script = held_items(rt.alloc(), 1025)?;
     script.push_str("> 0 get k0 k1 k1024\\r\\n\n")?;
     let got = printed(rt.alloc(), false, script.as_str())?;
-    assert_eq!(rt;
+    same(
+        "the_oldest_of_1025_held_items_is_pushed_out",
         got.as_str(),
-        "0\n< 0 VALUE k1 0 1\\r\\n1\\r\\nVALUE k1024 0 1\\r\\n1\\r\\nEND\\r\\n\ndone 3 commands 3 calls 0 stale\n"
-    );
-    Ok(())
+        "0\n< 0 VALUE k1 0 1\\r\\n1\\r\\nVALUE k1024 0 1\\r\\n1\\r\\nEND\\r\\n\ndone 3 commands 3 calls 0 stale\n",
+    )
 }
 
 /// A configuration's line, and sixteen lines that load it again.
@@ -708,6 +721,5 @@ fn sixteen_generations(rt: HostRuntime) -> Result<(), Fail> {
     let script = sixteen_reloads(rt.alloc())?;
     let got = printed(rt.alloc(), false, script.as_str())?;
     let lines = sixteen_lines(rt.alloc())?;
-    assert_eq!(rt; got.as_str(), lines.as_str());
-    Ok(())
+    same("sixteen_generations", got.as_str(), lines.as_str())
 }

@@ -2,7 +2,7 @@
 //! nonsense.
 
 use crate::replays::scripts::{OfScripts, of_letters, printed};
-use examples_tables::tables::{all_hold, expanded};
+use examples_tables::tables::{all_hold, expanded, same};
 use std::alloc::Global;
 use std::process::Abort;
 use std::test::Fail;
@@ -272,7 +272,7 @@ fn added_bytes() -> [(&'static str, usize, &'static str, &'static str); 5] {
 fn most_bytes_that_are_added(rt: HostRuntime) -> Result<(), Fail> {
     for (head, count, tail, want) in added_bytes() {
         let got = of_letters(rt.alloc(), head, count, tail)?;
-        assert_eq!(rt; got.as_str(), want, "at {count} bytes and {tail}");
+        same("most_bytes_that_are_added", got.as_str(), want)?;
     }
     Ok(())
 }

@@ -106,6 +106,19 @@ taken 1 => VALUE a 0 9\r\n123456789\r\nEND\r\n
 open 1 => no
 taken 9 => get a\r\n
 
+A request of HTTP is answered one line, and then the connection is closed: nothing that stands in it is done. The same of the binary protocol.
+host 127.0.0.1:5001
+peer 9
+answers 127.0.0.1:5001
+peer 1
+sends POST / HTTP/1.1\r\nHost: a\r\n\r\nset a 0 0 1\r\n1\r\n
+calls 0
+proxy <one server>
+turn 40
+taken 1 => ERROR\r\n
+open 1 => no
+taken 9 => nothing
+
 An answer that is late is nobody's: its connection is closed, and the next call goes to a new one, whose answer isn't late.
 host 127.0.0.1:5001
 peer 8

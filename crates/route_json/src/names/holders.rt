@@ -25,7 +25,7 @@ pub fn is_field(holder: Holder, name: &str) -> bool
 {
     match holder {
         Holder::Config => name == "pools" || name == "route",
-        Holder::Pool => name == "servers",
+        Holder::Pool => name == "servers" || name == "slots",
         Holder::Route(kind) => name == "type" || is_route_field(kind, name),
     }
 }

@@ -2,6 +2,7 @@
 //! clients, one after another or many at a time, goes on by it.
 
 ghost use Rattle.std.specs.Prelude.{◌≡◌, ◌≤◌, ◌++◌, ℕ, List, drop, length, OnOk, OnErr, IfOk};
+ghost use Rattle.wire_parts.specs.declared.refusal.RefusalReason.TheVariants.{Unknown};
 ghost use Rattle.wire_parts.specs.declared.skip.Skip.TheVariants.{Nothing};
 ghost use Rattle.wire_parts.specs.Stream.{Stands, Closed, skipped, after_own};
 ghost use Rattle.wire_stream.specs.Held.{held_at, IsReadAt};
@@ -44,6 +45,7 @@ impl ClientStream {
         match self.read() {
             Read::More => Front::Nothing,
             Read::TooLong => Front::Passing(Read::TooLong),
+            Read::OtherProtocol => Front::Passing(Read::OtherProtocol),
             Read::Refused { why, used, skip } => Front::Passing(Read::Refused { why, used, skip }),
             Read::Request(request) => {
                 if request.asks() == 0 {
@@ -64,6 +66,18 @@ fn refuse_long_line(stream: &mut ClientStream, output: &mut BytesMut) -> Result<
     ensures kept { OnErr result (output.new.items ≡ output.old.items) }
 {
     write_long_line(output)?;
+    stream.close();
+    Ok(())
+}
+
+// Another protocol is answered as what is no command, and nothing is read any more.
+fn refuse_protocol(stream: &mut ClientStream, output: &mut BytesMut) -> Result<(), AllocError>
+    ensures place { OnOk result (stream.new ≡ Closed) }
+    ensures text { OnOk result (output.new.items ≡ output.old.items ++ refusal_text Unknown) }
+    ensures stays { OnErr result (stream.new ≡ stream.old) }
+    ensures kept { OnErr result (output.new.items ≡ output.old.items) }
+{
+    write_refusal(RefusalReason::Unknown, output)?;
     stream.close();
     Ok(())
 }
@@ -127,6 +141,10 @@ pub fn pass(
         Read::More => unreachable!(),
         Read::TooLong => {
             refuse_long_line(stream, output)?;
+            Ok(Passed::Refused)
+        }
+        Read::OtherProtocol => {
+            refuse_protocol(stream, output)?;
             Ok(Passed::Refused)
         }
         Read::Refused { why, used, skip } => {

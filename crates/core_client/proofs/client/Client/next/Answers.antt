@@ -9,6 +9,9 @@ returns-in-More c = subst (λ (r : Read). IsNextOf c.args.depth c.args.self.now 
 pub returns-in-TooLong : goal.returns-in-TooLong
 returns-in-TooLong c = c.passing.ensures c.args.depth
 
+pub returns-in-OtherProtocol : goal.returns-in-OtherProtocol
+returns-in-OtherProtocol c = c.passing-in-OtherProtocol.ensures c.args.depth
+
 pub returns-in-Refused : goal.returns-in-Refused
 returns-in-Refused c = c.passing-in-Refused.ensures c.args.depth
 

@@ -2,7 +2,7 @@ use Rattle.std.proofs.Common.{ℕ, ◌≤◌, length, sym, subst}
 use Rattle.wire_stream.specs.Held.{held_at, IsReadAt}
 use Rattle.wire_stream.specs.Fronts.{AsksNone}
 use Rattle.wire_stream.proofs.Fronts.{front_is, used_held, used_refused}
-use Rattle.wire_stream.proofs.Passing.{long_line_passed, refused_passed, own_passed_by}
+use Rattle.wire_stream.proofs.Passing.{long_line_passed, other_passed, refused_passed, own_passed_by}
 use Rattle.wire_stream.proofs.connection.front.pass.Goals as goal
 
 pub answer_own-requires : goal.answer_own-requires
@@ -20,6 +20,11 @@ pub returns-in_ok-refuse_long_line-in-TooLong-clause-ok : goal.returns-in_ok-ref
 returns-in_ok-refuse_long_line-in-TooLong-clause-ok c =
     let place = c.args.stream.now in
     long_line_passed place c.refuse_long_line.new.stream c.args.output.now.items c.refuse_long_line.new.output.items (subst (IsReadAt place) c.in-TooLong.is c.requires.read) c.in_ok-refuse_long_line-in-TooLong.ensures.place c.in_ok-refuse_long_line-in-TooLong.ensures.text
+
+pub returns-in_ok-refuse_protocol-in-OtherProtocol-clause-ok : goal.returns-in_ok-refuse_protocol-in-OtherProtocol-clause-ok
+returns-in_ok-refuse_protocol-in-OtherProtocol-clause-ok c =
+    let place = c.args.stream.now in
+    other_passed place c.refuse_protocol.new.stream c.args.output.now.items c.refuse_protocol.new.output.items (subst (IsReadAt place) c.in-OtherProtocol.is c.requires.read) c.in_ok-refuse_protocol-in-OtherProtocol.ensures.place c.in_ok-refuse_protocol-in-OtherProtocol.ensures.text
 
 pub returns-in_ok-refuse-in-Refused-clause-ok : goal.returns-in_ok-refuse-in-Refused-clause-ok
 returns-in_ok-refuse-in-Refused-clause-ok c =

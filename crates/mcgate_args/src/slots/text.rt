@@ -1,0 +1,116 @@
+//! The text of a configuration whose pool has another table of slots.
+
+use crate::slots::arguments::SlotsJob;
+use crate::slots::choosing::{Table, chosen, servers_after, slots_before, table_after};
+use crate::slots::fault::SlotsFault;
+use gate_gaps::read_pools;
+use mc_types::ServerId;
+use route_json::{ConfigFault, Servers, read_config};
+use serde_json::{Value, json};
+use std::alloc::{AllocError, Global};
+
+// The addresses of a list.
+fn address_values(
+    alloc: Global,
+    servers: &Servers,
+    list: &[ServerId],
+) -> Result<Vec<Value>, AllocError> {
+    let mut values = Vec::new(alloc);
+    for server in list {
+        let address = servers.get(*server).unwrap_or("");
+        values.push(Value::String(String::from_str(alloc, address)?))?;
+    }
+    Ok(values)
+}
+
+// The places of the slots' servers in a list.
+fn place_values(
+    alloc: Global,
+    list: &[ServerId],
+    slots: &[ServerId],
+) -> Result<Vec<Value>, AllocError> {
+    let mut values = Vec::new(alloc);
+    for slot in slots {
+        let place = list.iter().position(|server| *server == *slot).unwrap_or(0);
+        values.push(Value::from(place as u64))?;
+    }
+    Ok(values)
+}
+
+fn pool_value(alloc: Global, servers: &Servers, table: &Table) -> Result<Value, AllocError> {
+    let list = address_values(alloc, servers, &table.servers)?;
+    let slots = place_values(alloc, &table.servers, &table.slots)?;
+    json!(in alloc; {"servers": list, "slots": slots})
+}
+
+// Whether the pool of this name has a table.
+fn has_table(value: &Value, name: &str) -> bool {
+    match value.get("pools") {
+        Some(pools) => match pools.get(name) {
+            Some(pool) => pool.get("slots").is_some(),
+            None => false,
+        },
+        None => false,
+    }
+}
+
+// Puts a pool in the place of the one that has this name.
+fn put_pool(value: &mut Value, name: &str, pool: Value) {
+    let Some(pools) = value.get_mut("pools") else {
+        return;
+    };
+    if let Some(place) = pools.get_mut(name) {
+        *place = pool;
+    }
+}
+
+fn value_of(alloc: Global, text: &str) -> Result<Value, SlotsFault<'static>> {
+    match Value::from_str(alloc, text) {
+        Ok(value) => Ok(value),
+        Err(error) if error.is_memory() => Err(SlotsFault::NoMemory),
+        Err(_) => Err(SlotsFault::Config(ConfigFault::NotJson)),
+    }
+}
+
+fn servers_of(alloc: Global, text: &str) -> Result<Servers, ConfigFault> {
+    let config = read_config(alloc, text)?;
+    Ok(config.servers().copy(alloc)?)
+}
+
+// The servers of a configuration and of the earlier ones.
+fn all_servers<'a>(
+    alloc: Global,
+    text: &str,
+    earlier: &[String],
+) -> Result<Servers, SlotsFault<'a>> {
+    let mut servers = match servers_of(alloc, text) {
+        Ok(servers) => servers,
+        Err(fault) => return Err(SlotsFault::Config(fault)),
+    };
+    for (number, earlier) in earlier.iter().enumerate() {
+        servers = match servers_after(alloc, servers, earlier.as_str()) {
+            Ok(servers) => servers,
+            Err(fault) => return Err(SlotsFault::Earlier(number, fault)),
+        };
+    }
+    Ok(servers)
+}
+
+/// The text of a configuration whose pool has the table that a job asks for, after those of earlier texts.
+pub fn rewritten_text<'a>(
+    alloc: Global,
+    job: &SlotsJob<'a>,
+    text: &str,
+    earlier: &[String],
+) -> Result<String, SlotsFault<'a>> {
+    let mut servers = all_servers(alloc, text, earlier)?;
+    let before = slots_before(alloc, &servers, earlier)?;
+    let pools = read_pools(alloc, text, &servers)?;
+    let pool = chosen(&pools, job.pool)?;
+    let mut value = value_of(alloc, text)?;
+    let has_table = has_table(&value, pool.name());
+    let table = table_after(alloc, &mut servers, pool, has_table, job.change, &before)?;
+    let told = pool_value(alloc, &servers, &table)?;
+    put_pool(&mut value, pool.name(), told);
+    Ok(value.to_string(alloc)?)
+}

@@ -1,0 +1,12 @@
+//! What is changed in a pool.
+
+use mc_types::ServerId;
+
+/// A change of a pool's servers.
+#[derive(Clone, Copy)]
+pub enum Change {
+    /// This server is added, which has no slot yet.
+    Add(ServerId),
+    /// This one is taken out.
+    Remove(ServerId),
+}
