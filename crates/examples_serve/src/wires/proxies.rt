@@ -457,7 +457,7 @@ calls 0
 peer 2
 room 1000
 sends get c\r\n
-awaits 22
+awaits 21
 sends «12 get b#\r\n»delete k\r\n
 calls 20
 peer 3
