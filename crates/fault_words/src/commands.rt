@@ -6,6 +6,8 @@ pub enum Takes {
     Nothing,
     File,
     Address,
+    /// The name of a pool.
+    Pool,
     /// A number in 1..=4294967295.
     Count,
     /// One of a few words.
@@ -23,12 +25,13 @@ pub enum Command {
     Cache,
     Loopback,
     History,
+    Slots,
     Help,
 }
 
 /// The names of the commands.
-pub const COMMANDS: [&str; 9] = [
-    "check", "certify", "replay", "where", "serve", "cache", "loopback", "history", "help",
+pub const COMMANDS: [&str; 10] = [
+    "check", "certify", "replay", "where", "serve", "cache", "loopback", "history", "slots", "help",
 ];
 
 const SERVE_FLAGS: [&str; 23] = [
@@ -66,8 +69,9 @@ pub const TOP_FLAGS: [&str; 2] = ["help", "version"];
 pub fn takes_of(flag: &str) -> Takes {
     match flag {
         "help" | "version" | "any" | "check" | "explain" | "dot" | "fleet" => Takes::Nothing,
-        "config" | "certificate" | "with" | "history" => Takes::File,
-        "listen" => Takes::Address,
+        "config" | "certificate" | "with" | "history" | "after" => Takes::File,
+        "listen" | "add" | "remove" => Takes::Address,
+        "pool" => Takes::Pool,
         "server-dialect" | "opened" | "new-servers" => Takes::Word,
         _ => Takes::Count,
     }
@@ -75,7 +79,7 @@ pub fn takes_of(flag: &str) -> Takes {
 
 /// Whether a flag may stand there more than once.
 pub fn is_repeated(flag: &str) -> bool {
-    flag == "with"
+    flag == "with" || flag == "after"
 }
 
 /// The words of which one follows the flag of this name, where it takes one of a few.
@@ -95,6 +99,7 @@ impl Takes {
             Takes::Nothing => "",
             Takes::File => "FILE",
             Takes::Address => "HOST:PORT",
+            Takes::Pool => "NAME",
             Takes::Count => "N",
             Takes::Word => "WORD",
         }
@@ -113,6 +118,7 @@ impl Command {
             "cache" => Some(Command::Cache),
             "loopback" => Some(Command::Loopback),
             "history" => Some(Command::History),
+            "slots" => Some(Command::Slots),
             "help" => Some(Command::Help),
             _ => None,
         }
@@ -129,6 +135,7 @@ impl Command {
             Command::Cache => "cache",
             Command::Loopback => "loopback",
             Command::History => "history",
+            Command::Slots => "slots",
             Command::Help => "help",
         }
     }
@@ -149,6 +156,9 @@ impl Command {
                 "mcgate cache --listen HOST:PORT --capacity C [--memory-mb N] [--turns N]",
             Command::Loopback => "mcgate loopback [SCRIPT]",
             Command::History => "mcgate history FILE",
+            Command::Slots => {
+                "mcgate slots [--add HOST:PORT | --remove HOST:PORT] [--pool NAME] [--after FILE ..] [FILE]"
+            }
             Command::Help => "mcgate help [COMMAND]",
         }
     }
@@ -161,6 +171,7 @@ impl Command {
             Command::Where => &["help", "config"],
             Command::Serve => &SERVE_FLAGS,
             Command::Cache => &CACHE_FLAGS,
+            Command::Slots => &["help", "add", "remove", "pool", "after"],
             Command::Certify | Command::Loopback | Command::History | Command::Help => &["help"],
         }
     }
@@ -183,6 +194,7 @@ impl Command {
             | Command::Replay
             | Command::Loopback
             | Command::History
+            | Command::Slots
             | Command::Help => 1,
             Command::Where => usize::MAX,
             Command::Serve | Command::Cache => 0,
@@ -200,7 +212,7 @@ impl Command {
     /// What those words are.
     pub fn word(self) -> &'static str {
         match self {
-            Command::Check | Command::Certify | Command::History => "FILE",
+            Command::Check | Command::Certify | Command::History | Command::Slots => "FILE",
             Command::Replay | Command::Loopback => "SCRIPT",
             Command::Where => "KEY",
             Command::Serve | Command::Cache => "",
