@@ -6,6 +6,8 @@ pub enum Takes {
     Nothing,
     File,
     Address,
+    /// The name of a pool.
+    Pool,
     /// A number in 1..=4294967295.
     Count,
     /// One of a few words.
@@ -24,12 +26,14 @@ pub enum Command {
     Loopback,
     History,
     Plan,
+    Slots,
     Help,
 }
 
 /// The names of the commands.
-pub const COMMANDS: [&str; 10] = [
-    "check", "certify", "replay", "where", "serve", "cache", "loopback", "history", "plan", "help",
+pub const COMMANDS: [&str; 11] = [
+    "check", "certify", "replay", "where", "serve", "cache", "loopback", "history", "plan", "slots",
+    "help",
 ];
 
 const CHECK_FLAGS: [&str; 8] = [
@@ -78,8 +82,9 @@ pub const TOP_FLAGS: [&str; 2] = ["help", "version"];
 pub fn takes_of(flag: &str) -> Takes {
     match flag {
         "help" | "version" | "any" | "check" | "explain" | "dot" | "fleet" => Takes::Nothing,
-        "config" | "certificate" | "with" | "history" => Takes::File,
-        "listen" => Takes::Address,
+        "config" | "certificate" | "with" | "history" | "after" => Takes::File,
+        "listen" | "add" | "remove" => Takes::Address,
+        "pool" => Takes::Pool,
         "server-dialect" | "opened" | "new-servers" => Takes::Word,
         _ => Takes::Count,
     }
@@ -87,7 +92,7 @@ pub fn takes_of(flag: &str) -> Takes {
 
 /// Whether a flag may stand there more than once.
 pub fn is_repeated(flag: &str) -> bool {
-    flag == "with"
+    flag == "with" || flag == "after"
 }
 
 /// The words of which one follows the flag of this name, where it takes one of a few.
@@ -107,6 +112,7 @@ impl Takes {
             Takes::Nothing => "",
             Takes::File => "FILE",
             Takes::Address => "HOST:PORT",
+            Takes::Pool => "NAME",
             Takes::Count => "N",
             Takes::Word => "WORD",
         }
@@ -126,6 +132,7 @@ impl Command {
             "loopback" => Some(Command::Loopback),
             "history" => Some(Command::History),
             "plan" => Some(Command::Plan),
+            "slots" => Some(Command::Slots),
             "help" => Some(Command::Help),
             _ => None,
         }
@@ -143,6 +150,7 @@ impl Command {
             Command::Loopback => "loopback",
             Command::History => "history",
             Command::Plan => "plan",
+            Command::Slots => "slots",
             Command::Help => "help",
         }
     }
@@ -166,6 +174,9 @@ impl Command {
             Command::Loopback => "mcgate loopback [SCRIPT]",
             Command::History => "mcgate history FILE",
             Command::Plan => "mcgate plan [--opened WORD] [--new-servers WORD] OLD NEW",
+            Command::Slots => {
+                "mcgate slots [--add HOST:PORT | --remove HOST:PORT] [--pool NAME] [--after FILE ..] [FILE]"
+            }
             Command::Help => "mcgate help [COMMAND]",
         }
     }
@@ -179,6 +190,7 @@ impl Command {
             Command::Where => &["help", "config"],
             Command::Serve => &SERVE_FLAGS,
             Command::Cache => &CACHE_FLAGS,
+            Command::Slots => &["help", "add", "remove", "pool", "after"],
             Command::Certify | Command::Loopback | Command::History | Command::Help => &["help"],
         }
     }
@@ -201,6 +213,7 @@ impl Command {
             | Command::Replay
             | Command::Loopback
             | Command::History
+            | Command::Slots
             | Command::Help => 1,
             Command::Plan => 2,
             Command::Where => usize::MAX,
@@ -220,7 +233,7 @@ impl Command {
     /// What those words are.
     pub fn word(self) -> &'static str {
         match self {
-            Command::Check | Command::Certify | Command::History | Command::Plan => "FILE",
+            Command::Check | Command::Certify | Command::History | Command::Plan | Command::Slots => "FILE",
             Command::Replay | Command::Loopback => "SCRIPT",
             Command::Where => "KEY",
             Command::Serve | Command::Cache => "",

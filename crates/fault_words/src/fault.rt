@@ -64,6 +64,7 @@ fn wanted(flag: &str) -> &'static str {
         Takes::Nothing => "no value",
         Takes::File => "the name of a file",
         Takes::Address => "HOST:PORT",
+        Takes::Pool => "the name of a pool",
         Takes::Count => "a number in 1..=4294967295",
         Takes::Word => wanted_word(flag),
     }

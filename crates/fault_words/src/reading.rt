@@ -16,7 +16,7 @@ fn flag_named(flags: &'static [&'static str], name: &str) -> Option<&'static str
 fn is_value(flag: &str, text: &str) -> bool {
     match takes_of(flag) {
         Takes::Nothing => false,
-        Takes::File | Takes::Address => true,
+        Takes::File | Takes::Address | Takes::Pool => true,
         Takes::Count => !matches!(u32_number(text.as_bytes()), None | Some(0)),
         Takes::Word => words_after(flag).contains(&text),
     }

@@ -1,5 +1,5 @@
 -- The pools that a configuration's text names. Source: mcgate's own.
-use Rattle.std.specs.Prelude.{ℕ, List, [], ◌∷◌, codes, Option, Some, None, option_to_list, option_map, option_and_then, replicate, position, slice_get, map}
+use Rattle.std.specs.Prelude.{ℕ, List, [], ◌∷◌, codes, Option, Some, None, option_to_list, option_and_then, replicate, position, slice_get, map}
 use Rattle.std.specs.List.{flat_map}
 use Rattle.std.specs.Str.{bytes_eq}
 use Rattle.serde_json.specs.Data.{Data, null, boolean, number, string, array, object, Items, no_items, item, Members, no_members, member}
@@ -65,12 +65,12 @@ servers_of ms = map (λ (m : Member). m.server) ms
 abbrev pub slots_of : List Member → List ℕ
 slots_of ms = flat_map (λ (m : Member). replicate m.weight m.server) ms
 
--- the server at the place of the list that a value of a table names
-abbrev pub placed : List Member → Data → Option ℕ
-placed ms d = option_map (λ (m : Member). m.server) (option_and_then (slice_get ms) (option_and_then as_u64 (as_number d)))
+-- what stands at the place of the list that a value of a table names
+abbrev pub placed : List Member → Data → Option Member
+placed ms d = option_and_then (slice_get ms) (option_and_then as_u64 (as_number d))
 
 abbrev pub table_of : List Member → List Data → List ℕ
-table_of ms ds = flat_map (λ d. option_to_list (placed ms d)) ds
+table_of ms ds = flat_map (λ d. servers_of (option_to_list (placed ms d))) ds
 
 -- the slots of a table, or those that weights make
 abbrev pub slots_or : List Member → Option Data → List ℕ

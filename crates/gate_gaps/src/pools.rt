@@ -152,23 +152,24 @@ fn slots_of(alloc: Global, members: &[Member]) -> Result<Vec<ServerId>, AllocErr
     Ok(slots)
 }
 
-// The server at the place of the list that a value of a table names, if there is one.
-fn placed(members: &[Member], item: &Value) -> Option<ServerId>
+// What stands at the place of the list that a value of a table names, if there is one.
+fn placed(members: &[Member], item: &Value) -> Option<Member>
     ensures { result ≡ placed members.now (view item.now) }
 {
     let place = item.as_u64()?;
-    if place >= members.len() as u64 {
-        return None;
+    if place < members.len() as u64 {
+        Some(members[place as usize])
+    } else {
+        None
     }
-    Some(members[place as usize].server)
 }
 
 // Adds the server of a slot.
-fn add_slot(slots: &mut Vec<ServerId>, server: Option<ServerId>) -> Result<(), AllocError>
-    ensures { IfOk result (λ _. slots.new.items ≡ slots.old.items ++ option_to_list server) }
+fn add_slot(slots: &mut Vec<ServerId>, member: Option<Member>) -> Result<(), AllocError>
+    ensures { IfOk result (λ _. slots.new.items ≡ slots.old.items ++ servers_of (option_to_list member)) }
 {
-    if let Some(server) = server {
-        slots.push(server)?;
+    if let Some(member) = member {
+        slots.push(member.server)?;
     }
     Ok(())
 }
