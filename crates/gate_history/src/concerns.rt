@@ -42,19 +42,24 @@ struct Look<'a> {
 
 // The first generation, counted from 0, that left there what the tree takes of a server that began so: one of those, or the
 // tree itself.
-fn first_left(
-    generations: &[Generation],
-    tree: &Tree,
+fn first_left<'a>(
+    generations: &'a [Generation],
+    tree: &'a Tree,
     began: Beginning,
     server: ServerId,
-    at: &At,
+    at: &'a At<'a>,
 ) -> Option<u32>
     ensures { length generations.now < 2 ^ 32 → IsFirstLeftAt at.now.hash at.now.text.now generations.now tree.now began server result }
 {
     let mut mark = new_mark(is_any(began));
     let mut number = 0u32;
     for generation in generations {
-        mark = after(mark, number, Seen::Tree(generation.config.tree(), at), server);
+        mark = after(
+            mark,
+            number,
+            Seen::Tree(generation.config.tree(), at),
+            server,
+        );
         number = number.saturating_add(1);
     }
     match follow(mark, number, Seen::Tree(tree, at), server) {
@@ -227,7 +232,7 @@ fn all_concerns(
 /// Each server that the configuration's tree takes at some place though a generation, or the tree itself, may leave an item there, in
 /// the order of their numbers; the new servers began so. None where there are too many places. The only error is that memory was
 /// refused.
-pub fn concerns(
+pub fn find_concerns(
     alloc: Global,
     history: &History,
     config: &Config,
