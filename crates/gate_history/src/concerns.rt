@@ -1,12 +1,9 @@
 //! Why a configuration may not follow, at all places: which servers its tree takes there though something is left on them.
 
-ghost use Rattle.std.specs.Prelude.{◌≡◌, ◌<◌, ◌≤◌, ◌^◌, length, map, MatchOption};
-ghost use Rattle.route_tree.specs.Place.{tree_at_place};
+ghost use Rattle.std.specs.Prelude.{◌≡◌, ◌<◌, ◌≤◌, ◌^◌, length};
 ghost use Rattle.gate_check.specs.declared.places.table.TheConstants.{PLACE_LIMIT};
 ghost use Rattle.gate_growth.specs.Pages.{is_any};
-ghost use Rattle.gate_growth.specs.Marks.{MayFollow, IsRefusedFor};
-ghost use Rattle.gate_growth.specs.Grown.{plans_at};
-ghost use Rattle.gate_history.specs.Histories.{trees_of};
+ghost use Rattle.gate_history.specs.Concerning.{IsFirstLeftAt};
 
 use crate::generation::Generation;
 use crate::history::History;
@@ -45,31 +42,27 @@ struct Look<'a> {
 
 // The first generation, counted from 0, that left there what the tree takes of a server that began so: one of those, or the
 // tree itself.
-fn first_left(
-    generations: &[Generation],
-    tree: &Tree,
+fn first_left<'a>(
+    generations: &'a [Generation],
+    tree: &'a Tree,
     began: Beginning,
     server: ServerId,
-    place: &Place,
+    at: &'a At<'a>,
 ) -> Option<u32>
-    ensures { length generations.now < 2 ^ 32 → MatchOption result (MayFollow (is_any began) (plans_at place.now (trees_of generations.now)) (tree_at_place tree.now place.now) server) (IsRefusedFor (is_any began) (plans_at place.now (trees_of generations.now)) (tree_at_place tree.now place.now) server) }
+    ensures { length generations.now < 2 ^ 32 → IsFirstLeftAt at.now.hash at.now.text.now generations.now tree.now began server result }
 {
-    let at = At {
-        text: prefix_text(&place.prefix),
-        hash: place.residue,
-    };
     let mut mark = new_mark(is_any(began));
     let mut number = 0u32;
     for generation in generations {
         mark = after(
             mark,
             number,
-            Seen::Tree(generation.config.tree(), &at),
+            Seen::Tree(generation.config.tree(), at),
             server,
         );
         number = number.saturating_add(1);
     }
-    match follow(mark, number, Seen::Tree(tree, &at), server) {
+    match follow(mark, number, Seen::Tree(tree, at), server) {
         Ok(_) => None,
         Err(first) => Some(first),
     }
@@ -122,7 +115,11 @@ fn with_class(
             residue,
             modulus: look.modulus,
         };
-        let left = first_left(look.generations, look.tree, began, server, &place);
+        let at = At {
+            text: prefix_text(prefix),
+            hash: residue,
+        };
+        let left = first_left(look.generations, look.tree, began, server, &at);
         found = counted(found, left, server, &place);
     }
     found
@@ -235,7 +232,7 @@ fn all_concerns(
 /// Each server that the configuration's tree takes at some place though a generation, or the tree itself, may leave an item there, in
 /// the order of their numbers; the new servers began so. None where there are too many places. The only error is that memory was
 /// refused.
-pub fn concerns(
+pub fn find_concerns(
     alloc: Global,
     history: &History,
     config: &Config,

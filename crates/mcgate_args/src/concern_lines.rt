@@ -4,7 +4,7 @@ use gate_coverage::prefixes::prefix_text;
 use gate_gaps::pool_words::write_server;
 use gate_gaps::{ConfigPool, read_pools};
 use gate_growth::ledger::Beginning;
-use gate_history::{Concern, History, concerns};
+use gate_history::{Concern, History, find_concerns};
 use route_json::{Config, ConfigFault, read_config_after};
 use route_tree::Place;
 use std::alloc::{AllocError, Global};
@@ -95,7 +95,7 @@ fn lines_of(
     config: &Config,
     new: Beginning,
 ) -> io::Result<Vec<String>> {
-    match concerns(alloc, history, config, new)? {
+    match find_concerns(alloc, history, config, new)? {
         Some(all) => {
             let pools = read_pools(alloc, text, config.servers())?;
             all_lines(alloc, config, &pools, &all)
