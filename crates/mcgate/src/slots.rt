@@ -45,7 +45,7 @@ fn print_fault<R: AllocGlobal, W: Write>(
         }
         SlotsFault::Earlier(number, _) => {
             if let (Some(file), Some(text)) = (job.after.get(*number), earlier.get(*number)) {
-                details.add_text(rt.alloc(), file, text.as_str());
+                details.add_text(rt.alloc(), *file, text.as_str());
             }
             Ok(BAD_INPUT)
         }

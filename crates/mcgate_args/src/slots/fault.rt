@@ -1,7 +1,7 @@
 //! Why `mcgate slots` has no table.
 
 use route_json::ConfigFault;
-use std::alloc::AllocError;
+use std::alloc::{AllocError, AllocFailed};
 use std::fmt;
 use std::fmt::Display;
 use text_words::escapes::Escaped;
@@ -28,6 +28,12 @@ pub enum SlotsFault<'a> {
 
 impl From<AllocError> for SlotsFault<'_> {
     fn from(_error: AllocError) -> Self {
+        SlotsFault::NoMemory
+    }
+}
+
+impl<T: Drop> From<AllocFailed<T>> for SlotsFault<'_> {
+    fn from(_error: AllocFailed<T>) -> Self {
         SlotsFault::NoMemory
     }
 }

@@ -64,7 +64,7 @@ fn put_pool(value: &mut Value, name: &str, pool: Value) {
     }
 }
 
-fn value_of(alloc: Global, text: &str) -> Result<Value, SlotsFault<'static>> {
+fn value_of<'a>(alloc: Global, text: &str) -> Result<Value, SlotsFault<'a>> {
     match Value::from_str(alloc, text) {
         Ok(value) => Ok(value),
         Err(error) if error.is_memory() => Err(SlotsFault::NoMemory),
@@ -87,11 +87,12 @@ fn all_servers<'a>(
         Ok(servers) => servers,
         Err(fault) => return Err(SlotsFault::Config(fault)),
     };
-    for (number, earlier) in earlier.iter().enumerate() {
-        servers = match servers_after(alloc, servers, earlier.as_str()) {
-            Ok(servers) => servers,
+    for (number, text) in earlier.iter().enumerate() {
+        let next = match servers_after(alloc, servers.copy(alloc)?, text.as_str()) {
+            Ok(next) => next,
             Err(fault) => return Err(SlotsFault::Earlier(number, fault)),
         };
+        servers = next;
     }
     Ok(servers)
 }
