@@ -7,5 +7,5 @@ use Rattle.gate_history.proofs.concerns.first_left.Given as goal
 abbrev pub invariant-loop-generation : goal.invariant-loop-generation
 invariant-loop-generation l = record {
   number : length l.generations < 2 ^ 32 → l.number ≡ l.generation-index;
-  marks : length l.generations < 2 ^ 32 → IsMarkOf (is_any l.began) (plans_for l.at.hash l.at.text.now (take l.generation-index l.generations)) l.server l.mark;
+  marks : length l.generations < 2 ^ 32 → IsMarkOf (is_any l.fn.began) (plans_for l.at.hash l.at.text.now (take l.generation-index l.generations)) l.server l.mark;
 }
