@@ -12,6 +12,4 @@ mod pictures;
 #[cfg(test)]
 mod places;
 #[cfg(test)]
-mod plans;
-#[cfg(test)]
 mod verdicts;

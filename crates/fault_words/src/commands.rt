@@ -25,26 +25,13 @@ pub enum Command {
     Cache,
     Loopback,
     History,
-    Plan,
     Slots,
     Help,
 }
 
 /// The names of the commands.
-pub const COMMANDS: [&str; 11] = [
-    "check", "certify", "replay", "where", "serve", "cache", "loopback", "history", "plan",
-    "slots", "help",
-];
-
-const CHECK_FLAGS: [&str; 8] = [
-    "help",
-    "explain",
-    "dot",
-    "fleet",
-    "with",
-    "history",
-    "opened",
-    "new-servers",
+pub const COMMANDS: [&str; 10] = [
+    "check", "certify", "replay", "where", "serve", "cache", "loopback", "history", "slots", "help",
 ];
 
 const SERVE_FLAGS: [&str; 23] = [
@@ -131,7 +118,6 @@ impl Command {
             "cache" => Some(Command::Cache),
             "loopback" => Some(Command::Loopback),
             "history" => Some(Command::History),
-            "plan" => Some(Command::Plan),
             "slots" => Some(Command::Slots),
             "help" => Some(Command::Help),
             _ => None,
@@ -149,7 +135,6 @@ impl Command {
             Command::Cache => "cache",
             Command::Loopback => "loopback",
             Command::History => "history",
-            Command::Plan => "plan",
             Command::Slots => "slots",
             Command::Help => "help",
         }
@@ -159,12 +144,10 @@ impl Command {
     pub fn usage(self) -> &'static str {
         match self {
             Command::Check => {
-                "mcgate check [--explain | --dot] [--history FILE] [--opened WORD] [--new-servers WORD] [FILE], or mcgate check --fleet [--with FILE ..] [FILE]"
+                "mcgate check [--explain | --dot | --history FILE | --fleet [--with FILE ..]] [FILE]"
             }
             Command::Certify => "mcgate certify [FILE]",
-            Command::Replay => {
-                "mcgate replay [--any] [--opened WORD] [--new-servers WORD] [--config FILE] [SCRIPT]"
-            }
+            Command::Replay => "mcgate replay [--any] [--config FILE] [SCRIPT]",
             Command::Where => "mcgate where --config FILE KEY..",
             Command::Serve => {
                 "mcgate serve --config FILE --listen HOST:PORT [--any] [--check] [FLAG N ..]"
@@ -173,7 +156,6 @@ impl Command {
                 "mcgate cache --listen HOST:PORT --capacity C [--memory-mb N] [--turns N]",
             Command::Loopback => "mcgate loopback [SCRIPT]",
             Command::History => "mcgate history FILE",
-            Command::Plan => "mcgate plan [--opened WORD] [--new-servers WORD] OLD NEW",
             Command::Slots => {
                 "mcgate slots [--add HOST:PORT | --remove HOST:PORT] [--pool NAME] [--after FILE ..] [FILE]"
             }
@@ -184,9 +166,8 @@ impl Command {
     /// The names of its flags.
     pub fn flags(self) -> &'static [&'static str] {
         match self {
-            Command::Check => &CHECK_FLAGS,
-            Command::Replay => &["help", "any", "opened", "new-servers", "config"],
-            Command::Plan => &["help", "opened", "new-servers"],
+            Command::Check => &["help", "explain", "dot", "fleet", "with", "history"],
+            Command::Replay => &["help", "any", "config"],
             Command::Where => &["help", "config"],
             Command::Serve => &SERVE_FLAGS,
             Command::Cache => &CACHE_FLAGS,
@@ -215,7 +196,6 @@ impl Command {
             | Command::History
             | Command::Slots
             | Command::Help => 1,
-            Command::Plan => 2,
             Command::Where => usize::MAX,
             Command::Serve | Command::Cache => 0,
         }
@@ -225,7 +205,6 @@ impl Command {
     pub fn least_words(self) -> usize {
         match self {
             Command::Where | Command::History => 1,
-            Command::Plan => 2,
             _ => 0,
         }
     }
@@ -233,8 +212,7 @@ impl Command {
     /// What those words are.
     pub fn word(self) -> &'static str {
         match self {
-            Command::Check | Command::Certify | Command::History | Command::Plan | Command::Slots =>
-                "FILE",
+            Command::Check | Command::Certify | Command::History | Command::Slots => "FILE",
             Command::Replay | Command::Loopback => "SCRIPT",
             Command::Where => "KEY",
             Command::Serve | Command::Cache => "",

@@ -172,6 +172,7 @@ impl Reader {
             .or(self.apart("fleet", "explain"))
             .or(self.apart("fleet", "dot"))
             .or(self.apart("fleet", "history"))
+            .or(self.apart("explain", "history"))
             .or(self.apart("dot", "history"))
             .or(self.apart("any", "history"))
             .or(self.apart("any", "certificate"))

@@ -6,4 +6,3 @@ pub mod Judging
 pub mod ReadBack
 pub mod Pushes
 pub mod Ending
-pub mod Marking

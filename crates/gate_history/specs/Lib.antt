@@ -7,4 +7,3 @@ pub mod Judged
 pub mod Written
 pub mod Remembering
 pub mod Standing
-pub mod Concerning

@@ -1,4 +1,2 @@
-pub mod Opens
-pub mod Grown
 pub mod Printing
 pub mod Steps
