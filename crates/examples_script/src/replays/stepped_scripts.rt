@@ -127,6 +127,16 @@ result 0
 < 1 END\r\n
 < 0 END\r\n
 done 2 commands 2 calls 0 stale
+== least_server_first: with a piece all calls that are out have their results, and the first is that of server 0
+pool 2
++ 1 set b 0 0 1\r\n2\r\n
++ 0 set a 0 0 1\r\n1\r\n
+fail 1 before
+> 2 
+-- 0
+< 0 SERVER_ERROR call failed\r\n
+< 1 STORED\r\n
+done 2 commands 2 calls 0 stale
 "#
 }
 
