@@ -11,6 +11,7 @@ use mcgate_args::ends::{End, Stop, end_of, read_configuration, run_events, run_i
 use mcgate_args::input::{text_noting, text_of};
 use mcgate_args::input_text::InputFault;
 use mcgate_args::serve_arguments::ServeJob;
+use mcgate_args::slots::SlotsChange;
 use mcgate_check::{Form, RunFault};
 use route_json::Config;
 use serve_proxy::{Beginning, ServerDialect};
@@ -47,6 +48,10 @@ mcgate check c --history h => check of c after h
 mcgate check --history h --explain => refused, told
 mcgate history h => history h
 mcgate history => refused, told
+mcgate slots c => slots of c after 0
+mcgate slots --add a:1 --after b --after d c => one more of c after 2
+mcgate slots --remove a:1 --pool A => one less of standard input after 0
+mcgate slots --add a:1 --remove b:1 c => refused, told
 mcgate where --config c k => where 1 in c
 mcgate where --config c  => no key
 mcgate cache --listen a:1 --capacity 5 => cache 5
@@ -173,6 +178,14 @@ fn file_word<'a>(file: &Option<&'a str>) -> &'a str {
     }
 }
 
+fn change_words(change: SlotsChange<'_>) -> &'static str {
+    match change {
+        SlotsChange::Keep => "slots",
+        SlotsChange::Add(_) => "one more",
+        SlotsChange::Remove(_) => "one less",
+    }
+}
+
 fn push_job(out: &mut String, job: &Job<'_>) -> Result<(), AllocError> {
     match job {
         Job::Run { task, file } => {
@@ -182,6 +195,15 @@ fn push_job(out: &mut String, job: &Job<'_>) -> Result<(), AllocError> {
             write!(out, "check of {} after {history}", file_word(file))?;
         }
         Job::History { file } => write!(out, "history {file}")?,
+        Job::Slots(job) => {
+            out.push_str(change_words(job.change))?;
+            write!(
+                out,
+                " of {} after {}",
+                file_word(&job.file),
+                job.after.len()
+            )?;
+        }
         Job::RunOver { any, config, file } => {
             write!(out, "replay {} over {config}", any_word(*any))?;
             write!(out, " of {}", file_word(file))?;

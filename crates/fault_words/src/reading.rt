@@ -174,6 +174,7 @@ impl Reader {
             .or(self.apart("fleet", "history"))
             .or(self.apart("explain", "history"))
             .or(self.apart("dot", "history"))
+            .or(self.apart("add", "remove"))
             .or(self.apart("any", "history"))
             .or(self.apart("any", "certificate"))
     }
