@@ -233,3 +233,12 @@ idle_stopped at (Err refused) is g = g
 -- nothing more was done
 pub as_before : {P : List Step → AnEnd → Type 0} {Is : Step → Type 0} {a : AnEnd} → AllGoFrom P P Is a a
 as_before = record { steps = []; kinds = tt; walks = refl; agree = λ past was. was; texts = refl }
+
+-- a read gave what it is known to have given
+pub given_by : {Q : List Step → AnEnd → Type 0} {Is : Step → Type 0} {a b : AnEnd} (at : ℕ) (gave what : Got) → gave ≡ what → AllGoFrom (AgreesUnless at (over_by what)) Q Is a b → AllGoFrom (AgreesUnless at (over_by gave)) Q Is a b
+given_by {Q} {Is} {a} {b} at gave what is did = subst (λ w. AllGoFrom (AgreesUnless at (over_by w)) Q Is a b) (sym is) did
+
+pub given_then :
+    {W E : Type 0} (history : W → List Event) (at : ℕ) (core : ServedCore) (s : Sockets W) (core' : ServedCore) (s' : Sockets W) (r : Result (Option Cause) E) (gave what : Got) → gave ≡ what
+    → AllGoFromUnless (AgreesUnless at (over_by what)) at r history core s core' s' → AllGoFromUnless (AgreesUnless at (over_by gave)) at r history core s core' s'
+given_then history at core s core' s' r gave what is did = subst (λ w. AllGoFromUnless (AgreesUnless at (over_by w)) at r history core s core' s') (sym is) did

@@ -190,7 +190,9 @@ impl<W: Wire> Sockets<W> {
         ensures ends { GoAloneUnless at result W.history self.old self.new }
     {
         let polls = self.links.settings.polls;
-        let link = self.links.all.get_mut(at)?;
+        let Some(link) = self.links.all.get_mut(at) else {
+            return None;
+        };
         vain(link.has_read(false, polls))
     }
 }

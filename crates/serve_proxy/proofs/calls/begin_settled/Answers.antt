@@ -2,8 +2,8 @@ use Rattle.serve_proxy.proofs.Going.{still, and_then, stays}
 use Rattle.serve_proxy.proofs.Staying.{stay_links}
 use Rattle.serve_proxy.proofs.calls.begin_settled.Goals as goal
 
-pub returns-then : goal.returns-then
-returns-then g c = record { ends = still }
+pub returns-then-waiting-eq0 : goal.returns-then-waiting-eq0
+returns-then-waiting-eq0 g c = record { ends = still }
 
 pub returns-in_err-begin_waiting : goal.returns-in_err-begin_waiting
 returns-in_err-begin_waiting g c = record { ends = c.begin_waiting.ensures.ends }
