@@ -7,8 +7,6 @@ ghost use Rattle.route_tree.specs.Route as route;
 use crate::answering::FixedServers;
 use core_accepted::{Beginnings, LoadFault, ServedCore};
 use core_proxy::{Core, CoreFault, Limits, Poll, ServedOne, Servers, Sharing, Ticket};
-use examples_tables::playing::{Stage, cut, first_line, numbered, plain, play_lines, shown};
-use examples_tables::tellers::written_out;
 use gate_check::judge;
 use gate_growth::ledger::Beginning;
 use mc_types::{Ask, Dialect, Key, Op, Origin, Outcome, ServerId, SharedAsk, Tokens};
@@ -26,17 +24,12 @@ enum Played {
 
 /// A core, the tickets that it gave out and that weren't handed back, and servers that answer its calls at once.
 #[derive(Drop)]
-pub struct CoreStage {
+pub struct Stage {
     alloc: Global,
     core: Played,
     tickets: Vec<Ticket>,
     servers: FixedServers,
 }
-
-// More polls than a client has in a row, and more rounds than its commands take.
-const POLLS: u64 = 1_000_000;
-
-const ROUNDS: u64 = 1_000_000;
 
 // What is told of an event: a word or two, and a number after them if there is one.
 #[derive(Clone, Copy)]
@@ -362,10 +355,10 @@ fn take(tickets: &mut Vec<Ticket>, number: u64) -> Option<Ticket> {
     None
 }
 
-impl CoreStage {
+impl Stage {
     /// A core as the text says, from which no ticket was given out.
-    pub fn new(alloc: Global, text: &str) -> Result<CoreStage, Fail> {
-        Ok(CoreStage {
+    pub fn new(alloc: Global, text: &str) -> Result<Stage, Fail> {
+        Ok(Stage {
             alloc,
             core: core(alloc, text)?,
             tickets: Vec::new(alloc),
@@ -391,56 +384,8 @@ impl CoreStage {
     }
 
     fn feed(&mut self, client: usize, text: &str) -> Result<ToldReply, AllocError> {
-        let piece = plain(self.alloc, text)?;
+        let piece = text.replace(self.alloc, r"\r\n", "\r\n")?;
         Ok(done(self.core.feed(client, piece.as_bytes())))
-    }
-
-    // So many clients say this; what the first one is told that isn't taken, if one isn't.
-    fn feed_all(&mut self, clients: usize, text: &str) -> Result<ToldReply, Fail> {
-        let whole = written_out(self.alloc, text)?;
-        let piece = plain(self.alloc, whole.as_str())?;
-        for client in 0..clients {
-            if let Err(fault) = self.core.feed(client, piece.as_bytes()) {
-                return Ok(word(words_of(fault)));
-            }
-        }
-        Ok(word("ok"))
-    }
-
-    // A client is polled while it has calls to make or is told of commands that are done: how many these are.
-    fn poll_on(&mut self, client: usize) -> Result<u64, Fail> {
-        let mut ended = 0_u64;
-        for _ in 0..POLLS {
-            match self.core.poll(client) {
-                Ok(Poll::Did(_)) => ended = ended.saturating_add(1),
-                Ok(Poll::Call(ticket)) => self.keep(Poll::Call(ticket))?,
-                _ => break,
-            }
-        }
-        Ok(ended)
-    }
-
-    // The servers answer all calls that are out.
-    fn answer_all(&mut self) -> Result<(), Fail> {
-        while let Some(ticket) = self.tickets.pop() {
-            let _told = self.core.answer(ticket, &mut self.servers)?;
-        }
-        Ok(())
-    }
-
-    // So many clients are polled in turn, and then the servers answer, until no call is out any more: how many commands came to an end.
-    fn end_all(&mut self, clients: usize) -> Result<ToldReply, Fail> {
-        let mut ended = 0_u64;
-        for _ in 0..ROUNDS {
-            for client in 0..clients {
-                ended = ended.saturating_add(self.poll_on(client)?);
-            }
-            if self.tickets.is_empty() {
-                break;
-            }
-            self.answer_all()?;
-        }
-        Ok(number("", ended))
     }
 
     fn fill(&mut self, client: usize) -> Result<ToldReply, AllocError> {
@@ -500,7 +445,7 @@ impl CoreStage {
 
     fn output(&mut self, client: usize) -> Result<String, Fail> {
         match self.core.output(client) {
-            Ok(bytes) => shown(self.alloc, bytes.as_slice()),
+            Ok(bytes) => shown(self.alloc, bytes),
             Err(fault) => Ok(words_of(fault).to_string(self.alloc)?),
         }
     }
@@ -525,8 +470,6 @@ impl CoreStage {
         match verb {
             "open" => Ok(self.open_all(about)),
             "feed" => Ok(self.feed(client, text)?),
-            "feed-all" => self.feed_all(client, text),
-            "end-all" => self.end_all(client),
             "fill" => Ok(self.fill(client)?),
             "poll" => self.poll(client),
             "serve" => self.core.serve(client, &mut self.servers),
@@ -548,15 +491,14 @@ impl CoreStage {
             ("servers", "down") => Ok(self.take_down()),
             ("reload", text) => self.reload(text),
             _ => {
-                let (about, text) = numbered(rest)?;
-                self.told_of(verb, about as u64, text)
+                let (about, text) = cut(rest);
+                self.told_of(verb, about.parse::<u64>()?, text)
             }
         }
     }
-}
 
-impl Stage for CoreStage {
-    fn answer(&mut self, event: &str, _want: &str) -> Result<String, Fail> {
+    // What an event gives, as text.
+    fn answer(&mut self, event: &str) -> Result<String, Fail> {
         let (verb, rest) = cut(event);
         if verb == "output" {
             self.output(rest.parse::<usize>()?)
@@ -564,6 +506,11 @@ impl Stage for CoreStage {
             text_of(self.alloc, self.told(verb, rest)?)
         }
     }
+}
+
+// The first word, and what comes after the space.
+fn cut(text: &str) -> (&str, &str) {
+    text.split_once(' ').unwrap_or((text, ""))
 }
 
 fn text_of(alloc: Global, told: ToldReply) -> Result<String, Fail> {
@@ -574,16 +521,46 @@ fn text_of(alloc: Global, told: ToldReply) -> Result<String, Fail> {
     Ok(text)
 }
 
+// Output as it stands in the examples.
+fn shown(alloc: Global, bytes: Vec<u8>) -> Result<String, Fail> {
+    if bytes.is_empty() {
+        return Ok("nothing".to_string(alloc)?);
+    }
+    let text = String::from_utf8(bytes)?;
+    Ok(text.as_str().replace(alloc, "\r\n", r"\r\n")?)
+}
+
+// An event gives what stands after its arrow; a remark is passed over.
+fn play_line(stage: &mut Stage, name: &str, line: &str) -> Result<(), Fail> {
+    if line.starts_with("-- ") {
+        return Ok(());
+    }
+    let (event, want) = line.split_once(" => ").ok_or("no arrow")?;
+    let got = stage.answer(event)?;
+    if got.as_str() != want {
+        return Err(Fail::new(format_args!("{name}\n{event} => {got}")));
+    }
+    Ok(())
+}
+
+/// Plays these events.
+pub fn play_lines(stage: &mut Stage, name: &str, lines: &str) -> Result<(), Fail> {
+    for line in lines.lines() {
+        play_line(stage, name, line)?;
+    }
+    Ok(())
+}
+
 fn play_example(alloc: Global, name: &str, lines: &str) -> Result<(), Fail> {
-    let (core, events) = first_line(lines);
-    let mut stage = CoreStage::new(alloc, core)?;
-    play_lines(&mut stage, name, events)
+    let (first, rest) = lines.split_once('\n').ok_or("no events")?;
+    let mut stage = Stage::new(alloc, first)?;
+    play_lines(&mut stage, name, rest)
 }
 
 /// Plays each example of a text: its name, its core, and its events.
 pub fn play(alloc: Global, text: &str) -> Result<(), Fail> {
     for example in text.split("\n\n") {
-        let (name, lines) = first_line(example);
+        let (name, lines) = example.split_once('\n').ok_or("no core")?;
         play_example(alloc, name, lines)?;
     }
     Ok(())

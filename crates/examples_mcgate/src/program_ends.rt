@@ -1,7 +1,7 @@
 //! The program from its arguments to its exit status. In tables `⏎` is a line end.
 
-use examples_tables::tables::{same, unfolded};
-use examples_tables::tellers::{Teller, halves, rows_hold};
+use examples_tables::tables::unfolded;
+use examples_tables::tellers::{Teller, halves, wrong};
 use fault_words::fault_in_words;
 use fault_words::script::BadLine;
 use mcgate_args::arguments::{ArgumentsFault, Job, Task, read_arguments};
@@ -266,8 +266,9 @@ impl Teller for OfArguments {
 
 #[test]
 fn jobs_of_arguments(rt: HostRuntime) -> Result<(), Fail> {
-    rows_hold::<OfArguments>(rt.alloc(), commands())?;
-    rows_hold::<OfArguments>(rt.alloc(), refused())
+    assert_eq!(rt; wrong::<OfArguments>(rt.alloc(), commands())?.as_str(), "");
+    assert_eq!(rt; wrong::<OfArguments>(rt.alloc(), refused())?.as_str(), "");
+    Ok(())
 }
 
 #[test]
@@ -275,7 +276,8 @@ fn a_key_with_a_space(rt: HostRuntime) -> Result<(), Fail> {
     let mut given = arguments_of(rt.alloc(), "mcgate where --config c")?;
     given.push(String::from_str(rt.alloc(), "a b")?)?;
     let words = words_of_arguments(rt.alloc(), given.as_slice())?;
-    same("a_key_with_a_space", words.as_str(), "no key")
+    assert_eq!(rt; words.as_str(), "no key");
+    Ok(())
 }
 
 // Arguments, and what the printed text begins with.
@@ -312,7 +314,7 @@ fn inputs_of_files(rt: HostRuntime) -> Result<(), Fail> {
     let Ok(text) = text_of(&rt, Some("/dev/null")) else {
         return Err(Fail::from("not read"));
     };
-    same("inputs_of_files", text.as_str(), "")?;
+    assert_eq!(rt; text.as_str(), "");
     for path in ["/dev/null/x", "/"] {
         let read = text_of(&rt, Some(path));
         assert!(rt; matches!(read, Err(InputFault::Device)), "at {path}");
@@ -353,7 +355,7 @@ fn files_that_give_no_input(rt: HostRuntime) -> Result<(), Fail> {
     ];
     for (path, want) in cases {
         let told = told_of_file(&rt, path)?;
-        same("files_that_give_no_input", told.as_str(), want)?;
+        assert_eq!(rt; told.as_str(), want, "at {path}");
     }
     Ok(())
 }
@@ -589,7 +591,8 @@ impl Teller for OfEnds {
 
 #[test]
 fn ends_and_what_is_said(rt: HostRuntime) -> Result<(), Fail> {
-    rows_hold::<OfEnds>(rt.alloc(), table())
+    assert_eq!(rt; wrong::<OfEnds>(rt.alloc(), table())?.as_str(), "");
+    Ok(())
 }
 
 // Tasks, their files, and the routes of trees of the pools A and B.
@@ -629,5 +632,6 @@ fn trees_that_are_refused(rt: HostRuntime) -> Result<(), Fail> {
         let told = told_of_route(rt.alloc(), line, route)?;
         all.push_str(told.as_str())?;
     }
-    same("trees_that_are_refused", all.as_str(), refusals())
+    assert_eq!(rt; all.as_str(), refusals());
+    Ok(())
 }

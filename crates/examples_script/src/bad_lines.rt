@@ -1,7 +1,7 @@
 //! Bad lines and their words. In examples `⏎` is a line end.
 
-use examples_tables::tables::{same, unfolded};
-use examples_tables::tellers::{Teller, halves, rows_hold};
+use examples_tables::tables::unfolded;
+use examples_tables::tellers::{Teller, halves, wrong};
 use fault_words::script::laws::each_line_is_either;
 use fault_words::script::misfit::misfit_of;
 use fault_words::script::{BadLine, bad_line_in_events, bad_line_in_script};
@@ -145,14 +145,11 @@ fn words_of_bad_lines(rt: HostRuntime) -> Result<(), Fail> {
         loaded(),
         events(),
     ] {
-        rows_hold::<OfBadLines>(rt.alloc(), table)?;
+        assert_eq!(rt; wrong::<OfBadLines>(rt.alloc(), table)?.as_str(), "");
     }
     let words = words_in_script(rt.alloc(), "pool 1\n\\\t ")?;
-    same(
-        "words_of_bad_lines",
-        words.as_str(),
-        "line 2: no event has this word: \\\\\\x09",
-    )
+    assert_eq!(rt; words.as_str(), "line 2: no event has this word: \\\\\\x09");
+    Ok(())
 }
 
 fn added_byte(alloc: Global) -> Result<Event, AllocError> {
@@ -173,15 +170,11 @@ fn words_after(alloc: Global, before: usize) -> Result<String, AllocError> {
 #[test]
 fn pieces_that_are_too_much(rt: HostRuntime) -> Result<(), Fail> {
     let words = words_after(rt.alloc(), 16_777_216)?;
-    same(
-        "pieces_that_are_too_much",
-        words.as_str(),
-        "all pieces together exceed 16777216 bytes",
-    )?;
+    assert_eq!(rt; words.as_str(), "all pieces together exceed 16777216 bytes");
     let words = words_after(rt.alloc(), 16_777_215)?;
-    same(
-        "pieces_that_are_too_much",
+    assert_eq!(rt;
         words.as_str(),
-        "a client added more than 524288 bytes since the last >",
-    )
+        "a client added more than 524288 bytes since the last >"
+    );
+    Ok(())
 }

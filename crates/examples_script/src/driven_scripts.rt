@@ -1,6 +1,5 @@
 //! Scripts as events: which can't be, and what the others hand out.
 
-use examples_tables::tables::same_bytes;
 use mc_types::{Key, ServerId};
 use route_json::Config;
 use script_events::servers::ScriptServers;
@@ -173,20 +172,17 @@ fn told_of(alloc: Global, script: &Script) -> Result<Vec<u8>, Fail> {
 fn what_was_held_is_shown_and_deleted(rt: HostRuntime) -> Result<(), Fail> {
     let script = held_and_deleted(rt.alloc())?;
     let out = told_of(rt.alloc(), &script)?;
-    same_bytes(
-        "what_was_held_is_shown_and_deleted",
+    assert_eq!(rt;
         out.as_slice(),
-        b"< 5 VALUE a 0 1\\r\\n7\\r\\nEND\\r\\nDELETED\\r\\nEND\\r\\n\ndone 3 commands 3 calls 0 stale\n".as_slice(),
-    )
+        b"< 5 VALUE a 0 1\\r\\n7\\r\\nEND\\r\\nDELETED\\r\\nEND\\r\\n\ndone 3 commands 3 calls 0 stale\n".as_slice()
+    );
+    Ok(())
 }
 
 #[test]
 fn nothing_happens_where_an_event_cannot_be(rt: HostRuntime) -> Result<(), Fail> {
     let script = asked_and_bad(rt.alloc())?;
     let out = told_of(rt.alloc(), &script)?;
-    same_bytes(
-        "nothing_happens_where_an_event_cannot_be",
-        out.as_slice(),
-        b"bad event 1 after 0 calls\n".as_slice(),
-    )
+    assert_eq!(rt; out.as_slice(), b"bad event 1 after 0 calls\n".as_slice());
+    Ok(())
 }

@@ -1,7 +1,7 @@
 //! The lines of scripts. In tables `⏎` is a line end.
 
-use examples_tables::tables::{expanded, same, same_bytes, unfolded};
-use examples_tables::tellers::{Teller, halves, rows_hold};
+use examples_tables::tables::{expanded, unfolded};
+use examples_tables::tellers::{Teller, halves, wrong};
 use mc_types::{Key, ServerId};
 use route_json::{Config, ConfigFault};
 use script_events::{Event, Loss, Manner, Output, Reload, Report};
@@ -334,7 +334,7 @@ fn texts_of_scripts(rt: HostRuntime) -> Result<(), Fail> {
         bad_scripts(),
         scripts_of_events(),
     ] {
-        rows_hold::<OfTexts>(rt.alloc(), table)?;
+        assert_eq!(rt; wrong::<OfTexts>(rt.alloc(), table)?.as_str(), "");
     }
     Ok(())
 }
@@ -343,34 +343,35 @@ fn texts_of_scripts(rt: HostRuntime) -> Result<(), Fail> {
 #[test]
 fn returns_and_tabs(rt: HostRuntime) -> Result<(), Fail> {
     let told = told_of_escapes(rt.alloc(), b"\xc3\xa9\r\t")?;
-    same("returns_and_tabs", told.as_str(), r"\xc3\xa9\r\x09")?;
+    assert_eq!(rt; told.as_str(), r"\xc3\xa9\r\x09");
     let told = told_of_line(rt.alloc(), b"restart 0\r")?;
-    same("returns_and_tabs", told.as_str(), "no event")?;
+    assert_eq!(rt; told.as_str(), "no event");
     let told = told_of_script(rt.alloc(), "pool 1\r\n")?;
-    same("returns_and_tabs", told.as_str(), "bad line 1")
+    assert_eq!(rt; told.as_str(), "bad line 1");
+    Ok(())
 }
 
 #[test]
 fn words_of_a_line(rt: HostRuntime) -> Result<(), Fail> {
     let parts = cut(b">  a b".as_slice()).ok_or("no space")?;
-    same_bytes("words_of_a_line", parts.word, b">".as_slice())?;
-    same_bytes("words_of_a_line", parts.rest, b" a b".as_slice())?;
+    assert_eq!(rt; parts.word, b">".as_slice());
+    assert_eq!(rt; parts.rest, b" a b".as_slice());
     assert!(rt; cut(b"pool".as_slice()).is_none());
     Ok(())
 }
 
 #[test]
 fn numbers_of_a_line(rt: HostRuntime) {
-    assert!(rt; number_under(64, b"0063".as_slice()) == Some(63));
-    assert!(rt; number_under(64, b"64".as_slice()) == None);
+    assert_eq!(rt; number_under(64, b"0063".as_slice()), Some(63));
+    assert_eq!(rt; number_under(64, b"64".as_slice()), None);
 }
 
 #[test]
 fn first_line_of_a_text(rt: HostRuntime) -> Result<(), Fail> {
     let front = front_of("a\r\n\nb");
-    assert!(rt; front.line == "a\r");
+    assert_eq!(rt; front.line, "a\r");
     let rest = front.rest.ok_or("no line end")?;
-    assert!(rt; rest == "\nb");
+    assert_eq!(rt; rest, "\nb");
     assert!(rt; front_of(rest).line.is_empty());
     assert!(rt; front_of("b").rest.is_none());
     Ok(())
@@ -408,11 +409,7 @@ fn a_configuration_before_a_space(rt: HostRuntime) -> Result<(), Fail> {
     let mut text = configuration(rt.alloc())?;
     text.push_str(" \r\nrestart 1\n")?;
     let words = told_of_script(rt.alloc(), text.as_str())?;
-    same(
-        "a_configuration_before_a_space",
-        words.as_str(),
-        "2 servers, 2 first; 1 events: 2",
-    )?;
+    assert_eq!(rt; words.as_str(), "2 servers, 2 first; 1 events: 2");
     Ok(())
 }
 
@@ -435,11 +432,8 @@ fn outputs_that_are_printed(rt: HostRuntime) -> Result<(), Fail> {
     let mut out = Vec::new(rt.alloc());
     let shown = two_outputs(rt.alloc())?;
     write_outputs(shown.as_slice(), &mut out)?;
-    same_bytes(
-        "outputs_that_are_printed",
-        out.as_slice(),
-        b"< 0 END\\r\\n\n< 63 \\xff\n".as_slice(),
-    )
+    assert_eq!(rt; out.as_slice(), b"< 0 END\\r\\n\n< 63 \\xff\n".as_slice());
+    Ok(())
 }
 
 #[test]
@@ -454,9 +448,6 @@ fn last_lines_that_are_printed(rt: HostRuntime) -> Result<(), Fail> {
     write_bad_line(7, &mut out)?;
     write_config_fault(&ConfigFault::TooDeep, &mut out)?;
     let want = b"done 2 commands 3 calls 1 stale\nscript: bad line 7\nconfig: too deep\n";
-    same_bytes(
-        "last_lines_that_are_printed",
-        out.as_slice(),
-        want.as_slice(),
-    )
+    assert_eq!(rt; out.as_slice(), want.as_slice());
+    Ok(())
 }

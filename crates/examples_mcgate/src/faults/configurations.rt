@@ -1,7 +1,7 @@
 //! Texts that are no configurations, and what is said of each.
 
 use crate::faults::{OfFaults, joined};
-use examples_tables::tellers::rows_hold;
+use examples_tables::tellers::wrong;
 use fault_inputs::fields::{OPERATIONS, ROUTES, fields_of};
 use fault_inputs::{lines_of_configuration, lines_of_warnings};
 use route_json::names::{Holder, is_field, kind_of, op_of};
@@ -123,7 +123,7 @@ pub fn told_of_pools(alloc: Global, pools: &str) -> Result<String, AllocError> {
 #[test]
 fn texts_that_are_no_configurations(rt: HostRuntime) -> Result<(), Fail> {
     for table in [texts(), routes(), pools()] {
-        rows_hold::<OfFaults>(rt.alloc(), table)?;
+        assert_eq!(rt; wrong::<OfFaults>(rt.alloc(), table)?.as_str(), "");
     }
     Ok(())
 }

@@ -1,7 +1,7 @@
 //! Scripts with faults, and what is said of each.
 
 use crate::faults::{OfFaults, joined};
-use examples_tables::tellers::{halves, rows_hold};
+use examples_tables::tellers::{halves, wrong};
 use fault_inputs::{lines_of_bad_line, lines_of_script};
 use fault_words::script::bad_line_in_script;
 use std::alloc::{AllocError, Global};
@@ -58,6 +58,7 @@ pub fn told_of_line(alloc: Global, line: &str) -> Result<String, AllocError> {
 
 #[test]
 fn scripts_with_faults(rt: HostRuntime) -> Result<(), Fail> {
-    rows_hold::<OfFaults>(rt.alloc(), scripts())?;
-    rows_hold::<OfFaults>(rt.alloc(), bad_lines())
+    assert_eq!(rt; wrong::<OfFaults>(rt.alloc(), scripts())?.as_str(), "");
+    assert_eq!(rt; wrong::<OfFaults>(rt.alloc(), bad_lines())?.as_str(), "");
+    Ok(())
 }

@@ -1,7 +1,7 @@
 //! Words and what is wrong with them, names that are near, addresses that are none.
 
 use crate::faults::OfFaults;
-use examples_tables::tellers::rows_hold;
+use examples_tables::tellers::wrong;
 use fault_words::{address_trouble, fault_in_words, key_fault_in_words, nearest};
 use std::alloc::{AllocError, Global};
 use std::test::Fail;
@@ -119,7 +119,7 @@ pub fn told_of_address(alloc: Global, text: &str) -> Result<String, AllocError> 
 #[test]
 fn faults_of_words(rt: HostRuntime) -> Result<(), Fail> {
     for table in [faults(), no_keys(), near(), addresses()] {
-        rows_hold::<OfFaults>(rt.alloc(), table)?;
+        assert_eq!(rt; wrong::<OfFaults>(rt.alloc(), table)?.as_str(), "");
     }
     Ok(())
 }

@@ -1,7 +1,7 @@
 //! The printed verdicts on configurations of a fleet: each line of what is given is a file, a whole configuration or a route over the
 //! pools A and B.
 
-use examples_tables::tables::{Printer, all_hold, configuration, same, told};
+use examples_tables::tables::{Printer, all_hold, configuration, told};
 use mcgate_args::fleets::{FleetEnd, FleetFile, run_fleet};
 use std::alloc::{AllocError, Global};
 use std::test::Fail;
@@ -175,16 +175,9 @@ fn more_files_than_are_judged(rt: HostRuntime) -> Result<(), Fail> {
         given.push_str("\"NullRoute\"\n")?;
     }
     let most = OfFleets.printed(rt.alloc(), given.as_str())?;
-    same(
-        "more_files_than_are_judged",
-        most.as_str(),
-        "0\naccepted trees=15\n",
-    )?;
+    assert_eq!(rt; most.as_str(), "0\naccepted trees=15\n");
     given.push_str("\"NullRoute\"\n")?;
     let more = OfFleets.printed(rt.alloc(), given.as_str())?;
-    same(
-        "more_files_than_are_judged",
-        more.as_str(),
-        "1\nrefused: too many files\n",
-    )
+    assert_eq!(rt; more.as_str(), "1\nrefused: too many files\n");
+    Ok(())
 }

@@ -1,6 +1,5 @@
 //! Pictures of worked configurations, written out by hand.
 
-use examples_tables::tables::{same, same_bytes};
 use gate_check::Gap;
 use gate_coverage::Deleting;
 use gate_gaps::quoting::Quoted;
@@ -57,11 +56,8 @@ fn gap_picture(alloc: Global, text: &str, gap: &Gap, way: &[WayStep]) -> Result<
 #[test]
 fn tree_without_marks(rt: HostRuntime) -> Result<(), Fail> {
     let out = picture(rt.alloc(), failover_text())?;
-    same_bytes(
-        "tree_without_marks",
-        out.as_slice(),
-        failover_lines().as_bytes(),
-    )
+    assert_eq!(rt; out.as_slice(), failover_lines().as_bytes());
+    Ok(())
 }
 
 fn selectors_text() -> &'static str {
@@ -203,7 +199,8 @@ fn alike_lines() -> &'static str {
 #[test]
 fn alike_children(rt: HostRuntime) -> Result<(), Fail> {
     let out = picture(rt.alloc(), alike_text())?;
-    same_bytes("alike_children", out.as_slice(), alike_lines().as_bytes())
+    assert_eq!(rt; out.as_slice(), alike_lines().as_bytes());
+    Ok(())
 }
 
 // What a picture of this configuration ends with, whose gap's read goes to the second child of the third failover.
@@ -243,9 +240,6 @@ fn way_within_a_run(rt: HostRuntime) -> Result<(), Fail> {
 #[test]
 fn quoted_bytes(rt: HostRuntime) -> Result<(), Fail> {
     let text = format!(in rt.alloc(); "{}", Quoted(b"a~\"\\\r\x7f\xff"))?;
-    same(
-        "quoted_bytes",
-        text.as_str(),
-        "a~\\\"\\\\\\\\\\\\r\\\\x7f\\\\xff",
-    )
+    assert_eq!(rt; text.as_str(), "a~\\\"\\\\\\\\\\\\r\\\\x7f\\\\xff");
+    Ok(())
 }

@@ -1,6 +1,5 @@
 //! Blocks of worked keys.
 
-use examples_tables::tables::same_bytes;
 use mc_types::Key;
 use mcgate_check::key_places::run_where;
 use mcgate_check::status::DONE;
@@ -45,5 +44,6 @@ fn found(alloc: Global, text: &[u8]) -> Result<Vec<u8>, Fail> {
 #[test]
 fn a_tagged_key(rt: HostRuntime) -> Result<(), Fail> {
     let out = found(rt.alloc(), b"x{a}y")?;
-    same_bytes("a_tagged_key", out.as_slice(), printed().as_bytes())
+    assert_eq!(rt; out.as_slice(), printed().as_bytes());
+    Ok(())
 }

@@ -4,7 +4,7 @@
 
 use examples_tables::faults::faults_hold;
 use examples_tables::full_writer::Full;
-use examples_tables::tables::{Example, Printer, all_hold, configuration, example_of, same, told};
+use examples_tables::tables::{Example, Printer, all_hold, configuration, example_of, told};
 use mcgate_check::status::WRITER;
 use mcgate_check::{Form, run_check};
 use std::alloc::{AllocError, Global};
@@ -307,18 +307,16 @@ fn verdict_on_nested(alloc: Global, times: usize, front: &str, back: &str) -> Re
 fn routes_too_deep(rt: HostRuntime) -> Result<(), Fail> {
     let front = r#"{"type":"AllSyncRoute","children":["#;
     let got = verdict_on_nested(rt.alloc(), 33, front, "]}")?;
-    same("routes_too_deep", got.as_str(), "2\nconfig: too deep\n")
+    assert_eq!(rt; got.as_str(), "2\nconfig: too deep\n");
+    Ok(())
 }
 
 #[test]
 fn routes_too_many(rt: HostRuntime) -> Result<(), Fail> {
     let front = r#"{"type":"WarmUpRoute","warm":"NullRoute","cold":"#;
     let got = verdict_on_nested(rt.alloc(), 8, front, "}")?;
-    same(
-        "routes_too_many",
-        got.as_str(),
-        "2\nconfig: too many routes\n",
-    )
+    assert_eq!(rt; got.as_str(), "2\nconfig: too many routes\n");
+    Ok(())
 }
 
 // So many servers of a host, as a list.
@@ -349,17 +347,10 @@ fn verdict_on_both(alloc: Global, a: u32, b: u32) -> Result<String, Fail> {
 #[test]
 fn too_many_places(rt: HostRuntime) -> Result<(), Fail> {
     let many = verdict_on_both(rt.alloc(), 1_023, 1_024)?;
-    same(
-        "too_many_places",
-        many.as_str(),
-        "1\nrefused: too many places\n",
-    )?;
+    assert_eq!(rt; many.as_str(), "1\nrefused: too many places\n");
     let fewer = verdict_on_both(rt.alloc(), 512, 512)?;
-    same(
-        "too_many_places",
-        fewer.as_str(),
-        "0\naccepted places=512\n",
-    )
+    assert_eq!(rt; fewer.as_str(), "0\naccepted places=512\n");
+    Ok(())
 }
 
 // The status of a text whose verdict is written where there is so much room.
@@ -372,8 +363,8 @@ fn status_in(alloc: Global, text: &str, room: usize) -> u8 {
 fn writers_that_fail(rt: HostRuntime) -> Result<(), Fail> {
     let text = configuration(rt.alloc(), "\"PoolRoute|A\"")?;
     for room in 0..10 {
-        assert!(rt; status_in(rt.alloc(), text.as_str(), room) == WRITER);
-        assert!(rt; status_in(rt.alloc(), "", room) == WRITER);
+        assert_eq!(rt; status_in(rt.alloc(), text.as_str(), room), WRITER);
+        assert_eq!(rt; status_in(rt.alloc(), "", room), WRITER);
     }
     Ok(())
 }

@@ -172,7 +172,7 @@ fn status_in(alloc: Global, script: &str, room: usize) -> u8 {
 #[test]
 fn writers_that_fail(rt: HostRuntime) {
     for room in 0..10 {
-        assert!(rt; status_in(rt.alloc(), "pool 1", room) == WRITER);
-        assert!(rt; status_in(rt.alloc(), "", room) == WRITER);
+        assert_eq!(rt; status_in(rt.alloc(), "pool 1", room), WRITER);
+        assert_eq!(rt; status_in(rt.alloc(), "", room), WRITER);
     }
 }

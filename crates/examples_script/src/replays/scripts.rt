@@ -603,11 +603,8 @@ fn a_set_that_never_ends(rt: HostRuntime) -> Result<(), Fail> {
         r#"pool 1
 > 0 set a 0 0 3\r\nxy"#,
     )?;
-    same(
-        "a_set_that_never_ends",
-        got.as_str(),
-        "0\ndone 0 commands 0 calls 0 stale\n",
-    )
+    assert_eq!(rt; got.as_str(), "0\ndone 0 commands 0 calls 0 stale\n");
+    Ok(())
 }
 
 // So many letters between two texts.
@@ -637,7 +634,7 @@ fn key_lengths(rt: HostRuntime) -> Result<(), Fail> {
     ];
     for (length, want) in cases {
         let got = of_letters(rt.alloc(), "pool 1\n> 0 get ", length, "\\r\\n")?;
-        same("key_lengths", got.as_str(), want)?;
+        assert_eq!(rt; got.as_str(), want, "at {length}");
     }
     Ok(())
 }
@@ -646,22 +643,22 @@ fn key_lengths(rt: HostRuntime) -> Result<(), Fail> {
 fn largest_data(rt: HostRuntime) -> Result<(), Fail> {
     let head = "pool 1\n> 0 set a 0 0 1048576\\r\\n";
     let largest = of_letters(rt.alloc(), head, 1_048_576, "\\r\\n")?;
-    same(
-        "largest_data",
+    assert_eq!(rt;
         largest.as_str(),
-        "0\n< 0 STORED\\r\\n\ndone 1 commands 1 calls 0 stale\n",
-    )
+        "0\n< 0 STORED\\r\\n\ndone 1 commands 1 calls 0 stale\n"
+    );
+    Ok(())
 }
 
 #[test]
 fn larger_data(rt: HostRuntime) -> Result<(), Fail> {
     let head = "pool 1\n> 0 set a 0 0 1048577\\r\\n";
     let larger = of_letters(rt.alloc(), head, 1_048_577, "\\r\\nget a\\r\\n")?;
-    same(
-        "larger_data",
+    assert_eq!(rt;
         larger.as_str(),
-        "0\n< 0 SERVER_ERROR object too large for cache\\r\\nEND\\r\\n\ndone 1 commands 1 calls 0 stale\n",
-    )
+        "0\n< 0 SERVER_ERROR object too large for cache\\r\\nEND\\r\\n\ndone 1 commands 1 calls 0 stale\n"
+    );
+    Ok(())
 }
 
 // Items under the keys k0, k1 and so on.
@@ -678,11 +675,11 @@ fn the_oldest_of_1025_held_items_is_pushed_out(rt: HostRuntime) -> Result<(), Fa
     let mut script = held_items(rt.alloc(), 1025)?;
     script.push_str("> 0 get k0 k1 k1024\\r\\n\n")?;
     let got = printed(rt.alloc(), false, script.as_str())?;
-    same(
-        "the_oldest_of_1025_held_items_is_pushed_out",
+    assert_eq!(rt;
         got.as_str(),
-        "0\n< 0 VALUE k1 0 1\\r\\n1\\r\\nVALUE k1024 0 1\\r\\n1\\r\\nEND\\r\\n\ndone 3 commands 3 calls 0 stale\n",
-    )
+        "0\n< 0 VALUE k1 0 1\\r\\n1\\r\\nVALUE k1024 0 1\\r\\n1\\r\\nEND\\r\\n\ndone 3 commands 3 calls 0 stale\n"
+    );
+    Ok(())
 }
 
 /// A configuration's line, and sixteen lines that load it again.
@@ -711,5 +708,6 @@ fn sixteen_generations(rt: HostRuntime) -> Result<(), Fail> {
     let script = sixteen_reloads(rt.alloc())?;
     let got = printed(rt.alloc(), false, script.as_str())?;
     let lines = sixteen_lines(rt.alloc())?;
-    same("sixteen_generations", got.as_str(), lines.as_str())
+    assert_eq!(rt; got.as_str(), lines.as_str());
+    Ok(())
 }

@@ -2,7 +2,7 @@
 //! nonsense.
 
 use crate::replays::scripts::{OfScripts, of_letters, printed};
-use examples_tables::tables::{all_hold, expanded, same};
+use examples_tables::tables::{all_hold, expanded};
 use std::alloc::Global;
 use std::process::Abort;
 use std::test::Fail;
@@ -126,16 +126,6 @@ result 0
 -- 0
 < 1 END\r\n
 < 0 END\r\n
-done 2 commands 2 calls 0 stale
-== least_server_first: with a piece all calls that are out have their results, and the first is that of server 0
-pool 2
-+ 1 set b 0 0 1\r\n2\r\n
-+ 0 set a 0 0 1\r\n1\r\n
-fail 1 before
-> 2 
--- 0
-< 0 SERVER_ERROR call failed\r\n
-< 1 STORED\r\n
 done 2 commands 2 calls 0 stale
 "#
 }
@@ -282,7 +272,7 @@ fn added_bytes() -> [(&'static str, usize, &'static str, &'static str); 5] {
 fn most_bytes_that_are_added(rt: HostRuntime) -> Result<(), Fail> {
     for (head, count, tail, want) in added_bytes() {
         let got = of_letters(rt.alloc(), head, count, tail)?;
-        same("most_bytes_that_are_added", got.as_str(), want)?;
+        assert_eq!(rt; got.as_str(), want, "at {count} bytes and {tail}");
     }
     Ok(())
 }
