@@ -2,7 +2,6 @@
 //! In an example `«31 [»` stands for 31 times `[`, in which `#` is the number of the time, from 1 on.
 
 use std::alloc::{AllocError, Global};
-use std::test::Fail;
 
 /// What stands before and after these bytes; without them, all stands before.
 pub fn halves<'a>(text: &'a str, by: &str) -> (&'a str, &'a str) {
@@ -14,8 +13,8 @@ pub trait Teller {
     fn told(alloc: Global, example: &str) -> Result<String, AllocError>;
 }
 
-// The lines of the table of which something else is told, each with what is told of it.
-fn wrong<T: Teller>(alloc: Global, table: &str) -> Result<String, AllocError> {
+/// The lines of the table of which something else is told, each with what is told of it.
+pub fn wrong<T: Teller>(alloc: Global, table: &str) -> Result<String, AllocError> {
     let mut out = String::new(alloc);
     for line in table.lines() {
         if !line.starts_with('#') {
@@ -26,15 +25,6 @@ fn wrong<T: Teller>(alloc: Global, table: &str) -> Result<String, AllocError> {
         }
     }
     Ok(out)
-}
-
-/// That of each line of the table what it says is told.
-pub fn rows_hold<T: Teller>(alloc: Global, table: &str) -> Result<(), Fail> {
-    let lines = wrong::<T>(alloc, table)?;
-    if lines.is_empty() {
-        return Ok(());
-    }
-    Err(Fail::new(format_args!("{lines}")))
 }
 
 // The line and what is told of it, unless that is what is wanted.
