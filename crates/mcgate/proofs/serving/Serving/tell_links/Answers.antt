@@ -14,3 +14,6 @@ loop-preserved g c = record {
   core = ap (λ (e : ProxyEnd Sockets). e.core) c.tell_of.ensures ∙ c.next_news.ensures.core ∙ c.loop.invariant.core;
   ends = subst (λ (e : ProxyEnd Sockets). Stay history_of c.args.self.now.end.sockets e.sockets) (sym c.tell_of.ensures) (stay_then c.loop.invariant.ends c.next_news.ensures.ends);
 }
+
+pub returns-in_default-clause-ends : goal.returns-in_default-clause-ends
+returns-in_default-clause-ends g c = stay_then c.loop.invariant.ends c.next_news.ensures.ends
