@@ -29,9 +29,9 @@ fn is_get(op: Op) -> bool
     }
 }
 
-// Whether a get may copy, by what is left of the tree for a text; the hash doesn't matter.
+/// Whether a get may copy, by what is left of the tree for a text; the hash doesn't matter. It takes no memory.
 #[cycle(copies)]
-fn copies(tree: &Tree, text: &[u8]) -> bool
+pub fn copies(tree: &Tree, text: &[u8]) -> bool
     ensures { (hash : ℕ) → result ≡ may_copy Get (plain_for hash text.now tree.now) }
 {
     match tree.form() {

@@ -5,7 +5,6 @@ ghost use Rattle.std.specs.Io.KnownBytes.{Appends};
 ghost use Rattle.route_tree.specs.Form.{policies_of, prefixes_of, routes_of};
 ghost use Rattle.mcgate_args.specs.FleetLines.{copy_path, copy_path_begun, copy_path_by, copy_path_in, copying_end, copying_front, copying_line, fleet_line, many_files_line, many_places_line, pair_fields, pair_gap_line, pair_head, step_text, step_to_child, step_to_policy};
 
-use core_fleets::gates::copied::copies;
 use gate_check::Gap;
 use gate_coverage::prefixes::prefix_text;
 use gate_coverage::stores::is_op;
@@ -14,6 +13,7 @@ use gate_gaps::sites::longest_begun;
 use mc_types::{Key, Op};
 use mcgate_check::verdict::write_gap;
 use route_json::Servers;
+use route_tree::copying::copies;
 use route_tree::{Tree, TreeForm};
 use std::io;
 use std::io::Write;
