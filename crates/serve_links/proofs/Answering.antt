@@ -16,7 +16,7 @@ use Rattle.serve_links.specs.CoreSteps.{Step, Settled, Spelled, Walks, AreOf, Is
 use Rattle.serve_links.specs.Dialects.{SpellsIn}
 use Rattle.serve_links.specs.Settled.{SettlesOne, SettlesEach, SettlesSome}
 use Rattle.serve_links.specs.Talks.{SaidAsk, Talk, behind, with_answer, talk_in, IsNextAnswer, IsOrderly, IsOfServer}
-use Rattle.serve_links.specs.Story.{said_asks}
+use Rattle.serve_links.specs.Story.{said_asks, AreCalled}
 use Rattle.serve_links.proofs.Walked.{walked, of_both}
 use Rattle.serve_links.proofs.Showing.{IsUnlost}
 
@@ -26,6 +26,7 @@ pub record Answers (at : ℕ) (sent : List SentCall) (bytes : List ℕ) (a : Ser
   pub kinds : AreOf IsOfTurn steps
   pub own : AreOf (IsOfServer at) steps
   pub unlost : AreOf IsUnlost steps
+  pub called : (past : List Step) → AreCalled past at (said_asks sent) → AreCalled past at (said_asks sent')
   pub walks : Walks steps a b
   pub spelled : List ℕ
   pub whole : bytes ≡ spelled ++ rest
@@ -58,6 +59,7 @@ one at (call ∷ calls) bytes a answer sent' rest b s = record {
   kinds = (tt, (tt, tt));
   own = (tt, (refl, tt));
   unlost = (tt, (tt, tt));
+  called = λ past are. subst (λ (l : List SentCall). AreCalled past at (said_asks l)) (sym s.settles.1) are.1;
   walks = (a, (a, refl, (refl, asks)), s.settles.2);
   spelled = spelled;
   whole = s.whole ∙ ap (λ l. l ++ s.more) (sym (take-append-drop s.used s.front)) ∙ append_assoc spelled (drop s.used s.front) s.more ∙ ap (λ l. spelled ++ l) (sym s.rest);
@@ -106,6 +108,7 @@ both at sent bytes a mid left m sent' rest b f g = record {
   kinds = of_both IsOfTurn g.steps f.steps g.kinds f.kinds;
   own = of_both (IsOfServer at) g.steps f.steps g.own f.own;
   unlost = of_both IsUnlost g.steps f.steps g.unlost f.unlost;
+  called = λ past are. g.called past (f.called past are);
   walks = walked g.steps f.steps a m b f.walks g.walks;
   spelled = f.spelled ++ g.spelled;
   whole = f.whole ∙ ap (λ l. f.spelled ++ l) g.whole ∙ sym (append_assoc f.spelled g.spelled rest);
@@ -133,6 +136,7 @@ answers_each at [] sent bytes a sent' rest b s = record {
   kinds = tt;
   own = tt;
   unlost = tt;
+  called = λ past are. subst (λ (l : List SentCall). AreCalled past at (said_asks l)) (sym s.0) are;
   walks = s.2;
   spelled = [];
   whole = sym s.1;

@@ -8,7 +8,7 @@ use Rattle.serve_links.specs.declared.calls.calls.SentCall.{SentCall}
 use Rattle.core_accepted.specs.Results.{IsSettled}
 use Rattle.serve_links.specs.Calls.{SettlesFirst}
 use Rattle.serve_links.specs.declared.link.Link.{Link}
-use Rattle.serve_links.specs.Links.{AllFail, LosesFirst}
+use Rattle.serve_links.specs.Links.{AllFail, FailsTo}
 
 pub all_then : (xs ys : List SentCall) (a b c : ServedCore) → AllFail xs a b → AllFail ys b c → AllFail (xs ++ ys) a c
 all_then [] ys a b c f g = subst (λ x. AllFail ys x c) f g
@@ -49,12 +49,24 @@ all_by_none sent a e = subst (λ xs. AllFail xs a a) (sym e) refl
 pub waiting_then : (waiting : List SentCall) (call : SentCall) (rest : List SentCall) (a b c : ServedCore) → waiting ≡ call ∷ rest → IsSettled a call.ticket.number Failed b → AllFail rest b c → AllFail waiting a c
 waiting_then waiting call rest a b c e is g = subst (λ xs. AllFail xs a c) (sym e) (b, is, g)
 
--- one more is gone
-pub one_gone : (calls waiting rest : List SentCall) (call : SentCall) → LosesFirst calls waiting → waiting ≡ call ∷ rest → LosesFirst calls rest
-one_gone calls waiting rest call was e = (was.0 ++ call ∷ [], was.1 ∙ ap (λ xs. was.0 ++ xs) e ∙ sym (append_assoc was.0 (call ∷ []) rest))
+-- one more of those that were sent has failed
+pub one_failed :
+    (calls sent : List SentCall) (client : ℕ) (sent' : List SentCall) (a b c : ServedCore) → FailsTo calls sent a b → SettlesFirst sent b Failed (Some client) sent' c → FailsTo calls sent' a c
+one_failed calls [] client sent' a b c f is = absurd (some_none client is.0)
+  where
+    some_none : (n : ℕ) → ◌≡◌ {A = Option ℕ} (Some n) None → ⊥
+    some_none n e = cc
+one_failed calls (call ∷ rest) client sent' a b c f is =
+    (f.0 ++ call ∷ [], f.1 ∙ ap (λ l. f.0 ++ call ∷ l) (sym is.1) ∙ sym (append_assoc f.0 (call ∷ []) sent'), all_then f.0 (call ∷ []) a b c f.2 (c, is.2, refl))
 
-pub none_gone : (calls : List SentCall) → LosesFirst calls calls
-none_gone calls = ([], refl)
+-- or of those that wait
+pub one_waiting_failed :
+    (calls waiting rest : List SentCall) (call : SentCall) (a b c : ServedCore) → FailsTo calls waiting a b → waiting ≡ call ∷ rest → IsSettled b call.ticket.number Failed c → FailsTo calls rest a c
+one_waiting_failed calls waiting rest call a b c f is settled =
+    (f.0 ++ call ∷ [], f.1 ∙ ap (λ l. f.0 ++ l) is ∙ sym (append_assoc f.0 (call ∷ []) rest), all_then f.0 (call ∷ []) a b c f.2 (c, settled, refl))
+
+pub none_failed : (calls : List SentCall) (a : ServedCore) → FailsTo calls calls a a
+none_failed calls a = ([], refl, refl)
 
 -- of a result that came
 pub on_ok : {A E : Type 0} (r : Result A E) (P Q : Type 0) → (P → Q) → OnOk r P → OnOk r Q

@@ -24,10 +24,11 @@ use Rattle.serve_links.specs.declared.news.Cause.{Cause}
 use Rattle.serve_links.specs.CoreSteps.{Step, Opened, NotOpened, Fed, Polled, Stopped, Settled, Gave, Closed, LeftLine, Broke, Loaded, Linked, Asked, Greeted, Spelled, Lost, AreOf, IsOfTurn, IsFailure, IsGivingUp, IsSending, Fails}
 use Rattle.serve_links.specs.Dialects.{asked_in}
 use Rattle.serve_links.specs.Lines.{first_asked_of, awaits_first, first_dialect, SameLine, KeepsLines, IsNewEnd, HasNewEnd, OpensBy, TakesGreeting, HasLearnt, Learns}
+use Rattle.serve_links.specs.Links.{FailsTo}
 use Rattle.serve_links.specs.Settled.{SettlesSome}
 use Rattle.serve_links.specs.Talks.{SaidAsk, Talk, first_talk, with_ask, greeted, given_up, talk_in, AreDue, IsOrderly, IsOfServer}
-use Rattle.serve_links.specs.Story.{said_asks, numbers_of, MayGo, MayAllGo, TalkAgrees, ConnAgrees, LineAgrees, LineLost, LineFails, ShowsWhy, WasShown, AreShown, LineCalled, LineState, line_of, KeepsOthers, LineGoesFrom, LineGoes, AnEnd, Agrees, AgreesLosing}
-use Rattle.serve_links.proofs.Talking.{calls_later, one_more, IsPlain, plain_talk, plain_orderly}
+use Rattle.serve_links.specs.Story.{said_asks, numbers_of, AreCalled, MayGo, MayAllGo, TalkAgrees, ConnAgrees, LineAgrees, LineLost, LineFails, ShowsWhy, WasShown, AreShown, LineCalled, LineState, line_of, KeepsOthers, LineGoesFrom, LineGoes, AnEnd, Agrees, AgreesLosing}
+use Rattle.serve_links.proofs.Talking.{calls_later, one_more, IsPlain, plain_talk, called_all_later, called_more, called_last, called_first, called_of, waiting_called, FailsInOrder, fail_in_order}
 use Rattle.serve_links.proofs.Due.{due_less, due_first, due_last, due_behind, due_between, due_later, due_asked}
 use Rattle.serve_links.proofs.Walked.{walked, of_both}
 use Rattle.serve_links.proofs.Showing.{plain_unlost, none_since, shown_since, shown_later}
@@ -77,15 +78,15 @@ talk_as {h} {at} {text} {text'} {t} {t'} {c} {c'} {held} {held'} {unsent} {unsen
 }
 
 -- a link that has this connection
-pub has_conn : (at : ℕ) (past : List Step) (h : List Event) (y : Link) (d : Conn) → y.conn ≡ Some d → ConnAgrees at past h y d d.held.items → is_over d.number h ≡ false → MayAllGo past at y.waiting.items → AreDue past at (numbers_of y.waiting.items) → LineAgrees at past h y
-has_conn at past h y d is agrees goes_on waiting due = record { conn = λ conn there. subst (λ (z : Conn). ConnAgrees at past h y z z.held.items) (same_some (sym is ∙ there)) agrees; goes_on = λ conn there. subst (λ (z : Conn). is_over z.number h ≡ false) (same_some (sym is ∙ there)) goes_on; waiting = waiting; due = due; none_out = λ none. absurd (none_some (sym none ∙ is)) }
+pub has_conn : (at : ℕ) (past : List Step) (h : List Event) (y : Link) (d : Conn) → y.conn ≡ Some d → ConnAgrees at past h y d d.held.items → is_over d.number h ≡ false → MayAllGo past at y.waiting.items → AreDue past at (numbers_of y.waiting.items) → AreCalled past at (said_asks y.calls.sent.items) → LineAgrees at past h y
+has_conn at past h y d is agrees goes_on waiting due called = record { conn = λ conn there. subst (λ (z : Conn). ConnAgrees at past h y z z.held.items) (same_some (sym is ∙ there)) agrees; goes_on = λ conn there. subst (λ (z : Conn). is_over z.number h ≡ false) (same_some (sym is ∙ there)) goes_on; waiting = waiting; due = due; none_out = λ none. absurd (none_some (sym none ∙ is)); called = called }
 
 -- and one that has none
-pub has_none : (at : ℕ) (past : List Step) (h : List Event) (y : Link) → y.conn ≡ None → MayAllGo past at y.waiting.items → AreDue past at (numbers_of y.waiting.items) → (talk_in past at).out ≡ [] → LineAgrees at past h y
-has_none at past h y is waiting due out = record { conn = λ conn there. absurd (none_some (sym is ∙ there)); goes_on = λ conn there. absurd (none_some (sym is ∙ there)); waiting = waiting; due = due; none_out = λ none. out }
+pub has_none : (at : ℕ) (past : List Step) (h : List Event) (y : Link) → y.conn ≡ None → MayAllGo past at y.waiting.items → AreDue past at (numbers_of y.waiting.items) → (talk_in past at).out ≡ [] → AreCalled past at (said_asks y.calls.sent.items) → LineAgrees at past h y
+has_none at past h y is waiting due out called = record { conn = λ conn there. absurd (none_some (sym is ∙ there)); goes_on = λ conn there. absurd (none_some (sym is ∙ there)); waiting = waiting; due = due; none_out = λ none. out; called = called }
 
 pub as_lost : (at : ℕ) (past : List Step) (h : List Event) (x : Link) → LineAgrees at past h x → LineLost at past h x
-as_lost at past h x a = record { conn = λ conn is. (conn.held.items, a.conn conn is); waiting = a.waiting; due = a.due; none_out = a.none_out }
+as_lost at past h x a = record { conn = λ conn is. (conn.held.items, a.conn conn is); waiting = a.waiting; due = a.due; none_out = a.none_out; called = a.called }
 
 -- one that agrees, whose connection shows why it is to be given up
 pub as_failing : (why : Option Cause) (at : ℕ) (past : List Step) (h : List Event) (x : Link) → ((conn : Conn) → x.conn ≡ Some conn → ShowsWhy why (talk_in past at) conn.number h) → LineAgrees at past h x → LineFails why at past h x
@@ -163,17 +164,17 @@ OfConn at past h text out awaits dialect None = (talk_in past at).out ≡ []
 OfConn at past h text out awaits dialect (Some e) = TalkAgrees h at text (talk_in past at) e.0 e.1 e.2 out awaits dialect × (is_over e.0 h ≡ false)
 
 abbrev OfLine : ℕ → List Step → List Event → LineState → Type 0
-OfLine at past h s = OfConn at past h s.0 s.2 s.4 s.5 s.1 × MayAllGo past at s.3 × AreDue past at (numbers_of s.3)
+OfLine at past h s = OfConn at past h s.0 s.2 s.4 s.5 s.1 × MayAllGo past at s.3 × AreDue past at (numbers_of s.3) × AreCalled past at s.2
 
 to_line : (at : ℕ) (past : List Step) (h : List Event) (x : Link) → LineAgrees at past h x → OfLine at past h (line_of x)
-to_line at past h x a = (by x.conn refl, a.waiting, a.due)
+to_line at past h x a = (by x.conn refl, a.waiting, a.due, a.called)
   where
     by : (o : Option Conn) → x.conn ≡ o → OfConn at past h x.text.items (said_asks x.calls.sent.items) x.awaits_dialect x.dialect (option_map (λ (c : Conn). (c.number, c.held.items, bytes_of c.unsent)) o)
     by None e = a.none_out e
     by (Some c) e = (a.conn c e, a.goes_on c e)
 
 from_line : (at : ℕ) (past : List Step) (h : List Event) (y : Link) → OfLine at past h (line_of y) → LineAgrees at past h y
-from_line at past h y o = record { conn = λ conn is. (there conn is).0; goes_on = λ conn is. (there conn is).1; waiting = o.1; due = o.2; none_out = λ none. there_none none }
+from_line at past h y o = record { conn = λ conn is. (there conn is).0; goes_on = λ conn is. (there conn is).1; waiting = o.1; due = o.2; none_out = λ none. there_none none; called = o.3 }
   where
     there : (conn : Conn) → y.conn ≡ Some conn → ConnAgrees at past h y conn conn.held.items × (is_over conn.number h ≡ false)
     there conn is = subst (λ (q : Option Conn). OfConn at past h y.text.items (said_asks y.calls.sent.items) y.awaits_dialect y.dialect (option_map (λ (c : Conn). (c.number, c.held.items, bytes_of c.unsent)) q)) is o.0
@@ -240,9 +241,9 @@ talk_reads h h' at text t c held held' unsent out awaits dialect r was = record 
 -- what agrees but for its connection is over, and shows why
 pub over_so :
     (why : Option Cause) (at : ℕ) (past : List Step) (h : List Event) (y : Link) (d : Conn) → y.conn ≡ Some d → ConnAgrees at past h y d d.held.items → ShowsWhy why (talk_in past at) d.number h → MayAllGo past at y.waiting.items
-    → AreDue past at (numbers_of y.waiting.items) → LineFails why at past h y
-over_so why at past h y d is agrees shows waiting due = record {
-  lost = record { conn = λ conn there. (conn.held.items, subst (λ (z : Conn). ConnAgrees at past h y z z.held.items) (same_some (sym is ∙ there)) agrees); waiting = waiting; due = due; none_out = λ none. absurd (none_some (sym none ∙ is)) };
+    → AreDue past at (numbers_of y.waiting.items) → AreCalled past at (said_asks y.calls.sent.items) → LineFails why at past h y
+over_so why at past h y d is agrees shows waiting due called = record {
+  lost = record { conn = λ conn there. (conn.held.items, subst (λ (z : Conn). ConnAgrees at past h y z z.held.items) (same_some (sym is ∙ there)) agrees); waiting = waiting; due = due; none_out = λ none. absurd (none_some (sym none ∙ is)); called = called };
   shows = λ conn there. subst (λ (z : Conn). ShowsWhy why (talk_in past at) z.number h) (same_some (sym is ∙ there)) shows;
 }
 
@@ -250,7 +251,7 @@ over_so why at past h y d is agrees shows waiting due = record {
 line_reads_to :
     {After : ℕ → List Step → List Event → Link → Type 0} {Is : Step → Type 0} {at : ℕ} {core : ServedCore} {h h' : List Event} (x y : Link) (c d : Conn) → x.conn ≡ Some c → y ≡ record x { conn = Some d } → d.number ≡ c.number
     → bytes_of d.unsent ≡ bytes_of c.unsent → ReadsOn c.number c.held.items d.held.items h h'
-    → ((past : List Step) → LineAgrees at past h x → ConnAgrees at past h' y d d.held.items → MayAllGo past at y.waiting.items → AreDue past at (numbers_of y.waiting.items) → After at past h' y)
+    → ((past : List Step) → LineAgrees at past h x → ConnAgrees at past h' y d d.held.items → MayAllGo past at y.waiting.items → AreDue past at (numbers_of y.waiting.items) → AreCalled past at (said_asks y.calls.sent.items) → After at past h' y)
     → LineGoesFrom LineAgrees After Is at core h x core h' y
 line_reads_to {After} {at = at} {h = h} {h' = h'} x y c d was is number unsent r after =
     line_moves refl (only_after c.number h h' r.elsewhere) (shut_used c.number r.elsewhere (ap (option_map (λ (z : Conn). z.number)) was) (ap conn_of is ∙ ap (λ n. Some n) number)) (ap (λ (z : Link). z.text.items) is) (λ past a. (agrees past a, keeps_others c.number (1, at) h h' (a.conn c was).is_to r.same_role r.elsewhere))
@@ -260,7 +261,7 @@ line_reads_to {After} {at = at} {h = h} {h' = h'} x y c d was is number unsent r
         let now = talk_reads h h' at x.text.items (talk_in past at) c.number c.held.items d.held.items (bytes_of c.unsent) (said_asks x.calls.sent.items) x.awaits_dialect x.dialect r (a.conn c was) in
         let conn = talk_as (ap (λ (z : Link). z.text.items) is) refl number refl unsent (ap (λ (z : Link). said_asks z.calls.sent.items) is) (ap (λ (z : Link). z.awaits_dialect) is) (ap (λ (z : Link). z.dialect) is) now in
         let waits = sym (ap (λ (z : Link). z.waiting.items) is) in
-        after past a conn (subst (λ w. MayAllGo past at w) waits a.waiting) (subst (λ w. AreDue past at (numbers_of w)) waits a.due)
+        after past a conn (subst (λ w. MayAllGo past at w) waits a.waiting) (subst (λ w. AreDue past at (numbers_of w)) waits a.due) (subst (λ l. AreCalled past at l) (sym (ap (λ (z : Link). said_asks z.calls.sent.items) is)) a.called)
 
 -- where the connection stands still
 pub line_reads :
@@ -268,7 +269,7 @@ pub line_reads :
     → ReadsOn c.number c.held.items d.held.items h h' → Stands c.number h h' → LineGoes Is at core h x core h' y
 line_reads {at = at} {h' = h'} x y c d was is number unsent r stands =
     line_reads_to x y c d was is number unsent r
-    (λ past a agrees waiting due. has_conn at past h' y d (ap (λ (z : Link). z.conn) is) agrees (ap (λ n. is_over n h') number ∙ stands ∙ a.goes_on c was) waiting due)
+    (λ past a agrees waiting due called. has_conn at past h' y d (ap (λ (z : Link). z.conn) is) agrees (ap (λ n. is_over n h') number ∙ stands ∙ a.goes_on c was) waiting due called)
 
 -- or shows why it is to be given up
 pub line_reads_over :
@@ -276,7 +277,7 @@ pub line_reads_over :
     → bytes_of d.unsent ≡ bytes_of c.unsent → ReadsOn c.number c.held.items d.held.items h h' → ((t : Talk) → ShowsWhy why t c.number h') → LineGoesFrom LineAgrees (LineFails why) Is at core h x core h' y
 line_reads_over {at = at} {h' = h'} why x y c d was is number unsent r shows =
     line_reads_to x y c d was is number unsent r
-    (λ past a agrees waiting due. over_so why at past h' y d (ap (λ (z : Link). z.conn) is) agrees (subst (λ n. ShowsWhy why (talk_in past at) n h') (sym number) (shows (talk_in past at))) waiting due)
+    (λ past a agrees waiting due called. over_so why at past h' y d (ap (λ (z : Link). z.conn) is) agrees (subst (λ n. ShowsWhy why (talk_in past at) n h') (sym number) (shows (talk_in past at))) waiting due called)
 
 talk_sends :
     (h h' : List Event) (at : ℕ) (text : List ℕ) (t : Talk) (c : ℕ) (held unsent unsent' : List ℕ) (out : List SaidAsk) (awaits : Bool) (dialect : Dialect) → SendsOn c unsent unsent' h h' → TalkAgrees h at text t c held unsent out awaits dialect
@@ -295,7 +296,7 @@ talk_sends h h' at text t c held unsent unsent' out awaits dialect s was = recor
 line_sends_to :
     {After : ℕ → List Step → List Event → Link → Type 0} {Is : Step → Type 0} {at : ℕ} {core : ServedCore} {h h' : List Event} (x y : Link) (c d : Conn) → x.conn ≡ Some c → y ≡ record x { conn = Some d } → d.number ≡ c.number
     → d.held.items ≡ c.held.items → SendsOn c.number (bytes_of c.unsent) (bytes_of d.unsent) h h'
-    → ((past : List Step) → LineAgrees at past h x → ConnAgrees at past h' y d d.held.items → MayAllGo past at y.waiting.items → AreDue past at (numbers_of y.waiting.items) → After at past h' y)
+    → ((past : List Step) → LineAgrees at past h x → ConnAgrees at past h' y d d.held.items → MayAllGo past at y.waiting.items → AreDue past at (numbers_of y.waiting.items) → AreCalled past at (said_asks y.calls.sent.items) → After at past h' y)
     → LineGoesFrom LineAgrees After Is at core h x core h' y
 line_sends_to {After} {at = at} {h = h} {h' = h'} x y c d was is number held s after =
     line_moves refl (only_after c.number h h' s.elsewhere) (shut_used c.number s.elsewhere (ap (option_map (λ (z : Conn). z.number)) was) (ap conn_of is ∙ ap (λ n. Some n) number)) (ap (λ (z : Link). z.text.items) is) (λ past a. (agrees past a, keeps_others c.number (1, at) h h' (a.conn c was).is_to s.same_role s.elsewhere))
@@ -305,7 +306,7 @@ line_sends_to {After} {at = at} {h = h} {h' = h'} x y c d was is number held s a
         let now = talk_sends h h' at x.text.items (talk_in past at) c.number c.held.items (bytes_of c.unsent) (bytes_of d.unsent) (said_asks x.calls.sent.items) x.awaits_dialect x.dialect s (a.conn c was) in
         let conn = talk_as (ap (λ (z : Link). z.text.items) is) refl number held refl (ap (λ (z : Link). said_asks z.calls.sent.items) is) (ap (λ (z : Link). z.awaits_dialect) is) (ap (λ (z : Link). z.dialect) is) now in
         let waits = sym (ap (λ (z : Link). z.waiting.items) is) in
-        after past a conn (subst (λ w. MayAllGo past at w) waits a.waiting) (subst (λ w. AreDue past at (numbers_of w)) waits a.due)
+        after past a conn (subst (λ w. MayAllGo past at w) waits a.waiting) (subst (λ w. AreDue past at (numbers_of w)) waits a.due) (subst (λ l. AreCalled past at l) (sym (ap (λ (z : Link). said_asks z.calls.sent.items) is)) a.called)
 
 -- where the connection stands still
 pub line_sends :
@@ -313,7 +314,7 @@ pub line_sends :
     → SendsOn c.number (bytes_of c.unsent) (bytes_of d.unsent) h h' → Stands c.number h h' → LineGoes Is at core h x core h' y
 line_sends {at = at} {h' = h'} x y c d was is number held s stands =
     line_sends_to x y c d was is number held s
-    (λ past a agrees waiting due. has_conn at past h' y d (ap (λ (z : Link). z.conn) is) agrees (ap (λ n. is_over n h') number ∙ stands ∙ a.goes_on c was) waiting due)
+    (λ past a agrees waiting due called. has_conn at past h' y d (ap (λ (z : Link). z.conn) is) agrees (ap (λ n. is_over n h') number ∙ stands ∙ a.goes_on c was) waiting due called)
 
 -- or shows why it is to be given up
 pub line_sends_over :
@@ -321,7 +322,7 @@ pub line_sends_over :
     → SendsOn c.number (bytes_of c.unsent) (bytes_of d.unsent) h h' → ((t : Talk) → ShowsWhy why t c.number h') → LineGoesFrom LineAgrees (LineFails why) Is at core h x core h' y
 line_sends_over {at = at} {h' = h'} why x y c d was is number held s shows =
     line_sends_to x y c d was is number held s
-    (λ past a agrees waiting due. over_so why at past h' y d (ap (λ (z : Link). z.conn) is) agrees (subst (λ n. ShowsWhy why (talk_in past at) n h') (sym number) (shows (talk_in past at))) waiting due)
+    (λ past a agrees waiting due called. over_so why at past h' y d (ap (λ (z : Link). z.conn) is) agrees (subst (λ n. ShowsWhy why (talk_in past at) n h') (sym number) (shows (talk_in past at))) waiting due called)
 
 -- ---- a new connection
 
@@ -377,6 +378,7 @@ begins at core h h' x y dialect number new noted has = record {
         (ap (λ n. is_over n h') end.0 ∙ ap (is_over number) noted ∙ new.goes_on)
         (calls_later (Linked at dialect ∷ []) past at y.waiting.items (subst (λ w. MayAllGo past at w) (sym (ap (λ w. w.items) has.waiting)) a.waiting))
         (due_later (Linked at dialect ∷ []) past at (numbers_of y.waiting.items) (ap (λ (t : Talk). t.asked) talk) (subst (λ w. AreDue past at (numbers_of w)) (sym (ap (λ w. w.items) has.waiting)) a.due))
+        (subst (λ l. AreCalled (Linked at dialect ∷ past) at l) (sym none) tt)
 
 -- one was begun, and closed
 begins_in_vain :
@@ -444,6 +446,7 @@ line_learns {at} {core} {h} x y can on l = by l.told
             (ap (λ (z : Conn). is_over z.number h) takes.3 ∙ a.goes_on c was)
             (calls_later (step ∷ []) past at y.waiting.items (subst (λ w. MayAllGo past at w) (sym (ap (λ (z : Link). z.waiting.items) learnt.rest)) a.waiting))
             (due_later (step ∷ []) past at (numbers_of y.waiting.items) (ap (λ (t : Talk). t.asked) talk) (subst (λ w. AreDue past at (numbers_of w)) (sym (ap (λ (z : Link). z.waiting.items) learnt.rest)) a.due))
+            (called_all_later (step ∷ []) past at (said_asks y.calls.sent.items) (subst (λ l. AreCalled past at l) (sym (ap (λ (z : Link). said_asks z.calls.sent.items) learnt.rest)) a.called))
 
     by_conns : (o p : Option Conn) → x.conn ≡ o → y.conn ≡ p → TakesGreeting y.dialect o p → HasLearnt x y → LineGoes IsOfTurn at core h x core h y
     by_conns None p was is takes learnt = absurd takes
@@ -484,7 +487,7 @@ line_asks {at} {core} {h} x y c d call was is same more unsent = record {
   kinds = (tt, tt);
   own = (refl, tt);
   walks = (core, refl, refl);
-  agrees = λ past o a. (((a.1, due_first past at call.ticket.number (numbers_of x.waiting.items) a.2), o), agreed past a.0 a.2, all_kept (1, at) h h (quiet h));
+  agrees = λ past o a. (((a.1, due_first past at call.ticket.number (numbers_of x.waiting.items) a.2), o), agreed past a.0 a.1 a.2, all_kept (1, at) h h (quiet h));
   shown = λ past o a shown. shown_later (step ∷ []) past h h (tt, tt) (none_since h) shown;
   shut = shut_still (quiet h) (ap conn_of is ∙ ap (λ (z : Conn). Some z.number) same ∙ sym (ap (option_map (λ (z : Conn). z.number)) was));
   text = ap (λ (z : Link). z.text.items) is;
@@ -493,8 +496,8 @@ line_asks {at} {core} {h} x y c d call was is same more unsent = record {
     step : Step
     step = Asked at call.ticket.number call.dialect call.ticket.ask
 
-    agreed : (past : List Step) → LineAgrees at past h x → AreDue past at (numbers_of (call ∷ x.waiting.items)) → LineAgrees at (step ∷ past) h y
-    agreed past a due =
+    agreed : (past : List Step) → LineAgrees at past h x → MayGo past at call → AreDue past at (numbers_of (call ∷ x.waiting.items)) → LineAgrees at (step ∷ past) h y
+    agreed past a may due =
         let talk = ap (λ b. if b then with_ask call.ticket.number call.dialect call.ticket.ask (talk_in past at) else talk_in past at) (equal at) in
         let now = talk_asks h at x.text.items (talk_in past at) c.number c.held.items (bytes_of c.unsent) (said_asks x.calls.sent.items) x.awaits_dialect x.dialect call.ticket.number call.dialect call.ticket.ask (a.conn c was) in
         has_conn at (step ∷ past) h y d (ap (λ (z : Link). z.conn) is)
@@ -502,6 +505,8 @@ line_asks {at} {core} {h} x y c d call was is same more unsent = record {
         (ap (λ (z : Conn). is_over z.number h) same ∙ a.goes_on c was)
         (calls_later (step ∷ []) past at y.waiting.items (subst (λ w. MayAllGo past at w) (sym (ap (λ (z : Link). z.waiting.items) is)) a.waiting))
         (due_asked step past at call.ticket.number (numbers_of y.waiting.items) (ap (λ (t : Talk). t.asked) talk) (subst (λ w. AreDue past at (numbers_of (call ∷ w))) (sym (ap (λ (z : Link). z.waiting.items) is)) due))
+        (subst (λ l. AreCalled (step ∷ past) at l) (sym (ap said_asks more ∙ one_said x.calls.sent.items call))
+        (called_all_later (step ∷ []) past at (said_asks x.calls.sent.items ++ (call.ticket.number, call.dialect, call.ticket.ask) ∷ []) (called_more past at (said_asks x.calls.sent.items) (call.ticket.number, call.dialect, call.ticket.ask) a.called (called_of past at call may))))
 
 -- a link that has another list of calls that wait
 waits_with : (at : ℕ) (past : List Step) (h : List Event) (x y : Link) → y ≡ record x { waiting = y.waiting } → LineAgrees at past h x → MayAllGo past at y.waiting.items → AreDue past at (numbers_of y.waiting.items) → LineAgrees at past h y
@@ -513,6 +518,7 @@ waits_with at past h x y is a waiting due = record {
   waiting = waiting;
   due = due;
   none_out = λ none. a.none_out (sym (ap (λ (z : Link). z.conn) is) ∙ none);
+  called = subst (λ l. AreCalled past at l) (sym (ap (λ (z : Link). said_asks z.calls.sent.items) is)) a.called;
 }
 
 -- it waits
@@ -566,7 +572,7 @@ talk_answers h at text t c spelled held unsent out out' awaits dialect was = rec
 settles_to :
     {After : ℕ → List Step → List Event → Link → Type 0} {at : ℕ} {core core' : ServedCore} {h : List Event} (x y : Link) (c d : Conn) (rest : List ℕ) → x.conn ≡ Some c → y.conn ≡ Some d → x.awaits_dialect ≡ false
     → y.text.items ≡ x.text.items → y.waiting.items ≡ x.waiting.items → y.awaits_dialect ≡ x.awaits_dialect → y.dialect ≡ x.dialect → d.number ≡ c.number → bytes_of d.unsent ≡ bytes_of c.unsent
-    → ((past : List Step) → ConnAgrees at past h y d rest → is_over d.number h ≡ false → MayAllGo past at y.waiting.items → AreDue past at (numbers_of y.waiting.items) → After at past h y)
+    → ((past : List Step) → ConnAgrees at past h y d rest → is_over d.number h ≡ false → MayAllGo past at y.waiting.items → AreDue past at (numbers_of y.waiting.items) → AreCalled past at (said_asks y.calls.sent.items) → After at past h y)
     → SettlesSome x.calls.sent.items c.held.items core y.calls.sent.items rest core' → LineGoesFrom LineAgrees After IsOfTurn at core h x core' h y
 settles_to {After} {at} {core} {core'} {h} x y c d rest was is off text waiting awaits speaks number unsent after s = record {
   steps = g.steps;
@@ -588,6 +594,7 @@ settles_to {After} {at} {core} {core'} {h} x y c d rest was is off text waiting 
         let now = talk_answers h at x.text.items (talk_in past at) c.number g.spelled rest (bytes_of c.unsent) (said_asks x.calls.sent.items) (said_asks y.calls.sent.items) x.awaits_dialect x.dialect before in
         after (g.steps ++ past) (talk_as text talk number refl unsent refl awaits speaks now) (ap (λ n. is_over n h) number ∙ a.goes_on c was) (calls_later g.steps past at y.waiting.items (subst (λ w. MayAllGo past at w) (sym waiting) a.waiting))
         (due_later g.steps past at (numbers_of y.waiting.items) (ap (λ (t : Talk). t.asked) talk) (subst (λ w. AreDue past at (numbers_of w)) (sym waiting) a.due))
+        (called_all_later g.steps past at (said_asks y.calls.sent.items) (g.called past a.called))
 
 -- what is left of it is held
 pub line_settles :
@@ -595,7 +602,7 @@ pub line_settles :
     → y.awaits_dialect ≡ x.awaits_dialect → y.dialect ≡ x.dialect → d.number ≡ c.number → bytes_of d.unsent ≡ bytes_of c.unsent → SettlesSome x.calls.sent.items c.held.items core y.calls.sent.items d.held.items core'
     → LineGoes IsOfTurn at core h x core' h y
 line_settles {at} {core} {core'} {h} x y c d was is off text waiting awaits speaks number unsent s =
-    settles_to x y c d d.held.items was is off text waiting awaits speaks number unsent (λ past agrees goes_on called due. has_conn at past h y d is agrees goes_on called due) s
+    settles_to x y c d d.held.items was is off text waiting awaits speaks number unsent (λ past agrees goes_on waits due called. has_conn at past h y d is agrees goes_on waits due called) s
 
 -- or it is lost
 pub line_loses :
@@ -604,20 +611,21 @@ pub line_loses :
     → LineGoesFrom LineAgrees LineLost IsOfTurn at core h x core' h y
 line_loses {at} {core} {core'} {h} x y c d rest was is off text waiting awaits speaks number unsent s =
     settles_to x y c d rest was is off text waiting awaits speaks number unsent
-    (λ past agrees goes_on called due. record { conn = λ conn there. subst (λ (z : Conn). (held : List ℕ) × ConnAgrees at past h y z held) (same_some (sym is ∙ there)) (rest, agrees); waiting = called; due = due; none_out = λ none. absurd (none_some (sym none ∙ is)) }) s
+    (λ past agrees goes_on waits due called. record { conn = λ conn there. subst (λ (z : Conn). (held : List ℕ) × ConnAgrees at past h y z held) (same_some (sym is ∙ there)) (rest, agrees); waiting = waits; due = due; none_out = λ none. absurd (none_some (sym none ∙ is)); called = called }) s
 
 -- ---- the end of a connection
 
 -- its connection was closed, whatever it held, for what it showed
 pub line_closes :
     {at : ℕ} {core : ServedCore} {h h' : List Event} (why : Option Cause) (x y : Link) (r : Option ℕ) → r ≡ option_map (λ (z : Conn). z.number) x.conn → IfSome r (λ c. Closes c h h') → (r ≡ None → h' ≡ h) → y.conn ≡ None
-    → y.text.items ≡ x.text.items → y.waiting.items ≡ x.waiting.items → LineGoesFrom (LineFails why) LineAgrees (IsGivingUp why) at core h x core h' y
-line_closes {at} {core} {h} {h'} why x y r r_is some none closed text waiting = by x.conn refl
+    → y.text.items ≡ x.text.items → y.waiting.items ≡ x.waiting.items → y.calls.sent.items ≡ x.calls.sent.items → LineGoesFrom (LineFails why) LineAgrees (IsGivingUp why) at core h x core h' y
+line_closes {at} {core} {h} {h'} why x y r r_is some none closed text waiting sent = by x.conn refl
   where
     left : (steps past : List Step) → LineFails why at past h x → (talk_in (steps ++ past) at).asked ≡ (talk_in past at).asked → (talk_in (steps ++ past) at).out ≡ [] → LineAgrees at (steps ++ past) h' y
     left steps past a same none_out =
         has_none at (steps ++ past) h' y closed (calls_later steps past at y.waiting.items (subst (λ w. MayAllGo past at w) (sym waiting) a.lost.waiting))
         (due_later steps past at (numbers_of y.waiting.items) same (subst (λ w. AreDue past at (numbers_of w)) (sym waiting) a.lost.due)) none_out
+        (called_all_later steps past at (said_asks y.calls.sent.items) (subst (λ (l : List SentCall). AreCalled past at (said_asks l)) (sym sent) a.lost.called))
 
     by : (o : Option Conn) → x.conn ≡ o → LineGoesFrom (LineFails why) LineAgrees (IsGivingUp why) at core h x core h' y
     by None e =
@@ -655,15 +663,16 @@ line_closes {at} {core} {h} {h'} why x y r r_is some none closed text waiting = 
 -- it had none, and has none then
 pub line_shuts :
     {Before : ℕ → List Step → List Event → Link → Type 0} {Is : Step → Type 0} {at : ℕ} {a b : ServedCore} {h h' : List Event} {x y z : Link} → LineGoesFrom Before LineAgrees Is at a h x b h' y → y.conn ≡ None → z.conn ≡ None
-    → z.text.items ≡ y.text.items → z.waiting.items ≡ y.waiting.items → LineGoesFrom Before LineAgrees Is at a h x b h' z
-line_shuts {at = at} {h' = h'} {z = z} g none closed text waiting = record {
+    → z.text.items ≡ y.text.items → z.waiting.items ≡ y.waiting.items → z.calls.sent.items ≡ y.calls.sent.items → LineGoesFrom Before LineAgrees Is at a h x b h' z
+line_shuts {at = at} {h' = h'} {z = z} g none closed text waiting sent = record {
   steps = g.steps;
   kinds = g.kinds;
   own = g.own;
   walks = g.walks;
   agrees = λ past o was. let r = g.agrees past o was in (
     r.0,
-    has_none at (g.steps ++ past) h' z closed (subst (λ w. MayAllGo (g.steps ++ past) at w) (sym waiting) r.1.waiting) (subst (λ w. AreDue (g.steps ++ past) at (numbers_of w)) (sym waiting) r.1.due) (r.1.none_out none),
+    has_none at (g.steps ++ past) h' z closed (subst (λ w. MayAllGo (g.steps ++ past) at w) (sym waiting) r.1.waiting) (subst (λ w. AreDue (g.steps ++ past) at (numbers_of w)) (sym waiting) r.1.due) (r.1.none_out none)
+        (subst (λ (l : List SentCall). AreCalled (g.steps ++ past) at (said_asks l)) (sym sent) r.1.called),
     r.2,
   );
   shown = g.shown;
@@ -717,25 +726,42 @@ last_called : (past : List Step) (at : ℕ) (first later : List SentCall) → Ma
 last_called past at [] later are = are
 last_called past at (call ∷ first) later are = last_called past at first later are.1
 
--- calls of it fail, while it has no connection; of those that wait the first do
+-- calls of it fail, while it has no connection: of those that were sent, and of those that wait, the first do
 pub line_fails :
-    {why : Option Cause} {at : ℕ} {core core' : ServedCore} {h : List Event} (x y : Link) (gone : List SentCall) → Fails core core' → x.conn ≡ None → y.conn ≡ None → y.text.items ≡ x.text.items → x.waiting.items ≡ gone ++ y.waiting.items
-    → LineGoes (IsGivingUp why) at core h x core' h y
-line_fails {why} {at} {core} {core'} {h} x y gone f had none text waiting =
-    let own = failed_own at f.steps f.kinds in
-    record {
-      steps = f.steps;
-      kinds = failed_giving why f.steps f.kinds;
-      own = own.0;
-      walks = f.walks;
-      agrees = λ past o a. (
-        plain_orderly f.steps own.1 past o,
-        has_none at (f.steps ++ past) h y none (calls_later f.steps past at y.waiting.items (last_called past at gone y.waiting.items (subst (λ w. MayAllGo past at w) waiting a.waiting)))
-            (due_later f.steps past at (numbers_of y.waiting.items) (ap (λ (t : Talk). t.asked) (plain_talk f.steps own.1 past at)) (due_last past at gone y.waiting.items (subst (λ w. AreDue past at (numbers_of w)) waiting a.due)))
-            (ap (λ (t : Talk). t.out) (plain_talk f.steps own.1 past at) ∙ a.none_out had),
-        all_kept (1, at) h h (quiet h),
-      );
-      shown = λ past o a shown. shown_later f.steps past h h (plain_unlost f.steps own.1) (none_since h) shown;
-      shut = shut_still (quiet h) (ap (option_map (λ (z : Conn). z.number)) (none ∙ sym had));
-      text = text;
-    }
+    {why : Option Cause} {at : ℕ} {core core' : ServedCore} {h : List Event} (x y : Link) (mid : ServedCore) → FailsTo x.calls.sent.items y.calls.sent.items core mid → FailsTo x.waiting.items y.waiting.items mid core'
+    → x.conn ≡ None → y.conn ≡ None → y.text.items ≡ x.text.items → LineGoes (IsGivingUp why) at core h x core' h y
+line_fails {why} {at} {core} {core'} {h} x y mid sent waiting had none text = record {
+  steps = w.steps ++ f.steps;
+  kinds = failed_giving why (w.steps ++ f.steps) kinds;
+  own = own.0;
+  walks = walked w.steps f.steps core mid core' f.walks w.walks;
+  agrees = λ past o a. (
+    subst IsOrderly (sym (append_assoc w.steps f.steps past)) (w.orderly (f.steps ++ past) (waits past a) (ap (λ (t : Talk). t.out) (plain_talk f.steps (failed_own at f.steps f.kinds).1 past at) ∙ a.none_out had) (f.orderly past (first past a) (a.none_out had) o)),
+    has_none at ((w.steps ++ f.steps) ++ past) h y none (calls_later (w.steps ++ f.steps) past at y.waiting.items (last_called past at waiting.0 y.waiting.items (subst (λ l. MayAllGo past at l) waiting.1 a.waiting)))
+        (due_later (w.steps ++ f.steps) past at (numbers_of y.waiting.items) (ap (λ (t : Talk). t.asked) (plain_talk (w.steps ++ f.steps) own.1 past at)) (due_last past at waiting.0 y.waiting.items (subst (λ l. AreDue past at (numbers_of l)) waiting.1 a.due)))
+        (ap (λ (t : Talk). t.out) (plain_talk (w.steps ++ f.steps) own.1 past at) ∙ a.none_out had)
+        (called_all_later (w.steps ++ f.steps) past at (said_asks y.calls.sent.items) (called_last past at sent.0 y.calls.sent.items (subst (λ (l : List SentCall). AreCalled past at (said_asks l)) sent.1 a.called))),
+    all_kept (1, at) h h (quiet h),
+  );
+  shown = λ past o a shown. shown_later (w.steps ++ f.steps) past h h (plain_unlost (w.steps ++ f.steps) own.1) (none_since h) shown;
+  shut = shut_still (quiet h) (ap (option_map (λ (z : Conn). z.number)) (none ∙ sym had));
+  text = text;
+}
+  where
+    f : FailsInOrder at sent.0 core mid
+    f = fail_in_order at sent.0 core mid sent.2
+
+    w : FailsInOrder at waiting.0 mid core'
+    w = fail_in_order at waiting.0 mid core' waiting.2
+
+    kinds : AreOf IsFailure (w.steps ++ f.steps)
+    kinds = of_both IsFailure w.steps f.steps w.kinds f.kinds
+
+    own : AreOf (IsOfServer at) (w.steps ++ f.steps) × AreOf IsPlain (w.steps ++ f.steps)
+    own = failed_own at (w.steps ++ f.steps) kinds
+
+    first : (past : List Step) → LineAgrees at past h x → AreCalled past at (said_asks sent.0)
+    first past a = called_first past at sent.0 y.calls.sent.items (subst (λ (l : List SentCall). AreCalled past at (said_asks l)) sent.1 a.called)
+
+    waits : (past : List Step) → LineAgrees at past h x → AreCalled (f.steps ++ past) at (said_asks waiting.0)
+    waits past a = called_all_later f.steps past at (said_asks waiting.0) (called_first past at waiting.0 y.waiting.items (subst (λ (l : List SentCall). AreCalled past at (said_asks l)) waiting.1 (waiting_called past at x.waiting.items a.waiting)))

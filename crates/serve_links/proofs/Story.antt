@@ -20,7 +20,7 @@ use Rattle.serve_links.specs.declared.link.Link.{Link}
 use Rattle.serve_links.specs.CoreSteps.{Step, Closed, Opened, Polled, AreOf}
 use Rattle.serve_links.specs.Talks.{SaidAsk, Talk, talk_in}
 use Rattle.serve_links.specs.Story.{fed_in, gave_in, is_open_in, is_broken_in, AgreesWith, IsTold, AreTold, TellsNone, TookAll, EndsBy, IsGone, HasOrHad, TalkAgrees, said_asks, numbers_of, LineAgrees, LinesAgree, texts_of, OneGoes, LineGoesFrom, LineGoes, AnEnd, Agrees, AgreesBut, AgreesCalled, AllGoFrom, AllGo, StoriesGoOn}
-use Rattle.serve_links.proofs.Talking.{calls_later, IsPlain, clients_plain, plain_talk, plain_orderly, server_tells_none, talk_elsewhere}
+use Rattle.serve_links.proofs.Talking.{called_all_later, calls_later, IsPlain, clients_plain, plain_talk, clients_orderly, server_tells_none, talk_elsewhere}
 use Rattle.serve_links.proofs.Due.{due_later}
 use Rattle.serve_links.proofs.Showing.{plain_unlost, shown_later}
 use Rattle.serve_links.specs.Shut.{conn_of, link_conn, IsShutBut, AreShut}
@@ -98,6 +98,7 @@ line_stays h h' at steps past link same told was = record {
   waiting = calls_later steps past at link.waiting.items was.waiting;
   due = due_later steps past at (numbers_of link.waiting.items) (ap (λ (t : Talk). t.asked) told) was.due;
   none_out = λ none. ap (λ (t : Talk). t.out) told ∙ was.none_out none;
+  called = called_all_later steps past at (said_asks link.calls.sent.items) was.called;
 }
 
 -- ---- connections of clients
@@ -279,7 +280,7 @@ one_agrees {Is} id old new x y was is others links g = agree
 
     agree : (past : List Step) → Agrees past old → Agrees (g.steps ++ past) new
     agree past a = record {
-      orderly = plain_orderly g.steps plain past a.orderly;
+      orderly = clients_orderly g.steps g.own past a.orderly;
       clients = each_client h' (fed_in (g.steps ++ past)) (gave_in (g.steps ++ past)) new.clients (client past a);
       told = each_told (g.steps ++ past) new.clients (told past a);
       links = lines past a;

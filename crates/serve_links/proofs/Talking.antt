@@ -1,13 +1,17 @@
 -- What steps leave of what was told before them.
-use Rattle.std.proofs.Common.{◌≡◌, ℕ, false, if◌then◌else◌, List, [], ◌∷◌, ◌++◌, refl, sym, ap, ◌∙◌, subst, append_assoc}
+use Rattle.std.proofs.Common.{◌≡◌, ℕ, false, if◌then◌else◌, List, [], ◌∷◌, ◌++◌, inl, inr, refl, sym, ap, ◌∙◌, subst, append_assoc}
 use Rattle.std.specs.Prelude.{nat_eq}
 use Rattle.mc_types.specs.declared.ask.Ask.{Ask}
 use Rattle.mc_types.specs.declared.call.Outcome.TheVariants.{Failed}
 use Rattle.core_proxy.specs.declared.note.Poll.TheVariants as polls
 use Rattle.serve_links.specs.declared.calls.calls.SentCall.{SentCall}
 use Rattle.serve_links.specs.CoreSteps.{Step, Opened, NotOpened, Fed, Polled, Stopped, Settled, Gave, Closed, LeftLine, Broke, Loaded, Linked, Asked, Greeted, Spelled, Lost, AreOf}
-use Rattle.serve_links.specs.Talks.{first_talk, with_ask, greeted, with_answer, given_up, talk_in, IsCalledIn, MayBeAsked, ComesBy, MayFollow, IsOrderly, IsOfClients, IsOfServer}
-use Rattle.serve_links.specs.Story.{TellsNone, MayGo, MayAllGo}
+use Rattle.serve_links.specs.Talks.{SaidAsk, first_talk, with_ask, greeted, with_answer, given_up, talk_in, IsCalledIn, MayBeAsked, ComesBy, MayFollow, IsOrderly, IsOfClients, IsOfServer}
+use Rattle.serve_links.specs.Story.{TellsNone, MayGo, MayAllGo, AreCalled, said_asks}
+use Rattle.serve_links.specs.Links.{AllFail}
+use Rattle.serve_links.specs.CoreSteps.{Walks, IsFailure}
+use Rattle.core_accepted.specs.declared.served.ServedCore.{ServedCore}
+use Rattle.serve_links.proofs.Walked.{walked, of_both}
 
 -- ---- calls that the core gave out
 
@@ -96,13 +100,12 @@ plain_talk (Greeted at dialect bytes ∷ steps) kinds past j = absurd kinds.0
 plain_talk (Spelled at number ask answer bytes ∷ steps) kinds past j = absurd kinds.0
 plain_talk (Lost at why ∷ steps) kinds past j = absurd kinds.0
 
--- and they may come at any time
-pub plain_orderly : (steps : List Step) → AreOf IsPlain steps → (past : List Step) → IsOrderly past → IsOrderly (steps ++ past)
-plain_orderly [] kinds past o = o
-plain_orderly (step ∷ steps) kinds past o = (follows step (steps ++ past) kinds.0, plain_orderly steps kinds.1 past o)
+-- steps of clients may come at any time
+pub clients_orderly : (steps : List Step) → AreOf IsOfClients steps → (past : List Step) → IsOrderly past → IsOrderly (steps ++ past)
+clients_orderly [] kinds past o = o
+clients_orderly (step ∷ steps) kinds past o = (follows step (steps ++ past) kinds.0, clients_orderly steps kinds.1 past o)
   where
-    follows : (s : Step) (before : List Step) → IsPlain s → MayFollow s before
-    follows (Settled number outcome) before is = subst (λ x. ComesBy number x before) (sym is) tt
+    follows : (s : Step) (before : List Step) → IsOfClients s → MayFollow s before
     follows (Opened client) before is = tt
     follows (NotOpened fault) before is = tt
     follows (Fed client piece) before is = tt
@@ -113,11 +116,59 @@ plain_orderly (step ∷ steps) kinds past o = (follows step (steps ++ past) kind
     follows (LeftLine client) before is = tt
     follows (Broke client) before is = tt
     follows (Loaded configuration generation) before is = tt
+    follows (Settled number outcome) before is = absurd is
     follows (Linked at dialect) before is = absurd is
     follows (Asked at number dialect ask) before is = absurd is
     follows (Greeted at dialect bytes) before is = absurd is
     follows (Spelled at number ask answer bytes) before is = absurd is
     follows (Lost at why) before is = absurd is
+
+-- ---- calls that fail
+
+pub called_all_later : (later past : List Step) (at : ℕ) (said : List SaidAsk) → AreCalled past at said → AreCalled (later ++ past) at said
+called_all_later later past at [] are = tt
+called_all_later later past at (one ∷ said) are = (called_later later past one.0 at one.2 are.0, called_all_later later past at said are.1)
+
+pub called_more : (past : List Step) (at : ℕ) (said : List SaidAsk) (one : SaidAsk) → AreCalled past at said → IsCalledIn past one.0 at one.2 → AreCalled past at (said ++ one ∷ [])
+called_more past at [] one are is = (is, tt)
+called_more past at (first ∷ said) one are is = (are.0, called_more past at said one are.1 is)
+
+pub called_last : (past : List Step) (at : ℕ) (first later : List SentCall) → AreCalled past at (said_asks (first ++ later)) → AreCalled past at (said_asks later)
+called_last past at [] later are = are
+called_last past at (call ∷ first) later are = called_last past at first later are.1
+
+pub called_first : (past : List Step) (at : ℕ) (first later : List SentCall) → AreCalled past at (said_asks (first ++ later)) → AreCalled past at (said_asks first)
+called_first past at [] later are = tt
+called_first past at (call ∷ first) later are = (are.0, called_first past at first later are.1)
+
+-- what may be asked is such
+pub called_of : (past : List Step) (at : ℕ) (call : SentCall) → MayGo past at call → IsCalledIn past call.ticket.number at call.ticket.ask
+called_of past at call may = subst (λ l. IsCalledIn l call.ticket.number at call.ticket.ask) (sym may.parts) (called_later may.later may.earlier call.ticket.number at call.ticket.ask may.called)
+
+pub waiting_called : (past : List Step) (at : ℕ) (calls : List SentCall) → MayAllGo past at calls → AreCalled past at (said_asks calls)
+waiting_called past at [] are = tt
+waiting_called past at (call ∷ calls) are = (called_of past at call are.0, waiting_called past at calls are.1)
+
+-- the walk that they make as they fail, while none is out there
+pub record FailsInOrder (at : ℕ) (calls : List SentCall) (a b : ServedCore) : Type 0 where
+  pub steps : List Step
+  pub kinds : AreOf IsFailure steps
+  pub walks : Walks steps a b
+  pub orderly : (past : List Step) → AreCalled past at (said_asks calls) → (talk_in past at).out ≡ [] → IsOrderly past → IsOrderly (steps ++ past)
+
+pub fail_in_order : (at : ℕ) (calls : List SentCall) (a b : ServedCore) → AllFail calls a b → FailsInOrder at calls a b
+fail_in_order at [] a b all = record { steps = []; kinds = tt; walks = all; orderly = λ past called none o. o }
+fail_in_order at (call ∷ calls) a b all =
+    let rest = fail_in_order at calls all.0 b all.2 in
+    let step : Step = Settled call.ticket.number Failed in
+    record {
+      steps = rest.steps ++ step ∷ [];
+      kinds = of_both IsFailure rest.steps (step ∷ []) rest.kinds (refl, tt);
+      walks = walked rest.steps (step ∷ []) a all.0 b (a, refl, all.1) rest.walks;
+      orderly = λ past called none o.
+          subst IsOrderly (sym (append_assoc rest.steps (step ∷ []) past))
+          (rest.orderly (step ∷ past) (called_all_later (step ∷ []) past at (said_asks calls) called.1) none (inl (record { at = at; ask = call.ticket.ask; called = called.0; none_out = none }), o));
+    }
 
 -- ---- steps of one server
 

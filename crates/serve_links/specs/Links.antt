@@ -22,9 +22,9 @@ AllFail (call ∷ calls) old new = (mid : ServedCore) × IsSettled old call.tick
 abbrev pub IsTaken : List SentCall → SentCall → List SentCall → Type 0
 IsTaken calls call calls' = (before after : List SentCall) × (calls ≡ before ++ call ∷ after) × (calls' ≡ before ++ after)
 
--- of these calls the first are gone
-abbrev pub LosesFirst : List SentCall → List SentCall → Type 0
-LosesFirst calls calls' = (gone : List SentCall) × (calls ≡ gone ++ calls')
+-- of these calls the first have failed, in this order, and these are left; nothing else was done
+abbrev pub FailsTo : List SentCall → List SentCall → ServedCore → ServedCore → Type 0
+FailsTo calls left old new = (gone : List SentCall) × (calls ≡ gone ++ left) × AllFail gone old new
 
 -- the link has no connection, and none of its calls is out
 pub record IsDown (link : Link) : Type 0 where

@@ -17,7 +17,7 @@ use Rattle.serve_links.specs.declared.news.Cause.{Cause}
 use Rattle.serve_links.specs.declared.news.Cause.TheVariants as causes
 use Rattle.serve_links.specs.CoreSteps.{Step, Opened, NotOpened, Fed, Polled, Stopped, Settled, Gave, Closed, LeftLine, Broke, Loaded, Linked, Asked, Greeted, Spelled, Lost, Walks, AreOf}
 use Rattle.serve_links.specs.Shut.{AreShut, StaysShut}
-use Rattle.serve_links.specs.Talks.{SaidAsk, Talk, talk_in, IsCalledIn, MayBeAsked, AreDue, IsOrderly, IsOfClients, IsOfServer}
+use Rattle.serve_links.specs.Talks.{SaidAsk, Talk, talk_in, IsCalledIn, MayBeAsked, AreDue, IsUnasked, IsOrderly, IsOfClients, IsOfServer}
 use Rattle.std.specs.Option.{option_map}
 
 -- all that the core was fed for this client since it was opened, by the calls of a walk, the latest first
@@ -164,6 +164,11 @@ abbrev pub MayAllGo : List Step → ℕ → List SentCall → Type 0
 MayAllGo past at [] = Unit {0}
 MayAllGo past at (call ∷ calls) = MayGo past at call × MayAllGo past at calls
 
+-- the core gave out each of these calls for this server
+abbrev pub AreCalled : List Step → ℕ → List SaidAsk → Type 0
+AreCalled past at [] = Unit {0}
+AreCalled past at (said ∷ others) = IsCalledIn past said.0 at said.2 × AreCalled past at others
+
 -- the numbers of calls
 abbrev pub numbers_of : List SentCall → List ℕ
 numbers_of calls = each (λ call. call.ticket.number) calls
@@ -190,6 +195,7 @@ pub record LineAgrees (at : ℕ) (past : List Step) (h : List Event) (link : Lin
   pub waiting : MayAllGo past at link.waiting.items
   pub due : AreDue past at (numbers_of link.waiting.items)
   pub none_out : link.conn ≡ None → (talk_in past at).out ≡ []
+  pub called : AreCalled past at (said_asks link.calls.sent.items)
 
 -- the same of a link whose bytes were lost, or whose connection is over: it agrees but for what it holds
 pub record LineLost (at : ℕ) (past : List Step) (h : List Event) (link : Link) : Type 0 where
@@ -197,6 +203,7 @@ pub record LineLost (at : ℕ) (past : List Step) (h : List Event) (link : Link)
   pub waiting : MayAllGo past at link.waiting.items
   pub due : AreDue past at (numbers_of link.waiting.items)
   pub none_out : link.conn ≡ None → (talk_in past at).out ≡ []
+  pub called : AreCalled past at (said_asks link.calls.sent.items)
 
 -- this has happened
 abbrev pub HasHappened : Event → List Event → Type 0
@@ -350,7 +357,12 @@ AgreesCalled number at ask past x = Agrees past x × (call : IsCalledIn past num
 
 -- all agree, and this call may go to this server, and wasn't asked yet
 abbrev pub AgreesSent : ℕ → SentCall → List Step → AnEnd → Type 0
-AgreesSent at call past x = Agrees past x × MayGo past at call × ((link : Link) → slice_get x.links at ≡ Some link → AreDue past at (numbers_of (call ∷ link.waiting.items)))
+AgreesSent at call past x =
+    Agrees past x × MayGo past at call × ((link : Link) → slice_get x.links at ≡ Some link → AreDue past at (numbers_of (call ∷ link.waiting.items))) × AreDue past at (call.ticket.number ∷ [])
+
+-- all agree, and a call of this number is still to be asked
+abbrev pub AgreesDue : ℕ → List Step → AnEnd → Type 0
+AgreesDue number past x = Agrees past x × IsUnasked number past
 
 -- all agree, but that what one link holds may be lost
 abbrev pub AgreesLosing : List Step → AnEnd → Type 0

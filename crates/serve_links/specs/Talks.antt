@@ -1,5 +1,5 @@
 -- What a walk tells of what was said over each server's connection. Source: mcgate's own.
-use Rattle.std.specs.Prelude.{◌≡◌, ℕ, Bool, true, false, List, [], ◌∷◌, ◌++◌, ◌+◌, ◌≤◌, nat_eq, length, if◌then◌else◌}
+use Rattle.std.specs.Prelude.{◌≡◌, ◌⊎◌, ℕ, Bool, true, false, List, [], ◌∷◌, ◌++◌, ◌+◌, ◌≤◌, nat_eq, length, if◌then◌else◌}
 use Rattle.mc_types.specs.declared.ask.Ask.{Ask}
 use Rattle.mc_types.specs.declared.ask.Dialect.{Dialect}
 use Rattle.mc_types.specs.declared.ask.Dialect.TheVariants.{Classic}
@@ -162,10 +162,22 @@ pub record IsJustSpelled (number : ℕ) (answer : Answer) (steps : List Step) : 
   pub earlier : List Step
   pub last : steps ≡ Spelled at number ask answer bytes ∷ earlier
 
--- no call is answered but by what its server's bytes spell
+-- a call of this number was given out for a server over whose connection none is out: it was answered there, or given up with that, or never asked
+pub record IsOutNowhere (number : ℕ) (steps : List Step) : Type 0 where
+  pub at : ℕ
+  pub ask : Ask
+  pub called : IsCalledIn steps number at ask
+  pub none_out : (talk_in steps at).out ≡ []
+
+-- or the core gave one out for a server more often than it was asked there
+pub record IsUnasked (number : ℕ) (steps : List Step) : Type 0 where
+  pub at : ℕ
+  pub due : AreDue steps at (number ∷ [])
+
+-- no call is answered but by what its server's bytes spell, and none fails that its server has
 abbrev pub ComesBy : ℕ → Outcome → List Step → Type 0
 ComesBy number (Answered answer) past = IsJustSpelled number answer past
-ComesBy number Failed past = Unit {0}
+ComesBy number Failed past = IsOutNowhere number past ⊎ IsUnasked number past
 
 -- after these steps this one may come: a server is asked what the core gave out for it, once, in a dialect that it speaks; tells of its dialects where it is asked for that, and then answers its calls in their order; and a call is settled by its answer
 abbrev pub MayFollow : Step → List Step → Type 0

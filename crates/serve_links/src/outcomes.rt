@@ -5,7 +5,8 @@ ghost use Rattle.serve_wire.specs.Ends.{HoldsAnew};
 ghost use Rattle.serve_clients.specs.Agrees.{KeepsEnds};
 ghost use Rattle.serve_links.specs.Calls.{SettlesNext};
 ghost use Rattle.serve_links.specs.CoreSteps.{GoesBy, IsSettlement, Fails};
-ghost use Rattle.serve_links.specs.Links.{AllFail, IsDown, LosesFirst};
+ghost use Rattle.core_accepted.specs.declared.served.ServedCore.{ServedCore};
+ghost use Rattle.serve_links.specs.Links.{AllFail, FailsTo, IsDown};
 ghost use Rattle.serve_links.specs.Settled.{HoldsNoAnswer, SettlesSome, SettlesFront, used_by};
 
 use crate::calls::{LinkCalls, Next, fail_call};
@@ -32,6 +33,7 @@ fn fail_sent(
     ensures core { Fails core.old core.new }
     ensures none { OnOk result (calls.new.sent.items ≡ []) }
     ensures all { OnOk result (AllFail calls.old.sent.items core.old core.new) }
+    ensures first { FailsTo calls.old.sent.items calls.new.sent.items core.old core.new }
     ensures ends { KeepsEnds clients.old clients.new }
 {
     for _ in 0..calls.len() {
@@ -53,7 +55,7 @@ fn fail_waiting(
     ensures core { Fails core.old core.new }
     ensures none { OnOk result (link.new.waiting.items ≡ []) }
     ensures all { OnOk result (AllFail link.old.waiting.items core.old core.new) }
-    ensures left { LosesFirst link.old.waiting.items link.new.waiting.items }
+    ensures first { FailsTo link.old.waiting.items link.new.waiting.items core.old core.new }
     ensures rest { link.new ≡ record link.old { waiting = link.new.waiting } }
     ensures ends { KeepsEnds clients.old clients.new }
 {
@@ -81,7 +83,7 @@ pub fn fail_all(
     ensures all { OnOk result (AllFail (link.old.calls.sent.items ++ link.old.waiting.items) core.old core.new) }
     ensures closed { link.new.conn ≡ None }
     ensures text { link.new.text ≡ link.old.text }
-    ensures left { LosesFirst link.old.waiting.items link.new.waiting.items }
+    ensures first { (mid : ServedCore) × FailsTo link.old.calls.sent.items link.new.calls.sent.items core.old mid × FailsTo link.old.waiting.items link.new.waiting.items mid core.new }
     ensures ends { KeepsEnds clients.old clients.new }
 {
     fail_sent(&mut link.calls, core, clients)?;

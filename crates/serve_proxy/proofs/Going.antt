@@ -34,12 +34,14 @@ use Rattle.serve_links.specs.declared.news.Cause.{Cause}
 use Rattle.serve_links.specs.CoreSteps.{Step, Opened, NotOpened, Fed, Polled, Stopped, Settled, Gave, Closed, LeftLine, Broke, Loaded, Linked, Asked, Greeted, Spelled, Lost, Does, Walks, AreOf, GoesBy, IsOfTurn, IsFailure, IsSending, IsGivingUp, Fails}
 use Rattle.serve_links.specs.Talks.{Talk, AreDue, IsOfClients}
 use Rattle.serve_links.specs.Pieces.{FeedsHeld}
-use Rattle.serve_links.specs.Story.{fed_in, gave_in, is_open_in, is_broken_in, AgreesWith, IsTold, AreTold, TellsNone, HasOrHad, numbers_of, LineState, line_of, LineAgrees, LineLost, LineCalled, LinesAgree, OneGoes, LineGoesFrom, LineGoes, AnEnd, Agrees, AgreesGiven, AgreesBut, AgreesCalled, AgreesLosing, AllGoFrom, AllGo, texts_of, AgreesSent}
+use Rattle.serve_links.specs.Story.{fed_in, gave_in, is_open_in, is_broken_in, AgreesWith, IsTold, AreTold, TellsNone, HasOrHad, numbers_of, LineState, line_of, LineAgrees, LineLost, LineCalled, LinesAgree, OneGoes, LineGoesFrom, LineGoes, AnEnd, Agrees, AgreesGiven, AgreesBut, AgreesCalled, AgreesDue, AgreesLosing, AllGoFrom, AllGo, texts_of, AgreesSent}
 use Rattle.serve_links.proofs.Reading.{breaks_now}
-use Rattle.serve_links.proofs.Talking.{IsPlain, plain_talk, plain_orderly}
+use Rattle.serve_links.proofs.Talking.{IsPlain, plain_talk, clients_orderly}
 use Rattle.serve_links.proofs.Story.{one_agrees, at_told, each_told, all_told, same_told, had_stays, one_of_all, line_among, line_stays, all_still, from_then, go_between, all_but, but_all}
 use Rattle.serve_links.proofs.Showing.{plain_unlost, none_since, shown_since, shown_later}
 use Rattle.serve_links.proofs.Shutting.{shut_quiet}
+use Rattle.serve_links.proofs.Due.{due_first, none_more, one_due}
+use Rattle.core_accepted.specs.Results.{IsSettled}
 use Rattle.serve_links.proofs.LinkGoes.{same_line, as_lost, losing}
 use Rattle.serve_links.proofs.Walked.{walked, of_both}
 use Rattle.serve_proxy.specs.Ends.{lines_of, IsClosing, OneGives, EndsStay, EndsGoFrom, EndsGo, LineStands}
@@ -193,7 +195,7 @@ abbrev pub IsSilent : Step → Type 0
 IsSilent (NotOpened fault) = Unit {0}
 IsSilent (Polled client poll) = Unit {0}
 IsSilent (Stopped client fault) = Unit {0}
-IsSilent (Settled number outcome) = outcome ≡ Failed
+IsSilent (Settled number outcome) = ⊥
 IsSilent (Closed client) = ⊥
 IsSilent (LeftLine client) = Unit {0}
 IsSilent (Broke client) = ⊥
@@ -212,7 +214,7 @@ tells_none [] kinds past j = (refl, refl, refl, refl)
 tells_none (NotOpened fault ∷ steps) kinds past j = tells_none steps kinds.1 past j
 tells_none (Polled client poll ∷ steps) kinds past j = tells_none steps kinds.1 past j
 tells_none (Stopped client fault ∷ steps) kinds past j = tells_none steps kinds.1 past j
-tells_none (Settled number outcome ∷ steps) kinds past j = tells_none steps kinds.1 past j
+tells_none (Settled number outcome ∷ steps) kinds past j = absurd kinds.0
 tells_none (Closed client ∷ steps) kinds past j = absurd kinds.0
 tells_none (LeftLine client ∷ steps) kinds past j = tells_none steps kinds.1 past j
 tells_none (Broke client ∷ steps) kinds past j = absurd kinds.0
@@ -253,7 +255,7 @@ silent_plain [] kinds = tt
 silent_plain (step ∷ steps) kinds = (plain step kinds.0, silent_plain steps kinds.1)
   where
     plain : (s : Step) → IsSilent s → IsPlain s
-    plain (Settled number outcome) is = is
+    plain (Settled number outcome) is = absurd is
     plain (NotOpened fault) is = tt
     plain (Polled client poll) is = tt
     plain (Stopped client fault) is = tt
@@ -270,27 +272,27 @@ silent_plain (step ∷ steps) kinds = (plain step kinds.0, silent_plain steps ki
     plain (Spelled at number ask answer bytes) is = is
     plain (Lost at why) is = is
 
-fails_silent : (steps : List Step) → AreOf IsFailure steps → AreOf IsSilent steps
-fails_silent [] kinds = tt
-fails_silent (step ∷ steps) kinds = (silent step kinds.0, fails_silent steps kinds.1)
+pub silent_clients : (steps : List Step) → AreOf IsSilent steps → AreOf IsOfClients steps
+silent_clients [] kinds = tt
+silent_clients (step ∷ steps) kinds = (of_clients step kinds.0, silent_clients steps kinds.1)
   where
-    silent : (s : Step) → IsFailure s → IsSilent s
-    silent (Settled number outcome) is = is
-    silent (NotOpened fault) is = tt
-    silent (Polled client poll) is = tt
-    silent (Stopped client fault) is = tt
-    silent (Closed client) is = is
-    silent (LeftLine client) is = tt
-    silent (Broke client) is = is
-    silent (Opened client) is = is
-    silent (Fed client piece) is = is
-    silent (Gave client bytes) is = is
-    silent (Loaded configuration generation) is = is
-    silent (Linked at dialect) is = is
-    silent (Asked at number dialect ask) is = is
-    silent (Greeted at dialect bytes) is = is
-    silent (Spelled at number ask answer bytes) is = is
-    silent (Lost at why) is = is
+    of_clients : (s : Step) → IsSilent s → IsOfClients s
+    of_clients (NotOpened fault) is = tt
+    of_clients (Polled client poll) is = tt
+    of_clients (Stopped client fault) is = tt
+    of_clients (LeftLine client) is = tt
+    of_clients (Closed client) is = tt
+    of_clients (Broke client) is = tt
+    of_clients (Opened client) is = tt
+    of_clients (Fed client piece) is = tt
+    of_clients (Gave client bytes) is = tt
+    of_clients (Loaded configuration generation) is = tt
+    of_clients (Settled number outcome) is = is
+    of_clients (Linked at dialect) is = is
+    of_clients (Asked at number dialect ask) is = is
+    of_clients (Greeted at dialect bytes) is = is
+    of_clients (Spelled at number ask answer bytes) is = is
+    of_clients (Lost at why) is = is
 
 fails_send : (steps : List Step) → AreOf IsFailure steps → AreOf IsSending steps
 fails_send [] kinds = tt
@@ -415,7 +417,7 @@ pub sent_clients :
 unfolding stays
 sent_clients {h} {ls} at call core cs cs' keeps =
     let g : AllGo IsSending (record { core = core; history = h; clients = cs; links = ls }) (record { core = core; history = h; clients = cs'; links = ls }) = stays core (record { quiet = λ d. untouched d h; clients = keeps; links = refl }) in
-    record { steps = []; kinds = tt; walks = refl; agree = λ past was. (g.agree past was.0, was.1, was.2); texts = refl }
+    record { steps = []; kinds = tt; walks = refl; agree = λ past was. (g.agree past was.0, was.1, was.2, was.3); texts = refl }
 
 -- nor does it matter when it is said to have begun
 pub sent_renewed : {Is : Step → Type 0} {a : AnEnd} (at : ℕ) (call call' : SentCall) → call' ≡ record call { since = call'.since } → AllGoFrom (AgreesSent at call) (AgreesSent at call') Is a a
@@ -439,7 +441,7 @@ calls_agree :
     {h : List Event} {cs : Clients} {ls : List Link} (a b : ServedCore) (past steps : List Step) → AreOf IsSilent steps → Agrees past (record { core = a; history = h; clients = cs; links = ls })
     → Agrees (steps ++ past) (record { core = b; history = h; clients = cs; links = ls })
 calls_agree {h} {cs} {ls} a b past steps silent was = record {
-  orderly = plain_orderly steps (silent_plain steps silent) past was.orderly;
+  orderly = clients_orderly steps (silent_clients steps silent) past was.orderly;
   clients = agree_told h (fed_in past) (gave_in past) (fed_in (steps ++ past)) (gave_in (steps ++ past)) cs (λ j. let t = tells_none steps silent past j in (t.0, t.1)) was.clients;
   told = all_told past steps cs (tells_none steps silent past) was.told;
   links = lines_told h steps past ls (silent_plain steps silent) was.links;
@@ -454,8 +456,41 @@ calls_go :
     → AllGo Is (record { core = a; history = h; clients = cs; links = ls }) (record { core = b; history = h; clients = cs; links = ls })
 calls_go {Is} {h} {cs} {ls} a b steps kinds silent walks = record { steps = steps; kinds = kinds; walks = walks; agree = λ past was. calls_agree a b past steps silent was; texts = refl }
 
-pub fails_go : {h : List Event} {cs : Clients} {ls : List Link} {a b : ServedCore} → Fails a b → AllGo IsSending (record { core = a; history = h; clients = cs; links = ls }) (record { core = b; history = h; clients = cs; links = ls })
-fails_go {a = a} {b = b} f = calls_go a b f.steps (fails_send f.steps f.kinds) (fails_silent f.steps f.kinds) f.walks
+-- a call failed that is still to be asked
+pub refused_go :
+    {h : List Event} {cs : Clients} {ls : List Link} (number : ℕ) (a b : ServedCore) → IsSettled a number Failed b
+    → AllGoFrom (AgreesDue number) Agrees IsSending (record { core = a; history = h; clients = cs; links = ls }) (record { core = b; history = h; clients = cs; links = ls })
+refused_go {h} {cs} {ls} number a b is =
+    let step : Step = Settled number Failed in
+    record {
+      steps = step ∷ [];
+      kinds = (refl, tt);
+      walks = (a, refl, is);
+      agree = λ past due. let was = due.0 in record {
+        orderly = (inr due.1, was.orderly);
+        clients = agree_told h (fed_in past) (gave_in past) (fed_in (step ∷ past)) (gave_in (step ∷ past)) cs (λ j. (refl, refl)) was.clients;
+        told = all_told past (step ∷ []) cs (λ j. (refl, refl, refl, refl)) was.told;
+        links = lines_told h (step ∷ []) past ls (refl, tt) was.links;
+        gone = λ conn id of_id. had_quiet past (step ∷ []) h h cs cs id conn (untouched conn h) refl of_id was.gone;
+        shown = (tt, was.shown);
+        shut = was.shut;
+        unlinked = was.unlinked;
+      };
+      texts = refl;
+    }
+
+-- one in hand is still to be asked
+pub called_due : {Q : List Step → AnEnd → Type 0} {Is : Step → Type 0} {a b : AnEnd} (number at : ℕ) (ask : Ask) → AllGoFrom (AgreesDue number) Q Is a b → AllGoFrom (AgreesCalled number at ask) Q Is a b
+called_due number at ask g =
+    go_between (λ past was. (was.0, record { at = at; due = one_due past number at ask was.1 [] (none_more (was.1.later ++ was.1.earlier) at was.2.orderly) })) (λ past was. was) g
+
+pub sent_due :
+    {h h' : List Event} {cs cs' : Clients} {ls ls' : List Link} (at : ℕ) (call : SentCall) (core : ServedCore) → EndsStay h h' cs cs' ls ls'
+    → AllGoFrom (AgreesSent at call) (AgreesDue call.ticket.number) IsSending (record { core = core; history = h; clients = cs; links = ls }) (record { core = core; history = h'; clients = cs'; links = ls' })
+unfolding stays
+sent_due {h} {h'} {cs} {cs'} {ls} {ls'} at call core s =
+    let g : AllGo IsSending (record { core = core; history = h; clients = cs; links = ls }) (record { core = core; history = h'; clients = cs'; links = ls' }) = stays core s in
+    record { steps = []; kinds = tt; walks = refl; agree = λ past was. (g.agree past was.0, record { at = at; due = was.3 }); texts = g.texts }
 
 pub quietly_go : {h : List Event} {cs : Clients} {ls : List Link} {a b : ServedCore} → GoesBy IsSilent a b → AllGo IsOfTurn (record { core = a; history = h; clients = cs; links = ls }) (record { core = b; history = h; clients = cs; links = ls })
 quietly_go {a = a} {b = b} f = calls_go a b f.steps (silent_turn f.steps f.kinds) f.kinds f.walks
@@ -581,6 +616,7 @@ line_gave {h = h} {h' = h'} {cs = cs} {a = a} {b = b} links at x y call within w
           (record { orderly = was.orderly; clients = was.clients; told = was.told; links = was.links; this = λ link there. (was.this link there).0; gone = was.gone; shown = was.shown; shut = was.shut; unlinked = was.unlinked }),
       (was.this y (set_here links at y within)).1,
       λ link there. subst (λ (z : Link). AreDue past at (numbers_of (call ∷ z.waiting.items))) (same_some (sym (set_here links at y within) ∙ there)) (was.this y (set_here links at y within)).2,
+      due_first past at call.ticket.number (numbers_of y.waiting.items) (was.this y (set_here links at y within)).2,
     )
 
 -- without a core

@@ -19,7 +19,7 @@ use Rattle.serve_links.specs.declared.calls.calls.SentCall.{SentCall}
 use Rattle.serve_links.specs.declared.link.Link.{Link}
 use Rattle.serve_links.specs.Links.{IsDown}
 use Rattle.serve_links.specs.CoreSteps.{Step, Loaded}
-use Rattle.serve_links.specs.Story.{fed_in, gave_in, IsTold, said_asks, numbers_of, LineState, line_of, LineAgrees, LinesAgree, AnEnd, Agrees, AllGoFrom, texts_of, MayAllGo}
+use Rattle.serve_links.specs.Story.{fed_in, gave_in, IsTold, said_asks, numbers_of, AreCalled, LineState, line_of, LineAgrees, LinesAgree, AnEnd, Agrees, AllGoFrom, texts_of, MayAllGo}
 use Rattle.serve_links.specs.Talks.{talk_in, AreDue, IsOrderly}
 use Rattle.serve_links.proofs.Due.{none_more}
 use Rattle.serve_links.proofs.Shutting.{shut_quiet}
@@ -77,9 +77,9 @@ in_first [] ys at none = refl
 in_first (x ∷ xs) ys zero none = none
 in_first (x ∷ xs) ys (suc at) none = in_first xs ys at none
 
-is_down : (texts : List (List ℕ)) (k : ℕ) (line : LineState) → slice_get (each down_line texts) k ≡ Some line → (line.1 ≡ None) × (line.3 ≡ [])
+is_down : (texts : List (List ℕ)) (k : ℕ) (line : LineState) → slice_get (each down_line texts) k ≡ Some line → (line.1 ≡ None) × (line.3 ≡ []) × (line.2 ≡ [])
 is_down [] k line is = absurd (none_some is)
-is_down (text ∷ texts) zero line is = (ap (λ (p : LineState). p.1) (sym (same_some is)), ap (λ (p : LineState). p.3) (sym (same_some is)))
+is_down (text ∷ texts) zero line is = (ap (λ (p : LineState). p.1) (sym (same_some is)), ap (λ (p : LineState). p.3) (sym (same_some is)), ap (λ (p : LineState). p.2) (sym (same_some is)))
 is_down (text ∷ texts) (suc k) line is = is_down texts k line is
 
 no_conn : (o : Option Conn) → option_map (λ (x : Conn). let e : ℕ × List ℕ × List ℕ = (x.number, x.held.items, bytes_of x.unsent) in e) o ≡ None → o ≡ None
@@ -107,7 +107,7 @@ lines_grow h past ls ls' adds orderly unlinked was at link there = by (in_both (
 
     by : (slice_get (lines_of ls) at ≡ Some (line_of link)) ⊎ ((slice_get (lines_of ls) at ≡ None) × (k : ℕ) × (slice_get (each down_line adds.0) k ≡ Some (line_of link))) → LineAgrees at past h link
     by (inl old) = of_old (slice_get ls at) refl (get_line ls at ∙ old)
-    by (inr new) = let down = is_down adds.0 new.1 (line_of link) new.2 in has_none at past h link (no_conn link.conn down.0) (subst (λ w. MayAllGo past at w) (sym down.1) tt) (subst (λ w. AreDue past at (numbers_of w)) (sym down.1) (none_more past at orderly)) (unlinked at (none_of ls at new.0))
+    by (inr new) = let down = is_down adds.0 new.1 (line_of link) new.2 in has_none at past h link (no_conn link.conn down.0) (subst (λ w. MayAllGo past at w) (sym down.1) tt) (subst (λ w. AreDue past at (numbers_of w)) (sym down.1) (none_more past at orderly)) (unlinked at (none_of ls at new.0)) (subst (λ l. AreCalled past at l) (sym down.2) tt)
 
 texts_both : (lines : List LineState) (texts : List (List ℕ)) → each (λ (p : LineState). p.0) (lines ++ each down_line texts) ≡ each (λ (p : LineState). p.0) lines ++ texts
 texts_both [] [] = refl

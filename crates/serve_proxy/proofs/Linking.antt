@@ -38,7 +38,7 @@ use Rattle.serve_links.specs.Talks.{SaidAsk, talk_in, IsCalledIn}
 use Rattle.serve_links.specs.Story.{LineState, line_of, said_asks, numbers_of, MayGo, LineAgrees, LineLost, LineGoesFrom, LineGoes, AnEnd, Agrees, AgreesBut, AgreesCalled, AgreesSent, AllGoFrom, fed_in, gave_in}
 use Rattle.serve_links.proofs.LinkGoes.{as_lost, line_between, line_settles, line_loses, line_asks, line_waits, line_takes}
 use Rattle.serve_links.proofs.Story.{go_between}
-use Rattle.serve_links.proofs.Due.{one_due}
+use Rattle.serve_links.proofs.Due.{none_more, one_due}
 use Rattle.serve_links.proofs.Shutting.{shut_quiet}
 use Rattle.serve_proxy.specs.Ends.{lines_of, LinksTake, LinksGive, LineTakes, IsOpenAt, AsksIn, AllGoOn, AllGoLosing, AllGoOr}
 use Rattle.serve_proxy.specs.declared.sockets.Sockets.{Sockets}
@@ -164,7 +164,7 @@ pub called_at :
     → AllGoFrom (AgreesCalled call.ticket.number call.ticket.server call.ticket.ask) Q Is a b
 called_at {Q} {Is} {a} {b} at call same stands asks g =
     subst (λ n. AllGoFrom (AgreesCalled call.ticket.number n call.ticket.ask) Q Is a b) (sym same)
-    (go_between (λ past was. (was.0, may_go past a at call stands asks was.0 was.1, λ link there. one_due past call.ticket.number at call.ticket.ask was.1 (numbers_of link.waiting.items) (was.2.links at link there).due)) (λ past was. was) g)
+    (go_between (λ past was. (was.0, may_go past a at call stands asks was.0 was.1, λ link there. one_due past call.ticket.number at call.ticket.ask was.1 (numbers_of link.waiting.items) (was.2.links at link there).due, one_due past call.ticket.number at call.ticket.ask was.1 [] (none_more (was.1.later ++ was.1.earlier) at was.2.orderly))) (λ past was. was) g)
 
 -- ---- answers
 

@@ -28,12 +28,12 @@ use Rattle.serve_links.specs.Shut.{client_conn}
 use Rattle.serve_links.proofs.Shutting.{closed_shut, shut_without, shut_opened, shut_turned}
 use Rattle.serve_links.proofs.Showing.{plain_unlost, shown_later}
 use Rattle.serve_links.specs.Talks.{Talk}
-use Rattle.serve_links.proofs.Talking.{IsPlain, plain_talk, plain_orderly}
+use Rattle.serve_links.proofs.Talking.{IsPlain, plain_talk, clients_orderly}
 use Rattle.serve_links.proofs.Story.{at_told, all_told, took_all, TellsSame, same_told, gone_stays, end_gone, had_stays, line_stays}
 use Rattle.serve_links.proofs.Walked.{walked, of_both}
 use Rattle.serve_proxy.specs.Ends.{EndsStay, EndsGo, IsAllSent, IsAllSentTo, IsClosing, MayAdmit}
 use Rattle.serve_proxy.proofs.Staying.{quiet}
-use Rattle.serve_proxy.proofs.Going.{IsSilent, tells_none, silent_turn, silent_plain, lines_told, agree_told, had_quiet, gave_one, gave_broken, gave_state, more_given, one_touched, one_breaks, same_agrees, same_client}
+use Rattle.serve_proxy.proofs.Going.{IsSilent, tells_none, silent_turn, silent_plain, silent_clients, lines_told, agree_told, had_quiet, gave_one, gave_broken, gave_state, more_given, one_touched, one_breaks, same_agrees, same_client}
 
 -- ---- what happened on no connection
 
@@ -150,7 +150,7 @@ opened_go {h} {h1} {h2} {h'} {cs} {cs'} {ls} id c b last new is dropped only unu
   agree = λ past was. subst (λ l. Agrees l (record { core = last; history = h'; clients = cs'; links = ls })) (sym (append_assoc q.steps (Opened id ∷ []) past)) (record {
     clients = agree_told h' (fed_in (Opened id ∷ past)) (gave_in (Opened id ∷ past)) (fed_in (q.steps ++ Opened id ∷ past)) (gave_in (q.steps ++ Opened id ∷ past)) cs' (λ j. let t = tells_none q.steps q.kinds (Opened id ∷ past) j in (t.0, t.1)) (mid past was.clients);
     told = all_told (Opened id ∷ past) q.steps cs' (tells_none q.steps q.kinds (Opened id ∷ past)) (told_mid past was.told);
-    orderly = plain_orderly q.steps (silent_plain q.steps q.kinds) (Opened id ∷ past) (tt, was.orderly);
+    orderly = clients_orderly q.steps (silent_clients q.steps q.kinds) (Opened id ∷ past) (tt, was.orderly);
     links = lines_told h' q.steps (Opened id ∷ past) ls (silent_plain q.steps q.kinds) (lines_apart h h' (Opened id ∷ []) past ls (λ d at of_d. apart_of past was.clients d (1, at) of_d (λ e. one_zero (ap (λ (p : ℕ × ℕ). p.0) e))) (tt, tt) was.links);
     gone = gone past was;
     shown = shown_later q.steps (Opened id ∷ past) h' h' (plain_unlost q.steps (silent_plain q.steps q.kinds)) ([], refl) (shown_later (Opened id ∷ []) past h h' (tt, tt) after was.shown);

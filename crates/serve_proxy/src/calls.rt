@@ -1,7 +1,7 @@
 //! A call that the core makes goes to its server's link: it is written there, waits there, or has failed.
 
 ghost use Rattle.std.specs.Prelude.{◌≡◌};
-ghost use Rattle.serve_links.specs.Story.{AgreesSent};
+ghost use Rattle.serve_links.specs.Story.{AgreesSent, AgreesDue};
 ghost use Rattle.serve_proxy.specs.Ends.{AgreesTicket, AllSendFrom, AllFailOn};
 
 use crate::failing::look_at_idle;
@@ -117,7 +117,7 @@ fn refuse_call<W: Wire>(
     id: usize,
     ticket: Ticket,
 ) -> Result<(), AllocError>
-    ensures ends { AllFailOn W.history core.old sockets.old core.new sockets.new }
+    ensures ends { AllSendFrom (AgreesDue ticket.number) W.history core.old sockets.old core.new sockets.new }
 {
     fail_call(core, ticket);
     sockets.clients.mark_settled(id)

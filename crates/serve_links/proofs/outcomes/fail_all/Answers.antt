@@ -1,6 +1,9 @@
+use Rattle.std.proofs.Common.{sym, subst}
+use Rattle.serve_links.specs.Links.{FailsTo}
+use Rattle.serve_links.specs.declared.link.Link.{Link}
 use Rattle.serve_clients.proofs.Agreeing.{keeps_twice}
 use Rattle.serve_links.proofs.Walked.{then}
-use Rattle.serve_links.proofs.Failing.{on_ok, all_then, none_gone}
+use Rattle.serve_links.proofs.Failing.{on_ok, all_then, none_failed}
 use Rattle.serve_links.proofs.outcomes.fail_all.Goals as goal
 
 pub returns-clause-core : goal.returns-clause-core
@@ -12,5 +15,12 @@ returns-clause-all c = on_ok c.fail_waiting.result _ _ (λ f. all_then c.args.li
 pub returns-clause-ends : goal.returns-clause-ends
 returns-clause-ends c = keeps_twice c.args.clients.now c.fail_sent.new.clients c.fail_waiting.new.clients c.fail_sent.ensures.ends c.fail_waiting.ensures.ends
 
-pub returns-in_err-fail_sent-clause-left : goal.returns-in_err-fail_sent-clause-left
-returns-in_err-fail_sent-clause-left c = none_gone c.args.link.now.waiting.items
+pub returns-in_err-fail_sent-clause-first : goal.returns-in_err-fail_sent-clause-first
+returns-in_err-fail_sent-clause-first c = (c.fail_sent.new.core, c.fail_sent.ensures.first, none_failed c.args.link.now.waiting.items c.fail_sent.new.core)
+
+pub returns-clause-first : goal.returns-clause-first
+returns-clause-first c = (
+  c.fail_sent.new.core,
+  subst (λ (z : Link). FailsTo c.args.link.now.calls.sent.items z.calls.sent.items c.args.core.now c.fail_sent.new.core) (sym c.fail_waiting.ensures.rest) c.fail_sent.ensures.first,
+  c.fail_waiting.ensures.first,
+)

@@ -1,13 +1,13 @@
 use Rattle.std.proofs.Common.{sym}
 use Rattle.serve_links.specs.declared.calls.calls.SentCall.{SentCall}
 use Rattle.serve_links.proofs.Story.{still_called}
-use Rattle.serve_proxy.proofs.Going.{and_then, stays, without_call}
+use Rattle.serve_proxy.proofs.Going.{and_then, stays, called_due}
 use Rattle.serve_proxy.proofs.Staying.{stay_links}
 use Rattle.serve_proxy.proofs.Linking.{called_at}
 use Rattle.serve_proxy.proofs.calls.send_looked.Goals as goal
 
 pub returns-then-not-is_open : goal.returns-then-not-is_open
-returns-then-not-is_open g c = record { ends = without_call c.args.ticket.number c.args.ticket.server c.args.ticket.ask (and_then (c.is_open.ensures.ends c.args.sockets.now.clients c.args.core.now) c.refuse_call.ensures.ends) }
+returns-then-not-is_open g c = record { ends = and_then (still_called c.args.ticket.number c.args.ticket.server c.args.ticket.ask (c.is_open.ensures.ends c.args.sockets.now.clients c.args.core.now)) (called_due c.args.ticket.number c.args.ticket.server c.args.ticket.ask c.refuse_call.ensures.ends) }
 
 pub returns-then-is_full : goal.returns-then-is_full
 returns-then-is_full g c =

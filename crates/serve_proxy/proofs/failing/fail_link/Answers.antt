@@ -1,5 +1,6 @@
 use Rattle.std.proofs.Common.{◌≡◌, ◌<◌, false, true, None, sym, ap, subst}
 use Rattle.serve_links.specs.declared.link.Link.{Link}
+use Rattle.serve_links.specs.declared.calls.calls.LinkCalls.{LinkCalls}
 use Rattle.serve_links.specs.Links.{IsDown}
 use Rattle.serve_links.proofs.Failing.{on_ok, at_set}
 use Rattle.serve_links.proofs.Story.{but_none, go_between}
@@ -29,8 +30,8 @@ returns-in-Some g c =
       ends = λ why. and_then
           (line_given_up why links c.args.at x y c.in-Some.ensures.item.3.0 c.in-Some.ensures.value
           (line_then
-          (line_closes why x m c.close-closed.result c.close-closed.ensures.number c.close_if_any.ensures.some c.close_if_any.ensures.none c.close-closed.ensures.conn (ap (λ t. t.items) c.close-closed.ensures.text) (ap (λ w. w.items) c.close-closed.ensures.waiting))
-          (line_fails m y c.fail_all.ensures.left.0 c.fail_all.ensures.core c.close-closed.ensures.conn c.fail_all.ensures.closed (ap (λ t. t.items) c.fail_all.ensures.text) c.fail_all.ensures.left.1)))
+          (line_closes why x m c.close-closed.result c.close-closed.ensures.number c.close_if_any.ensures.some c.close_if_any.ensures.none c.close-closed.ensures.conn (ap (λ t. t.items) c.close-closed.ensures.text) (ap (λ w. w.items) c.close-closed.ensures.waiting) (ap (λ (k : LinkCalls). k.sent.items) c.close-closed.ensures.calls))
+          (line_fails m y c.fail_all.ensures.first.0 c.fail_all.ensures.first.1 c.fail_all.ensures.first.2 c.close-closed.ensures.conn c.fail_all.ensures.closed (ap (λ t. t.items) c.fail_all.ensures.text))))
           (stays c.fail_all.new.core (stay_clients _ _ _ _ c.fail_all.ensures.ends));
       down = on_ok c.fail_all.result _ _ (λ d. at_set IsDown links c.args.at y d) c.fail_all.ensures.down;
       closed = at_set (λ (z : Link). z.conn ≡ None) links c.args.at y c.fail_all.ensures.closed;

@@ -1,3 +1,4 @@
+use Rattle.serve_links.specs.declared.calls.calls.LinkCalls.{LinkCalls}
 use Rattle.std.proofs.Common.{ap}
 use Rattle.serve_links.specs.declared.link.Opening.TheVariants as opening
 use Rattle.serve_proxy.proofs.Staying.{line_opens, line_opens_not, none_kept}
@@ -6,7 +7,7 @@ use Rattle.serve_proxy.proofs.links.begin.Goals as goal
 
 pub returns-in-Failed : goal.returns-in-Failed
 returns-in-Failed g c = record {
-  stands = line_opens_not c.args.at c.args.settings.now.server_dialect opening.Failed _ _ c.args.link.now c.connect.new.self c.close.new.self c.in-Failed.ensures.opens (none_kept c.args.link.now.conn c.connect.new.self.conn c.requires c.in-Failed.ensures.opens.1.conn) c.close.ensures.conn (ap (λ t. t.items) c.close.ensures.text) (ap (λ w. w.items) c.close.ensures.waiting);
+  stands = line_opens_not c.args.at c.args.settings.now.server_dialect opening.Failed _ _ c.args.link.now c.connect.new.self c.close.new.self c.in-Failed.ensures.opens (none_kept c.args.link.now.conn c.connect.new.self.conn c.requires c.in-Failed.ensures.opens.1.conn) c.close.ensures.conn (ap (λ t. t.items) c.close.ensures.text) (ap (λ w. w.items) c.close.ensures.waiting) (ap (λ (k : LinkCalls). k.sent.items) c.close.ensures.calls);
   conn = λ begun. absurd (let no = begun in cc no);
 }
 
