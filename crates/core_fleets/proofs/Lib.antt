@@ -13,3 +13,4 @@ pub mod Copying
 pub mod FleetGate
 pub mod Logs
 pub mod Cores
+pub mod InTurn
