@@ -1,67 +1,25 @@
 -- Several runs of a program, one after another, are one run.
-use Rattle.std.proofs.Common.{◌≡◌, ℕ, ◌<◌, Bool, true, false, cond, List, [], ◌∷◌, ◌++◌, Option, Some, None, refl, sym, ap, ◌∙◌, subst, nat_eq}
-use Rattle.std.proofs.lemmas.Bool.{eqb-true, eq-eqb}
+use Rattle.std.proofs.Common.{◌≡◌, ℕ, true, List, [], ◌∷◌, ◌++◌, Option, Some, sym, ap, ◌∙◌, subst}
 use Rattle.mc_types.specs.declared.ask.Ask.{Ask}
 use Rattle.mc_types.specs.declared.answer.Answer.{Answer}
-use Rattle.mc_types.specs.declared.call.Origin.TheVariants.{Client}
 use Rattle.mc_types.specs.Items.{Item}
 use Rattle.fresh_runs.specs.Run.{Call, outcome_of}
 use Rattle.fresh_runs.specs.Overlap.{run_of}
 use Rattle.fresh_runs.specs.Sharing.{Event, Begins, Calls, Replies, Breaks, Turns, Restarts, under_way, calls_so_far, Run, IsFront, LosesOnly, CopiesBar}
-use Rattle.fresh_runs.proofs.OverlapRuns.{runs}
 use Rattle.route_tree.specs.Route.{Route}
 use Rattle.route_tree.specs.Plan.{Plan}
 use Rattle.route_tree.specs.At.{tree_at}
-use Rattle.route_tree.specs.Word.{Word, tree_words}
 use Rattle.gate_check.specs.Sound.{trees_of}
 use Rattle.gate_growth.proofs.Since.{grown_are_fresh}
-use Rattle.core_commands.specs.declared.sharing.Sharing.{Sharing}
-use Rattle.core_proxy.specs.Claims.{bars_by, copies_by, clears_by}
-use Rattle.core_proxy.specs.CoreState.{dialect, bars_of}
+use Rattle.core_proxy.specs.Claims.{bars_by, copies_by}
 use Rattle.core_accepted.specs.declared.served.ServedCore.{ServedCore}
 use Rattle.core_accepted.specs.Known.{is_arbitrary}
 use Rattle.core_accepted.proofs.Keeping as keeping
-use Rattle.core_fleets.specs.Late.{begun}
 use Rattle.core_fleets.specs.Parts.{Own, part, NumbersRise}
 use Rattle.core_fleets.specs.Rollout.{words_by}
-use Rattle.core_fleets.specs.InTurn.{AreInTurn, AreServed, AreRunsInTurn, RunsInTurnAreFresh}
-use Rattle.core_fleets.proofs.Late.{way_begun}
+use Rattle.core_fleets.specs.InTurn.{AreInTurn, AreServed, RunsInTurnAreFresh}
 use Rattle.core_fleets.proofs.Parts.{part_laws, part_way, part_calls, tail, head_of}
-
--- what has begun in the past has begun
-begun_still : (P : ℕ → Type 0) (x : ℕ) (ask : Ask) (past : List Event) → ((n : ℕ) (a : Ask) → begun (Begins x ask ∷ past) n ≡ Some a → P n) → (n : ℕ) (a : Ask) → begun past n ≡ Some a → P n
-begun_still P x ask past all n a e =
-    (elim (nat_eq x n) as (λ b. nat_eq x n ≡ b → P n) [
-      | true ↦ λ is. all n ask (ap (λ t. cond t (Some ask) (begun past n)) is)
-      | false ↦ λ is. all n a (ap (λ t. cond t (Some ask) (begun past n)) is ∙ e)
-    ]) refl
-
--- what a run does is what a proxy does by words that say no less of the commands that have begun, and by bars that bar no more of them
-module _ (one other : ℕ → Ask → List Call → Answer → Option ℕ → Type 0) (OneBars OtherBars : ℕ → Ask → ℕ → Ask → Type 0) (P : ℕ → Type 0) (more : (n : ℕ) (ask : Ask) (calls : List Call) (reply : Answer) (from : Option ℕ) → P n → one n ask calls reply from → other n ask calls reply from) (fewer : (n m : ℕ) (ask client : Ask) → P n → P m → OtherBars n ask m client → OneBars n ask m client) (opening : ℕ → List ℕ → Option Item) where
-  own_from : (events : List Event) → ((n : ℕ) (ask : Ask) → begun events n ≡ Some ask → P n) → Run one OneBars opening events → Own other OtherBars events
-  own_from [] all run = tt
-  own_from (Begins x ask ∷ past) all run =
-      let mine : P x = all x ask (ap (λ t. cond t (Some ask) (begun past x)) (eq-eqb x x refl)) in
-      let still = begun_still P x ask past all in (
-        (
-          run.0.0,
-          λ m client e alike.
-              let its : P m = still m client (way_begun past m client e) in
-              let free = run.0.1 m client e alike in
-              ((λ b. free.0 (fewer x m ask client mine its b)), (λ b. free.1 (fewer m x client ask its mine b))),
-        ),
-        own_from past still run.1,
-      )
-  own_from (Calls x s a o end ∷ past) all run =
-      let mine : P x = all x run.0.0 (way_begun past x run.0.0 run.0.1) in
-      let front : IsFront other x run.0.0 _ = (run.0.3.0, run.0.3.1, run.0.3.2, more x run.0.0 _ run.0.3.1 run.0.3.2 mine run.0.3.3) in
-      ((run.0.0, run.0.1, run.0.2, front), own_from past all run.1)
-  own_from (Replies x key r f ∷ past) all run =
-      let mine : P x = all x run.0.0 (way_begun past x run.0.0 run.0.1) in
-      ((run.0.0, run.0.1, run.0.2, more x run.0.0 _ r f mine run.0.3), own_from past all run.1)
-  own_from (Breaks x ∷ past) all run = (run.0, own_from past all run.1)
-  own_from (Turns s key turned ∷ past) all run = (tt, own_from past all run.1)
-  own_from (Restarts s ∷ past) all run = (tt, own_from past all run.1)
+use Rattle.core_fleets.proofs.Owns.{led_owns}
 
 module _ (words : ℕ → Ask → List Call → Answer → Option ℕ → Type 0) (Bars : ℕ → Ask → ℕ → Ask → Type 0) (run : ℕ → ℕ) (opening : ℕ → List ℕ → Option Item) where
   -- each command of one run bars all of another one: none of them is under way with it
@@ -121,17 +79,13 @@ runs_in_turn known are since served opening events h opens =
         let P : ℕ → Type 0 = λ n. (h.run (h.name p n) ≡ p) × (h.tree (h.name p n) ≡ led.tree n) in
         laws.changes _ _ (h.parts p)
         (laws.renames (h.name p) (h.rising p) (run_of (h.logs p))
-        (own_from (tree_words led.beside.at) (λ n. words (h.name p n)) (bars_of (served p).core led.beside) (λ n ask m client. Bars (h.name p n) ask (h.name p m) client) P
-        (λ n ask calls reply from mine word.
-        let its : tree_words (λ m key. tree_at (led.tree m) key) n ask calls reply from = subst (λ (at : ℕ → List ℕ → Plan). tree_words at n ask calls reply from) led.plain word in
-        (its.0, subst (λ (t : Route). Word (tree_at t ask.key) ask Client 0 calls (record { reply = reply; from = from })) (sym mine.1) its.1))
+        (led_owns (served p) (h.believes p) (h.logs p) led (h.name p) h.tree Bars P (λ n mine. mine.1)
         (λ n m ask client mine its b.
         let rule = (served p).core.limits.sharing in
         let here : bars_by rule (λ k key. tree_at (h.tree k) key) (h.name p n) ask (h.name p m) client = subst (λ (q : ℕ). bars_by (served q).core.limits.sharing (λ k key. tree_at (h.tree k) key) (h.name p n) ask (h.name p m) client) mine.0 b in
         let plan : tree_at (h.tree (h.name p n)) ask.key ≡ led.beside.at n ask.key = ap (λ (t : Route). tree_at t ask.key) mine.1 ∙ sym (ap (λ (at : ℕ → List ℕ → Plan). at n ask.key) led.plain) in
         (subst (λ (x : Plan). copies_by rule ask.op x ≡ true) plan here.0, here.1))
-        (h.believes p) (run_of (h.logs p)) (h.runs_by p)
-        (runs dialect (tree_words led.beside.at) (bars_of (served p).core led.beside) (h.believes p) (h.logs p) led.leads.follows))) in
+        (h.runs_by p))) in
     let run = one_run words Bars h.run opening events own h.rise h.serves h.in_turn in
     let copies : CopiesBar words (BarsAll words Bars h.run opening) = λ n ask calls reply from word j call i made copied m delete is same home.
         keeping.copies (served (h.run n)).core.limits.sharing (λ k key. tree_at (h.tree k) key) n ask calls reply from word j call i made copied m delete is same in
