@@ -75,18 +75,18 @@ runs_in_turn known are since served opening events h opens =
     let Bars = bars_in served h.run h.tree in
     let laws = part_laws words Bars in
     let own : (p : ℕ) → Own words Bars (part h.run p events) = λ p.
-        let led = h.led p in
-        let P : ℕ → Type 0 = λ n. (h.run (h.name p n) ≡ p) × (h.tree (h.name p n) ≡ led.tree n) in
-        laws.changes _ _ (h.parts p)
-        (laws.renames (h.name p) (h.rising p) (run_of (h.logs p))
-        (led_owns (served p) (h.believes p) (h.logs p) led (h.name p) h.tree Bars P (λ n mine. mine.1)
-        (λ n m ask client mine its b.
-        let rule = (served p).core.limits.sharing in
-        let here : bars_by rule (λ k key. tree_at (h.tree k) key) (h.name p n) ask (h.name p m) client = subst (λ (q : ℕ). bars_by (served q).core.limits.sharing (λ k key. tree_at (h.tree k) key) (h.name p n) ask (h.name p m) client) mine.0 b in
-        let plan : tree_at (h.tree (h.name p n)) ask.key ≡ led.beside.at n ask.key = ap (λ (t : Route). tree_at t ask.key) mine.1 ∙ sym (ap (λ (at : ℕ → List ℕ → Plan). at n ask.key) led.plain) in
-        (subst (λ (x : Plan). copies_by rule ask.op x ≡ true) plan here.0, here.1))
-        (h.runs_by p))) in
+    let led = h.led p in
+    let P : ℕ → Type 0 = λ n. (h.run (h.name p n) ≡ p) × (h.tree (h.name p n) ≡ led.tree n) in
+    laws.changes _ _ (h.parts p)
+    (laws.renames (h.name p) (h.rising p) (run_of (h.logs p))
+    (led_owns (served p) (h.believes p) (h.logs p) led (h.name p) h.tree Bars P (λ n mine. mine.1)
+    (λ n m ask client mine its b.
+    let rule = (served p).core.limits.sharing in
+    let here : bars_by rule (λ k key. tree_at (h.tree k) key) (h.name p n) ask (h.name p m) client = subst (λ (q : ℕ). bars_by (served q).core.limits.sharing (λ k key. tree_at (h.tree k) key) (h.name p n) ask (h.name p m) client) mine.0 b in
+    let plan : tree_at (h.tree (h.name p n)) ask.key ≡ led.beside.at n ask.key = ap (λ (t : Route). tree_at t ask.key) mine.1 ∙ sym (ap (λ (at : ℕ → List ℕ → Plan). at n ask.key) led.plain) in
+    (subst (λ (x : Plan). copies_by rule ask.op x ≡ true) plan here.0, here.1))
+    (h.runs_by p))) in
     let run = one_run words Bars h.run opening events own h.rise h.serves h.in_turn in
     let copies : CopiesBar words (BarsAll words Bars h.run opening) = λ n ask calls reply from word j call i made copied m delete is same home.
-        keeping.copies (served (h.run n)).core.limits.sharing (λ k key. tree_at (h.tree k) key) n ask calls reply from word j call i made copied m delete is same in
+    keeping.copies (served (h.run n)).core.limits.sharing (λ k key. tree_at (h.tree k) key) n ask calls reply from word j call i made copied m delete is same in
     (grown_are_fresh (BarsAll words Bars h.run opening) (is_arbitrary known) (trees_of known.configs) are since h.tree h.loaded opening opens events (loses opening events h.serves) run).0 copies
