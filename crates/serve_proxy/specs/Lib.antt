@@ -3,3 +3,4 @@ pub mod LogsGoOn
 pub mod Beginning
 pub mod Stillness
 pub mod Stalls
+pub mod Spares
