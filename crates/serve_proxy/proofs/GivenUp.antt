@@ -23,7 +23,7 @@ use Rattle.serve_links.specs.Story.{said_asks, line_of, LineAgrees, LineLost, Li
 use Rattle.serve_links.proofs.LinkGoes.{as_failing, line_between, line_keeps}
 use Rattle.serve_links.proofs.Story.{go_between, all_but, but_all}
 use Rattle.serve_proxy.specs.declared.sockets.Sockets.{Sockets}
-use Rattle.serve_proxy.specs.Ends.{end_of, over_by, over_of, idle_cause, cause_after, broken_unless, IsLateAt, LineUnless, LineStandsUnless, EndsGoFrom, AgreesUnless, AllGoOn, AllGoUnless, AllGoFromUnless}
+use Rattle.serve_proxy.specs.Ends.{end_of, over_by, over_of, idle_cause, broken_unless, IsLateAt, LineUnless, LineStandsUnless, EndsGoFrom, AgreesUnless, AllGoOn, AllGoUnless, AllGoFromUnless}
 use Rattle.serve_proxy.proofs.Going.{and_then, stays, line_lends}
 use Rattle.serve_proxy.proofs.Staying.{stay_clients}
 use Rattle.serve_proxy.proofs.Linking.{but_clients}
@@ -223,12 +223,6 @@ pub sent_not :
     {h h' : List Event} {cs cs' : Clients} {ls ls' : List Link} (at : ℕ) (has_sent : Bool) → has_sent ≡ false → EndsGoFrom Agrees (AgreesUnless at (broken_unless has_sent)) h h' cs cs' ls ls'
     → EndsGoFrom Agrees (AgreesBut (LineFails (Some causes.Broken)) at) h h' cs cs' ls ls'
 sent_not {h} {h'} {cs} {cs'} {ls} {ls'} at has_sent is did = subst (λ b. EndsGoFrom Agrees (AgreesUnless at (broken_unless b)) h h' cs cs' ls ls') is did
-
--- where it stopped nothing is to be given up
-pub idle_stopped :
-    {E : Type 0} {h h' : List Event} {cs cs' : Clients} {ls ls' : List Link} (at : ℕ) (r : Result (Option Cause) E) → IsErr r → EndsGoFrom Agrees Agrees h h' cs cs' ls ls' → EndsGoFrom Agrees (AgreesUnless at (cause_after r)) h h' cs cs' ls ls'
-idle_stopped at (Ok cause) is g = absurd (false_true is)
-idle_stopped at (Err refused) is g = g
 
 -- nothing more was done
 pub as_before : {P : List Step → AnEnd → Type 0} {Is : Step → Type 0} {a : AnEnd} → AllGoFrom P P Is a a

@@ -88,10 +88,6 @@ abbrev pub over_of : Option Got → Option Cause
 over_of None = None
 over_of (Some what) = over_by what
 
-abbrev pub over_after : {E : Type 0} → Result (Option Got) E → Option Cause
-over_after (Ok read) = over_of read
-over_after (Err refused) = None
-
 -- why a link is to be given up on which nothing is out: nothing may come over it
 abbrev pub idle_cause : Got → Option Cause
 idle_cause got.Bytes = Some causes.Foreign
@@ -99,11 +95,6 @@ idle_cause got.Nothing = None
 idle_cause got.Full = Some causes.Foreign
 idle_cause got.Ended = Some causes.Closed
 idle_cause got.Failed = Some causes.Broken
-
--- why it is to be given up by what was said of that, if something was
-abbrev pub cause_after : {E : Type 0} → Result (Option Cause) E → Option Cause
-cause_after (Ok cause) = cause
-cause_after (Err refused) = None
 
 -- and by whether what was to be sent could be written
 abbrev pub broken_unless : Bool → Option Cause

@@ -4,3 +4,4 @@ pub mod Beginning
 pub mod Stillness
 pub mod Stalls
 pub mod Spares
+pub mod Budgets

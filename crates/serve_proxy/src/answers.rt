@@ -3,7 +3,7 @@
 ghost use Rattle.std.specs.Prelude.{◌≡◌, ℕ, false, IfOk};
 ghost use Rattle.serve_clients.specs.Agrees.{KeepsEnds};
 ghost use Rattle.serve_links.specs.Story.{line_of};
-ghost use Rattle.serve_proxy.specs.Ends.{LineStandsUnless, LineGoesUnless, LineGoesLosing, over_by, over_after, AgreesUnless, Stay, GoAloneUnless, AllFailOn, AllGoOr, AllGoUnless, AllGoFromUnless};
+ghost use Rattle.serve_proxy.specs.Ends.{LineStandsUnless, LineGoesUnless, LineGoesLosing, over_by, over_of, AgreesUnless, Stay, GoAloneUnless, AllFailOn, AllGoOr, AllGoUnless, AllGoFromUnless};
 
 use crate::calls::begin_settled;
 use crate::failing::fail_link;
@@ -63,7 +63,7 @@ fn read_link<W: Wire>(
 ) -> io::Result<Option<Cause>>
     ensures ends { AllGoUnless at result W.history core.old sockets.old core.new sockets.new }
 {
-    match sockets.read_link_once(at)? {
+    match sockets.read_link_once(at) {
         Some(got) => settle_read(core, sockets, at, got),
         None => Ok(None),
     }
@@ -163,12 +163,12 @@ fn settle_all(
 
 impl<W: Wire> Sockets<W> {
     // One read of the link, if something may have come over it: what it gave.
-    fn read_link_once(&mut self, at: usize) -> Result<Option<Got>, AllocError>
-        ensures ends { GoAloneUnless at (over_after result) W.history self.old self.new }
+    fn read_link_once(&mut self, at: usize) -> Option<Got>
+        ensures ends { GoAloneUnless at (over_of result) W.history self.old self.new }
     {
         match self.links.all.get_mut(at) {
             Some(link) => read_line(link, &mut self.wire),
-            None => Ok(None),
+            None => None,
         }
     }
 
@@ -197,18 +197,21 @@ impl<W: Wire> Sockets<W> {
     }
 }
 
-/// One read of the link, if something may have come over its connection: what it gave.
-pub fn read_line<W: Wire>(link: &mut Link, wire: &mut W) -> Result<Option<Got>, AllocError>
-    ensures stands { (at : ℕ) → LineStandsUnless (over_after result) at (W.history wire.old) (W.history wire.new) link.old link.new }
+/// One read of the link, if something may have come over its connection: what it gave. What comes is too much where memory is refused for it.
+pub fn read_line<W: Wire>(link: &mut Link, wire: &mut W) -> Option<Got>
+    ensures stands { (at : ℕ) → LineStandsUnless (over_of result) at (W.history wire.old) (W.history wire.new) link.old link.new }
 {
     let room = link.read_room();
     let Some(conn) = link.conn.as_mut() else {
-        return Ok(None);
+        return None;
     };
     if !conn.readable {
-        return Ok(None);
+        return None;
     }
-    Ok(Some(conn.read_once(wire, room)?))
+    match conn.read_once(wire, room) {
+        Ok(got) => Some(got),
+        Err(_) => Some(Got::Full),
+    }
 }
 
 // Whether it holds much, and whether it has much room.

@@ -2,7 +2,7 @@
 
 ghost use Rattle.std.specs.Prelude.{◌≡◌, OnOk};
 ghost use Rattle.serve_links.specs.Links.{IsDownAt, IsClosedAt};
-ghost use Rattle.serve_proxy.specs.Ends.{idle_cause, cause_after, IsLateAt, GoAloneUnless, AllFailOn, AllGiveUp, AllGoOr};
+ghost use Rattle.serve_proxy.specs.Ends.{idle_cause, IsLateAt, GoAloneUnless, AllFailOn, AllGiveUp, AllGoOr};
 
 use crate::answers::{read_line, serve_link};
 use crate::calls::fail_waited;
@@ -49,7 +49,7 @@ pub fn look_at_idle<W: Wire>(
 ) -> Result<(), AllocError>
     ensures ends { AllFailOn W.history core.old sockets.old core.new sockets.new }
 {
-    match sockets.read_idle(at)? {
+    match sockets.read_idle(at) {
         Some(cause) => fail_link(core, sockets, at, cause),
         None => Ok(()),
     }
@@ -130,18 +130,18 @@ fn idle_fault(got: Got) -> Option<Cause>
 
 impl<W: Wire> Sockets<W> {
     // One read of the link, where nothing is out on its connection and something may have come over it. Why it fails by that, if it does.
-    fn read_idle(&mut self, at: usize) -> Result<Option<Cause>, AllocError>
-        ensures ends { GoAloneUnless at (cause_after result) W.history self.old self.new }
+    fn read_idle(&mut self, at: usize) -> Option<Cause>
+        ensures ends { GoAloneUnless at result W.history self.old self.new }
     {
         let Some(link) = self.links.all.get_mut(at) else {
-            return Ok(None);
+            return None;
         };
         if !is_idle(link) {
-            return Ok(None);
+            return None;
         }
-        match read_line(link, &mut self.wire)? {
-            Some(got) => Ok(idle_fault(got)),
-            None => Ok(None),
+        match read_line(link, &mut self.wire) {
+            Some(got) => idle_fault(got),
+            None => None,
         }
     }
 
