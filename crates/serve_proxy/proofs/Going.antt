@@ -483,7 +483,7 @@ refused_go {h} {cs} {ls} number a b is =
       kinds = (refl, tt);
       walks = (a, refl, is);
       agree = λ past due. let was = due.0 in record {
-        orderly = (inr due.1, was.orderly);
+        orderly = (inr (inl due.1), was.orderly);
         clients = agree_told h (fed_in past) (gave_in past) (fed_in (step ∷ past)) (gave_in (step ∷ past)) cs (λ j. (refl, refl)) was.clients;
         told = all_told past (step ∷ []) cs (λ j. (refl, refl, refl, refl)) was.told;
         links = lines_told h (step ∷ []) past ls (refl, tt) was.links;
