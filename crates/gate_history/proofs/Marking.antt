@@ -1,6 +1,6 @@
 -- The marks of a server after generations, one after another.
 use Rattle.std.proofs.Common.{◌≡◌, ℕ, zero, suc, ◌+◌, ◌<◌, ◌≤◌, Bool, List, [], ◌∷◌, ◌++◌, length, map, take, get_or, refl, sym, ap, ◌∙◌, subst, arith}
-use Rattle.std.proofs.lemmas.List.{length-map, take_more, map-append}
+use Rattle.std.proofs.lemmas.List.{length-map, take_all, take_more, map-append}
 use Rattle.route_tree.specs.At.{plain_for}
 use Rattle.route_tree.specs.Plan.{Plan}
 use Rattle.gate_growth.specs.Marks.{IsMarkOf}
@@ -27,3 +27,11 @@ one_more_mark hash text arbitrary server gs i g mark new lt is marks after =
     let taken : take (i + 1) gs ≡ take i gs ++ g ∷ [] = take_more gs i g lt ∙ ap (λ (h : Generation). take i gs ++ h ∷ []) (sym is) in
     let more : plans_for hash text (take (i + 1) gs) ≡ plans_for hash text (take i gs) ++ plain_for hash text g.config.tree ∷ [] = ap (map plan) taken ∙ map-append plan (take i gs) (g ∷ []) in
     subst (λ (plans : List Plan). IsMarkOf arbitrary plans server new) (sym more) (after (plans_for hash text (take i gs)) (plans_len hash text gs i (omega (arith, lt))) marks)
+
+-- after all
+module _ (hash : ℕ) (text : List ℕ) (gs : List Generation) (i : ℕ) (done : length gs ≤ i) where
+  pub all_len : i ≤ length gs → length (plans_for hash text gs) ≡ i
+  all_len le = length-map gs (λ (g : Generation). plain_for hash text g.config.tree) ∙ omega (arith, done, le)
+
+  pub all_marked : (arbitrary : Bool) (server : ℕ) (mark : Mark) → IsMarkOf arbitrary (plans_for hash text (take i gs)) server mark → IsMarkOf arbitrary (plans_for hash text gs) server mark
+  all_marked arbitrary server mark = subst (λ (l : List Generation). IsMarkOf arbitrary (plans_for hash text l) server mark) (take_all i gs done)

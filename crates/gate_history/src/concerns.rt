@@ -27,8 +27,42 @@ use std::alloc::{AllocError, Global};
 pub struct Concern {
     pub server: ServerId,
     pub generation: u32,
-    pub place: Place,
     pub places: u32,
+    // The first place: the index of its prefix, if it has one, and its residue.
+    prefix: Option<usize>,
+    residue: u32,
+}
+
+/// What a configuration that may not follow concerns.
+#[derive(Drop)]
+pub struct Concerns {
+    all: Vec<Option<Concern>>,
+    prefixes: Vec<Key>,
+    modulus: u32,
+}
+
+impl Concerns {
+    /// Of each server, in the order of their numbers.
+    pub fn all(&self) -> &[Option<Concern>] {
+        &self.all
+    }
+
+    /// The first place of one of them.
+    pub fn place(&self, concern: &Concern) -> Place {
+        Place {
+            prefix: prefix_at(&self.prefixes, concern.prefix),
+            residue: concern.residue,
+            modulus: self.modulus,
+        }
+    }
+}
+
+// The prefix of this index, if there is one.
+fn prefix_at(prefixes: &[Key], index: Option<usize>) -> Option<Key> {
+    match index {
+        Some(index) => prefixes.get(index).copied(),
+        None => None,
+    }
 }
 
 // A tree that is to follow, and at which places it is looked at.
@@ -36,7 +70,7 @@ pub struct Concern {
 struct Look<'a> {
     generations: &'a [Generation],
     tree: &'a Tree,
-    texts: &'a [Key],
+    prefixes: &'a [Key],
     modulus: u32,
 }
 
@@ -83,7 +117,8 @@ fn counted(
     found: Option<Concern>,
     left: Option<u32>,
     server: ServerId,
-    place: &Place,
+    prefix: Option<usize>,
+    residue: u32,
 ) -> Option<Concern> {
     match (found, left) {
         (found, None) => found,
@@ -94,42 +129,39 @@ fn counted(
         (None, Some(first)) => Some(Concern {
             server,
             generation: first.saturating_add(1),
-            place: *place,
             places: 1,
+            prefix,
+            residue,
         }),
     }
 }
 
-// With the places of a prefix.
+// With the places of a prefix, of this index, or of none.
 fn with_class(
     look: &Look<'_>,
     began: Beginning,
     server: ServerId,
-    prefix: &Option<Key>,
+    prefix: Option<usize>,
     found: Option<Concern>,
 ) -> Option<Concern> {
+    let text = prefix_at(look.prefixes, prefix);
     let mut found = found;
     for residue in 0..look.modulus {
-        let place = Place {
-            prefix: *prefix,
-            residue,
-            modulus: look.modulus,
-        };
         let at = At {
-            text: prefix_text(prefix),
+            text: prefix_text(&text),
             hash: residue,
         };
         let left = first_left(look.generations, look.tree, began, server, &at);
-        found = counted(found, left, server, &place);
+        found = counted(found, left, server, prefix, residue);
     }
     found
 }
 
 // Of one server, which began so, at all places.
 fn concern_of(look: &Look<'_>, began: Beginning, server: ServerId) -> Option<Concern> {
-    let mut found = with_class(look, began, server, &None, None);
-    for text in look.texts {
-        found = with_class(look, began, server, &Some(*text), found);
+    let mut found = with_class(look, began, server, None, None);
+    for index in 0..look.prefixes.len() {
+        found = with_class(look, began, server, Some(index), found);
     }
     found
 }
@@ -191,7 +223,7 @@ fn modulus_of(
 }
 
 // The prefixes of all trees, each once, in byte order.
-fn texts_of(
+fn prefixes_of(
     alloc: Global,
     generations: &[Generation],
     tree: &Tree,
@@ -204,51 +236,47 @@ fn texts_of(
     ordered(alloc, &list)
 }
 
-// One more, if there is one.
-fn push_found(all: &mut Vec<Concern>, found: Option<Concern>) -> Result<(), AllocError> {
-    if let Some(concern) = found {
-        all.push(concern)?;
-    }
-    Ok(())
-}
-
-// Of all servers.
+// Of each server.
 fn all_concerns(
     alloc: Global,
     look: &Look<'_>,
     servers: usize,
     new: Beginning,
-) -> Result<Vec<Concern>, AllocError> {
+) -> Result<Vec<Option<Concern>>, AllocError> {
     let mut all = Vec::new(alloc);
     let mut server = ServerId::new(0);
     for index in 0..servers {
         let began = began_of(look.generations, index, new);
-        push_found(&mut all, concern_of(look, began, server))?;
+        all.push(concern_of(look, began, server))?;
         server = ServerId::new(server.number().saturating_add(1));
     }
     Ok(all)
 }
 
-/// Each server that the configuration's tree takes at some place though a generation, or the tree itself, may leave an item there, in
-/// the order of their numbers; the new servers began so. None where there are too many places. The only error is that memory was
-/// refused.
+/// On which of the configuration's servers its tree may show what a generation, or the tree itself, may leave there; the new servers began
+/// so. None where there are too many places. The only error is that memory was refused.
 pub fn find_concerns(
     alloc: Global,
     history: &History,
     config: &Config,
     new: Beginning,
-) -> Result<Option<Vec<Concern>>, AllocError> {
+) -> Result<Option<Concerns>, AllocError> {
     let generations = history.generations();
     let tree = config.tree();
     let Some(modulus) = modulus_of(alloc, generations, tree)? else {
         return Ok(None);
     };
-    let texts = texts_of(alloc, generations, tree)?;
+    let prefixes = prefixes_of(alloc, generations, tree)?;
     let look = Look {
         generations,
         tree,
-        texts: &texts,
+        prefixes: &prefixes,
         modulus,
     };
-    Ok(Some(all_concerns(alloc, &look, config.servers().len(), new)?))
+    let all = all_concerns(alloc, &look, config.servers().len(), new)?;
+    Ok(Some(Concerns {
+        all,
+        prefixes,
+        modulus,
+    }))
 }

@@ -15,7 +15,7 @@ pub mod spelled;
 pub mod told;
 pub mod writing;
 
-pub use concerns::{Concern, find_concerns};
+pub use concerns::{Concern, Concerns, find_concerns};
 pub use fault::{HistoryFault, NextFault};
 pub use generation::Generation;
 pub use history::History;

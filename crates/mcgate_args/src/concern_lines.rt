@@ -4,7 +4,7 @@ use gate_coverage::prefixes::prefix_text;
 use gate_gaps::pool_words::write_server;
 use gate_gaps::{ConfigPool, read_pools};
 use gate_growth::ledger::Beginning;
-use gate_history::{Concern, History, find_concerns};
+use gate_history::{Concern, Concerns, History, find_concerns};
 use route_json::{Config, ConfigFault, read_config_after};
 use route_tree::Place;
 use std::alloc::{AllocError, Global};
@@ -39,6 +39,7 @@ fn server_line(
     config: &Config,
     pools: &[ConfigPool],
     concern: &Concern,
+    place: &Place,
 ) -> io::Result<String> {
     let mut line = Vec::new(alloc);
     write!(line, "- server ")?;
@@ -48,39 +49,55 @@ fn server_line(
         ": generation={} places={}",
         concern.generation, concern.places
     )?;
-    write_place(&concern.place, &mut line)?;
+    write_place(place, &mut line)?;
     Ok(String::from_utf8_lossy(alloc, line.as_slice())?)
 }
 
-// The servers, and how many there are.
+// The line of how many servers there are.
+fn count_line(alloc: Global, count: usize, servers: usize) -> Result<String, AllocError> {
+    format!(in alloc; "its reads may show what deletes left on {count} of {servers} servers:")
+}
+
+// The first of the servers.
 fn server_lines(
     alloc: Global,
     config: &Config,
     pools: &[ConfigPool],
-    all: &[Concern],
+    concerns: &Concerns,
 ) -> io::Result<Vec<String>> {
     let mut lines = Vec::new(alloc);
-    let (count, servers) = (all.len(), config.servers().len());
-    lines.push(format!(in alloc;
-        "its reads may show what deletes left on {count} of {servers} servers:"
-    )?)?;
-    for concern in all.iter().take(NAMED) {
-        lines.push(server_line(alloc, config, pools, concern)?)?;
-    }
-    if count > NAMED {
-        lines.push(format!(in alloc; "- and {} more", count - NAMED)?)?;
+    for found in concerns.all() {
+        if let Some(concern) = found {
+            if lines.len() < NAMED {
+                let place = concerns.place(concern);
+                lines.push(server_line(alloc, config, pools, concern, &place)?)?;
+            }
+        }
     }
     Ok(lines)
 }
 
-// The same, and what to do.
+// How many there are.
+fn count_of(concerns: &Concerns) -> usize {
+    concerns.all().iter().filter(|found| found.is_some()).count()
+}
+
+// How many servers there are, the first of them, and what to do.
 fn all_lines(
     alloc: Global,
     config: &Config,
     pools: &[ConfigPool],
-    all: &[Concern],
+    concerns: &Concerns,
 ) -> io::Result<Vec<String>> {
-    let mut lines = server_lines(alloc, config, pools, all)?;
+    let count = count_of(concerns);
+    let mut lines = Vec::new(alloc);
+    lines.push(count_line(alloc, count, config.servers().len())?)?;
+    for line in server_lines(alloc, config, pools, concerns)? {
+        lines.push(line)?;
+    }
+    if count > NAMED {
+        lines.push(format!(in alloc; "- and {} more", count - NAMED)?)?;
+    }
     for line in advice().lines() {
         lines.push(String::from_str(alloc, line)?)?;
     }
@@ -96,9 +113,9 @@ fn lines_of(
     new: Beginning,
 ) -> io::Result<Vec<String>> {
     match find_concerns(alloc, history, config, new)? {
-        Some(all) => {
+        Some(concerns) => {
             let pools = read_pools(alloc, text, config.servers())?;
-            all_lines(alloc, config, &pools, &all)
+            all_lines(alloc, config, &pools, &concerns)
         }
         None => Ok(Vec::new(alloc)),
     }
