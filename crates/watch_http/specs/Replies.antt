@@ -24,21 +24,35 @@ field_of NotFound = []
 field_of NotAllowed = codes "Allow: GET\r\n"
 field_of TooLarge = []
 
--- the head of an answer whose body has so many bytes
-abbrev pub page_head : Page → ℕ → List ℕ
-page_head page count =
-    codes "HTTP/1.1 200 OK\r\nContent-Type: " ++ kind_of page ++ codes "\r\nContent-Length: " ++ decimal count
-    ++ codes "\r\nConnection: close\r\n\r\n"
+unfoldable pub status_line : List ℕ → List ℕ
+status_line words = codes "HTTP/1.1 " ++ words ++ codes "\r\n"
+
+unfoldable pub kind_line : List ℕ → List ℕ
+kind_line kind = codes "Content-Type: " ++ kind ++ codes "\r\n"
+
+unfoldable pub length_line : ℕ → List ℕ
+length_line count = codes "Content-Length: " ++ decimal count ++ codes "\r\n"
+
+-- the connection is closed after the answer; and the end of the head
+unfoldable pub close_lines : List ℕ
+close_lines = codes "Connection: close\r\n\r\n"
+
+unfoldable pub front_text : List ℕ → List ℕ → List ℕ → List ℕ
+front_text words fields kind = status_line words ++ fields ++ kind_line kind
+
+unfoldable pub body_text : List ℕ → List ℕ
+body_text body = length_line (length body) ++ close_lines ++ body
+
+-- an answer of this status, with its fields, and a body of this kind
+unfoldable pub answer_text : List ℕ → List ℕ → List ℕ → List ℕ → List ℕ
+answer_text words fields kind body = front_text words fields kind ++ body_text body
 
 abbrev pub page_text : Page → List ℕ → List ℕ
-page_text page body = page_head page (length body) ++ body
+page_text page body = answer_text (codes "200 OK") [] (kind_of page) body
 
--- the body is the status, and a line end
+-- the body is the status
 abbrev pub refusal_text : Refusal → List ℕ
-refusal_text refusal =
-    codes "HTTP/1.1 " ++ words_of refusal ++ codes "\r\n" ++ field_of refusal
-    ++ codes "Content-Type: text/plain\r\nContent-Length: " ++ decimal (length (words_of refusal) + 1)
-    ++ codes "\r\nConnection: close\r\n\r\n" ++ words_of refusal ++ codes "\n"
+refusal_text refusal = answer_text (words_of refusal) (field_of refusal) (codes "text/plain") (words_of refusal)
 
 abbrev pub PageAnswers : List ℕ → List ℕ → Type 0
 PageAnswers came answer = (page : Page) × (body : List ℕ) × Asks came (For page) × (answer ≡ page_text page body)

@@ -1,8 +1,8 @@
 //! The bytes of answers.
 
-ghost use Rattle.std.specs.Prelude.{◌≡◌, OnOk, length, codes};
+ghost use Rattle.std.specs.Prelude.{◌≡◌, OnOk};
 ghost use Rattle.std.specs.Io.KnownBytes.{Appends};
-ghost use Rattle.watch_http.specs.Replies.{kind_of, words_of, field_of, page_head, refusal_text, page_text};
+ghost use Rattle.watch_http.specs.Replies.{kind_of, words_of, field_of, status_line, kind_line, length_line, close_lines, front_text, body_text, answer_text, refusal_text, page_text};
 
 use crate::request::{Page, Refusal};
 use std::io;
@@ -40,14 +40,65 @@ fn field_of(refusal: Refusal) -> &'static str
     }
 }
 
-fn write_page_head<W: Write>(page: Page, length: usize, out: &mut W) -> io::Result<()>
-    ensures { OnOk result (Appends (W.contents out.old) (W.contents out.new) (page_head page length)) }
+#[tactic(auto, unfolding(crate::specs::Replies::status_line))]
+fn write_status<W: Write>(words: &str, out: &mut W) -> io::Result<()>
+    ensures { OnOk result (Appends (W.contents out.old) (W.contents out.new) (status_line words.now)) }
 {
-    let kind = kind_of(page);
-    write!(
-        out,
-        "HTTP/1.1 200 OK\r\nContent-Type: {kind}\r\nContent-Length: {length}\r\nConnection: close\r\n\r\n"
-    )
+    write!(out, "HTTP/1.1 {words}\r\n")
+}
+
+#[tactic(auto, unfolding(crate::specs::Replies::kind_line))]
+fn write_kind<W: Write>(kind: &str, out: &mut W) -> io::Result<()>
+    ensures { OnOk result (Appends (W.contents out.old) (W.contents out.new) (kind_line kind.now)) }
+{
+    write!(out, "Content-Type: {kind}\r\n")
+}
+
+#[tactic(auto, unfolding(crate::specs::Replies::length_line))]
+fn write_length<W: Write>(length: usize, out: &mut W) -> io::Result<()>
+    ensures { OnOk result (Appends (W.contents out.old) (W.contents out.new) (length_line length)) }
+{
+    write!(out, "Content-Length: {length}\r\n")
+}
+
+#[tactic(auto, unfolding(crate::specs::Replies::close_lines))]
+fn write_close<W: Write>(out: &mut W) -> io::Result<()>
+    ensures { OnOk result (Appends (W.contents out.old) (W.contents out.new) close_lines) }
+{
+    write!(out, "Connection: close\r\n\r\n")
+}
+
+#[tactic(auto, unfolding(crate::specs::Replies::front_text))]
+fn write_front<W: Write>(words: &str, fields: &str, kind: &str, out: &mut W) -> io::Result<()>
+    ensures { OnOk result (Appends (W.contents out.old) (W.contents out.new) (front_text words.now fields.now kind.now)) }
+{
+    write_status(words, out)?;
+    write_bytes(fields.as_bytes(), out)?;
+    write_kind(kind, out)
+}
+
+#[tactic(auto, unfolding(crate::specs::Replies::body_text))]
+fn write_body<W: Write>(body: &[u8], out: &mut W) -> io::Result<()>
+    ensures { OnOk result (Appends (W.contents out.old) (W.contents out.new) (body_text body.now)) }
+{
+    write_length(body.len(), out)?;
+    write_close(out)?;
+    write_bytes(body, out)
+}
+
+// Writes an answer of this status, with the fields of the status.
+#[tactic(auto, unfolding(crate::specs::Replies::answer_text))]
+fn write_answer<W: Write>(
+    words: &str,
+    fields: &str,
+    kind: &str,
+    body: &[u8],
+    out: &mut W,
+) -> io::Result<()>
+    ensures { OnOk result (Appends (W.contents out.old) (W.contents out.new) (answer_text words.now fields.now kind.now body.now)) }
+{
+    write_front(words, fields, kind, out)?;
+    write_body(body, out)
 }
 
 fn write_bytes<W: Write>(bytes: &[u8], out: &mut W) -> io::Result<()>
@@ -60,19 +111,19 @@ fn write_bytes<W: Write>(bytes: &[u8], out: &mut W) -> io::Result<()>
 pub fn write_page<W: Write>(page: Page, body: &[u8], out: &mut W) -> io::Result<()>
     ensures { OnOk result (Appends (W.contents out.old) (W.contents out.new) (page_text page body.now)) }
 {
-    write_page_head(page, body.len(), out)?;
-    write_bytes(body, out)
+    write_answer("200 OK", "", kind_of(page), body, out)
 }
 
-/// Writes the answer to a request that is answered by no page: its status, also as a line.
+/// Writes the answer to a request that is answered by no page. Its body is its status.
 pub fn write_refusal<W: Write>(refusal: Refusal, out: &mut W) -> io::Result<()>
     ensures { OnOk result (Appends (W.contents out.old) (W.contents out.new) (refusal_text refusal)) }
 {
     let words = words_of(refusal);
-    let field = field_of(refusal);
-    let length = words.len() + 1;
-    write!(
+    write_answer(
+        words,
+        field_of(refusal),
+        "text/plain",
+        words.as_bytes(),
         out,
-        "HTTP/1.1 {words}\r\n{field}Content-Type: text/plain\r\nContent-Length: {length}\r\nConnection: close\r\n\r\n{words}\n"
     )
 }

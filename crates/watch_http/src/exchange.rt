@@ -1,9 +1,9 @@
 //! A client's request and its answer.
 
-ghost use Rattle.std.specs.Prelude.{◌≡◌, ◌≤◌, ◌+◌, ◌++◌, IfOk, length, drop};
+ghost use Rattle.std.specs.Prelude.{◌≡◌, ◌≤◌, ◌+◌, [], ◌++◌, IfOk, length, drop};
 ghost use Rattle.watch_http.specs.declared.request.Asked.TheVariants.{Unfinished, For, Refused};
 ghost use Rattle.watch_http.specs.Requests.{Asks};
-ghost use Rattle.watch_http.specs.Replies.{Answers};
+ghost use Rattle.watch_http.specs.Replies.{page_text, Answers};
 
 use crate::answers::{write_page, write_refusal};
 use crate::request::{Asked, MOST_BYTES, Page, Refusal, what_is_asked};
@@ -45,33 +45,43 @@ pub enum Exchange {
     Lingering,
 }
 
-// Bytes that ask for no page are answered at once.
-fn refused(alloc: Global, came: Vec<u8>, refusal: Refusal) -> io::Result<Exchange>
-    requires { Asks came.items (Refused refusal) }
-{
-    let mut answer = Vec::new(alloc);
-    write_refusal(refusal, &mut answer)?;
-    Ok(Exchange::Answering(Answering {
-        came,
-        answer,
-        sent: 0,
-    }))
-}
+impl Exchange {
+    ghost use Rattle.watch_http.specs.Exchanges.{Holds};
 
-// Where a client stands whose bytes ask for this.
-fn exchange_of(alloc: Global, came: Vec<u8>, asked: Asked) -> io::Result<Exchange>
-    requires { Asks came.items asked }
-{
-    match asked {
-        Asked::Unfinished => Ok(Exchange::Asking(Asking { came })),
-        Asked::For(page) => Ok(Exchange::Waiting(Waiting { came, page })),
-        Asked::Refused(refusal) => refused(alloc, came, refusal),
+    // Bytes that ask for no page are answered at once.
+    fn refused(alloc: Global, came: Vec<u8>, refusal: Refusal) -> io::Result<Exchange>
+        requires { Asks came.items (Refused refusal) }
+        ensures { IfOk result (λ exchange. Holds exchange came.items) }
+    {
+        let mut answer = Vec::new(alloc);
+        write_refusal(refusal, &mut answer)?;
+        Ok(Exchange::Answering(Answering {
+            came,
+            answer,
+            sent: 0,
+        }))
+    }
+
+    // Where a client stands whose bytes ask for this.
+    fn of(alloc: Global, came: Vec<u8>, asked: Asked) -> io::Result<Exchange>
+        requires { Asks came.items asked }
+        ensures { IfOk result (λ exchange. Holds exchange came.items) }
+    {
+        match asked {
+            Asked::Unfinished => Ok(Exchange::Asking(Asking { came })),
+            Asked::For(page) => Ok(Exchange::Waiting(Waiting { came, page })),
+            Asked::Refused(refusal) => Exchange::refused(alloc, came, refusal),
+        }
     }
 }
 
 impl Asking {
+    ghost use Rattle.watch_http.specs.Exchanges.{Holds};
+
     /// A client that has sent nothing.
-    pub fn new(alloc: Global) -> Asking {
+    pub fn new(alloc: Global) -> Asking
+        ensures { result.came.items ≡ [] }
+    {
         Asking {
             came: Vec::new(alloc),
         }
@@ -87,17 +97,22 @@ impl Asking {
     /// These bytes came of it. The only error is that memory was refused.
     pub fn take(self, alloc: Global, bytes: &[u8]) -> io::Result<Exchange>
         requires { length self.came.items + length bytes.now ≤ MOST_BYTES }
+        ensures { IfOk result (λ exchange. Holds exchange (self.came.items ++ bytes.now)) }
     {
         let mut came = self.came;
         came.extend_from_slice(bytes)?;
         let asked = what_is_asked(came.as_slice());
-        exchange_of(alloc, came, asked)
+        Exchange::of(alloc, came, asked)
     }
 }
 
 impl Waiting {
     /// It is answered by this body of its page. The only error is that memory was refused.
-    pub fn answer(self, alloc: Global, body: &[u8]) -> io::Result<Answering> {
+    pub fn answer(self, alloc: Global, body: &[u8]) -> io::Result<Answering>
+        ensures came { IfOk result (λ answering. answering.came ≡ self.came) }
+        ensures answer { IfOk result (λ answering. answering.answer.items ≡ page_text self.page body.now) }
+        ensures sent { IfOk result (λ answering. answering.sent ≡ 0) }
+    {
         let mut answer = Vec::new(alloc);
         write_page(self.page, body, &mut answer)?;
         Ok(Answering {

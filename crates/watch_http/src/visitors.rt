@@ -189,7 +189,7 @@ pub struct Visitors {
     has_more: bool,
     // How many were answered by a page.
     answered: u64,
-    ghost bounded: { length places.items ≡ PLACES },
+    ghost bounded: { length places.items ≡ 16 },
 }
 
 // So many places, each of which is free.

@@ -43,29 +43,29 @@ pub struct ClientNumbers {
     pub closed_slow: u64,
     /// How many bytes were read of them.
     pub read_bytes: u64,
-    /// How many bytes they took.
+    /// How many bytes there were to send to them.
     pub sent_bytes: u64,
-    /// How many commands have ended.
-    pub commands: u64,
 }
 
-/// Why links have failed, and how often.
+/// Commands of one operation that have ended, one for each key of a message.
+#[derive(Clone, Copy)]
+pub struct CommandNumbers {
+    /// The operation's name.
+    pub op: &'static str,
+    /// Those whose reply shows an item.
+    pub items: u64,
+    /// Those that were deletes, and were acknowledged.
+    pub acknowledged: u64,
+    /// All others.
+    pub others: u64,
+}
+
+/// Failures of a server's link for one cause.
 #[derive(Clone, Copy)]
 pub struct FailureNumbers {
-    /// No connection could be made.
-    pub unreachable: u64,
-    /// A connection took too long to stand.
-    pub connect_late: u64,
-    /// A call took too long.
-    pub call_late: u64,
-    /// The server closed the connection.
-    pub closed: u64,
-    /// Reading or writing failed.
-    pub broken: u64,
-    /// The server sent what is no answer.
-    pub foreign: u64,
-    /// Too many reads brought no whole answer.
-    pub vain_reads: u64,
+    /// The cause's name.
+    pub cause: &'static str,
+    pub count: u64,
 }
 
 /// One of its servers.
@@ -79,7 +79,8 @@ pub struct ServerNumbers {
     pub connections: u64,
     /// How many calls are out.
     pub calls_out: u64,
-    pub failures: FailureNumbers,
+    /// How often its link failed, a row for each cause.
+    pub failures: Vec<FailureNumbers>,
 }
 
 /// What a running proxy tells of itself.
@@ -88,6 +89,7 @@ pub struct Numbers {
     pub process: ProcessNumbers,
     pub config: ConfigNumbers,
     pub clients: ClientNumbers,
+    pub commands: Vec<CommandNumbers>,
     pub servers: Vec<ServerNumbers>,
     /// How many requests for these numbers were answered before.
     pub scrapes: u64,
@@ -142,23 +144,18 @@ fn sample(
 }
 
 // A number of a server.
-fn server_sample(
-    alloc: Global,
-    server: &ServerNumbers,
-    count: u64,
-) -> Result<Sample, AllocError> {
+fn server_sample(alloc: Global, server: &ServerNumbers, count: u64) -> Result<Sample, AllocError> {
     sample(alloc, "server", server.text.as_str(), count)
 }
 
-// A number of a server's failures.
+// How often a server failed for a cause.
 fn failure_sample(
     alloc: Global,
     server: &ServerNumbers,
-    cause: &'static str,
-    count: u64,
+    failures: &FailureNumbers,
 ) -> Result<Sample, AllocError> {
-    let mut failed = server_sample(alloc, server, count)?;
-    failed.labels.push(label(alloc, "cause", cause)?)?;
+    let mut failed = server_sample(alloc, server, failures.count)?;
+    failed.labels.push(label(alloc, "cause", failures.cause)?)?;
     Ok(failed)
 }
 
@@ -228,7 +225,11 @@ fn add_clients(
     clients: &ClientNumbers,
     families: &mut Vec<Family>,
 ) -> Result<(), AllocError> {
-    families.push(gauge("mcgate_clients", "Clients that are there.", clients.connected))?;
+    families.push(gauge(
+        "mcgate_clients",
+        "Clients that are there.",
+        clients.connected,
+    ))?;
     let mut came = Vec::new(alloc);
     came.push(sample(alloc, "verdict", "accepted", clients.accepted)?)?;
     came.push(sample(alloc, "verdict", "refused", clients.refused)?)?;
@@ -249,42 +250,82 @@ fn add_clients(
     families.push(each(
         "mcgate_client_bytes_total",
         Kind::Counter,
-        "Bytes that clients sent and took.",
+        "Bytes that came from clients, and that there were to send to them.",
         bytes,
-    ))?;
-    families.push(counter(
-        "mcgate_commands_total",
-        "Commands that have ended.",
-        clients.commands,
     ))?;
     Ok(())
 }
 
+// A number of an operation.
+fn command_sample(
+    alloc: Global,
+    op: &'static str,
+    reply: &'static str,
+    count: u64,
+) -> Result<Sample, AllocError> {
+    let mut ended = sample(alloc, "op", op, count)?;
+    ended.labels.push(label(alloc, "reply", reply)?)?;
+    Ok(ended)
+}
+
+// How many commands of an operation have ended, for each kind of reply.
+fn add_command(
+    alloc: Global,
+    commands: &CommandNumbers,
+    samples: &mut Vec<Sample>,
+) -> Result<(), AllocError> {
+    let op = commands.op;
+    samples.push(command_sample(alloc, op, "item", commands.items)?)?;
+    samples.push(command_sample(alloc, op, "acknowledged", commands.acknowledged)?)?;
+    samples.push(command_sample(alloc, op, "other", commands.others)?)?;
+    Ok(())
+}
+
+fn add_commands(
+    alloc: Global,
+    commands: &[CommandNumbers],
+    families: &mut Vec<Family>,
+) -> Result<(), AllocError> {
+    let mut samples = Vec::new(alloc);
+    for of_op in commands {
+        add_command(alloc, of_op, &mut samples)?;
+    }
+    families.push(each(
+        "mcgate_commands_total",
+        Kind::Counter,
+        "Commands that have ended, one for each key: with an item in the reply, as an acknowledged delete, or otherwise.",
+        samples,
+    ))?;
+    Ok(())
+}
+
+// What is told of a server in one number.
+#[derive(Clone, Copy)]
+enum ServerCount {
+    Up,
+    Connections,
+    CallsOut,
+}
+
+fn server_count(server: &ServerNumbers, what: ServerCount) -> u64 {
+    match what {
+        ServerCount::Up => u64::from(server.is_up),
+        ServerCount::Connections => server.connections,
+        ServerCount::CallsOut => server.calls_out,
+    }
+}
+
 // A number of each server.
-fn server_samples<F: Fn(&ServerNumbers) -> u64>(
+fn server_samples(
     alloc: Global,
     servers: &[ServerNumbers],
-    count_of: F,
-) -> Result<Vec<Sample>, AllocError>
-    requires { F.IsAlwaysCallable count_of }
-{
+    what: ServerCount,
+) -> Result<Vec<Sample>, AllocError> {
     let mut samples = Vec::new(alloc);
     for server in servers {
-        samples.push(server_sample(alloc, server, count_of(server))?)?;
+        samples.push(server_sample(alloc, server, server_count(server, what))?)?;
     }
     Ok(samples)
-}
-
-fn up_of(server: &ServerNumbers) -> u64 {
-    u64::from(server.is_up)
-}
-
-fn connections_of(server: &ServerNumbers) -> u64 {
-    server.connections
-}
-
-fn calls_out_of(server: &ServerNumbers) -> u64 {
-    server.calls_out
 }
 
 // How often a server failed, for each cause.
@@ -293,14 +334,9 @@ fn add_failures(
     server: &ServerNumbers,
     samples: &mut Vec<Sample>,
 ) -> Result<(), AllocError> {
-    let failures = server.failures;
-    samples.push(failure_sample(alloc, server, "unreachable", failures.unreachable)?)?;
-    samples.push(failure_sample(alloc, server, "connect_late", failures.connect_late)?)?;
-    samples.push(failure_sample(alloc, server, "call_late", failures.call_late)?)?;
-    samples.push(failure_sample(alloc, server, "closed", failures.closed)?)?;
-    samples.push(failure_sample(alloc, server, "broken", failures.broken)?)?;
-    samples.push(failure_sample(alloc, server, "foreign", failures.foreign)?)?;
-    samples.push(failure_sample(alloc, server, "vain_reads", failures.vain_reads)?)?;
+    for failures in &server.failures {
+        samples.push(failure_sample(alloc, server, failures)?)?;
+    }
     Ok(())
 }
 
@@ -321,19 +357,19 @@ fn add_servers(
         "mcgate_server_up",
         Kind::Gauge,
         "1 where a connection to the server stands.",
-        server_samples(alloc, servers, up_of)?,
+        server_samples(alloc, servers, ServerCount::Up)?,
     ))?;
     families.push(each(
         "mcgate_server_connections_total",
         Kind::Counter,
         "Connections to the server that stood.",
-        server_samples(alloc, servers, connections_of)?,
+        server_samples(alloc, servers, ServerCount::Connections)?,
     ))?;
     families.push(each(
         "mcgate_server_calls_out",
         Kind::Gauge,
         "Calls at the server that wait for its answer.",
-        server_samples(alloc, servers, calls_out_of)?,
+        server_samples(alloc, servers, ServerCount::CallsOut)?,
     ))?;
     families.push(each(
         "mcgate_server_failures_total",
@@ -350,6 +386,7 @@ pub fn families_of(alloc: Global, numbers: &Numbers) -> Result<Vec<Family>, Allo
     add_process(alloc, &numbers.process, &mut families)?;
     add_config(alloc, &numbers.config, &mut families)?;
     add_clients(alloc, &numbers.clients, &mut families)?;
+    add_commands(alloc, numbers.commands.as_slice(), &mut families)?;
     add_servers(alloc, numbers.servers.as_slice(), &mut families)?;
     families.push(counter(
         "mcgate_scrapes_total",
