@@ -1,7 +1,7 @@
 -- No bytes are no request.
 use Rattle.std.proofs.Common.{◌≡◌, ℕ, [], ◌∷◌, ◌++◌, List, length, ap, arith, length-append}
 use Rattle.httparse.specs.Ascii.{space}
-use Rattle.httparse.specs.Grammar.{RequestHead, print_blank, print_version, print_end, print_section, print_request, HasNoRequest}
+use Rattle.httparse.specs.Grammar.{print_blank, print_version, print_end, print_section, print_request, HasNoRequest}
 
 holds_one : (front target version end section more : List ℕ) → [] ≡ front ++ space ∷ target ++ space ∷ version ++ end ++ section ++ more → ⊥
 holds_one front target version end section more e = omega (

@@ -1,5 +1,5 @@
 -- The bytes of answers. Source: RFC 9110, sections 8, 10.2.1 and 15, and RFC 9112, section 4; Prometheus' media type.
-use Rattle.std.specs.Prelude.{◌≡◌, ℕ, ◌+◌, ◌⊎◌, List, [], ◌++◌, length, codes, decimal}
+use Rattle.std.specs.Prelude.{◌≡◌, ℕ, ◌⊎◌, List, [], ◌++◌, length, codes, decimal}
 use Rattle.watch_http.specs.declared.request.Page.{Page}
 use Rattle.watch_http.specs.declared.request.Page.TheVariants.{Metrics, Stats}
 use Rattle.watch_http.specs.declared.request.Refusal.{Refusal}

@@ -4,7 +4,6 @@ use Rattle.httparse.specs.Grammar.{RequestHead, ReadsRequest, HasNoRequest, Neve
 use Rattle.httparse.specs.Spans.{RequestExceeds}
 use Rattle.watch_http.specs.declared.request.Page.{Page}
 use Rattle.watch_http.specs.declared.request.Page.TheVariants.{Metrics, Stats}
-use Rattle.watch_http.specs.declared.request.Refusal.{Refusal}
 use Rattle.watch_http.specs.declared.request.Refusal.TheVariants.{Bad, NotFound, NotAllowed, TooLarge}
 use Rattle.watch_http.specs.declared.request.Asked.{Asked}
 use Rattle.watch_http.specs.declared.request.Asked.TheVariants.{Unfinished, For, Refused}

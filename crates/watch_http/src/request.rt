@@ -1,6 +1,6 @@
 //! What a request asks for.
 
-ghost use Rattle.std.specs.Prelude.{◌≡◌, ◌≢◌, codes};
+ghost use Rattle.std.specs.Prelude.{codes};
 ghost use Rattle.httparse.specs.Grammar.{HasNoRequest};
 ghost use Rattle.watch_http.specs.Requests.{Asks, AsksBy};
 

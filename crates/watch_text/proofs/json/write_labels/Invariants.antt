@@ -1,4 +1,4 @@
-use Rattle.std.proofs.Common.{take, flat_map}
+use Rattle.std.proofs.Common.{take}
 use Rattle.std.specs.Io.KnownBytes.{Appends}
 use Rattle.watch_text.specs.Json.{labels_json}
 use Rattle.watch_text.proofs.json.write_labels.Given as goal

@@ -1,4 +1,4 @@
-use Rattle.std.proofs.Common.{take, flat_map}
+use Rattle.std.proofs.Common.{take}
 use Rattle.std.specs.Io.KnownBytes.{Appends}
 use Rattle.watch_text.specs.Prometheus.{families_text}
 use Rattle.watch_text.proofs.prometheus.write_prometheus.Given as goal
