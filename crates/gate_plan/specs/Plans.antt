@@ -1,10 +1,10 @@
 -- Ways from configurations to another. Source: mcgate's own.
-use Rattle.std.specs.Prelude.{◌≡◌, ℕ, List, []}
+use Rattle.std.specs.Prelude.{◌≡◌, ℕ, List, [], ◌⊎◌}
 use Rattle.serde_json.specs.Read.{read}
 use Rattle.gate_growth.specs.declared.ledger.page.Beginning.{Beginning}
 use Rattle.gate_growth.specs.declared.ledger.page.Beginning.TheVariants.{Any}
 use Rattle.gate_history.specs.declared.generation.Generation.{Generation}
-use Rattle.gate_plan.specs.Steps.{MayFollow, Follows}
+use Rattle.gate_plan.specs.Steps.{MayFollow, MayNotFollow, SaysNone, Follows}
 use Rattle.gate_plan.specs.declared.told.Planned.{Planned}
 use Rattle.gate_plan.specs.declared.told.Planned.TheVariants as plans
 
@@ -36,18 +36,23 @@ IsAnew new added plans.Anew = LeadsTo [] new Any added
 IsAnew new added plans.Refused = Unit {0}
 IsAnew new added plans.NoConfig = ⊥
 
--- what is said of the new configuration: it may follow at once, and by two between; or by two between after none
+-- what is said of the new configuration: it may follow at once, and by two between; it may not, but may by two between after none;
+-- it may not; or there is none
 abbrev pub IsPlan : List Generation → List ℕ → Beginning → Planned → Type 0
 IsPlan gs new added plans.AtOnce = MayFollow gs new added
 IsPlan gs new added plans.BySteps = MayFollow gs new added × (last : List ℕ) × (read last ≡ read new) × LeadsTo gs last added added
-IsPlan gs new added plans.Anew = (last : List ℕ) × (read last ≡ read new) × LeadsTo [] last Any added
-IsPlan gs new added plans.Refused = Unit {0}
-IsPlan gs new added plans.NoConfig = Unit {0}
+IsPlan gs new added plans.Anew = MayNotFollow gs new added × (last : List ℕ) × (read last ≡ read new) × LeadsTo [] last Any added
+IsPlan gs new added plans.Refused = MayNotFollow gs new added
+IsPlan gs new added plans.NoConfig = SaysNone gs new
 
--- what is said of two texts, the first of which is that of the first configuration
+-- the text can't be the first configuration: the gate refuses it, or it says none
+abbrev pub IsNoFirst : List ℕ → Beginning → Planned → Type 0
+IsNoFirst old opened plans.AtOnce = ⊥
+IsNoFirst old opened plans.BySteps = ⊥
+IsNoFirst old opened plans.Anew = ⊥
+IsNoFirst old opened plans.Refused = MayNotFollow [] old opened
+IsNoFirst old opened plans.NoConfig = SaysNone [] old
+
+-- what is said of two texts: the old one can't be the first configuration; or it is, and this is said of the new one after it
 abbrev pub IsPlanFrom : List ℕ → List ℕ → Beginning → Beginning → Planned → Type 0
-IsPlanFrom old new opened added plans.Refused = Unit {0}
-IsPlanFrom old new opened added plans.NoConfig = Unit {0}
-IsPlanFrom old new opened added plans.AtOnce = (gs : List Generation) × Follows [] old opened gs × IsPlan gs new added plans.AtOnce
-IsPlanFrom old new opened added plans.BySteps = (gs : List Generation) × Follows [] old opened gs × IsPlan gs new added plans.BySteps
-IsPlanFrom old new opened added plans.Anew = (gs : List Generation) × Follows [] old opened gs × IsPlan gs new added plans.Anew
+IsPlanFrom old new opened added planned = IsNoFirst old opened planned ⊎ ((gs : List Generation) × Follows [] old opened gs × IsPlan gs new added planned)

@@ -1,8 +1,12 @@
 //! Configurations that follow one another, each judged.
 
-ghost use Rattle.std.specs.Prelude.{◌≡◌, List, [], ◌∷◌, ◌++◌, MatchResult};
+ghost use Rattle.std.specs.Prelude.{◌≡◌, ℕ, List, [], ◌∷◌, ◌++◌, MatchResult};
+ghost use Rattle.serde_json.specs.Read.{read};
+ghost use Rattle.route_json.specs.Configs.{read_after};
+ghost use Rattle.route_json.specs.Fault.{Fails, fault_of};
 ghost use Rattle.gate_growth.specs.declared.ledger.page.Beginning.{Beginning};
 ghost use Rattle.gate_history.specs.declared.generation.Generation.{Generation};
+ghost use Rattle.gate_history.specs.Histories.{servers_after};
 ghost use Rattle.gate_history.specs.Judged.{IsSoundAfter, IsUnsoundAfter};
 ghost use Rattle.gate_plan.specs.Steps.{IsRefusal, MayFollow, Follows, IsNoStep};
 
@@ -14,9 +18,9 @@ use std::alloc::{AllocError, Global};
 /// Why a text is no next step.
 #[derive(Drop)]
 pub enum StepFault {
-    /// It is no configuration.
+    /// It is no configuration, for this reason, which isn't `NoMemory`.
     Config(ConfigFault),
-    /// It may not follow those so far. Its servers are numbered after theirs.
+    /// It may not follow those so far, for this reason, which isn't `NoMemory`. Its servers are numbered after theirs.
     Refused(Config, Unsound),
     /// Memory was refused.
     NoMemory,
@@ -73,6 +77,16 @@ fn refused(config: Config, unsound: Unsound) -> StepFault
 // Drops the configuration.
 fn drop_config(_config: Config) {}
 
+// The fault of a text that is no configuration.
+fn no_config(fault: ConfigFault) -> StepFault
+    ensures { (gs : List Generation) (text : List ℕ) (began : Beginning) → Fails (fault_of fault) (read_after (servers_after [] gs) (read text)) → IsNoStep gs text began result }
+{
+    match fault {
+        ConfigFault::NoMemory => StepFault::NoMemory,
+        _ => StepFault::Config(fault),
+    }
+}
+
 /// The history with the configuration that the text says as the next generation, where it may follow. Its new servers began so.
 pub fn step(
     alloc: Global,
@@ -87,7 +101,7 @@ pub fn step(
         Ok(config) => followed(alloc, history, config, began),
         Err(fault) => {
             drop_history(history);
-            Err(StepFault::Config(fault))
+            Err(no_config(fault))
         }
     }
 }
@@ -107,6 +121,6 @@ pub fn judge_text(
             Ok(()) => Ok(()),
             Err(unsound) => Err(refused(config, unsound)),
         },
-        Err(fault) => Err(StepFault::Config(fault)),
+        Err(fault) => Err(no_config(fault)),
     }
 }

@@ -1,11 +1,12 @@
 //! Tells the steps from one configuration to another.
 
-ghost use Rattle.std.specs.Prelude.{◌≡◌, ℕ, List, Some, IfOk, IfSome, IsTrue, MatchOption, string_bytes};
-ghost use Rattle.serde_json.specs.Read.{read};
+ghost use Rattle.std.specs.Prelude.{◌≡◌, ◌≤◌, ℕ, List, [], Some, IfOk, IfSome, IsTrue, MatchOption, string_bytes};
+ghost use Rattle.serde_json.specs.Data.{depth};
+ghost use Rattle.serde_json.specs.Read.{read, max_depth};
 ghost use Rattle.serde_json.specs.View.{view};
 ghost use Rattle.gate_history.specs.declared.generation.Generation.{Generation};
-ghost use Rattle.gate_plan.specs.Steps.{MayFollow, Follows};
-ghost use Rattle.gate_plan.specs.Plans.{EndsWith, GoesOnTo, LeadsTo, IsUndoable, IsAnew, IsPlan, IsPlanFrom};
+ghost use Rattle.gate_plan.specs.Steps.{MayFollow, MayNotFollow, Follows, IsNoStep};
+ghost use Rattle.gate_plan.specs.Plans.{EndsWith, GoesOnTo, LeadsTo, IsUndoable, IsAnew, IsPlan, IsNoFirst, IsPlanFrom};
 ghost use Rattle.gate_growth.specs.declared.ledger.page.Beginning.{Beginning};
 
 use crate::merging::{Answering, with_deletes_to_both};
@@ -45,6 +46,11 @@ fn write_place<W: Write>(gap: &Gap, out: &mut W) -> io::Result<()> {
     writeln!(out, " residue={residue}/{modulus}")
 }
 
+// The error of refused memory.
+fn out_of_memory() -> io::Error {
+    io::Error::from(ErrorKind::OutOfMemory)
+}
+
 // Writes why a configuration may not follow.
 fn write_unsound<W: Write>(config: &Config, unsound: &Unsound, out: &mut W) -> io::Result<()> {
     match unsound {
@@ -55,7 +61,7 @@ fn write_unsound<W: Write>(config: &Config, unsound: &Unsound, out: &mut W) -> i
             write!(out, "refused generation={generation} server={address}")?;
             write_place(gap, out)
         }
-        Unsound::NoMemory => Err(io::Error::from(ErrorKind::OutOfMemory)),
+        Unsound::NoMemory => Err(out_of_memory()),
     }
 }
 
@@ -64,7 +70,7 @@ fn write_fault<W: Write>(fault: &StepFault, out: &mut W) -> io::Result<()> {
     match fault {
         StepFault::Config(fault) => writeln!(out, "config: {fault}"),
         StepFault::Refused(config, unsound) => write_unsound(config, unsound, out),
-        StepFault::NoMemory => Err(io::Error::from(ErrorKind::OutOfMemory)),
+        StepFault::NoMemory => Err(out_of_memory()),
     }
 }
 
@@ -201,11 +207,11 @@ fn way_of(alloc: Global, old: &str, new: &str) -> io::Result<Option<Way>>
 
 // The JSON of a text.
 fn value_of(alloc: Global, text: &str) -> io::Result<Option<Value>>
-    ensures { IfOk result (λ found. IfSome found (λ value. read text.now ≡ Some (view value))) }
+    ensures { IfOk result (λ found. IfSome found (λ value. (read text.now ≡ Some (view value)) × (depth (view value) ≤ max_depth))) }
 {
     match Value::from_str(alloc, text) {
         Ok(value) => Ok(Some(value)),
-        Err(error) if error.is_memory() => Err(io::Error::from(ErrorKind::OutOfMemory)),
+        Err(error) if error.is_memory() => Err(out_of_memory()),
         Err(_) => Ok(None),
     }
 }
@@ -277,10 +283,10 @@ fn write_refused<W: Write>(
     added: Beginning,
     out: &mut W,
 ) -> io::Result<Planned>
-    ensures { IfOk result (λ planned. (gs : List Generation) → IsPlan gs new.now added planned) }
+    ensures { IfOk result (λ planned. (gs : List Generation) → MayNotFollow gs new.now added → IsPlan gs new.now added planned) }
 {
     match way_of(alloc, old, new)? {
-        None => Ok(Planned::NoConfig),
+        None => Ok(Planned::Refused),
         Some(way) => write_anew(alloc, &way, added, out),
     }
 }
@@ -297,11 +303,12 @@ fn write_other_way<W: Write>(
     added: Beginning,
     out: &mut W,
 ) -> io::Result<Planned>
-    ensures { IfOk result (λ planned. (gs : List Generation) → IsPlan gs new.now added planned) }
+    ensures { IfOk result (λ planned. (gs : List Generation) → IsNoStep gs new.now added fault.now → IsPlan gs new.now added planned) }
 {
     match fault {
         StepFault::Refused(_, _) => write_refused(alloc, old, new, added, out),
-        StepFault::Config(_) | StepFault::NoMemory => Ok(Planned::NoConfig),
+        StepFault::Config(_) => Ok(Planned::NoConfig),
+        StepFault::NoMemory => Err(out_of_memory()),
     }
 }
 
@@ -329,13 +336,14 @@ pub fn write_plan<W: Write>(
     }
 }
 
-// Where the old one can't be the first configuration.
-fn planned_of(fault: &StepFault) -> Planned
-    ensures { (old new : List ℕ) (opened added : Beginning) → IsPlanFrom old new opened added result }
+// Where the old one can't be the first configuration, for this reason.
+fn no_first(fault: &StepFault) -> io::Result<Planned>
+    ensures { IfOk result (λ planned. (old : List ℕ) (opened : Beginning) → IsNoStep [] old opened fault.now → IsNoFirst old opened planned) }
 {
     match fault {
-        StepFault::Refused(_, _) => Planned::Refused,
-        StepFault::Config(_) | StepFault::NoMemory => Planned::NoConfig,
+        StepFault::Refused(_, _) => Ok(Planned::Refused),
+        StepFault::Config(_) => Ok(Planned::NoConfig),
+        StepFault::NoMemory => Err(out_of_memory()),
     }
 }
 
@@ -358,7 +366,7 @@ pub fn write_plan_from<W: Write>(
         }
         Err(fault) => {
             write_fault(&fault, out)?;
-            Ok(planned_of(&fault))
+            no_first(&fault)
         }
     }
 }
