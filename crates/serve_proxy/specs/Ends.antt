@@ -19,7 +19,6 @@ use Rattle.serve_links.specs.declared.news.Cause.{Cause}
 use Rattle.serve_links.specs.declared.news.Cause.TheVariants as causes
 use Rattle.serve_wire.specs.declared.conn.conn.Got.{Got}
 use Rattle.serve_wire.specs.declared.conn.conn.Got.TheVariants as got
-use Rattle.serve_links.specs.Links.{IsLateBy}
 use Rattle.serve_proxy.specs.declared.sockets.Sockets.{Sockets}
 use Rattle.serve_links.specs.Story.{LineState, line_of, LineAgrees, LineLost, LineFails, LineCalled, LineGoesFrom, LineGoes, OneGoes, AnEnd, Agrees, AgreesGiven, AgreesBut, AgreesCalled, AgreesSent, AgreesLosing, AllGoFrom, AllGo, texts_of}
 
@@ -100,10 +99,6 @@ idle_cause got.Failed = Some causes.Broken
 abbrev pub broken_unless : Bool → Option Cause
 broken_unless true = None
 broken_unless false = Some causes.Broken
-
--- the link at this place is late for this cause, if there is one
-abbrev pub IsLateAt : Option Cause → ℕ → List Link → Type 0
-IsLateAt cause at links = IfSome cause (λ why. IfSome (slice_get links at) (IsLateBy why))
 
 -- wherever it stands, a link takes over this call, which may go to its server
 abbrev pub LineTakes : SentCall → Link → Link → Type 0
@@ -229,7 +224,7 @@ HasNoConns h = (conn : ℕ) → (role conn h ≡ None) × (is_open conn h ≡ fa
 
 -- the line of a link to the server whose address this text names, without a connection, and without calls
 abbrev pub down_line : List ℕ → LineState
-down_line text = (text, None, [], [], false, Classic)
+down_line text = (text, None, [], [], false, Classic, [])
 
 -- behind the links that were there, which have the lines that they had, come links to these texts, without a connection
 abbrev pub AddsLines : List Link → List Link → Type 0

@@ -1,6 +1,6 @@
 //! Links are read, and whole answers settle the calls that are out.
 
-ghost use Rattle.std.specs.Prelude.{◌≡◌, ℕ, false, IfOk};
+ghost use Rattle.std.specs.Prelude.{◌≡◌, ℕ, [], false, IfOk};
 ghost use Rattle.serve_clients.specs.Agrees.{KeepsEnds};
 ghost use Rattle.serve_links.specs.Story.{line_of};
 ghost use Rattle.serve_proxy.specs.Ends.{LineStandsUnless, LineGoesUnless, LineGoesLosing, over_by, over_of, AgreesUnless, Stay, GoAloneUnless, AllFailOn, AllGoOr, AllGoUnless, AllGoFromUnless};
@@ -10,7 +10,7 @@ use crate::failing::fail_link;
 use crate::sockets::Sockets;
 use core_accepted::ServedCore;
 use serve_clients::Clients;
-use serve_links::{Cause, KEPT_ROOM, Link, settle_held, vain};
+use serve_links::{Cause, KEPT_ROOM, LateEnd, Link, settle_held, vain};
 use serve_wire::Wire;
 use serve_wire::conn::Got;
 use std::alloc::AllocError;
@@ -124,7 +124,7 @@ fn settle_line(
     ensures ends { KeepsEnds clients.old clients.new }
 {
     if !link.awaits_dialect {
-        return settle_all(link, core, clients, is_freed, false, polls);
+        return settle_after_late(link, core, clients, is_freed, false, polls);
     }
     if !link.learn() {
         return Ok(Some(Cause::Foreign));
@@ -132,7 +132,31 @@ fn settle_line(
     if link.awaits_dialect {
         return Ok(vain(link.has_read(false, polls)));
     }
-    settle_all(link, core, clients, is_freed, true, polls)
+    settle_after_late(link, core, clients, is_freed, true, polls)
+}
+
+// Late answers come before all others, and are thrown away. Why the link fails by that, if it does.
+fn settle_after_late(
+    link: &mut Link,
+    core: &mut ServedCore,
+    clients: &mut Clients,
+    is_freed: &mut bool,
+    has_answered: bool,
+    polls: Option<u32>,
+) -> Result<Option<Cause>, AllocError>
+    requires { link.old.awaits_dialect ≡ false }
+    ensures goes { IfOk result (λ cause. LineGoesUnless cause core.old link.old core.new link.new) }
+    ensures lost { LineGoesLosing core.old link.old core.new link.new }
+    ensures ends { KeepsEnds clients.old clients.new }
+{
+    if !link.awaits_late() {
+        return settle_all(link, core, clients, is_freed, has_answered, polls);
+    }
+    match link.throw_late() {
+        LateEnd::Over => settle_all(link, core, clients, is_freed, true, polls),
+        LateEnd::More => Ok(None),
+        LateEnd::Foreign => Ok(Some(Cause::Foreign)),
+    }
 }
 
 // All whole answers are settled, after another whole answer or not. Why the link fails by that, if it does.
@@ -144,7 +168,8 @@ fn settle_all(
     has_answered: bool,
     polls: Option<u32>,
 ) -> Result<Option<Cause>, AllocError>
-    requires { link.old.awaits_dialect ≡ false }
+    requires told { link.old.awaits_dialect ≡ false }
+    requires alone { link.old.late.items ≡ [] }
     ensures goes { IfOk result (λ cause. LineGoesUnless cause core.old link.old core.new link.new) }
     ensures lost { LineGoesLosing core.old link.old core.new link.new }
     ensures ends { KeepsEnds clients.old clients.new }
@@ -222,11 +247,12 @@ fn note_room(link: &Link) -> (bool, bool) {
     }
 }
 
-// Something came over it: whether it stands by that, which is news.
+// Something came over it: whether that may be news, as it stands by that, or awaits late answers.
 #[tactic(auto, using(crate::proofs::Staying::kept_line))]
 fn has_come(link: &mut Link) -> bool
     ensures line { line_of link.new ≡ line_of link.old }
 {
     link.reads_long = link.may_have_more();
-    link.stand()
+    let has_stood = link.stand();
+    has_stood || link.awaits_late()
 }

@@ -56,7 +56,7 @@ impl Budget {
         ensures most { self.new.most ≡ self.old.most }
     {
         if let Some(held) = self.held.get_mut(id) {
-            let others = self.all - *held;
+            let others = self.all.saturating_sub(*held);
             self.all = others.saturating_add(count);
             *held = self.all - others;
         }
