@@ -2,10 +2,10 @@ use Rattle.std.proofs.Common.{None}
 use Rattle.serve_proxy.proofs.GivenUp.{line_goes_unless, idle_stands, line_some, line_none}
 use Rattle.serve_proxy.proofs.sockets.Sockets.read_idle.Goals as goal
 
-pub returns-in-Some-2 : goal.returns-in-Some-2
-returns-in-Some-2 g c = record {
+pub returns-in-Some-read_line : goal.returns-in-Some-read_line
+returns-in-Some-read_line g c = record {
   ends = line_goes_unless _ c.args.self.now.links.all.items c.args.at c.in-Some.link.now c.read_line.new.link c.in-Some.ensures.item.3.0 c.in-Some.ensures.value
-      (idle_stands c.args.at _ _ c.in-Some.link.now c.read_line.new.link c.in-Some-2.got c.idle_fault.result c.idle_fault.ensures (line_some c.args.at _ c.in-Some-2.got c.in-Some-2.is (c.read_line.ensures.stands c.args.at)));
+      (idle_stands c.args.at _ _ c.in-Some.link.now c.read_line.new.link c.in-Some-read_line.got c.idle_fault.result c.idle_fault.ensures (line_some c.args.at _ c.in-Some-read_line.got c.in-Some-read_line.is (c.read_line.ensures.stands c.args.at)));
 }
 
 pub returns-in-None : goal.returns-in-None
