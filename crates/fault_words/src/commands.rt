@@ -34,7 +34,7 @@ pub const COMMANDS: [&str; 10] = [
     "check", "certify", "replay", "where", "serve", "cache", "loopback", "history", "slots", "help",
 ];
 
-const SERVE_FLAGS: [&str; 23] = [
+const SERVE_FLAGS: [&str; 24] = [
     "help",
     "check",
     "config",
@@ -52,6 +52,7 @@ const SERVE_FLAGS: [&str; 23] = [
     "polls",
     "stall-ms",
     "memory-mb",
+    "metrics",
     "server-dialect",
     "opened",
     "new-servers",
@@ -70,7 +71,7 @@ pub fn takes_of(flag: &str) -> Takes {
     match flag {
         "help" | "version" | "any" | "check" | "explain" | "dot" | "fleet" => Takes::Nothing,
         "config" | "certificate" | "with" | "history" | "after" => Takes::File,
-        "listen" | "add" | "remove" => Takes::Address,
+        "listen" | "metrics" | "add" | "remove" => Takes::Address,
         "pool" => Takes::Pool,
         "server-dialect" | "opened" | "new-servers" => Takes::Word,
         _ => Takes::Count,

@@ -14,8 +14,8 @@ mod tally;
 
 pub use client_bytes::{feed_held, read_once, send_once, show};
 pub use link::{Link, Opening, vain};
-pub use news::{Cause, LinkNews};
+pub use news::{CAUSES, Cause, LinkNews};
 pub use outcomes::{HeldAnswers, fail_all, settle_held};
 pub use room::{IDLE_ROOM, KEPT_ROOM, OWN_ROOM, give_back, has_spare};
 pub use settings::{ServerDialect, Settings};
-pub use tally::Tally;
+pub use tally::{LinkTally, OpTally, Tally};
