@@ -13,8 +13,9 @@ use mcgate_args::input_text::InputFault;
 use mcgate_args::serve_arguments::ServeJob;
 use mcgate_args::slots::SlotsChange;
 use mcgate_check::{Form, RunFault};
+use mcgate_replay::Judging;
 use route_json::Config;
-use serve_proxy::{Beginning, ServerDialect};
+use serve_proxy::{Beginning, Beginnings, ServerDialect};
 use std::alloc::{AllocError, Global};
 use std::io;
 use std::io::ErrorKind;
@@ -45,7 +46,21 @@ mcgate certify => certify of standard input
 mcgate certify f => certify of f
 mcgate check --history h => check of standard input after h
 mcgate check c --history h => check of c after h
-mcgate check --history h --explain => refused, told
+mcgate check --history h --explain c => check explained of c after h
+mcgate check --history h --dot => refused, told
+mcgate check --history h --opened own --new-servers empty => check of standard input after h own empty
+mcgate check --opened own c => check of c
+mcgate check --opened empty c => refused, told
+mcgate replay --opened own => replay own of standard input
+mcgate replay --new-servers=empty f => replay empty of f
+mcgate replay --config c --opened own --new-servers empty f => replay own empty over c of f
+mcgate replay --opened any --new-servers any => replay - of standard input
+mcgate replay --any --opened own => replay any of standard input
+mcgate replay --new-servers own => refused, told
+mcgate plan a b => plan a b
+mcgate plan --opened own --new-servers empty a b => plan a b own empty
+mcgate plan a => refused, told
+mcgate plan a b c => refused, told
 mcgate history h => history h
 mcgate history => refused, told
 mcgate slots c => slots of c after 0
@@ -117,18 +132,40 @@ fn any_word(any: bool) -> &'static str {
     if any { "any" } else { "-" }
 }
 
-fn task_words(task: Task) -> &'static str {
-    match task {
-        Task::Check { form: Form::Lines } => "check",
-        Task::Check {
-            form: Form::Explained,
-        } => "check explained",
-        Task::Check {
-            form: Form::Picture,
-        } => "check drawn",
-        Task::Replay { any: false } => "replay -",
-        Task::Replay { any: true } => "replay any",
+fn begun_words(begun: Beginnings) -> &'static str {
+    match (begun.opened, begun.added) {
+        (Beginning::Any, Beginning::Any) => "",
+        (Beginning::Own, Beginning::Any) => " own",
+        (Beginning::Any, Beginning::Own) => " empty",
+        (Beginning::Own, Beginning::Own) => " own empty",
     }
+}
+
+fn judging_words(judging: Judging) -> &'static str {
+    match judging {
+        Judging::Any => " any",
+        Judging::Asked => " -",
+        Judging::Begun(begun) => begun_words(begun),
+    }
+}
+
+fn form_words(form: Form) -> &'static str {
+    match form {
+        Form::Lines => "check",
+        Form::Explained => "check explained",
+        Form::Picture => "check drawn",
+    }
+}
+
+fn push_task(out: &mut String, task: Task) -> Result<(), AllocError> {
+    match task {
+        Task::Check { form } => out.push_str(form_words(form)),
+        Task::Replay { judging } => push_replay(out, judging),
+    }
+}
+
+fn push_replay(out: &mut String, judging: Judging) -> Result<(), AllocError> {
+    write!(out, "replay{}", judging_words(judging))
 }
 
 fn push_number(out: &mut String, word: &str, number: Option<u32>) -> Result<(), AllocError> {
@@ -193,10 +230,21 @@ fn change_words(change: SlotsChange<'_>) -> &'static str {
 fn push_job(out: &mut String, job: &Job<'_>) -> Result<(), AllocError> {
     match job {
         Job::Run { task, file } => {
-            write!(out, "{} of {}", task_words(*task), file_word(file))?;
+            push_task(out, *task)?;
+            write!(out, " of {}", file_word(file))?;
         }
-        Job::CheckAfter { history, file } => {
-            write!(out, "check of {} after {history}", file_word(file))?;
+        Job::CheckAfter {
+            history,
+            begun,
+            form,
+            file,
+        } => {
+            write!(out, "{} of {}", form_words(*form), file_word(file))?;
+            write!(out, " after {history}{}", begun_words(*begun))?;
+        }
+        Job::Plan(job) => {
+            write!(out, "plan {} {}", job.old, job.new)?;
+            out.push_str(begun_words(job.begun))?;
         }
         Job::History { file } => write!(out, "history {file}")?,
         Job::Slots(job) => {
@@ -208,8 +256,13 @@ fn push_job(out: &mut String, job: &Job<'_>) -> Result<(), AllocError> {
                 job.after.len()
             )?;
         }
-        Job::RunOver { any, config, file } => {
-            write!(out, "replay {} over {config}", any_word(*any))?;
+        Job::RunOver {
+            judging,
+            config,
+            file,
+        } => {
+            push_replay(out, *judging)?;
+            write!(out, " over {config}")?;
             write!(out, " of {}", file_word(file))?;
         }
         Job::CheckFleet(job) => {
@@ -292,6 +345,7 @@ mcgate help => mcgate sends
 mcgate help where => usage: mcgate where 
 mcgate help serve => usage: mcgate serve 
 mcgate history -h => usage: mcgate history 
+mcgate help plan => usage: mcgate plan 
 mcgate cache -h => usage: mcgate cache 
 mcgate check --help => usage: mcgate check 
 mcgate replay --help => usage: mcgate replay 
@@ -368,6 +422,7 @@ fn files_that_give_no_input(rt: HostRuntime) -> Result<(), Fail> {
 fn table() -> &'static str {
     r#"told of check: too large => mcgate: f has more than 16777216 bytes⏎
 told of replay: not UTF-8 => mcgate: f isn't UTF-8⏎
+told of replay own: pool 1⏎hold 0 a 1⏎ => mcgate: f: by --opened own and --new-servers empty the server of that line can't have held the key⏎
 told of replay: no memory => 
 told of check: {,} => mcgate: f:1:2: expected a name in double quotes or }, found ,⏎
 told of replay: {]⏎ => mcgate: f:1:2: expected a name in double quotes or }, found ]⏎
@@ -410,7 +465,15 @@ stop by calls:  => 3 calls: more than 18446744073709551615⏎"#
 
 fn task_named(word: &str) -> Task {
     match word {
-        "replay" => Task::Replay { any: false },
+        "replay" => Task::Replay {
+            judging: Judging::Asked,
+        },
+        "replay own" => Task::Replay {
+            judging: Judging::Begun(Beginnings {
+                opened: Beginning::Own,
+                added: Beginning::Any,
+            }),
+        },
         "explain" => Task::Check {
             form: Form::Explained,
         },
@@ -490,7 +553,7 @@ fn end_of_events(alloc: Global, text: &str) -> Result<String, AllocError> {
     let config = Config::of_pool(alloc, 1)?;
     let input = input_of(alloc, text);
     let mut out = Vec::new(alloc);
-    let end = end_of(run_events(alloc, false, config, &input, &mut out));
+    let end = end_of(run_events(alloc, Judging::Asked, config, &input, &mut out));
     end_words(alloc, end, out.as_slice())
 }
 

@@ -12,4 +12,6 @@ mod pictures;
 #[cfg(test)]
 mod places;
 #[cfg(test)]
+mod plans;
+#[cfg(test)]
 mod verdicts;

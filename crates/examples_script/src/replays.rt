@@ -2,6 +2,8 @@
 //! They stand above the crates that they show, so that a change of an example proves the example alone.
 
 #[cfg(test)]
+mod begun;
+#[cfg(test)]
 mod replays;
 #[cfg(test)]
 mod scripts;

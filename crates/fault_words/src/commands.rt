@@ -26,12 +26,25 @@ pub enum Command {
     Loopback,
     History,
     Slots,
+    Plan,
     Help,
 }
 
 /// The names of the commands.
-pub const COMMANDS: [&str; 10] = [
-    "check", "certify", "replay", "where", "serve", "cache", "loopback", "history", "slots", "help",
+pub const COMMANDS: [&str; 11] = [
+    "check", "certify", "replay", "where", "serve", "cache", "loopback", "history", "slots", "plan",
+    "help",
+];
+
+const CHECK_FLAGS: [&str; 8] = [
+    "help",
+    "explain",
+    "dot",
+    "fleet",
+    "with",
+    "history",
+    "opened",
+    "new-servers",
 ];
 
 const SERVE_FLAGS: [&str; 24] = [
@@ -120,6 +133,7 @@ impl Command {
             "loopback" => Some(Command::Loopback),
             "history" => Some(Command::History),
             "slots" => Some(Command::Slots),
+            "plan" => Some(Command::Plan),
             "help" => Some(Command::Help),
             _ => None,
         }
@@ -137,6 +151,7 @@ impl Command {
             Command::Loopback => "loopback",
             Command::History => "history",
             Command::Slots => "slots",
+            Command::Plan => "plan",
             Command::Help => "help",
         }
     }
@@ -145,10 +160,12 @@ impl Command {
     pub fn usage(self) -> &'static str {
         match self {
             Command::Check => {
-                "mcgate check [--explain | --dot | --history FILE | --fleet [--with FILE ..]] [FILE]"
+                "mcgate check [--explain | --dot] [--history FILE] [--opened WORD] [--new-servers WORD] [FILE], or mcgate check --fleet [--with FILE ..] [FILE]"
             }
             Command::Certify => "mcgate certify [FILE]",
-            Command::Replay => "mcgate replay [--any] [--config FILE] [SCRIPT]",
+            Command::Replay => {
+                "mcgate replay [--any] [--opened WORD] [--new-servers WORD] [--config FILE] [SCRIPT]"
+            }
             Command::Where => "mcgate where --config FILE KEY..",
             Command::Serve => {
                 "mcgate serve --config FILE --listen HOST:PORT [--any] [--check] [FLAG N ..]"
@@ -160,6 +177,7 @@ impl Command {
             Command::Slots => {
                 "mcgate slots [--add HOST:PORT | --remove HOST:PORT] [--pool NAME] [--after FILE ..] [FILE]"
             }
+            Command::Plan => "mcgate plan [--opened WORD] [--new-servers WORD] OLD NEW",
             Command::Help => "mcgate help [COMMAND]",
         }
     }
@@ -167,8 +185,9 @@ impl Command {
     /// The names of its flags.
     pub fn flags(self) -> &'static [&'static str] {
         match self {
-            Command::Check => &["help", "explain", "dot", "fleet", "with", "history"],
-            Command::Replay => &["help", "any", "config"],
+            Command::Check => &CHECK_FLAGS,
+            Command::Replay => &["help", "any", "opened", "new-servers", "config"],
+            Command::Plan => &["help", "opened", "new-servers"],
             Command::Where => &["help", "config"],
             Command::Serve => &SERVE_FLAGS,
             Command::Cache => &CACHE_FLAGS,
@@ -197,6 +216,7 @@ impl Command {
             | Command::History
             | Command::Slots
             | Command::Help => 1,
+            Command::Plan => 2,
             Command::Where => usize::MAX,
             Command::Serve | Command::Cache => 0,
         }
@@ -206,6 +226,7 @@ impl Command {
     pub fn least_words(self) -> usize {
         match self {
             Command::Where | Command::History => 1,
+            Command::Plan => 2,
             _ => 0,
         }
     }
@@ -213,7 +234,11 @@ impl Command {
     /// What those words are.
     pub fn word(self) -> &'static str {
         match self {
-            Command::Check | Command::Certify | Command::History | Command::Slots => "FILE",
+            Command::Check
+            | Command::Certify
+            | Command::History
+            | Command::Slots
+            | Command::Plan => "FILE",
             Command::Replay | Command::Loopback => "SCRIPT",
             Command::Where => "KEY",
             Command::Serve | Command::Cache => "",

@@ -120,7 +120,7 @@ impl WordFault<'_> {
         match self.command {
             Some(command) => command.usage(),
             None => {
-                "mcgate COMMAND, one of check, replay, where, serve, cache, loopback and history; mcgate help COMMAND tells of each"
+                "mcgate COMMAND, one of check, replay, where, serve, cache, loopback, history and plan; mcgate help COMMAND tells of each"
             }
         }
     }

@@ -172,7 +172,6 @@ impl Reader {
             .or(self.apart("fleet", "explain"))
             .or(self.apart("fleet", "dot"))
             .or(self.apart("fleet", "history"))
-            .or(self.apart("explain", "history"))
             .or(self.apart("dot", "history"))
             .or(self.apart("add", "remove"))
             .or(self.apart("any", "history"))

@@ -6,3 +6,4 @@ pub mod Judging
 pub mod ReadBack
 pub mod Pushes
 pub mod Ending
+pub mod Marking

@@ -7,3 +7,4 @@ pub mod Judged
 pub mod Written
 pub mod Remembering
 pub mod Standing
+pub mod Concerning

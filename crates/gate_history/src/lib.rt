@@ -2,6 +2,7 @@
 //! may have left on servers.
 #![tactic(auto)]
 
+pub mod concerns;
 pub mod fault;
 pub mod generation;
 pub mod history;
@@ -14,6 +15,7 @@ pub mod spelled;
 pub mod told;
 pub mod writing;
 
+pub use concerns::{Concern, Concerns, find_concerns};
 pub use fault::{HistoryFault, NextFault};
 pub use generation::Generation;
 pub use history::History;

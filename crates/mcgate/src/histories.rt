@@ -2,14 +2,15 @@
 
 use crate::lines::Lines;
 use crate::special::is_special;
-use gate_growth::ledger::Beginning;
 use gate_history::HistoryFile;
 use mcgate_args::details::Details;
 use mcgate_args::ends::Stop;
 use mcgate_args::histories::{check_after, read_file, tell_history};
 use mcgate_args::input::text_noting;
 use mcgate_args::input_text::InputFault;
+use mcgate_check::Form;
 use mcgate_check::status::BAD_INPUT;
+use serve_proxy::Beginnings;
 use std::alloc::{AllocError, Global};
 use std::fs::metadata;
 use std::io::{ErrorKind, Write};
@@ -90,13 +91,15 @@ pub fn run_history<R: Files + Input + AllocGlobal, W: Write>(
 pub fn run_after<R: Files + Input + AllocGlobal + Eprint, W: Write>(
     rt: &R,
     path: &str,
+    begun: Beginnings,
+    form: Form,
     text: &str,
     out: &mut W,
     details: &mut Details,
 ) -> Result<u8, Stop> {
     let mut lines = Lines::new();
     match file_at(rt, path, &mut lines, out, details)? {
-        Some(file) => check_after(rt.alloc(), path, file, text, Beginning::Any, out, details),
+        Some(file) => check_after(rt.alloc(), path, file, text, begun, form, out, details),
         None => Ok(BAD_INPUT),
     }
 }

@@ -33,12 +33,16 @@ use mcgate_args::ends::{
 use mcgate_args::fleets::{FleetFile, FleetJob, run_fleet};
 use mcgate_args::input::text_noting;
 use mcgate_args::input_text::InputFault;
+use mcgate_args::plan_arguments::PlanJob;
+use mcgate_args::plans::run_plan;
 use mcgate_args::serve_arguments::ServeJob;
 use mcgate_check::Form;
 use mcgate_check::status::{BAD_INPUT, DONE, REFUSED};
+use mcgate_replay::Judging;
 use route_json::Config;
 use serve::{Judged, Servable, judge_text, look_up_only, serve_to_end};
 use slots::run_slots;
+use serve_proxy::Beginnings;
 use special::{is_special, special_line};
 use started::{Begun, Started, begin, refused_after};
 use std::alloc::{AllocError, Global};
@@ -132,11 +136,13 @@ fn run_task<R: Files + Input + AllocGlobal + Eprint, W: Write>(
 fn run_check_after<R: Files + Input + AllocGlobal + Eprint, W: Write>(
     rt: &R,
     history: &str,
+    begun: Beginnings,
+    form: Form,
     file: Option<&str>,
     out: &mut W,
     details: &mut Details,
 ) -> Result<u8, Stop> {
-    let task = Task::Check { form: Form::Lines };
+    let task = Task::Check { form };
     let input = input_of(rt, file, details);
     let status = run_input(rt.alloc(), task, &input, out)?;
     tell_of_task(rt, task, file, &input, status, details);
@@ -144,7 +150,7 @@ fn run_check_after<R: Files + Input + AllocGlobal + Eprint, W: Write>(
         details.add_warnings(rt.alloc(), name_of(file), &input);
     }
     match (status, &input) {
-        (DONE, Ok(text)) => run_after(rt, history, text.as_str(), out, details),
+        (DONE, Ok(text)) => run_after(rt, history, begun, form, text.as_str(), out, details),
         _ => Ok(status),
     }
 }
@@ -152,7 +158,7 @@ fn run_check_after<R: Files + Input + AllocGlobal + Eprint, W: Write>(
 /// The same of a script of events over a configuration.
 fn run_script<R: Files + Input + AllocGlobal + Eprint, W: Write>(
     rt: &R,
-    any: bool,
+    judging: Judging,
     config: Config,
     file: Option<&str>,
     out: &mut W,
@@ -160,10 +166,10 @@ fn run_script<R: Files + Input + AllocGlobal + Eprint, W: Write>(
 ) -> Result<u8, Stop> {
     let copy = config.copy(rt.alloc());
     let input = input_of(rt, file, details);
-    let status = run_events(rt.alloc(), any, config, &input, out)?;
+    let status = run_events(rt.alloc(), judging, config, &input, out)?;
     if let (BAD_INPUT, Ok(config)) = (status, copy) {
         let bad = told(rt, bad_line_of_events(rt.alloc(), config, &input));
-        details.add_events(rt.alloc(), name_of(file), &input, bad);
+        details.add_events(rt.alloc(), judging, name_of(file), &input, bad);
     }
     Ok(status)
 }
@@ -184,7 +190,7 @@ fn tell_of_refusal(
 /// Runs a script over the configuration of a file; where that is none, its script isn't read.
 fn run_over<R: Files + Input + AllocGlobal + Eprint, W: Write>(
     rt: &R,
-    any: bool,
+    judging: Judging,
     config: &str,
     file: Option<&str>,
     out: &mut W,
@@ -192,7 +198,7 @@ fn run_over<R: Files + Input + AllocGlobal + Eprint, W: Write>(
 ) -> Result<u8, Stop> {
     let input = input_of(rt, Some(config), details);
     let status = match read_configuration(rt.alloc(), &input, out)? {
-        Some(config) => run_script(rt, any, config, file, out, details)?,
+        Some(config) => run_script(rt, judging, config, file, out, details)?,
         None => {
             details.add_configuration(rt.alloc(), config, &input);
             BAD_INPUT
@@ -265,6 +271,35 @@ fn check_fleet<R: Files + Input + AllocGlobal, W: Write>(
     }
 }
 
+/// Prints by which steps one configuration may follow another.
+fn plan_job<R: Files + Input + AllocGlobal, W: Write>(
+    rt: &R,
+    job: PlanJob<'_>,
+    out: &mut W,
+    details: &mut Details,
+) -> Result<u8, Stop> {
+    let old = match input_of(rt, Some(job.old), details) {
+        Ok(text) => text,
+        Err(fault) => return declined(rt.alloc(), job.old, fault, out, details),
+    };
+    match input_of(rt, Some(job.new), details) {
+        Ok(new) => run_plan(rt.alloc(), job.begun, old.as_str(), new.as_str(), out),
+        Err(fault) => declined(rt.alloc(), job.new, fault, out, details),
+    }
+}
+
+/// Prints why a file gave no input.
+fn declined<W: Write>(
+    alloc: Global,
+    file: &str,
+    fault: InputFault,
+    out: &mut W,
+    details: &mut Details,
+) -> Result<u8, Stop> {
+    details.add_configuration(alloc, file, &Err(fault));
+    decline(fault, out)
+}
+
 /// Prints where keys live in the tree of a file's configuration.
 fn run_where<R: Files + Input + AllocGlobal, W: Write>(
     rt: &R,
@@ -308,7 +343,9 @@ fn run_loopback<R: Files + Input + AllocGlobal + Net + Clock + Eprint, W: Write>
 ) -> Result<u8, Stop> {
     let input = input_of(rt, file, details);
     let status = run_over_tcp(rt, &input, out)?;
-    let task = Task::Replay { any: false };
+    let task = Task::Replay {
+        judging: Judging::Asked,
+    };
     tell_of_task(rt, task, file, &input, status, details);
     Ok(status)
 }
@@ -468,9 +505,19 @@ fn run<R: Files + Input + AllocGlobal + Env + Net + Clock + Print + Eprint, W: W
     };
     match job {
         Job::Run { task, file } => run_task(rt, task, file, out, details),
-        Job::CheckAfter { history, file } => run_check_after(rt, history, file, out, details),
+        Job::CheckAfter {
+            history,
+            begun,
+            form,
+            file,
+        } => run_check_after(rt, history, begun, form, file, out, details),
         Job::History { file } => run_history(rt, file, out, details),
-        Job::RunOver { any, config, file } => run_over(rt, any, config, file, out, details),
+        Job::Plan(job) => plan_job(rt, job, out, details),
+        Job::RunOver {
+            judging,
+            config,
+            file,
+        } => run_over(rt, judging, config, file, out, details),
         Job::CheckFleet(job) => check_fleet(rt, &job, out, details),
         Job::Where { file, keys } => run_where(rt, file, &keys, out, details),
         Job::Certify { file } => run_certify(rt, file, out, details),

@@ -10,7 +10,7 @@ use gate_growth::ledger::Beginning;
 use gate_history::HistoryFile;
 use mcgate_args::details::Details;
 use mcgate_args::ends::Stop;
-use mcgate_args::histories::print_no_next;
+use mcgate_args::histories::{began_in, print_no_next, tell_no_next};
 use mcgate_args::serve_arguments::ServeJob;
 use mcgate_check::status::BAD_INPUT;
 use serve_proxy::Beginnings;
@@ -60,15 +60,6 @@ fn begun_after(file: &HistoryFile, begun: Beginnings) -> Beginnings {
     }
 }
 
-// How the new servers of the next generation of a file began.
-fn began_in(file: &HistoryFile, begun: Beginnings) -> Beginning {
-    if file.count() == 0 {
-        begun.opened
-    } else {
-        begun.added
-    }
-}
-
 // The text is the next generation of this file, if it may be; else why not is printed.
 fn begin_in<R: Files + AllocGlobal, W: Write>(
     rt: &R,
@@ -94,7 +85,19 @@ fn begin_in<R: Files + AllocGlobal, W: Write>(
                 Err(Stop::from(error))
             }
         },
-        Err(fault) => Ok(Begun::Printed(print_no_next(rt.alloc(), path, &fault, out, details)?)),
+        Err(fault) => {
+            let status = print_no_next(rt.alloc(), path, &fault, out, details)?;
+            tell_no_next(
+                rt.alloc(),
+                path,
+                &file,
+                text.as_str(),
+                began,
+                &fault,
+                details,
+            );
+            Ok(Begun::Printed(status))
+        }
     }
 }
 
@@ -140,6 +143,10 @@ pub fn refused_after<R: Files + Input + AllocGlobal + Eprint, W: Write>(
     let mut file = file;
     match file.take_text(rt.alloc(), text, began) {
         Ok(_) => Ok(None),
-        Err(fault) => Ok(Some(print_no_next(rt.alloc(), path, &fault, out, details)?)),
+        Err(fault) => {
+            let status = print_no_next(rt.alloc(), path, &fault, out, details)?;
+            tell_no_next(rt.alloc(), path, &file, text, began, &fault, details);
+            Ok(Some(status))
+        }
     }
 }

@@ -17,7 +17,7 @@ FindsBy P (Err fault) found = found ≡ None
 -- in a script with its configuration its first bad line; in a configuration alone nothing
 abbrev pub FindsInTask : Task → Result (String Global) InputFault → Option BadLine → Type 0
 FindsInTask (tasks.Check form) input found = found ≡ None
-FindsInTask (tasks.Replay any) input found = FindsBy FindsIn input found
+FindsInTask (tasks.Replay judging) input found = FindsBy FindsIn input found
 
 -- in events over a configuration
 abbrev pub FindsInEvents : Configuration → Result (String Global) InputFault → Option BadLine → Type 0

@@ -4,3 +4,4 @@ pub mod Program
 pub mod BadLines
 pub mod FleetLines
 pub mod Fleets
+pub mod Planning

@@ -46,17 +46,17 @@ StopsBy stop old new ended = (ended ≡ Err stop) × (new ≡ old)
 -- what a task does with a text, and the status of that
 abbrev pub Does : Task → List ℕ → Option (List ℕ) → Option (List ℕ) → ℕ → Type 0
 Does (tasks.Check form) text old new status = Checks form text old new status
-Does (tasks.Replay any) text old new status = Replays any text old new status
+Does (tasks.Replay judging) text old new status = Replays judging text old new status
 
 -- what it wrote of a text where memory was refused: of a configuration nothing, of a script nothing or the transcript of a part of its run
 abbrev pub MemoryRefused : Task → List ℕ → Option (List ℕ) → Option (List ℕ) → Type 0
 MemoryRefused (tasks.Check form) text old new = new ≡ old
-MemoryRefused (tasks.Replay any) text old new = IsCutShort any (told text) old new
+MemoryRefused (tasks.Replay judging) text old new = IsCutShort judging (told text) old new
 
 -- what it wrote of a text where there were too many calls; a check makes none
 abbrev pub Overruns : Task → List ℕ → Option (List ℕ) → Option (List ℕ) → Type 0
 Overruns (tasks.Check form) text old new = ⊥
-Overruns (tasks.Replay any) text old new = Overran any (told text) old new
+Overruns (tasks.Replay judging) text old new = Overran judging (told text) old new
 
 -- a run over TCP, certificates and where keys live: there never are too many calls
 abbrev pub NeverOverruns : List ℕ → Option (List ℕ) → Option (List ℕ) → Type 0

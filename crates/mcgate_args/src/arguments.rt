@@ -4,27 +4,31 @@ ghost use Rattle.std.specs.Prelude.{◌≡◌};
 ghost use Rattle.clap.specs.Values.{kind_of};
 ghost use Rattle.mcgate_args.specs.Stops.{arguments_fault_at};
 
+use crate::beginning_arguments::{begun_of, judging_of};
 use crate::cache_arguments::{CACHE_HELP, CacheJob, cache_command, cache_job};
 use crate::certify_arguments::{CERTIFY_HELP, certify_command, certify_job};
 use crate::fleets::arguments::{FleetJob, fleet_job, is_of_fleet, with_fleet};
 use crate::history_arguments::{HISTORY_HELP, history_command, history_job};
 use crate::loopback_arguments::{LOOPBACK_HELP, loopback_command, loopback_job};
+use crate::plan_arguments::{PLAN_HELP, PlanJob, plan_command, plan_job};
 use crate::serve_arguments::{SERVE_HELP, ServeJob, serve_command, serve_job};
 use crate::slots::arguments::{SLOTS_HELP, SlotsJob, slots_command, slots_job};
 use clap::error::ErrorKind;
 use clap::{Arg, ArgAction, ArgMatches, Command, Error};
 use mc_types::{Key, KeyFault};
 use mcgate_check::Form;
+use mcgate_replay::Judging;
+use serve_proxy::Beginnings;
 use std::alloc::{AllocError, Global};
 use text_words::number::u32_number;
 
 /// What is done with an input.
-#[derive(Clone, Copy, PartialEq, Eq)]
+#[derive(Clone, Copy)]
 pub enum Task {
     /// It is a configuration, and the gate's verdict on it is printed in this form.
     Check { form: Form },
-    /// It is a script, and it is run: with `any` whatever the gate says of its tree.
-    Replay { any: bool },
+    /// It is a script, and it is run, its trees judged so.
+    Replay { judging: Judging },
 }
 
 /// What the arguments ask for.
@@ -35,19 +39,23 @@ pub enum Job<'a> {
         task: Task,
         file: Option<&'a str>,
     },
-    /// Print the gate's verdict on a configuration, of a file or of standard input, and whether it may follow this history.
+    /// Print the gate's verdict on a configuration, of a file or of standard input, and whether it may follow this history, in this
+    /// form, if servers began so.
     CheckAfter {
         history: &'a str,
+        begun: Beginnings,
+        form: Form,
         file: Option<&'a str>,
     },
     /// Tell what a history remembers.
     History {
         file: &'a str,
     },
-    /// Run a script of events, of a file or of standard input, over the configuration in this file: with `any` whatever the gate
-    /// says of its tree.
+    /// Print how to get from one configuration to another.
+    Plan(PlanJob<'a>),
+    /// Run a script of events, of a file or of standard input, over the configuration in this file, its trees judged so.
     RunOver {
-        any: bool,
+        judging: Judging,
         config: &'a str,
         file: Option<&'a str>,
     },
@@ -103,7 +111,7 @@ const VERSION: &str = "mcgate 1\n";
 const HELP: &str =
     "mcgate sends memcached commands through a tree of routes, and asks of a tree whether it can show deleted data.
 
-usage: mcgate check [--explain | --dot | --history HISTORY] [FILE]
+usage: mcgate check [--explain | --dot] [--history HISTORY] [FILE]
                                      print the gate's verdict on a configuration, with --explain also in words,
                                      with --dot as a picture
        mcgate check --fleet [--with FILE ..] [FILE]
@@ -118,6 +126,7 @@ usage: mcgate check [--explain | --dot | --history HISTORY] [FILE]
        mcgate history FILE           print what serve --history FILE remembers
        mcgate slots [--add ADDR | --remove ADDR] [--pool NAME] [--after FILE ..] [FILE]
                                      print a configuration with a table of slots in a pool, of a server more or less
+       mcgate plan OLD NEW           print by which steps one configuration may follow another
        mcgate cache --listen HOST:PORT --capacity C
                                      be a memcached server of C items
        mcgate loopback [SCRIPT]      run a script with proxy, clients and servers as ends of TCP connections
@@ -129,7 +138,8 @@ Exit status: 0 accepted or done, 1 refused by the gate, 2 bad arguments or input
 ";
 
 const CHECK_HELP: &str =
-    "usage: mcgate check [--explain | --dot | --history HISTORY | --fleet [--with FILE ..]] [FILE]
+    "usage: mcgate check [--explain | --dot] [--history HISTORY] [--opened WORD] [--new-servers WORD] [FILE]
+       mcgate check --fleet [--with FILE ..] [FILE]
 
 Reads a configuration in JSON, of FILE or of standard input, and prints the gate's verdict:
   accepted places=N      no run of the tree shows deleted data; the keys have N places
@@ -151,6 +161,7 @@ With --history the configuration is judged also as mcgate serve --history HISTOR
   history refused generation=G server=A ..
                          A may hold what a delete under generation G left
   history: line N: ..    why HISTORY is no history
+--opened and --new-servers say what servers held before, as of mcgate serve; a tree alone or of a fleet is judged whatever they held.
 With --fleet all proxies before the same servers are judged together, each of which may run by any of the files at any time. First
 each file is judged by itself, and the first that isn't accepted is told as above; then all together, which gives one line:
   accepted trees=N       no run of such proxies shows deleted data, whichever of the N trees each runs by
@@ -163,7 +174,8 @@ each file is judged by itself, and the first that isn't accepted is told as abov
 Exit status: 0 accepted, 1 refused, 2 no configuration, 3 memory or a device failed.
 ";
 
-const REPLAY_HELP: &str = "usage: mcgate replay [--any] [--config FILE] [SCRIPT]
+const REPLAY_HELP: &str =
+    "usage: mcgate replay [--any] [--opened WORD] [--new-servers WORD] [--config FILE] [SCRIPT]
 
 Reads a script, of the file SCRIPT or of standard input: a configuration on its first line, or pool N, and then one event a line,
 or reload and a configuration, which is loaded there.
@@ -175,6 +187,7 @@ Runs it over servers in memory, and prints what each client gets, what became of
   reload refused ..      the gate refuses it with the trees before it, and the one in use stays
   done N commands M calls K stale
                          K replies showed what had been deleted
+--opened and --new-servers say what servers held before, as of mcgate serve; a hold that says otherwise is a bad line.
 A first tree that the gate refuses isn't run, and its refused: line is printed; with --any every tree is run, and a reload is
 unchecked in place of accepted.
 Exit status: 0 done, 1 refused by the gate, 2 bad script, 3 memory or a device failed, or too many calls.
@@ -234,6 +247,8 @@ fn check_command<'a>(alloc: Global) -> Result<Command<'a>, AllocError> {
         .arg(explain)?
         .arg(dot)?
         .arg(option(alloc, "history"))?
+        .arg(option(alloc, "opened"))?
+        .arg(option(alloc, "new-servers"))?
         .arg(Arg::new(alloc, "FILE"))?;
     with_fleet(alloc, command)
 }
@@ -246,6 +261,8 @@ fn replay_command<'a>(alloc: Global) -> Result<Command<'a>, AllocError> {
         .disable_help_flag(true)
         .arg(help_flag(alloc))?
         .arg(switch(alloc, "any"))?
+        .arg(option(alloc, "opened"))?
+        .arg(option(alloc, "new-servers"))?
         .arg(config)?
         .arg(Arg::new(alloc, "SCRIPT"))
 }
@@ -288,6 +305,7 @@ fn command<'a>(alloc: Global) -> Result<Command<'a>, AllocError> {
         .subcommand(loopback_command(alloc)?)?
         .subcommand(history_command(alloc)?)?
         .subcommand(slots_command(alloc)?)?
+        .subcommand(plan_command(alloc)?)?
         .subcommand(help_command(alloc)?)?
         .subcommand(serve_command(alloc)?)
 }
@@ -315,29 +333,39 @@ fn check_job<'a>(alloc: Global, given: &ArgMatches<'a>) -> Result<Job<'a>, Argum
     }
     let form = form_of(given.get_flag("explain"), given.get_flag("dot"))?;
     let file = given.get_str("FILE");
+    let begun = begun_of(given)?;
     match (given.get_str("history"), form) {
         (None, form) => Ok(Job::Run {
             task: Task::Check { form },
             file,
         }),
-        (Some(history), Form::Lines) => Ok(Job::CheckAfter { history, file }),
-        (Some(_), _) => Err(ArgumentsFault::Refused),
+        (Some(_), Form::Picture) => Err(ArgumentsFault::Refused),
+        (Some(history), form) => Ok(Job::CheckAfter {
+            history,
+            begun,
+            form,
+            file,
+        }),
     }
 }
 
 // What the arguments after `replay` ask for.
-fn replay_job<'a>(given: &ArgMatches<'a>) -> Job<'a> {
+fn replay_job<'a>(given: &ArgMatches<'a>) -> Result<Job<'a>, ArgumentsFault> {
     if given.get_flag("help") {
-        return Job::Print(REPLAY_HELP);
+        return Ok(Job::Print(REPLAY_HELP));
     }
-    let any = given.get_flag("any");
+    let judging = judging_of(given)?;
     let file = given.get_str("SCRIPT");
     match given.get_str("config") {
-        Some(config) => Job::RunOver { any, config, file },
-        None => Job::Run {
-            task: Task::Replay { any },
+        Some(config) => Ok(Job::RunOver {
+            judging,
+            config,
             file,
-        },
+        }),
+        None => Ok(Job::Run {
+            task: Task::Replay { judging },
+            file,
+        }),
     }
 }
 
@@ -381,6 +409,7 @@ fn help_on<'a>(name: &str) -> Result<Job<'a>, ArgumentsFault> {
         "serve" => Ok(Job::Print(SERVE_HELP)),
         "history" => Ok(Job::Print(HISTORY_HELP)),
         "slots" => Ok(Job::Print(SLOTS_HELP)),
+        "plan" => Ok(Job::Print(PLAN_HELP)),
         "help" => Ok(Job::Print(HELP)),
         _ => Err(ArgumentsFault::Refused),
     }
@@ -403,13 +432,16 @@ fn plain_job<'a>(given: &ArgMatches<'a>) -> Job<'a> {
         return Job::Print(VERSION);
     }
     Job::Run {
-        task: Task::Replay { any: false },
+        task: Task::Replay {
+            judging: Judging::Asked,
+        },
         file: None,
     }
 }
 
-/// What the arguments ask for, the program's name first: `check [--explain | --dot | --history HISTORY | --fleet [--with FILE ..]] [FILE]`,
-/// `certify [FILE]`, `replay [--any] [--config FILE] [SCRIPT]`, `where --config FILE KEY..`, `history FILE`,
+/// What the arguments ask for, the program's name first: `check [--explain | --dot] [--history HISTORY] [FILE]` or `check --fleet
+/// [--with FILE ..] [FILE]`, `certify [FILE]`, `replay [--any] [--config FILE] [SCRIPT]`, `where --config FILE KEY..`, `history FILE`,
+/// `plan OLD NEW`, these but `certify`, `where` and `history` also with `--opened WORD` and `--new-servers WORD`,
 /// `slots [--add ADDR | --remove ADDR] [--pool NAME] [--after FILE ..] [FILE]`,
 /// `cache --listen HOST:PORT --capacity C [--memory-mb N] [--turns N]`, `loopback [SCRIPT]`, `serve` with its flags, or none
 /// at all after it, which is `replay`. Also `help [COMMAND]`, `-h` and `--help`, before or after a command, and `--version`.
@@ -432,8 +464,9 @@ pub fn read_arguments<'a>(
         Some(("serve", given)) => serve_job(given),
         Some(("history", given)) => history_job(given),
         Some(("slots", given)) => slots_job(alloc, given),
+        Some(("plan", given)) => plan_job(given),
         Some(("help", given)) => help_job(given),
-        Some((_, given)) => Ok(replay_job(given)),
+        Some((_, given)) => replay_job(given),
         None => Ok(plain_job(&matches)),
     }
 }

@@ -22,7 +22,7 @@ pub fn bad_line_of_task<'a>(
 {
     match task {
         Task::Check { form: _ } => Ok(None),
-        Task::Replay { any: _ } => match input {
+        Task::Replay { judging: _ } => match input {
             Ok(text) => bad_line_in_script(alloc, text.as_str()),
             Err(_) => Ok(None),
         },

@@ -2,6 +2,7 @@
 
 use crate::arguments::ArgumentsFault;
 use clap::ArgMatches;
+use mcgate_replay::Judging;
 use serve_proxy::{Beginning, Beginnings};
 
 // What servers held by the word after a flag: anything where it is `any` or left out, and nothing of others where it is this one.
@@ -22,5 +23,15 @@ pub fn begun_of(given: &ArgMatches<'_>) -> Result<Beginnings, ArgumentsFault> {
     Ok(Beginnings {
         opened: beginning_of(given, "opened", "own")?,
         added: beginning_of(given, "new-servers", "empty")?,
+    })
+}
+
+/// How the trees of a script are judged, by these flags and `--any`, beside which they say nothing.
+pub fn judging_of(given: &ArgMatches<'_>) -> Result<Judging, ArgumentsFault> {
+    let begun = begun_of(given)?;
+    Ok(match (given.get_flag("any"), begun.opened, begun.added) {
+        (true, _, _) => Judging::Any,
+        (false, Beginning::Any, Beginning::Any) => Judging::Asked,
+        (false, _, _) => Judging::Begun(begun),
     })
 }

@@ -8,7 +8,9 @@ use fault_inputs::{lines_of_bad_line, lines_of_configuration, lines_of_script, l
 use fault_words::script::BadLine;
 use fault_words::{WordFault, address_trouble, fault_in_words, key_fault_in_words};
 use mcgate_check::Form;
+use mcgate_replay::Judging;
 use script_text::front::front_of;
+use script_text::reader::read_script;
 use std::alloc::{AllocError, Global};
 use std::io;
 use std::io::ErrorKind;
@@ -104,6 +106,18 @@ fn lines_of_input(
         Some(bad) => lines_of_bad_line(alloc, name, text, bad),
         None => lines_of_script(alloc, name, text),
     }
+}
+
+// Whether the text is a script of which each line can be read.
+fn is_script(alloc: Global, text: &str) -> bool {
+    read_script(alloc, text).is_ok()
+}
+
+// What is said of the bad line of a script of which each line can be read, and each event can be.
+fn excluded_line(alloc: Global, name: &str) -> Result<String, AllocError> {
+    format!(in alloc;
+        "mcgate: {name}: by --opened own and --new-servers empty the server of that line can't have held the key"
+    )
 }
 
 impl Details {
@@ -230,8 +244,8 @@ impl Details {
     ) {
         match task {
             Task::Check { form: _ } => self.add_configuration(alloc, name, input),
-            Task::Replay { any: _ } => match input {
-                Ok(text) => self.add_all(lines_of_input(alloc, name, text.as_str(), bad)),
+            Task::Replay { judging } => match input {
+                Ok(text) => self.add_script(alloc, judging, name, text.as_str(), bad),
                 Err(fault) => self.add_input(alloc, name, *fault),
             },
         }
@@ -270,7 +284,24 @@ impl Details {
                 form: Form::Explained,
             } => {}
             Task::Check { form: _ } => self.add_refusal(alloc, file, text.as_str()),
-            Task::Replay { any: _ } => self.add_refused_script(alloc, file, text.as_str()),
+            Task::Replay { judging: _ } => self.add_refused_script(alloc, file, text.as_str()),
+        }
+    }
+
+    // What is wrong with a script, whose trees are judged so.
+    fn add_script(
+        &mut self,
+        alloc: Global,
+        judging: Judging,
+        name: &str,
+        text: &str,
+        bad: Option<BadLine<'_>>,
+    ) {
+        match (judging, bad) {
+            (Judging::Begun(_), None) if is_script(alloc, text) => {
+                self.add(excluded_line(alloc, name));
+            }
+            (_, bad) => self.add_all(lines_of_input(alloc, name, text, bad)),
         }
     }
 
@@ -278,6 +309,7 @@ impl Details {
     pub fn add_events(
         &mut self,
         alloc: Global,
+        judging: Judging,
         name: &str,
         input: &Result<String, InputFault>,
         bad: Option<BadLine<'_>>,
@@ -287,7 +319,10 @@ impl Details {
             (Ok(text), Some(bad)) => {
                 self.add_all(lines_of_bad_line(alloc, name, text.as_str(), bad));
             }
-            (Ok(_), None) => {}
+            (Ok(_), None) => match judging {
+                Judging::Begun(_) => self.add(excluded_line(alloc, name)),
+                Judging::Any | Judging::Asked => {}
+            },
         }
     }
 }

@@ -17,7 +17,7 @@ use mcgate_check::key_places::run_where;
 use mcgate_check::status::{BAD_INPUT, NO_MEMORY, TOO_MANY_CALLS, WRITER};
 use mcgate_check::{RunFault, run_check};
 use mcgate_loopback::run_loopback;
-use mcgate_replay::{run_replay, run_replay_over};
+use mcgate_replay::{Judging, run_replay, run_replay_over};
 use route_json::{Config, read_config};
 use std::alloc::Global;
 use std::io;
@@ -153,7 +153,7 @@ fn answer<W: Write>(alloc: Global, task: Task, text: &str, out: &mut W) -> u8
 {
     match task {
         Task::Check { form } => run_check(alloc, form, text, out),
-        Task::Replay { any } => run_replay(alloc, any, text, out),
+        Task::Replay { judging } => run_replay(alloc, judging, text, out),
     }
 }
 
@@ -256,29 +256,29 @@ pub fn read_configuration<W: Write>(
 
 fn replay_events<W: Write>(
     alloc: Global,
-    any: bool,
+    judging: Judging,
     config: Config,
     text: &str,
     out: &mut W,
 ) -> Result<u8, Stop>
-    ensures { RunsBy (λ text old new status. ReplaysOver any config text old new status) (λ text old new. IsCutShort any (Ok (told_over config text)) old new) (λ text old new. Overran any (Ok (told_over config text)) old new) text.now (W.contents out.old) (W.contents out.new) result }
+    ensures { RunsBy (λ text old new status. ReplaysOver judging config text old new status) (λ text old new. IsCutShort judging (Ok (told_over config text)) old new) (λ text old new. Overran judging (Ok (told_over config text)) old new) text.now (W.contents out.old) (W.contents out.new) result }
 {
-    ended(run_replay_over(alloc, any, config, text, out))
+    ended(run_replay_over(alloc, judging, config, text, out))
 }
 
 /// Runs the events of an input over a configuration, or prints why it is no input. The answer and the faults are as those of
 /// [`run_input`].
 pub fn run_events<W: Write>(
     alloc: Global,
-    any: bool,
+    judging: Judging,
     config: Config,
     input: &Result<String, InputFault>,
     out: &mut W,
 ) -> Result<u8, Stop>
-    ensures { AnswersBy (λ text old new status. ReplaysOver any config text old new status) (λ text old new. IsCutShort any (Ok (told_over config text)) old new) (λ text old new. Overran any (Ok (told_over config text)) old new) input.now (W.contents out.old) (W.contents out.new) result }
+    ensures { AnswersBy (λ text old new status. ReplaysOver judging config text old new status) (λ text old new. IsCutShort judging (Ok (told_over config text)) old new) (λ text old new. Overran judging (Ok (told_over config text)) old new) input.now (W.contents out.old) (W.contents out.new) result }
 {
     match input {
-        Ok(text) => replay_events(alloc, any, config, text.as_str(), out),
+        Ok(text) => replay_events(alloc, judging, config, text.as_str(), out),
         Err(fault) => decline(*fault, out),
     }
 }

@@ -1,5 +1,6 @@
 //! What is printed of the file of a history, and of a configuration that is to follow it.
 
+use crate::concern_lines::lines_of_concerns;
 use crate::details::Details;
 use crate::ends::{Stop, decline};
 use crate::input_text::InputFault;
@@ -8,9 +9,11 @@ use gate_growth::ledger::{Beginning, Unsound};
 use gate_history::{
     HistoryFault, HistoryFile, NextFault, advice_on, write_fault, write_meaning, write_remembered,
 };
+use mcgate_check::Form;
 use mcgate_check::reload_lines::write_kept;
 use mcgate_check::status::{BAD_INPUT, DONE, REFUSED};
 use route_json::{ConfigFault, Servers};
+use serve_proxy::Beginnings;
 use std::alloc::{AllocError, Global};
 use std::io;
 use std::io::Write;
@@ -152,16 +155,27 @@ pub fn print_no_next<W: Write>(
     }
 }
 
-/// Prints whether the text's configuration may follow the history of this name. The answer is the exit status.
+/// How the new servers of the next generation of a file began.
+pub fn began_in(file: &HistoryFile, begun: Beginnings) -> Beginning {
+    if file.count() == 0 {
+        begun.opened
+    } else {
+        begun.added
+    }
+}
+
+/// Prints whether the text's configuration may follow the history of this name, if servers began so. The answer is the exit status.
 pub fn check_after<W: Write>(
     alloc: Global,
     name: &str,
     file: HistoryFile,
     text: &str,
-    began: Beginning,
+    begun: Beginnings,
+    form: Form,
     out: &mut W,
     details: &mut Details,
 ) -> Result<u8, Stop> {
+    let began = began_in(&file, begun);
     let mut file = file;
     match file.take_text(alloc, text, began) {
         Ok(old) => {
@@ -173,7 +187,70 @@ pub fn check_after<W: Write>(
             writeln!(out, "history {word} generation={}", file.count())?;
             Ok(DONE)
         }
-        Err(fault) => print_no_next(alloc, name, &fault, out, details),
+        Err(fault) => {
+            let status = print_no_next(alloc, name, &fault, out, details)?;
+            explain_no_next(alloc, name, &file, text, began, &fault, form, out, details)?;
+            Ok(status)
+        }
+    }
+}
+
+// Prints in words why a text isn't served after a history, or says it on standard error.
+fn explain_no_next<W: Write>(
+    alloc: Global,
+    name: &str,
+    file: &HistoryFile,
+    text: &str,
+    began: Beginning,
+    fault: &NextFault,
+    form: Form,
+    out: &mut W,
+    details: &mut Details,
+) -> Result<(), Stop> {
+    match form {
+        Form::Explained => {
+            for line in concerns_of(alloc, file, text, began, fault)? {
+                writeln!(out, "# {line}")?;
+            }
+            Ok(())
+        }
+        Form::Lines | Form::Picture => {
+            tell_no_next(alloc, name, file, text, began, fault, details);
+            Ok(())
+        }
+    }
+}
+
+// What is said in words of a text whose configuration may not follow.
+fn concerns_of(
+    alloc: Global,
+    file: &HistoryFile,
+    text: &str,
+    began: Beginning,
+    fault: &NextFault,
+) -> io::Result<Vec<String>> {
+    match fault {
+        NextFault::Refused(_, Unsound::Left(_, _)) => {
+            lines_of_concerns(alloc, file.history(), text, began)
+        }
+        _ => Ok(Vec::new(alloc)),
+    }
+}
+
+/// Says on standard error why a text isn't served after the history of this name, if its new servers began so.
+pub fn tell_no_next(
+    alloc: Global,
+    name: &str,
+    file: &HistoryFile,
+    text: &str,
+    began: Beginning,
+    fault: &NextFault,
+    details: &mut Details,
+) {
+    if let Ok(lines) = concerns_of(alloc, file, text, began, fault) {
+        for line in &lines {
+            details.add(fault_line(alloc, name, line.as_str()));
+        }
     }
 }
 

@@ -1,2 +1,4 @@
+pub mod Opens
+pub mod Grown
 pub mod Printing
 pub mod Steps

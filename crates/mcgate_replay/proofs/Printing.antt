@@ -1,6 +1,6 @@
 -- From the script that was read to what its text says, and from what a drive did to what was printed of it.
 use Rattle.std.proofs.Common.{◌≡◌, ℕ, ◌+◌, ◌-◌, ◌≤◌, arith, ◌<◌, ◌++◌, Bool, false, List, [], ◌∷◌, length, map, take, drop, get_or, slice_get, zero, suc, Option, Some, None, Result, Ok, Err, refl, sym, ap, ◌∙◌, subst, inl, inr, append_assoc}
-use Rattle.std.specs.Prelude.{IsSome, IfOk, ◌⊎◌}
+use Rattle.std.specs.Prelude.{IsSome, IfOk, MatchOption, ◌⊎◌}
 use Rattle.std.specs.Io.KnownBytes.{Appends}
 use Rattle.std.proofs.Math.Seq.{drop-cons}
 use Rattle.std.proofs.lemmas.List.{length-map, take_all, drop_all, take-map, drop-map}
@@ -9,6 +9,7 @@ use Rattle.route_json.specs.Configuration.{Configuration}
 use Rattle.route_json.specs.Servers.{Addresses}
 use Rattle.script_text.specs.FirstLine.{WhyNot}
 use Rattle.script_text.specs.Printed.{shown_lines}
+use Rattle.script_text.specs.Events.{◌>>=◌}
 use Rattle.script_text.specs.Script.{Told, bad_line, bad_event_line, either, servers_said, events_said, lines_said, servers_known, AreChainedFrom, IsScriptOf, ReadsScript, Numbered}
 use Rattle.script_text.specs.declared.configured.ConfiguredScript.{ConfiguredScript}
 use Rattle.script_events.specs.declared.script.Output.{Output}
@@ -28,7 +29,10 @@ use Rattle.script_run.specs.Reloads.{InUse, AreChained, AreJudged, Judges, is_re
 use Rattle.mcgate_check.specs.Checking.{PrintsRefused, StopsUnwritten}
 use Rattle.mcgate_check.specs.declared.status.RunFault.{RunFault}
 use Rattle.mcgate_check.specs.declared.status.RunFault.TheVariants.{NoMemory, Writer, TooManyCalls}
-use Rattle.mcgate_replay.specs.Replay.{ReplaysTold, RunsScript, RunsGood, BreaksTreeOff, BreaksScriptOff, BreaksOff, BrokeOff, run_fault_of, AreLoadings, HasReloads, events_of, reloads_of, servers_of, load_line, load_lines, with_loads}
+use Rattle.mcgate_replay.specs.declared.judging.Judging.{Judging}
+use Rattle.mcgate_replay.specs.declared.judging.Judging.TheVariants.{Asked}
+use Rattle.mcgate_replay.specs.Growing.{is_any, excluded_by}
+use Rattle.mcgate_replay.specs.Replay.{ReplaysTold, excluded_line, bad_line_by, RunsScript, RunsGood, BreaksTreeOff, BreaksScriptOff, BreaksOff, BrokeOff, run_fault_of, AreLoadings, HasReloads, events_of, reloads_of, servers_of, load_line, load_lines, with_loads}
 
 pub both_written : (old mid new : Option (List ℕ)) (a b : List ℕ) → Appends old mid a → Appends mid new b → Appends old new (a ++ b)
 both_written None mid new a b x y = tt
@@ -128,7 +132,7 @@ pub are_judged : (first : Configuration) (rs : List Reload) (ls : List Loading) 
 are_judged first rs ls refused before accepted one judged are =
     record { configs = before; first_is = subst (λ (cs : List Configuration). IsLast cs first) (sym one) refl; judged = judged; refused_are = are }
 
-pub are_loadings : (first : Configuration) (reloads rs : List Reload) (ls : List Loading) (before accepted : List Configuration) → rs ≡ reloads → IsCertified first.tree → before ≡ first ∷ [] → Judges before rs ls accepted → AreGenerations (trees_of accepted) → AreLoadings false first reloads ls
+pub are_loadings : (first : Configuration) (reloads rs : List Reload) (ls : List Loading) (before accepted : List Configuration) → rs ≡ reloads → IsCertified first.tree → before ≡ first ∷ [] → Judges before rs ls accepted → AreGenerations (trees_of accepted) → AreLoadings Asked first reloads ls
 are_loadings first reloads rs ls before accepted rs_are certified one judged generations =
     (certified, accepted, subst (λ (x : List Reload). Judges (first ∷ []) x ls accepted) rs_are (subst (λ (cs : List Configuration). Judges cs rs ls accepted) one judged), generations)
 
@@ -140,8 +144,8 @@ has_reloads (Err fault) order chained = tt
 
 -- ---- what a text says
 
-runs_said : (any : Bool) (t : Told) (script : ConfiguredScript) (old new : Option (List ℕ)) (status : ℕ) → IsScriptOf t script → RunsGood any script.config (reloads_of script) (events_of script) old new status → RunsGood any t.configuration t.loads (events_said t) old new status
-runs_said any t script old new status h p = rw (← h.configuration, ← h.events, ← h.reloads) p
+runs_said : (judging : Judging) (t : Told) (script : ConfiguredScript) (old new : Option (List ℕ)) (status : ℕ) → IsScriptOf t script → RunsGood judging script.config (reloads_of script) (events_of script) old new status → RunsGood judging t.configuration t.loads (events_said t) old new status
+runs_said judging t script old new status h p = rw (← h.configuration, ← h.events, ← h.reloads) p
 
 either_none : (o : Option ℕ) → either o None ≡ o
 either_none None = refl
@@ -162,19 +166,43 @@ bad_is t script h =
     ∙ ap (λ (es : List Scripted). bad_event_line (servers_of script) es (lines_said t)) (sym h.events)
     ∙ ap (λ (ls : List ℕ). bad_event_line (servers_of script) (events_of script) ls) (sym h.lines)
 
-pub replays : (any : Bool) (t : Result Told WhyNot) (script : ConfiguredScript) (old new : Option (List ℕ)) (status : ℕ) → ReadsScript t (Ok script) → RunsScript any script old new status → ReplaysTold any t old new status
-replays any (Err why) script old new status h r = absurd h
-replays any (Ok t) script old new status h (inl r) = inl (record { script = t; said = refl; good = bad_is t script h ∙ rw (r.good) refl; runs = runs_said any t script old new status h r.runs })
-replays any (Ok t) script old new status h (inr r) = inr (r.0, inr (record { line = r.1.line; bad = bad_is t script h ∙ r.1.bad; printed = r.1.printed }))
+either_both : (one other : Option ℕ) → one ≡ None → other ≡ None → either one other ≡ None
+either_both one other none nor = ap (λ (o : Option ℕ). either o other) none ∙ nor
 
-broken_said : (any : Bool) (t : Told) (script : ConfiguredScript) (old new : Option (List ℕ)) (fault : RunFault) → IsScriptOf t script → BreaksTreeOff any script.config (reloads_of script) (events_of script) old new fault → BreaksTreeOff any t.configuration t.loads (events_said t) old new fault
-broken_said any t script old new fault h p = rw (← h.configuration, ← h.events, ← h.reloads) p
+-- of the events that were read and of those that the text says the same are excluded
+excluded_is : (judging : Judging) (t : Told) (script : ConfiguredScript) → IsScriptOf t script → excluded_line judging t.configuration (events_said t) (lines_said t) ≡ excluded_line judging script.config (events_of script) script.lines.items
+excluded_is judging t script h =
+    ap (λ (c : Configuration). excluded_line judging c (events_said t) (lines_said t)) (sym h.configuration)
+    ∙ ap (λ (es : List Scripted). excluded_line judging script.config es (lines_said t)) (sym h.events)
+    ∙ ap (λ (ls : List ℕ). excluded_line judging script.config (events_of script) ls) (sym h.lines)
 
-pub breaks_off : (any : Bool) (t : Result Told WhyNot) (script : ConfiguredScript) (old new : Option (List ℕ)) (fault : RunFault) → ReadsScript t (Ok script) → BreaksScriptOff any script old new fault → BreaksOff any t old new fault
-breaks_off any (Err why) script old new fault h b = absurd h
-breaks_off any (Ok t) script old new NoMemory h b = elim (broken_said any t script old new NoMemory h b) [ inl kept ↦ inl kept | inr part ↦ inr (record { script = t; said = refl; prints = part }) ]
-breaks_off any (Ok t) script old new TooManyCalls h b = record { script = t; said = refl; prints = broken_said any t script old new TooManyCalls h b }
-breaks_off any (Ok t) script old new Writer h b = tt
+bad_by_is : (judging : Judging) (t : Told) (script : ConfiguredScript) → IsScriptOf t script
+    → bad_line_by judging (Ok t) ≡ either (bad_event_line (servers_of script) (events_of script) script.lines.items) (excluded_line judging script.config (events_of script) script.lines.items)
+bad_by_is judging t script h =
+    ap (λ (o : Option ℕ). either o (excluded_line judging t.configuration (events_said t) (lines_said t))) (bad_is t script h)
+    ∙ ap (either (bad_event_line (servers_of script) (events_of script) script.lines.items)) (excluded_is judging t script h)
+
+-- a bad line is bad whatever else is
+pub bad_by : (judging : Judging) (t : Result Told WhyNot) (line : ℕ) → bad_line t ≡ Some line → bad_line_by judging t ≡ Some line
+bad_by judging (Ok t) line bad = ap (λ (o : Option ℕ). either o (excluded_line judging t.configuration (events_said t) (lines_said t))) bad
+bad_by judging (Err why) line bad = bad
+
+none_at : (found : Option ℕ) (lines : List ℕ) → found ≡ None → (found >>= slice_get lines) ≡ None
+none_at found lines none = ap (λ (o : Option ℕ). o >>= slice_get lines) none
+
+pub replays : (judging : Judging) (t : Result Told WhyNot) (script : ConfiguredScript) (old new : Option (List ℕ)) (status : ℕ) → ReadsScript t (Ok script) → RunsScript judging script old new status → ReplaysTold judging t old new status
+replays judging (Err why) script old new status h r = absurd h
+replays judging (Ok t) script old new status h (inl r) = inl (record { script = t; said = refl; good = bad_by_is judging t script h ∙ either_both _ _ (none_at (first_bad (servers_of script) (events_of script)) script.lines.items r.good) (none_at (excluded_by judging script.config (events_of script)) script.lines.items r.fits); runs = runs_said judging t script old new status h r.runs })
+replays judging (Ok t) script old new status h (inr r) = inr (r.0, inr (record { line = r.1.line; bad = bad_by_is judging t script h ∙ r.1.bad; printed = r.1.printed }))
+
+broken_said : (judging : Judging) (t : Told) (script : ConfiguredScript) (old new : Option (List ℕ)) (fault : RunFault) → IsScriptOf t script → BreaksTreeOff judging script.config (reloads_of script) (events_of script) old new fault → BreaksTreeOff judging t.configuration t.loads (events_said t) old new fault
+broken_said judging t script old new fault h p = rw (← h.configuration, ← h.events, ← h.reloads) p
+
+pub breaks_off : (judging : Judging) (t : Result Told WhyNot) (script : ConfiguredScript) (old new : Option (List ℕ)) (fault : RunFault) → ReadsScript t (Ok script) → BreaksScriptOff judging script old new fault → BreaksOff judging t old new fault
+breaks_off judging (Err why) script old new fault h b = absurd h
+breaks_off judging (Ok t) script old new NoMemory h b = elim (broken_said judging t script old new NoMemory h b) [ inl kept ↦ inl kept | inr part ↦ inr (record { script = t; said = refl; prints = part }) ]
+breaks_off judging (Ok t) script old new TooManyCalls h b = record { script = t; said = refl; prints = broken_said judging t script old new TooManyCalls h b }
+breaks_off judging (Ok t) script old new Writer h b = tt
 
 -- ---- what a drive did
 
@@ -188,22 +216,41 @@ pub broke_off : (driven : Result Report DriveFault) (fault : DriveFault) (lines 
 broke_off driven fault lines old new told is told_is wrote = subst (BrokeOff driven lines old new) (sym told_is) (by_fault driven fault lines old new is wrote)
 
 -- through a first tree that the gate refused
-pub refused_first : (config refused : Configuration) (reloads : List Reload) (events : List Scripted) (old new : Option (List ℕ)) (status : ℕ) → refused ≡ config → (status ≡ 1) × PrintsRefused refused old new → RunsGood false config reloads events old new status
-refused_first config refused reloads events old new status is p = inr (p.0, refl, subst (λ (c : Configuration). PrintsRefused c old new) is p.1)
+pub refused_first : (judging : Judging) → is_any judging ≡ false → (config refused : Configuration) (reloads : List Reload) (events : List Scripted) (old new : Option (List ℕ)) (status : ℕ) → refused ≡ config → (status ≡ 1) × PrintsRefused refused old new → RunsGood judging config reloads events old new status
+refused_first judging asked config refused reloads events old new status is p = inr (p.0, asked, subst (λ (c : Configuration). PrintsRefused c old new) is p.1)
 
-pub unwritten : (config : Configuration) (reloads : List Reload) (events : List Scripted) (old new : Option (List ℕ)) (fault : RunFault) → StopsUnwritten old new fault → BreaksTreeOff false config reloads events old new fault
-unwritten config reloads events old new NoMemory kept = inl kept
-unwritten config reloads events old new TooManyCalls kept = absurd kept
-unwritten config reloads events old new Writer kept = tt
+pub unwritten : (judging : Judging) (config : Configuration) (reloads : List Reload) (events : List Scripted) (old new : Option (List ℕ)) (fault : RunFault) → StopsUnwritten old new fault → BreaksTreeOff judging config reloads events old new fault
+unwritten judging config reloads events old new NoMemory kept = inl kept
+unwritten judging config reloads events old new TooManyCalls kept = absurd kept
+unwritten judging config reloads events old new Writer kept = tt
 
-good_status : (any : Bool) (config : Configuration) (reloads : List Reload) (events : List Scripted) (old new : Option (List ℕ)) (status : ℕ) → RunsGood any config reloads events old new status → status ≤ 1
-good_status any config reloads events old new status (inl ran) = let e = ran.0 in omega (arith, e)
-good_status any config reloads events old new status (inr refused) = let e = refused.0 in omega (arith, e)
+good_status : (judging : Judging) (config : Configuration) (reloads : List Reload) (events : List Scripted) (old new : Option (List ℕ)) (status : ℕ) → RunsGood judging config reloads events old new status → status ≤ 1
+good_status judging config reloads events old new status (inl ran) = let e = ran.0 in omega (arith, e)
+good_status judging config reloads events old new status (inr refused) = let e = refused.0 in omega (arith, e)
 
-pub replays_status : (any : Bool) (t : Result Told WhyNot) (old new : Option (List ℕ)) (status : ℕ) → ReplaysTold any t old new status → status ≤ 2
-replays_status any t old new status (inl ran) = let few = good_status any ran.script.configuration ran.script.loads (events_said ran.script) old new status ran.runs in omega (arith, few)
-replays_status any t old new status (inr bad) = let e = bad.0 in omega (arith, e)
+pub replays_status : (judging : Judging) (t : Result Told WhyNot) (old new : Option (List ℕ)) (status : ℕ) → ReplaysTold judging t old new status → status ≤ 2
+replays_status judging t old new status (inl ran) = let few = good_status judging ran.script.configuration ran.script.loads (events_said ran.script) old new status ran.runs in omega (arith, few)
+replays_status judging t old new status (inr bad) = let e = bad.0 in omega (arith, e)
 
--- the line of an event that can't be
-pub event_line : (servers n : ℕ) (events : List Scripted) (lines : List ℕ) (at : ℕ) (o : Option ℕ) (line : ℕ) → n ≡ servers → Some at ≡ first_bad n events → o ≡ slice_get lines at → o ≡ Some line → bad_event_line servers events lines ≡ Some line
-event_line servers n events lines at o line e found is some = rw (← e, ← found, ← is) some
+pub bad_there : (bad excluded : Option ℕ) (at : ℕ) → Some at ≡ bad → Some at ≡ either bad excluded
+bad_there bad excluded at is = ap (λ (o : Option ℕ). either o excluded) is
+
+pub none_or_excluded : (bad excluded found : Option ℕ) → bad ≡ None → found ≡ excluded → MatchOption found ((bad ≡ None) × (excluded ≡ None)) (λ at. Some at ≡ either bad excluded)
+none_or_excluded bad excluded None none is = (none, sym is)
+none_or_excluded bad excluded (Some at) none is = is ∙ sym (ap (λ (o : Option ℕ). either o excluded) none)
+
+same_place : (a b : ℕ) → Some a ≡ Some b → a ≡ b
+same_place a b e = cc
+
+-- the line of the first of two events
+line_there : (bad excluded : Option ℕ) (lines : List ℕ) (at line : ℕ) → Some at ≡ either bad excluded → slice_get lines at ≡ Some line → either (bad >>= slice_get lines) (excluded >>= slice_get lines) ≡ Some line
+line_there None None lines at line e is = absurd (cc)
+line_there None (Some x) lines at line e is = subst (λ (n : ℕ). slice_get lines n ≡ Some line) (same_place at x e) is
+line_there (Some b) excluded lines at line e is =
+    ap (λ (o : Option ℕ). either o (excluded >>= slice_get lines)) (subst (λ (n : ℕ). slice_get lines n ≡ Some line) (same_place at b e) is)
+
+-- the line of an event that can't be, or that is excluded
+pub event_line : (servers : ℕ) (judging : Judging) (config : Configuration) (events : List Scripted) (lines : List ℕ) (at : ℕ) (o : Option ℕ) (line : ℕ)
+    → Some at ≡ either (first_bad servers events) (excluded_by judging config events) → o ≡ slice_get lines at → o ≡ Some line
+    → either (bad_event_line servers events lines) (excluded_line judging config events lines) ≡ Some line
+event_line servers judging config events lines at o line found is some = line_there (first_bad servers events) (excluded_by judging config events) lines at line found (sym is ∙ some)

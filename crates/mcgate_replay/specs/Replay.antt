@@ -22,7 +22,8 @@ use Rattle.script_run.specs.declared.accepted.judging.Loading.{Loading}
 use Rattle.script_run.specs.declared.accepted.judging.Loading.TheVariants.{Loaded, Refused}
 use Rattle.script_run.specs.Reloads.{Judges, is_refused}
 use Rattle.script_text.specs.FirstLine.{WhyNot, TellsFault}
-use Rattle.script_text.specs.Script.{Told, told, told_over, bad_line, bad_event_line, events_said, servers_known, AreChainedFrom, ReadsScript}
+use Rattle.script_text.specs.Events.{◌>>=◌}
+use Rattle.script_text.specs.Script.{Told, told, told_over, bad_line, bad_event_line, either, events_said, lines_said, servers_known, AreChainedFrom, ReadsScript}
 use Rattle.script_text.specs.declared.configured.ConfiguredScript.{ConfiguredScript}
 use Rattle.script_text.specs.declared.configured.ScriptFault.{ScriptFault}
 use Rattle.script_text.specs.Printed.{shown_lines, report_line, bad_line_line, config_fault_line}
@@ -31,6 +32,11 @@ use Rattle.mcgate_check.specs.Checking.{PrintsRefused}
 use Rattle.mcgate_check.specs.Reloads.{loaded_line, unchecked_line, kept_line}
 use Rattle.mcgate_check.specs.declared.status.RunFault.{RunFault}
 use Rattle.mcgate_check.specs.declared.status.RunFault.TheVariants.{NoMemory, Writer, TooManyCalls}
+use Rattle.gate_growth.specs.Grown.{AreSoundSince}
+use Rattle.core_accepted.specs.Known.{Known, is_arbitrary, first_of}
+use Rattle.mcgate_replay.specs.declared.judging.Judging.{Judging}
+use Rattle.mcgate_replay.specs.declared.judging.Judging.TheVariants.{Any, Asked, Begun}
+use Rattle.mcgate_replay.specs.Growing.{is_any, excluded_by, JudgesAll}
 
 -- the events of a script
 abbrev pub scripted : Script → List Scripted
@@ -98,13 +104,15 @@ BrokeOff driven lines old new Writer = Unit {0}
 
 -- ---- a script through a configuration's tree and those that it loads, which are gated unless they may be any
 
--- what became of the reloads: the gate wasn't asked, and each is loaded; or it accepted the first configuration, and answered so of each reload's against all accepted before, and all that it accepted are generations
-abbrev pub AreLoadings : Bool → Configuration → List Reload → List Loading → Type 0
-AreLoadings true config reloads loadings = loadings ≡ []
-AreLoadings false config reloads loadings = IsCertified config.tree × (accepted : List Configuration) × Judges (config ∷ []) reloads loadings accepted × AreGenerations (trees_of accepted)
+-- what became of the reloads: the gate wasn't asked, and each is loaded; or it accepted the first configuration, and answered so of each reload's against all accepted before, and all that it accepted are generations, or sound where servers began so
+abbrev pub AreLoadings : Judging → Configuration → List Reload → List Loading → Type 0
+AreLoadings Any config reloads loadings = loadings ≡ []
+AreLoadings (Begun begun) config reloads loadings =
+    IsCertified config.tree × (known : Known) × JudgesAll (first_of config begun) reloads loadings known × AreSoundSince (is_arbitrary known) (trees_of known.configs)
+AreLoadings Asked config reloads loadings = IsCertified config.tree × (accepted : List Configuration) × Judges (config ∷ []) reloads loadings accepted × AreGenerations (trees_of accepted)
 
 -- the events ran, each command through the tree in use when it began, and the lines of the transcript and of the report were written. Where the gate was asked the run is fresh, and no reply is stale
-pub record RunsEvents (any : Bool) (config : Configuration) (reloads : List Reload) (events : List Scripted) (old new : Option (List ℕ)) : Type 0 where
+pub record RunsEvents (judging : Judging) (config : Configuration) (reloads : List Reload) (events : List Scripted) (old new : Option (List ℕ)) : Type 0 where
   pub loadings : List Loading
   pub shown : List Shown
   pub marks : List ℕ
@@ -112,58 +120,65 @@ pub record RunsEvents (any : Bool) (config : Configuration) (reloads : List Relo
   pub drives : DrivesStepped config.tree (map is_refused loadings) reloads events shown marks report
   pub marked : length marks ≡ length reloads
   pub within : AreMarks (length shown) marks
-  pub printed : Appends old new (transcript_lines any reloads loadings shown marks ++ report_line report)
-  pub are_loadings : AreLoadings any config reloads loadings
-  pub fresh : any ≡ false → IsFreshByNumber (opening_of events) (run_of drives.log)
-  pub none_stale : any ≡ false → report.stale ≡ 0
+  pub printed : Appends old new (transcript_lines (is_any judging) reloads loadings shown marks ++ report_line report)
+  pub are_loadings : AreLoadings judging config reloads loadings
+  pub fresh : is_any judging ≡ false → IsFreshByNumber (opening_of events) (run_of drives.log)
+  pub none_stale : is_any judging ≡ false → report.stale ≡ 0
 
 -- a part of the events ran so, and left the servers so; the lines of its transcript were written
-pub record PrintsPart (any : Bool) (config : Configuration) (reloads : List Reload) (events : List Scripted) (old new : Option (List ℕ)) : Type 0 where
+pub record PrintsPart (judging : Judging) (config : Configuration) (reloads : List Reload) (events : List Scripted) (old new : Option (List ℕ)) : Type 0 where
   pub loadings : List Loading
   pub shown : List Shown
   pub marks : List ℕ
   pub servers : ScriptServers
   pub part : StepsPart config.tree (map is_refused loadings) reloads events shown marks servers
   pub within : AreMarks (length shown) marks
-  pub printed : Appends old new (transcript_lines any reloads loadings shown marks)
-  pub are_loadings : AreLoadings any config reloads loadings
-  pub fresh : any ≡ false → IsFreshByNumber (opening_of events) (run_of part.log)
+  pub printed : Appends old new (transcript_lines (is_any judging) reloads loadings shown marks)
+  pub are_loadings : AreLoadings judging config reloads loadings
+  pub fresh : is_any judging ≡ false → IsFreshByNumber (opening_of events) (run_of part.log)
 
 -- the same, until there were no more numbers for calls or commands
-pub record PrintsSpent (any : Bool) (config : Configuration) (reloads : List Reload) (events : List Scripted) (old new : Option (List ℕ)) : Type 0 where
-  pub prints : PrintsPart any config reloads events old new
+pub record PrintsSpent (judging : Judging) (config : Configuration) (reloads : List Reload) (events : List Scripted) (old new : Option (List ℕ)) : Type 0 where
+  pub prints : PrintsPart judging config reloads events old new
   pub spent : AreSpentIn prints.part.log
 
 -- memory was refused before the run, and nothing was written; or during it, and the transcript so far was, as it was where there were too
 -- many calls. Nothing is said of a writer that failed
-abbrev pub BreaksTreeOff : Bool → Configuration → List Reload → List Scripted → Option (List ℕ) → Option (List ℕ) → RunFault → Type 0
-BreaksTreeOff any config reloads events old new NoMemory = (new ≡ old) ⊎ PrintsPart any config reloads events old new
-BreaksTreeOff any config reloads events old new TooManyCalls = PrintsSpent any config reloads events old new
-BreaksTreeOff any config reloads events old new Writer = Unit {0}
+abbrev pub BreaksTreeOff : Judging → Configuration → List Reload → List Scripted → Option (List ℕ) → Option (List ℕ) → RunFault → Type 0
+BreaksTreeOff judging config reloads events old new NoMemory = (new ≡ old) ⊎ PrintsPart judging config reloads events old new
+BreaksTreeOff judging config reloads events old new TooManyCalls = PrintsSpent judging config reloads events old new
+BreaksTreeOff judging config reloads events old new Writer = Unit {0}
 
 -- status 0: it ran; status 1: the gate was asked, it refused the first configuration, and that was written
-abbrev pub RunsGood : Bool → Configuration → List Reload → List Scripted → Option (List ℕ) → Option (List ℕ) → ℕ → Type 0
-RunsGood any config reloads events old new status =
-    ((status ≡ 0) × RunsEvents any config reloads events old new) ⊎ ((status ≡ 1) × (any ≡ false) × PrintsRefused config old new)
+abbrev pub RunsGood : Judging → Configuration → List Reload → List Scripted → Option (List ℕ) → Option (List ℕ) → ℕ → Type 0
+RunsGood judging config reloads events old new status =
+    ((status ≡ 0) × RunsEvents judging config reloads events old new) ⊎ ((status ≡ 1) × (is_any judging ≡ false) × PrintsRefused config old new)
 
 -- ---- a script that was read
 
 -- each of its events can be, and it ran or was refused
-pub record RanScript (any : Bool) (script : ConfiguredScript) (old new : Option (List ℕ)) (status : ℕ) : Type 0 where
+pub record RanScript (judging : Judging) (script : ConfiguredScript) (old new : Option (List ℕ)) (status : ℕ) : Type 0 where
   pub good : first_bad (servers_of script) (events_of script) ≡ None
-  pub runs : RunsGood any script.config (reloads_of script) (events_of script) old new status
+  pub fits : excluded_by judging script.config (events_of script) ≡ None
+  pub runs : RunsGood judging script.config (reloads_of script) (events_of script) old new status
 
--- one can't, and the line of the first was written
-pub record HasBadEvent (script : ConfiguredScript) (old new : Option (List ℕ)) : Type 0 where
+-- of events and the numbers of their lines: the line of the first that puts on a server what that can't have held at first
+abbrev pub excluded_line : Judging → Configuration → List Scripted → List ℕ → Option ℕ
+excluded_line judging config events lines = do
+  at ← excluded_by judging config events
+  slice_get lines at
+
+-- one can't, or where each can puts on a server what that can't have held at first, and the line of the first was written
+pub record HasBadEvent (judging : Judging) (script : ConfiguredScript) (old new : Option (List ℕ)) : Type 0 where
   pub line : ℕ
-  pub bad : bad_event_line (servers_of script) (events_of script) script.lines.items ≡ Some line
+  pub bad : either (bad_event_line (servers_of script) (events_of script) script.lines.items) (excluded_line judging script.config (events_of script) script.lines.items) ≡ Some line
   pub printed : Appends old new (bad_line_line line)
 
-abbrev pub RunsScript : Bool → ConfiguredScript → Option (List ℕ) → Option (List ℕ) → ℕ → Type 0
-RunsScript any script old new status = RanScript any script old new status ⊎ ((status ≡ 2) × HasBadEvent script old new)
+abbrev pub RunsScript : Judging → ConfiguredScript → Option (List ℕ) → Option (List ℕ) → ℕ → Type 0
+RunsScript judging script old new status = RanScript judging script old new status ⊎ ((status ≡ 2) × HasBadEvent judging script old new)
 
-abbrev pub BreaksScriptOff : Bool → ConfiguredScript → Option (List ℕ) → Option (List ℕ) → RunFault → Type 0
-BreaksScriptOff any script old new fault = BreaksTreeOff any script.config (reloads_of script) (events_of script) old new fault
+abbrev pub BreaksScriptOff : Judging → ConfiguredScript → Option (List ℕ) → Option (List ℕ) → RunFault → Type 0
+BreaksScriptOff judging script old new fault = BreaksTreeOff judging script.config (reloads_of script) (events_of script) old new fault
 
 -- its reloads stand in the order of their places, and each list of servers begins with the one before it
 pub record HasReloads (script : ConfiguredScript) : Type 0 where
@@ -172,17 +187,22 @@ pub record HasReloads (script : ConfiguredScript) : Type 0 where
 
 -- ---- what a text says
 
+-- the number of the first bad line; where there is none, of the first that puts on a server what that can't have held at first
+abbrev pub bad_line_by : Judging → Result Told WhyNot → Option ℕ
+bad_line_by judging (Ok t) = either (bad_line (Ok t)) (excluded_line judging t.configuration (events_said t) (lines_said t))
+bad_line_by judging (Err why) = bad_line (Err why)
+
 -- no line is bad, and the script ran or was refused
-pub record Ran (any : Bool) (t : Result Told WhyNot) (old new : Option (List ℕ)) (status : ℕ) : Type 0 where
+pub record Ran (judging : Judging) (t : Result Told WhyNot) (old new : Option (List ℕ)) (status : ℕ) : Type 0 where
   pub script : Told
   pub said : t ≡ Ok script
-  pub good : bad_line (Ok script) ≡ None
-  pub runs : RunsGood any script.configuration script.loads (events_said script) old new status
+  pub good : bad_line_by judging (Ok script) ≡ None
+  pub runs : RunsGood judging script.configuration script.loads (events_said script) old new status
 
 -- a line is bad, and that was written
-pub record HasBadLine (t : Result Told WhyNot) (old new : Option (List ℕ)) : Type 0 where
+pub record HasBadLine (judging : Judging) (t : Result Told WhyNot) (old new : Option (List ℕ)) : Type 0 where
   pub line : ℕ
-  pub bad : bad_line t ≡ Some line
+  pub bad : bad_line_by judging t ≡ Some line
   pub printed : Appends old new (bad_line_line line)
 
 -- the configuration has a fault, and that was written
@@ -192,29 +212,29 @@ pub record HasFaultyConfig (t : Result Told WhyNot) (old new : Option (List ℕ)
   pub printed : Appends old new (config_fault_line fault)
 
 -- status 0: it ran; status 1: the gate refused its tree; status 2: the configuration has a fault, or a line is bad
-abbrev pub ReplaysTold : Bool → Result Told WhyNot → Option (List ℕ) → Option (List ℕ) → ℕ → Type 0
-ReplaysTold any t old new status = Ran any t old new status ⊎ ((status ≡ 2) × (HasFaultyConfig t old new ⊎ HasBadLine t old new))
+abbrev pub ReplaysTold : Judging → Result Told WhyNot → Option (List ℕ) → Option (List ℕ) → ℕ → Type 0
+ReplaysTold judging t old new status = Ran judging t old new status ⊎ ((status ≡ 2) × (HasFaultyConfig t old new ⊎ HasBadLine judging t old new))
 
 -- the script ran in part
-pub record RanInPart (any : Bool) (t : Result Told WhyNot) (old new : Option (List ℕ)) : Type 0 where
+pub record RanInPart (judging : Judging) (t : Result Told WhyNot) (old new : Option (List ℕ)) : Type 0 where
   pub script : Told
   pub said : t ≡ Ok script
-  pub prints : PrintsPart any script.configuration script.loads (events_said script) old new
+  pub prints : PrintsPart judging script.configuration script.loads (events_said script) old new
 
 -- the script ran in part, and had more calls than are counted
-pub record Overran (any : Bool) (t : Result Told WhyNot) (old new : Option (List ℕ)) : Type 0 where
+pub record Overran (judging : Judging) (t : Result Told WhyNot) (old new : Option (List ℕ)) : Type 0 where
   pub script : Told
   pub said : t ≡ Ok script
-  pub prints : PrintsSpent any script.configuration script.loads (events_said script) old new
+  pub prints : PrintsSpent judging script.configuration script.loads (events_said script) old new
 
 -- memory was refused before the run, and nothing was written; or during it
-abbrev pub IsBrokenOff : Bool → Result Told WhyNot → Option (List ℕ) → Option (List ℕ) → Type 0
-IsBrokenOff any t old new = (new ≡ old) ⊎ RanInPart any t old new
+abbrev pub IsBrokenOff : Judging → Result Told WhyNot → Option (List ℕ) → Option (List ℕ) → Type 0
+IsBrokenOff judging t old new = (new ≡ old) ⊎ RanInPart judging t old new
 
-abbrev pub BreaksOff : Bool → Result Told WhyNot → Option (List ℕ) → Option (List ℕ) → RunFault → Type 0
-BreaksOff any t old new NoMemory = IsBrokenOff any t old new
-BreaksOff any t old new TooManyCalls = Overran any t old new
-BreaksOff any t old new Writer = Unit {0}
+abbrev pub BreaksOff : Judging → Result Told WhyNot → Option (List ℕ) → Option (List ℕ) → RunFault → Type 0
+BreaksOff judging t old new NoMemory = IsBrokenOff judging t old new
+BreaksOff judging t old new TooManyCalls = Overran judging t old new
+BreaksOff judging t old new Writer = Unit {0}
 
 -- ---- what was read of a text
 
@@ -224,18 +244,18 @@ pub record IsReading (read : Result ConfiguredScript ScriptFault) : Type 0 where
   pub reads : ReadsScript told read
 
 -- so is each text replayed that is read so
-abbrev pub ReplaysRead : Bool → Result ConfiguredScript ScriptFault → Option (List ℕ) → Option (List ℕ) → ℕ → Type 0
-ReplaysRead any read old new status = (t : Result Told WhyNot) → ReadsScript t read → ReplaysTold any t old new status
+abbrev pub ReplaysRead : Judging → Result ConfiguredScript ScriptFault → Option (List ℕ) → Option (List ℕ) → ℕ → Type 0
+ReplaysRead judging read old new status = (t : Result Told WhyNot) → ReadsScript t read → ReplaysTold judging t old new status
 
-abbrev pub BreaksReadOff : Bool → Result ConfiguredScript ScriptFault → Option (List ℕ) → Option (List ℕ) → RunFault → Type 0
-BreaksReadOff any read old new fault = (t : Result Told WhyNot) → ReadsScript t read → BreaksOff any t old new fault
+abbrev pub BreaksReadOff : Judging → Result ConfiguredScript ScriptFault → Option (List ℕ) → Option (List ℕ) → RunFault → Type 0
+BreaksReadOff judging read old new fault = (t : Result Told WhyNot) → ReadsScript t read → BreaksOff judging t old new fault
 
 -- ---- a text
 
 -- of a script with its configuration
-abbrev pub Replays : Bool → List ℕ → Option (List ℕ) → Option (List ℕ) → ℕ → Type 0
-Replays any text = ReplaysTold any (told text)
+abbrev pub Replays : Judging → List ℕ → Option (List ℕ) → Option (List ℕ) → ℕ → Type 0
+Replays judging text = ReplaysTold judging (told text)
 
 -- of a script of events alone, over a configuration from elsewhere
-abbrev pub ReplaysOver : Bool → Configuration → List ℕ → Option (List ℕ) → Option (List ℕ) → ℕ → Type 0
-ReplaysOver any config text = ReplaysTold any (Ok (told_over config text))
+abbrev pub ReplaysOver : Judging → Configuration → List ℕ → Option (List ℕ) → Option (List ℕ) → ℕ → Type 0
+ReplaysOver judging config text = ReplaysTold judging (Ok (told_over config text))

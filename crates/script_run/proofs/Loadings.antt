@@ -42,7 +42,7 @@ last_is : (configs : List Configuration) (c : Configuration) → slice_get (conf
 last_is [] c = refl
 last_is (d ∷ configs) c = last_is configs c
 
-last_of_more : (configs : List Configuration) (c : Configuration) → IsLast (configs ++ c ∷ []) c
+pub last_of_more : (configs : List Configuration) (c : Configuration) → IsLast (configs ++ c ∷ []) c
 last_of_more configs c = let e = length-append configs (c ∷ []) in let at : length (configs ++ c ∷ []) - 1 ≡ length configs = omega (arith, e) in ap (slice_get (configs ++ c ∷ [])) at ∙ last_is configs c
 
 -- the next list begins with the one in use, whatever the gate said to the one before
@@ -109,7 +109,7 @@ accepted_rise (Refused fault ∷ ls) (suc i) (suc j) le = accepted_rise ls i j (
 
 -- ---- the trees in use are generations
 
-more_at : (xs ys : List Configuration) (i : ℕ) (c : Configuration) → slice_get xs i ≡ Some c → slice_get (xs ++ ys) i ≡ Some c
+pub more_at : (xs ys : List Configuration) (i : ℕ) (c : Configuration) → slice_get xs i ≡ Some c → slice_get (xs ++ ys) i ≡ Some c
 more_at [] ys i c e = absurd (cc)
 more_at (x ∷ xs) ys zero c e = e
 more_at (x ∷ xs) ys (suc i) c e = more_at xs ys i c e
@@ -122,11 +122,11 @@ kept_at configs configs' (r ∷ rs) [] e i c at = absurd e
 kept_at configs configs' (r ∷ rs) (Loaded n ∷ ls) e i c at = kept_at e.0 configs' rs ls e.2 i c (ap (λ (cs : List Configuration). slice_get cs i) e.1.0 ∙ more_at configs (r.config ∷ []) i c at)
 kept_at configs configs' (r ∷ rs) (Refused fault ∷ ls) e i c at = kept_at e.0 configs' rs ls e.2 i c (ap (λ (cs : List Configuration). slice_get cs i) e.1.0 ∙ at)
 
-after_none : (t : Route) (k : ℕ) → tree_after t [] [] k ≡ t
+pub after_none : (t : Route) (k : ℕ) → tree_after t [] [] k ≡ t
 after_none t zero = refl
 after_none t (suc k) = after_none t k
 
-after_one : (t : Route) (x : Bool) (refused : List Bool) (r : Reload) (rs : List Reload) (k : ℕ) → tree_after t (x ∷ refused) (r ∷ rs) (suc k) ≡ tree_after (reloads.one_more x (Some r) t) refused rs k
+pub after_one : (t : Route) (x : Bool) (refused : List Bool) (r : Reload) (rs : List Reload) (k : ℕ) → tree_after t (x ∷ refused) (r ∷ rs) (suc k) ≡ tree_after (reloads.one_more x (Some r) t) refused rs k
 after_one t x refused r rs zero = refl
 after_one t x refused r rs (suc k) = ap (reloads.one_more (reloads.is_refused (slice_get refused k)) (slice_get rs k)) (after_one t x refused r rs k)
 

@@ -35,11 +35,11 @@ use Rattle.script_run.proofs.Loadings.{accepted_in, accepted_rise, loaded_at}
 
 -- ---- the tree of a command, by how many reloads had come when it began
 
-record HaveCome (first : Route) (refused : List Bool) (rs : List Reload) (loads : List (ℕ × Route)) (many : ℕ) : Type 0 where
-  at : ℕ → ℕ
-  within : (n : ℕ) → at n ≤ many
-  tree : (n : ℕ) → tree_by first loads n ≡ tree_after first refused rs (at n)
-  rising : (n m : ℕ) → n < m → at n ≤ at m
+pub record HaveCome (first : Route) (refused : List Bool) (rs : List Reload) (loads : List (ℕ × Route)) (many : ℕ) : Type 0 where
+  pub at : ℕ → ℕ
+  pub within : (n : ℕ) → at n ≤ many
+  pub tree : (n : ℕ) → tree_by first loads n ≡ tree_after first refused rs (at n)
+  pub rising : (n m : ℕ) → n < m → at n ≤ at m
 
 none_some : (t : Route) (ts : List Route) → t ∷ ts ≡ [] → ⊥
 none_some t ts e = cc
@@ -82,7 +82,7 @@ module _ (first : Route) (refused : List Bool) (rs : List Reload) where
           subst (λ (b : Bool). suc many ≤ cond b (suc many) (p.at m)) (sym (lt-ltb load.0 m (omega (arith, below, lt)))) (omega arith)
       by_rise n m lt false e = rest (nat_lt load.0 m) (p.at n) (p.at m) (p.rising n m lt) (p.within n)
 
-  have_come : (many : ℕ) (loads : List (ℕ × Route)) → loaded_trees loads ≡ trees_loaded refused rs many → HaveCome first refused rs loads many
+  pub have_come : (many : ℕ) (loads : List (ℕ × Route)) → loaded_trees loads ≡ trees_loaded refused rs many → HaveCome first refused rs loads many
   have_come zero [] e = record { at = λ n. zero; within = λ n. omega arith; tree = λ n. refl; rising = λ n m lt. omega arith }
   have_come zero (load ∷ loads) e = absurd (none_some load.1 (loaded_trees loads) e)
   have_come (suc many) loads e = by (λ ls is. have_come many ls is) (reloads.is_refused (slice_get refused many)) refl (slice_get rs many) refl loads e
@@ -103,7 +103,7 @@ module _ (first : Route) (refused : List Bool) (rs : List Reload) where
 -- ---- freshness
 
 -- each command has its key alone
-alone : (plans : ℕ → List ℕ → Plan) → AreAlone (bars_by Alone plans)
+pub alone : (plans : ℕ → List ℕ → Plan) → AreAlone (bars_by Alone plans)
 alone plans number other ask client same = (refl, refl)
 
 module _ (law : GenerationsAreFresh) (configs configs' : List Configuration) (rs : List Reload) (ls : List Loading) (c : Configuration) (events : List Scripted) (judged : Judges configs rs ls configs') (are : AreGenerations (trees_of configs')) (some : 0 < length configs) (last : IsLast configs c) where

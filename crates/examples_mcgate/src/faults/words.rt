@@ -9,7 +9,9 @@ use std::test::Fail;
 fn faults() -> &'static str {
     "words: mcgate chek => mcgate: unknown command chek; did you mean check?
 words: mcgate serv => mcgate: unknown command serv; did you mean serve?
-words: mcgate play => mcgate: unknown command play; did you mean replay?
+words: mcgate play => mcgate: unknown command play; did you mean plan?
+words: mcgate plan a => mcgate plan: a FILE is missing
+words: mcgate replay --opened empty => mcgate replay: --opened empty: expected any or own
 words: mcgate flush => mcgate: unknown command flush
 words: mcgate --any => mcgate: --any stands after a command
 words: mcgate --verson => mcgate: unknown flag --verson; did you mean --version?

@@ -1,10 +1,10 @@
 //! Scripts that run, that are refused, and that can't be read. In examples of one line `⏎` is a line end.
 
-use crate::replays::scripts::printed;
+use crate::replays::scripts::{judging_of, printed};
 use examples_tables::full_writer::Full;
 use examples_tables::tables::{expanded, same, sides, told, unfolded};
 use mcgate_check::status::WRITER;
-use mcgate_replay::{run_replay, run_replay_over};
+use mcgate_replay::{Judging, run_replay, run_replay_over};
 use route_json::{Config, read_config};
 use std::alloc::{AllocError, Global};
 use std::test::Fail;
@@ -114,7 +114,7 @@ fn config_of(alloc: Global, text: &str) -> Result<Config, Fail> {
 fn printed_over(alloc: Global, any: bool, config: &str, events: &str) -> Result<String, Fail> {
     let config = config_of(alloc, config)?;
     let mut out = Vec::new(alloc);
-    let status = run_replay_over(alloc, any, config, events, &mut out);
+    let status = run_replay_over(alloc, judging_of(any), config, events, &mut out);
     told(alloc, status, out.as_slice())
 }
 
@@ -166,7 +166,7 @@ fn events_over_a_refused_tree(rt: HostRuntime) -> Result<(), Fail> {
 // The status of a script whose output is written where there is so much room.
 fn status_in(alloc: Global, script: &str, room: usize) -> u8 {
     let mut out = Full { room };
-    run_replay(alloc, false, script, &mut out)
+    run_replay(alloc, Judging::Asked, script, &mut out)
 }
 
 #[test]

@@ -5,7 +5,7 @@
 use examples_tables::faults::faults_hold;
 use examples_tables::tables::{Printer, all_hold, expanded, same, told};
 use mcgate_check::{Form, run_check};
-use mcgate_replay::run_replay;
+use mcgate_replay::{Judging, run_replay};
 use std::alloc::{AllocError, Global};
 use std::test::Fail;
 
@@ -447,11 +447,21 @@ set a 5 0 3\r\nxyz|\r\n
 set a 5 0 3\r\nxyz\r|\n"#
 }
 
+/// What is printed of a script whose trees are judged so, with the status.
+pub fn printed_by(alloc: Global, judging: Judging, script: &str) -> Result<String, Fail> {
+    let mut out = Vec::new(alloc);
+    let status = run_replay(alloc, judging, script, &mut out);
+    told(alloc, status, out.as_slice())
+}
+
+/// Over any trees, or over those that the gate accepts.
+pub fn judging_of(any: bool) -> Judging {
+    if any { Judging::Any } else { Judging::Asked }
+}
+
 /// What is printed of a script, with the status; with `any` whatever the gate says of its trees.
 pub fn printed(alloc: Global, any: bool, script: &str) -> Result<String, Fail> {
-    let mut out = Vec::new(alloc);
-    let status = run_replay(alloc, any, script, &mut out);
-    told(alloc, status, out.as_slice())
+    printed_by(alloc, judging_of(any), script)
 }
 
 // The same of an example's lines.

@@ -119,33 +119,107 @@ taken 1 => ERROR\r\n
 open 1 => no
 taken 9 => nothing
 
-An answer that is late is nobody's: its connection is closed, and the next call goes to a new one, whose answer isn't late.
+An answer that is late is nobody's. Until it has come calls fail at once; then they go over the same connection.
 host 127.0.0.1:5001
-peer 8
+peer 9
 awaits 7
 sends END\r\n
 awaits 14
 until 4500
 sends VALUE b 0 1\r\n1\r\nEND\r\n
-answers 127.0.0.1:5001
-peer 9
-awaits 7
-until 5500
-sends END\r\n
+awaits 21
+sends VALUE d 0 1\r\n2\r\nEND\r\n
 answers 127.0.0.1:5001
 peer 1
 sends get a\r\n
 until 3000
 sends get b\r\n
-until 5000
+until 4200
 sends get c\r\n
+until 5000
+sends get d\r\n
 calls 0
 proxy <one server>
 turn 100
-taken 1 => END\r\nSERVER_ERROR call failed\r\nEND\r\n
+taken 1 => END\r\nSERVER_ERROR call failed\r\nSERVER_ERROR call failed\r\nVALUE d 0 1\r\n2\r\nEND\r\n
+open 9 => yes
+taken 9 => get a\r\nget b\r\nget d\r\n
+news => server 0: connected; server 0: late: a call took too long; server 0: back
+
+All calls that are out fail when one is late, and all of their answers have to come, however they are cut.
+host 127.0.0.1:5001
+peer 9
+awaits 14
+until 1500
+sends VALUE a 0 1\r\n1\r\nEN
+until 1600
+sends D\r\nVALUE b 0
+until 2000
+sends  1\r\n2\r\nEND\r\n
+awaits 21
+sends END\r\n
+answers 127.0.0.1:5001
+peer 1
+sends get a\r\nget b\r\n
+until 1800
+sends get c\r\n
+until 2500
+sends get d\r\n
+calls 0
+proxy <one server>
+turn 60
+taken 1 => SERVER_ERROR call failed\r\nSERVER_ERROR call failed\r\nSERVER_ERROR call failed\r\nEND\r\n
+taken 9 => get a\r\nget b\r\nget d\r\n
+
+A late answer may come with the next one behind it, and what is no answer to the late call isn't one to the next.
+host 127.0.0.1:5001
+peer 8
+awaits 7
+until 1500
+sends END\r\n
+awaits 14
+until 3500
+sends STORED\r\nEND\r\n
+answers 127.0.0.1:5001
+peer 9
+awaits 7
+sends END\r\n
+answers 127.0.0.1:5001
+peer 1
+sends get a\r\n
+until 2000
+sends get b\r\n
+until 4000
+sends get c\r\n
+calls 0
+proxy <one server>
+turn 80
+taken 1 => SERVER_ERROR call failed\r\nSERVER_ERROR call failed\r\nEND\r\n
 open 8 => no
+taken 8 => get a\r\nget b\r\n
 taken 9 => get c\r\n
-news => server 0: connected; server 0: failed: a call took too long, 1 in a row; server 0: back
+
+A connection that ends while late answers are to come: the next call goes to a new one.
+host 127.0.0.1:5001
+peer 8
+awaits 7
+until 1500
+ends
+answers 127.0.0.1:5001
+peer 9
+awaits 7
+sends END\r\n
+answers 127.0.0.1:5001
+peer 1
+sends get a\r\n
+until 2000
+sends get b\r\n
+calls 0
+proxy <one server>
+turn 60
+taken 1 => SERVER_ERROR call failed\r\nEND\r\n
+open 8 => no
+taken 9 => get b\r\n
 
 Bytes that came while nothing was out are no answer to the next call, which goes to a new connection.
 host 127.0.0.1:5001

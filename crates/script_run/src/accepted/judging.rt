@@ -36,8 +36,8 @@ fn is_refused(loading: &Loading) -> bool
     }
 }
 
-// Which of the reloads the gate refused.
-fn refused_of(alloc: Global, loadings: &[Loading]) -> Result<Vec<bool>, AllocError>
+/// Which of the reloads the gate refused. The only error is running out of memory.
+pub fn refused_of(alloc: Global, loadings: &[Loading]) -> Result<Vec<bool>, AllocError>
     ensures { IfOk result (λ refused. refused.items ≡ map is_refused loadings.now) }
 {
     let mut refused = Vec::new(alloc);

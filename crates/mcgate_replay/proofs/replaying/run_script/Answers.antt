@@ -8,7 +8,7 @@ returns-in_ok-write_bad_line-in-Some-clause-ok g c = inr (
   refl,
   record {
     line = c.unwrap-line.result;
-    bad = event_line (servers_of c.args.configured.now) c.server_count.result (events_of c.args.configured.now) c.args.configured.now.lines.items c.in-Some.event c.line_of.result c.unwrap-line.result c.server_count.ensures c.in-Some.ensures.first c.line_of.ensures c.unwrap-line.ensures;
+    bad = event_line (servers_of c.args.configured.now) c.args.judging c.args.configured.now.config (events_of c.args.configured.now) c.args.configured.now.lines.items c.in-Some.event c.line_of.result c.unwrap-line.result c.in-Some.ensures.first c.line_of.ensures c.unwrap-line.ensures;
     printed = c.in_ok-write_bad_line-in-Some.ensures;
   },
 )

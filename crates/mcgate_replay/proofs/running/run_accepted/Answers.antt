@@ -1,5 +1,6 @@
-use Rattle.std.proofs.Common.{arith}
+use Rattle.std.proofs.Common.{arith, refl}
 use Rattle.std.proofs.lemmas.Result.{IfOk-weaker, IfErr-weaker}
+use Rattle.mcgate_replay.specs.declared.judging.Judging.TheVariants.{Asked}
 use Rattle.mcgate_replay.specs.Replay.{events_of, reloads_of}
 use Rattle.mcgate_replay.proofs.Printing.{chain_in_use, are_judged, are_loadings}
 use Rattle.mcgate_replay.proofs.Steps.{enough, in_order, new_servers, counted, ran_accepted, part_accepted}
@@ -29,7 +30,7 @@ returns-clause-ok g c =
     let d = c.drive_judged-driven in
     let judged = are_loadings s.config (reloads_of s) _ _ c.args.accepted.now _ c.as_slice-reloads.ensures.value c.requires.certified c.requires.accepted c.in_ok-judged.ensures.judged c.config-in_use.ensures.generations in
     IfOk-weaker c.write_driven.result _ _
-    (λ status w. (w.0, ran_accepted s.config (reloads_of s) c.in_ok-judged.judged.loadings.items (events_of s) d.result d.new.transcript d.new.marks.items _ _ _ _ _ c.as_slice-reloads.ensures.value c.as_slice-loadings.ensures.value c.as_slice-marks.ensures.value judged d.ensures.ok d.ensures.marked d.ensures.marks w.1))
+    (λ status w. (w.0, ran_accepted s.config (reloads_of s) c.in_ok-judged.judged.loadings.items (events_of s) d.result d.new.transcript d.new.marks.items _ _ _ _ _ c.as_slice-reloads.ensures.value c.as_slice-loadings.ensures.value c.as_slice-marks.ensures.value Asked refl judged d.ensures.ok d.ensures.marked d.ensures.marks w.1))
     c.write_driven.ensures.ok
 
 pub returns-clause-err : goal.returns-clause-err
@@ -38,5 +39,5 @@ returns-clause-err g c =
     let d = c.drive_judged-driven in
     let judged = are_loadings s.config (reloads_of s) _ _ c.args.accepted.now _ c.as_slice-reloads.ensures.value c.requires.certified c.requires.accepted c.in_ok-judged.ensures.judged c.config-in_use.ensures.generations in
     IfErr-weaker c.write_driven.result _ _
-    (λ fault b. part_accepted s.config (reloads_of s) c.in_ok-judged.judged.loadings.items (events_of s) d.result d.new.transcript d.new.marks.items _ _ _ _ _ c.as_slice-reloads.ensures.value c.as_slice-loadings.ensures.value c.as_slice-marks.ensures.value c.in_ok-servers.servers d.new.servers judged d.ensures.fault d.ensures.marks fault b)
+    (λ fault b. part_accepted s.config (reloads_of s) c.in_ok-judged.judged.loadings.items (events_of s) d.result d.new.transcript d.new.marks.items _ _ _ _ _ c.as_slice-reloads.ensures.value c.as_slice-loadings.ensures.value c.as_slice-marks.ensures.value Asked refl c.in_ok-servers.servers d.new.servers judged d.ensures.fault d.ensures.marks fault b)
     c.write_driven.ensures.err

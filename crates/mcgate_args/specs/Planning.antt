@@ -1,0 +1,20 @@
+-- How a plan ends. Source: mcgate's own.
+use Rattle.std.specs.Prelude.{◌≡◌, ℕ, List, Result, Ok, Err}
+use Rattle.core_accepted.specs.declared.beginnings.Beginnings.{Beginnings}
+use Rattle.gate_plan.specs.Plans.{IsPlanFrom}
+use Rattle.gate_plan.specs.declared.told.Planned.{Planned}
+use Rattle.gate_plan.specs.declared.told.Planned.TheVariants as plans
+use Rattle.mcgate_args.specs.declared.ends.Stop.{Stop}
+
+-- 0 where the change may be made at once, 1 where it may not, 2 where there is no configuration
+abbrev pub status_of : Planned → ℕ
+status_of plans.AtOnce = 0
+status_of plans.BySteps = 0
+status_of plans.Anew = 1
+status_of plans.Refused = 1
+status_of plans.NoConfig = 2
+
+-- what the plan of two texts is, and so its status; or it was broken off
+abbrev pub Plans : Beginnings → List ℕ → List ℕ → Result ℕ Stop → Type 0
+Plans begun old new (Ok status) = (planned : Planned) × IsPlanFrom old new begun.opened begun.added planned × (status ≡ status_of planned)
+Plans begun old new (Err stop) = Unit {0}

@@ -1,0 +1,91 @@
+-- Scripts whose servers began as is said, and what the gate answers then to what they load. Source: mcgate's own.
+use Rattle.std.specs.Prelude.{◌≡◌, ℕ, suc, ◌+◌, Bool, true, false, not, ◌&&◌, List, [], ◌∷◌, ◌++◌, length, nat_lt, Option, Some, None, ◌≤◌, if◌then◌else◌}
+use Rattle.route_tree.specs.At.{tree_at}
+use Rattle.route_tree.specs.Route.{Route}
+use Rattle.route_json.specs.Configuration.{Configuration}
+use Rattle.gate_check.specs.Sound.{trees_of}
+use Rattle.gate_check.specs.declared.reloading.ReloadFault.{ReloadFault}
+use Rattle.gate_check.specs.declared.reloading.ReloadFault.TheVariants as faults
+use Rattle.gate_growth.specs.PlaceRows.{AreTooManyPlaces}
+use Rattle.gate_growth.specs.PutsComputed.{puts}
+use Rattle.gate_growth.specs.Ledgers.{most_generations, IsFirstLeftGap}
+use Rattle.gate_growth.specs.declared.ledger.page.Beginning.{Beginning}
+use Rattle.gate_growth.specs.declared.ledger.page.Beginning.TheVariants as beginnings
+use Rattle.gate_growth.specs.declared.ledger.unsound.Unsound.{Unsound}
+use Rattle.gate_growth.specs.declared.ledger.unsound.Unsound.TheVariants as reasons
+use Rattle.core_accepted.specs.declared.beginnings.Beginnings.{Beginnings}
+use Rattle.core_accepted.specs.Known.{Known, is_arbitrary, more}
+use Rattle.script_events.specs.declared.script.Reload.{Reload}
+use Rattle.script_events.specs.Scripted.{Scripted, Piece, Add, Result, Fail, Hold, At, Now, Moment}
+use Rattle.script_run.specs.declared.accepted.judging.Loading.{Loading}
+use Rattle.script_run.specs.declared.accepted.judging.Loading.TheVariants.{Loaded, Refused}
+use Rattle.mcgate_replay.specs.declared.judging.Judging.{Judging}
+use Rattle.mcgate_replay.specs.declared.judging.Judging.TheVariants.{Any, Asked, Begun}
+
+-- the gate isn't asked
+abbrev pub is_any : Judging → Bool
+is_any Any = true
+is_any Asked = false
+is_any (Begun begun) = false
+
+-- ---- what servers may hold at first
+
+-- a server that began so, one of the first configuration or not, whose tree puts an item there or not, may hold it
+abbrev pub may_begin_with : Beginning → Bool → Bool → Bool
+may_begin_with beginnings.Any founder put = true
+may_begin_with beginnings.Own founder put = founder && put
+
+-- the server may hold an item of the key
+abbrev pub may_hold : Beginnings → Configuration → ℕ → List ℕ → Bool
+may_hold begun config server key =
+    may_begin_with (if nat_lt server (length config.servers) then begun.opened else begun.added) (nat_lt server (length config.servers)) (puts (tree_at config.tree key) server)
+
+-- a script's line puts on a server what it can't have held
+abbrev pub is_excluded : Beginnings → Configuration → Scripted → Bool
+is_excluded begun config (Piece client bytes) = false
+is_excluded begun config (Add client bytes) = false
+is_excluded begun config (Result server) = false
+is_excluded begun config (Fail turn manner) = false
+is_excluded begun config (Hold server key content) = not (may_hold begun config server key)
+is_excluded begun config (At turn loss) = false
+is_excluded begun config (Now loss) = false
+is_excluded begun config (Moment moment) = false
+
+-- the place of the first such event, where the first of these has this place
+abbrev pub first_excluded : Beginnings → Configuration → ℕ → List Scripted → Option ℕ
+first_excluded begun config at [] = None
+first_excluded begun config at (event ∷ events) = if is_excluded begun config event then Some at else first_excluded begun config (at + 1) events
+
+-- where something is said of what servers held
+abbrev pub excluded_by : Judging → Configuration → List Scripted → Option ℕ
+excluded_by Any config events = None
+excluded_by Asked config events = None
+excluded_by (Begun begun) config events = first_excluded begun config 0 events
+
+-- ---- what the gate answers
+
+-- what is told of a refusal: nothing where memory was refused
+abbrev pub loading_of : Unsound → Option Loading
+loading_of reasons.TooManyGenerations = Some (Refused faults.TooManyGenerations)
+loading_of reasons.TooManyPlaces = Some (Refused (faults.TooManyPlaces 0))
+loading_of (reasons.Left generation gap) = Some (Refused (faults.Uncovered generation gap))
+loading_of reasons.NoMemory = None
+
+-- why the tree may not follow those that are known: there are as many as have a number; all together have too many places; or its first gap
+abbrev pub MayNotFollow : Known → Route → ReloadFault → Type 0
+MayNotFollow known tree faults.TooManyGenerations = most_generations ≤ length (trees_of known.configs)
+MayNotFollow known tree (faults.TooManyPlaces generation) = AreTooManyPlaces (trees_of known.configs ++ tree ∷ [])
+MayNotFollow known tree (faults.Uncovered generation gap) = IsFirstLeftGap (is_arbitrary known) (trees_of known.configs) tree generation gap
+MayNotFollow known tree faults.NoMemory = ⊥
+
+-- the gate's answer: the configuration is the next generation, of this number, or all stays
+abbrev pub JudgesNext : Known → Reload → Loading → Known → Type 0
+JudgesNext known r (Loaded n) known' = (known' ≡ more r.config known) × (n ≡ length known'.configs)
+JudgesNext known r (Refused fault) known' = (known' ≡ known) × MayNotFollow known r.config.tree fault
+
+-- its answers to these reloads, one after another
+abbrev pub JudgesAll : Known → List Reload → List Loading → Known → Type 0
+JudgesAll known [] [] known' = known' ≡ known
+JudgesAll known [] (l ∷ ls) known' = ⊥
+JudgesAll known (r ∷ rs) [] known' = ⊥
+JudgesAll known (r ∷ rs) (l ∷ ls) known' = (mid : Known) × JudgesNext known r l mid × JudgesAll mid rs ls known'

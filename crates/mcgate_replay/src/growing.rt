@@ -1,0 +1,113 @@
+//! Configurations that are loaded while a script runs, judged by what servers held at first.
+
+ghost use Rattle.std.specs.Prelude.{◌≡◌, ◌≤◌, [], length, map, None, IfOk, IfErr, OnOk, MatchResult};
+ghost use Rattle.core_accepted.specs.Known.{first_of};
+ghost use Rattle.core_accepted.specs.Logs.{BeginSo};
+ghost use Rattle.route_json.specs.declared.addresses.servers.TheConstants.{MAX_SERVERS};
+ghost use Rattle.script_events.specs.Bad.{first_bad, Refuses};
+ghost use Rattle.script_events.specs.Opening.{opening_of};
+ghost use Rattle.script_events.specs.Reloads.{AreInOrder};
+ghost use Rattle.script_events.specs.Scripted.{scripted_of, transcript_of};
+ghost use Rattle.script_events.specs.Servers.{IsNew, count_of};
+ghost use Rattle.script_run.specs.Driving.{AreMarks};
+ghost use Rattle.script_run.specs.Reloads.{is_refused};
+ghost use Rattle.script_run.specs.Stepped.{StepsFreshly, EndsSteps};
+ghost use Rattle.mcgate_replay.specs.Growing.{JudgesNext, JudgesAll, loading_of};
+
+use core_accepted::Generations;
+use gate_check::ReloadFault;
+use gate_growth::ledger::Unsound;
+use route_json::Config;
+use script_events::servers::ScriptServers;
+use script_events::{DriveFault, Reload, Report, Script, Transcript};
+use script_run::accepted::judging::refused_of;
+use script_run::accepted::{Judged, Loading};
+use script_run::drive_stepped;
+use std::alloc::{AllocError, Global};
+
+// What is told of a configuration that may not follow; nothing where memory was refused. Of too many places no generation is told.
+fn refusal(unsound: Unsound) -> Option<Loading>
+    ensures { result ≡ loading_of unsound }
+{
+    match unsound {
+        Unsound::TooManyGenerations => Some(Loading::Refused(ReloadFault::TooManyGenerations)),
+        Unsound::TooManyPlaces => Some(Loading::Refused(ReloadFault::TooManyPlaces(0))),
+        Unsound::Left(generation, gap) => {
+            Some(Loading::Refused(ReloadFault::Uncovered(generation, gap)))
+        }
+        Unsound::NoMemory => None,
+    }
+}
+
+// Asks whether one more configuration may follow.
+fn judge_next(
+    alloc: Global,
+    generations: &mut Generations,
+    reload: &Reload,
+) -> Result<Loading, AllocError>
+    ensures { IfOk result (λ loading. JudgesNext generations.old reload.now loading generations.new) }
+{
+    let config = reload.config.copy(alloc)?;
+    match generations.follow(alloc, config) {
+        Ok(number) => Ok(Loading::Loaded(number)),
+        Err(unsound) => refusal(unsound).ok_or(AllocError),
+    }
+}
+
+/// Asks of each reload's configuration in order whether it may follow those so far; what may is in use from there on. The only error
+/// is running out of memory: then the first of them may have been accepted.
+pub fn judge_all(
+    alloc: Global,
+    generations: &mut Generations,
+    reloads: &[Reload],
+) -> Result<Judged, AllocError>
+    ensures judged { IfOk result (λ judged. JudgesAll generations.old reloads.now judged.loadings.items generations.new) }
+    ensures refused { IfOk result (λ judged. judged.refused.items ≡ map is_refused judged.loadings.items) }
+{
+    let mut loadings = Vec::new(alloc);
+    for reload in reloads {
+        loadings.push(judge_next(alloc, generations, reload)?)?;
+    }
+    let refused = refused_of(alloc, &loadings)?;
+    Ok(Judged { loadings, refused })
+}
+
+/// Runs a script with reloads of which it was asked whether they may follow, if servers held at first what is said of them: each command
+/// through the tree that was accepted last before it began. `first` was in use before the first reload.
+///
+/// All holds that [`drive_stepped`] says, its faults too; and **the run is fresh over all loaded trees**, as of
+/// [`script_run::accepted::drive_judged`], though a tree need not clear what none before it can have left. So the report's `stale` is 0.
+///
+/// Source: mcgate's own.
+pub fn drive_grown(
+    alloc: Global,
+    generations: &Generations,
+    first: &Config,
+    reloads: &[Reload],
+    judged: &Judged,
+    servers: &mut ScriptServers,
+    script: &Script,
+    transcript: &mut Transcript,
+    marks: &mut Vec<usize>,
+) -> Result<Report, DriveFault>
+    requires judged { JudgesAll (first_of first.now generations.now.begun) reloads.now judged.now.loadings.items generations.now }
+    requires refused { judged.now.refused.items ≡ map is_refused judged.now.loadings.items }
+    requires begins { BeginSo first.now generations.now.begun (opening_of (map scripted_of script.now.events.items)) }
+    requires servers { length first.now.servers ≤ count_of servers.old }
+    requires few { count_of servers.old ≤ MAX_SERVERS }
+    requires order { AreInOrder (length script.now.events.items) (count_of servers.old) 0 reloads.now }
+    requires new { IsNew (count_of servers.old) servers.old }
+    requires transcript { transcript.old.shown.items ≡ [] }
+    requires marks { marks.old.items ≡ [] }
+    ensures refuses { MatchResult result (λ _. first_bad (count_of servers.old) (map scripted_of script.now.events.items) ≡ None) (Refuses (count_of servers.old) script.now) }
+    ensures ok { IfOk result (λ report. StepsFreshly first.now.tree judged.now.loadings.items reloads.now (map scripted_of script.now.events.items) (transcript_of transcript.new) marks.new.items report) }
+    ensures fault { IfErr result (λ fault. EndsSteps first.now.tree judged.now.loadings.items reloads.now (map scripted_of script.now.events.items) transcript.new marks.new.items servers.old servers.new fault) }
+    ensures marked { OnOk result (length marks.new.items ≡ length reloads.now) }
+    ensures marks { AreMarks (length transcript.new.shown.items) marks.new.items }
+{
+    let _in_use = generations.config();
+    let refused = judged.refused.as_slice();
+    drive_stepped(
+        alloc, first, reloads, refused, servers, script, transcript, marks,
+    )
+}
