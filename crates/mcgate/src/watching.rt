@@ -160,6 +160,10 @@ fn server_of(
         return Ok(None);
     };
     let mut failures = Vec::new(alloc);
+    failures.push(FailureNumbers {
+        cause: "call_late",
+        count: link.tally.late,
+    })?;
     for cause in CAUSES {
         failures.push(FailureNumbers {
             cause: cause.name(),
@@ -168,7 +172,7 @@ fn server_of(
     }
     Ok(Some(ServerNumbers {
         text: String::from_str(alloc, text)?,
-        is_up: link.is_connected,
+        is_up: link.is_connected && !link.awaits_late(),
         connections: link.tally.stood,
         calls_out: link.calls.len() as u64,
         failures,

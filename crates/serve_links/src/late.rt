@@ -28,11 +28,7 @@ pub enum LateEnd {
 }
 
 // The answer to the first of these calls is held no more, where what is held begins with it.
-fn pass_over(
-    late: &mut VecDeque<LateCall>,
-    calls: &mut LinkCalls,
-    conn: &mut Conn,
-) -> LateRead
+fn pass_over(late: &mut VecDeque<LateCall>, calls: &mut LinkCalls, conn: &mut Conn) -> LateRead
     ensures passes { PassesOver late.old.items conn.old.held.items result late.new.items conn.new.held.items }
     ensures sent { calls.new.sent ≡ calls.old.sent }
     ensures rest { conn.new ≡ record conn.old { held = conn.new.held } }

@@ -547,8 +547,9 @@ impl Link {
 
     /// A call of it took too long, which is news.
     pub fn turn_late(&mut self)
-        ensures { self.new ≡ record self.old { news = self.new.news; was_down = self.new.was_down } }
+        ensures { self.new ≡ record self.old { tally = self.new.tally; news = self.new.news; was_down = self.new.was_down } }
     {
+        self.tally.note_late();
         self.news = Some(LinkNews::Late);
         self.was_down = true;
     }

@@ -22,10 +22,9 @@ pub enum Cause {
 }
 
 /// All causes.
-pub const CAUSES: [Cause; 7] = [
+pub const CAUSES: [Cause; 6] = [
     Cause::Unreachable,
     Cause::ConnectLate,
-    Cause::CallLate,
     Cause::Closed,
     Cause::Broken,
     Cause::Foreign,
@@ -38,7 +37,6 @@ impl Cause {
         match self {
             Cause::Unreachable => "unreachable",
             Cause::ConnectLate => "connect_late",
-            Cause::CallLate => "call_late",
             Cause::Closed => "closed",
             Cause::Broken => "broken",
             Cause::Foreign => "foreign",

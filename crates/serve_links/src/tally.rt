@@ -40,8 +40,10 @@ pub struct OpTally {
 pub struct LinkTally {
     /// How many of its connections stood.
     pub stood: u64,
+    /// How often a call of it was late.
+    pub late: u64,
     // How often it failed for each cause.
-    failed: [u64; 7],
+    failed: [u64; 6],
 }
 
 // The place of an operation among all.
@@ -66,16 +68,15 @@ fn place_of(op: Op) -> usize
 
 // The place of a cause among all.
 fn cause_place(cause: Cause) -> usize
-    ensures { result < 7 }
+    ensures { result < 6 }
 {
     match cause {
         Cause::Unreachable => 0,
         Cause::ConnectLate => 1,
-        Cause::CallLate => 2,
-        Cause::Closed => 3,
-        Cause::Broken => 4,
-        Cause::Foreign => 5,
-        Cause::VainReads => 6,
+        Cause::Closed => 2,
+        Cause::Broken => 3,
+        Cause::Foreign => 4,
+        Cause::VainReads => 5,
     }
 }
 
@@ -162,13 +163,19 @@ impl LinkTally {
     pub fn new() -> LinkTally {
         LinkTally {
             stood: 0,
-            failed: [0; 7],
+            late: 0,
+            failed: [0; 6],
         }
     }
 
     /// A connection stands.
     pub fn note_stood(&mut self) {
         self.stood = self.stood.saturating_add(1);
+    }
+
+    /// A call of it is late.
+    pub fn note_late(&mut self) {
+        self.late = self.late.saturating_add(1);
     }
 
     /// It failed.
