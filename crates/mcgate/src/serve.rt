@@ -263,6 +263,21 @@ pub fn serve_to_end<R: Files + Input + Net + Clock + AllocGlobal + Print + Eprin
     Ok((serving, ended))
 }
 
+// Looks up where it would listen. Where no such address is known, a line of detail says why.
+fn look_up_own<R: Net + AllocGlobal>(
+    rt: &R,
+    address: &str,
+    details: &mut Details,
+) -> Result<(), Stop> {
+    match resolve(rt, address) {
+        Ok(_) => Ok(()),
+        Err(error) => {
+            details.add_listen(rt.alloc(), address, &error);
+            Err(Stop::from(error))
+        }
+    }
+}
+
 // What is said where some servers' addresses aren't known.
 fn unknown_line(alloc: Global, unknown: usize, servers: usize) -> Result<String, AllocError> {
     format!(in alloc; "mcgate: of {servers} servers {unknown} have no known address")
@@ -283,9 +298,9 @@ pub fn look_up_only<R: Net + AllocGlobal + Eprint>(
         return Err(Stop::Memory);
     };
     let unknown = tell_unknown(rt, lines, &servers)?;
-    if let Err(error) = resolve(rt, job.listen) {
-        details.add_listen(rt.alloc(), job.listen, &error);
-        return Err(Stop::from(error));
+    look_up_own(rt, job.listen, details)?;
+    if let Some(metrics) = job.metrics {
+        look_up_own(rt, metrics, details)?;
     }
     if unknown > 0 {
         details.add(unknown_line(rt.alloc(), unknown, servers.len()));

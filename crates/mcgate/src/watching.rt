@@ -1,7 +1,5 @@
 //! What a proxy that runs tells over HTTP of what it counts.
 
-ghost use Rattle.std.specs.Prelude.{◌≡◌};
-
 use crate::serving::{Proxy, resolve};
 use gate_gaps::names::op_name;
 use mc_types::{Op, ServerId};
@@ -22,9 +20,6 @@ use watch_text::numbers::{
     ServerNumbers, families_of,
 };
 use watch_text::prometheus::write_prometheus;
-
-// So many ticks of its processor time make a second.
-const TICKS: u64 = 100;
 
 // All operations.
 const OPS: [Op; 12] = [
@@ -103,9 +98,10 @@ fn number_at(words: &str, place: usize) -> Option<u64> {
 fn used_in(text: &str) -> Option<Used> {
     let (_, words) = text.rsplit_once(") ")?;
     let ticks = number_at(words, 11)?.saturating_add(number_at(words, 12)?);
+    let second = u64::try_from(libc::sysconf(libc::_SC_CLK_TCK)).ok()?;
     let page = u64::try_from(libc::sysconf(libc::_SC_PAGESIZE)).ok()?;
     Some(Used {
-        processor_ms: ticks.saturating_mul(1000) / TICKS,
+        processor_ms: ticks.saturating_mul(1000).checked_div(second)?,
         resident_bytes: number_at(words, 21)?.saturating_mul(page),
     })
 }
