@@ -12,4 +12,6 @@ pub mod Rollout
 pub mod Copying
 pub mod FleetGate
 pub mod Logs
+pub mod Owns
 pub mod Cores
+pub mod InTurn

@@ -241,7 +241,7 @@ module _ (words : ℕ → Ask → List Call → Answer → Option ℕ → Type 0
 
   module _ (proxy : ℕ → ℕ) where
     -- of its own commands a part says what the whole does
-    part_way : (events : List Event) (n : ℕ) → under_way (part proxy (proxy n) events) n ≡ under_way events n
+    pub part_way : (events : List Event) (n : ℕ) → under_way (part proxy (proxy n) events) n ≡ under_way events n
     part_way [] n = refl
     part_way (Begins x ask ∷ past) n =
         let mine = part proxy (proxy n) past in
@@ -267,7 +267,7 @@ module _ (words : ℕ → Ask → List Call → Answer → Option ℕ → Type 0
     part_way (Turns s key turned ∷ past) n = part_way past n
     part_way (Restarts s ∷ past) n = part_way past n
 
-    part_calls : (events : List Event) (n : ℕ) → calls_so_far (part proxy (proxy n) events) n ≡ calls_so_far events n
+    pub part_calls : (events : List Event) (n : ℕ) → calls_so_far (part proxy (proxy n) events) n ≡ calls_so_far events n
     part_calls [] n = refl
     part_calls (Begins x ask ∷ past) n =
         let mine = part proxy (proxy n) past in
@@ -293,7 +293,7 @@ module _ (words : ℕ → Ask → List Call → Answer → Option ℕ → Type 0
     tail_of true event mine own = own.1
     tail_of false event mine own = own
 
-    tail : (event : Event) (past : List Event) (p : ℕ) → Own words Bars (part proxy p (event ∷ past)) → Own words Bars (part proxy p past)
+    pub tail : (event : Event) (past : List Event) (p : ℕ) → Own words Bars (part proxy p (event ∷ past)) → Own words Bars (part proxy p past)
     tail (Begins x ask) past p own = tail_of (nat_eq (proxy x) p) (Begins x ask) (part proxy p past) own
     tail (Calls x s a o end) past p own = tail_of (nat_eq (proxy x) p) (Calls x s a o end) (part proxy p past) own
     tail (Replies x key r f) past p own = tail_of (nat_eq (proxy x) p) (Replies x key r f) (part proxy p past) own
@@ -301,7 +301,7 @@ module _ (words : ℕ → Ask → List Call → Answer → Option ℕ → Type 0
     tail (Turns s key turned) past p own = own
     tail (Restarts s) past p own = own
 
-    head_of : (p : ℕ) (event : Event) (mine : List Event) → Own words Bars (cond (nat_eq p p) (event ∷ mine) mine) → MayDo words Bars mine event
+    pub head_of : (p : ℕ) (event : Event) (mine : List Event) → Own words Bars (cond (nat_eq p p) (event ∷ mine) mine) → MayDo words Bars mine event
     head_of p event mine own = (subst (Own words Bars) (first (nat_eq p p) (event ∷ mine) mine (same p)) own).0
 
     module _ (within : BarsWithin proxy Bars) (opening : ℕ → List ℕ → Option Item) where

@@ -1,5 +1,6 @@
 -- A fleet of cores on accepted trees, before the same servers. Source: mcgate's own.
-use Rattle.std.specs.Prelude.{◌≡◌, ℕ, ◌<◌, List, Option}
+use Rattle.std.specs.Prelude.{◌≡◌, ℕ, ◌<◌, List, Option, Some}
+use Rattle.mc_types.specs.declared.ask.Ask.{Ask}
 use Rattle.mc_types.specs.Items.{Item}
 use Rattle.fresh_runs.specs.Overlap.{Entry, run_of}
 use Rattle.fresh_runs.specs.SharingLaws.{nobody_bars}
@@ -7,7 +8,7 @@ use Rattle.route_tree.specs.Route.{Route}
 use Rattle.core_proxy.specs.CoreState.{dialect}
 use Rattle.core_accepted.specs.declared.served.ServedCore.{ServedCore}
 use Rattle.core_accepted.specs.Logs.{MayHaveLed}
-use Rattle.core_fleets.specs.Late.{Moment, seen, IsFreshBy, WasOver}
+use Rattle.core_fleets.specs.Late.{Moment, seen, begun, IsFreshBy, WasOver}
 use Rattle.core_fleets.specs.Pipes.{Step, moments_of, WasOverOn}
 use Rattle.core_fleets.specs.FleetLaws.{IsSticky}
 use Rattle.core_fleets.specs.Parts.{AreChanges, renamed, part, NumbersRise, Serves, AreInOrder, NoStoreLands}
@@ -25,7 +26,7 @@ pub record AreCoresOf (lag : ℕ) (trees : List Route) (fresh : ℕ → ServedCo
   pub led : (p : ℕ) → MayHaveLed (believes p) (logs p) (fresh p)
   -- the tree of a command, which is that which its proxy had loaded when it began
   pub tree : ℕ → Route
-  pub runs_by : (p n : ℕ) → tree (name p n) ≡ (led p).tree n
+  pub runs_by : (p n : ℕ) (ask : Ask) → begun (run_of (logs p)) n ≡ Some ask → tree (name p n) ≡ (led p).tree n
   pub loaded : AreLoadedWithin lag trees tree
   pub parts : (p : ℕ) → AreChanges (renamed (name p) (run_of (logs p))) (part proxy p (seen moments))
   pub rise : NumbersRise (seen moments)

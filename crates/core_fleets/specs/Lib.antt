@@ -11,3 +11,4 @@ pub mod Copying
 pub mod FleetGate
 pub mod Grown
 pub mod Cores
+pub mod InTurn

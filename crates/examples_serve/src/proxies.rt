@@ -163,7 +163,7 @@ send 0 get a\r\nget b\r\n
 end 2
 gets 0 => VALUE a 0 1\r\n1\r\nEND\r\n
 
-An answer that comes after the time limit meets no later command: its connection is closed with the call.
+An answer that comes after the time limit is nobody's. Until it has come later commands fail at once; then they go over the same connection.
 server
 proxy <one server>
 connect => 0
@@ -175,12 +175,13 @@ gets 0 => END\r\n
 send 0 get a\r\n
 gets 1 => mg a k f v\r\n
 gets 0 => SERVER_ERROR call failed\r\n
-news => server 0: failed: a call took too long, 1 in a row
+news => server 0: late: a call took too long
+ask 0 get b\r\n => SERVER_ERROR call failed\r\n
 send 1 VA 1 ka f5\r\nx\r\n
+news => server 0: back, a second later
 send 0 get a\r\n
-accept => 2
-gets 2 => mn\r\nget a\r\n
-send 2 MN\r\nVALUE a 0 1\r\ny\r\nEND\r\n
+gets 1 => mg a k f v\r\n
+send 1 VA 1 ka f0\r\ny\r\n
 gets 0 => VALUE a 0 1\r\ny\r\nEND\r\n"
 }
 
@@ -292,14 +293,19 @@ accept => 1
 gets 1 => mn\r\nget a\r\n
 pause 1500
 gets 0 => SERVER_ERROR call failed\r\n
-news => server 0: failed: a call took too long, 1 in a row
+news => server 0: late: a call took too long
+send 1 MN\r\nEND\r\n
+news => server 0: back, a second later
 send 0 get a\r\nget b\r\n
-accept => 2
-gets 2 => mn\r\nget a\r\nget b\r\n
-send 2 MN\r\nEND\r\nVALUE b 0
+gets 1 => mg a k f v\r\nmg b k f v\r\n
+send 1 EN\r\nVA 1 kb
 pause 1500
 gets 0 => END\r\nSERVER_ERROR call failed\r\n
-closed 2 => yes
+news => server 0: late: a call took too long, a second later
+send 1  f0\r\nx\r\n
+news => server 0: back, a second later
+send 0 get a\r\n
+gets 1 => mg a k f v\r\n
 
 A connection that stands by then isn't late.
 server

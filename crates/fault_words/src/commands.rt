@@ -47,7 +47,7 @@ const CHECK_FLAGS: [&str; 8] = [
     "new-servers",
 ];
 
-const SERVE_FLAGS: [&str; 23] = [
+const SERVE_FLAGS: [&str; 24] = [
     "help",
     "check",
     "config",
@@ -65,6 +65,7 @@ const SERVE_FLAGS: [&str; 23] = [
     "polls",
     "stall-ms",
     "memory-mb",
+    "metrics",
     "server-dialect",
     "opened",
     "new-servers",
@@ -83,7 +84,7 @@ pub fn takes_of(flag: &str) -> Takes {
     match flag {
         "help" | "version" | "any" | "check" | "explain" | "dot" | "fleet" => Takes::Nothing,
         "config" | "certificate" | "with" | "history" | "after" => Takes::File,
-        "listen" | "add" | "remove" => Takes::Address,
+        "listen" | "metrics" | "add" | "remove" => Takes::Address,
         "pool" => Takes::Pool,
         "server-dialect" | "opened" | "new-servers" => Takes::Word,
         _ => Takes::Count,

@@ -10,7 +10,7 @@ use Rattle.core_accepted.specs.declared.served.ServedCore.{ServedCore}
 use Rattle.serve_links.specs.declared.settings.Settings.{Settings}
 use Rattle.serve_wire.specs.Events.{Event}
 use Rattle.serve_wire.specs.declared.sockets.sockets.Sockets.{Sockets}
-use Rattle.serve_links.specs.CoreSteps.{Step, Opened, NotOpened, Fed, Polled, Stopped, Settled, Gave, Closed, LeftLine, Broke, Loaded, Linked, Asked, Greeted, Spelled, Lost, Walks, AreOf, IsOfTurn}
+use Rattle.serve_links.specs.CoreSteps.{Step, Opened, NotOpened, Fed, Polled, Stopped, Settled, Gave, Closed, LeftLine, Broke, Loaded, Linked, Asked, Greeted, Spelled, Late, CameLate, Lost, Walks, AreOf, IsOfTurn}
 use Rattle.serve_links.specs.Story.{AnEnd, Agrees, AgreesLosing, AllGoFrom, texts_of}
 use Rattle.serve_links.proofs.LinkGoes.{losing}
 use Rattle.serve_links.proofs.Walked.{walks_keep_since}
@@ -62,6 +62,8 @@ of_turn (Broke client) is = tt
 of_turn (Linked at dialect) is = tt
 of_turn (Asked at number dialect ask) is = tt
 of_turn (Greeted at dialect bytes) is = tt
+of_turn (Late at number) is = tt
+of_turn (CameLate at number ask answer bytes) is = tt
 of_turn (Spelled at number ask answer bytes) is = tt
 of_turn (Lost at why) is = is
 

@@ -11,7 +11,7 @@ use Rattle.core_accepted.specs.Loading.{IsLoaded}
 use Rattle.serve_links.specs.declared.settings.Settings.{Settings}
 use Rattle.serve_wire.specs.Events.{Event}
 use Rattle.serve_wire.specs.declared.sockets.sockets.Sockets.{Sockets}
-use Rattle.serve_links.specs.CoreSteps.{Step, Opened, NotOpened, Fed, Polled, Stopped, Settled, Gave, Closed, LeftLine, Broke, Loaded, Linked, Asked, Greeted, Spelled, Lost}
+use Rattle.serve_links.specs.CoreSteps.{Step, Opened, NotOpened, Fed, Polled, Stopped, Settled, Gave, Closed, LeftLine, Broke, Loaded, Linked, Asked, Greeted, Spelled, Late, CameLate, Lost}
 use Rattle.serve_links.specs.Story.{AnEnd, Agrees, AgreesLosing, texts_of}
 use Rattle.serve_proxy.specs.declared.proxy.ProxyEnd.{ProxyEnd}
 use Rattle.serve_proxy.specs.Ends.{end_of, AllGrowFrom, AllGrow}
@@ -57,6 +57,8 @@ IsServed (Broke client) = Unit {0}
 IsServed (Linked at dialect) = Unit {0}
 IsServed (Asked at number dialect ask) = Unit {0}
 IsServed (Greeted at dialect bytes) = Unit {0}
+IsServed (Late at number) = Unit {0}
+IsServed (CameLate at number ask answer bytes) = Unit {0}
 IsServed (Spelled at number ask answer bytes) = Unit {0}
 IsServed (Lost at why) = IsSome why
 

@@ -12,7 +12,7 @@ use Rattle.serve_wire.proofs.Steps.{apart, client_stays}
 use Rattle.serve_wire.proofs.Flows.{client_reads, client_sends}
 use Rattle.serve_clients.specs.declared.clients.Client.{Client}
 use Rattle.serve_clients.specs.declared.clients.Clients.{Clients}
-use Rattle.serve_clients.specs.Marks.{client_of, Changes, AreAlike, with_ready, with_unsent, with_busy, ready_if, unsent_if, told_of, one_settled, one_expects, one_waits, one_waited}
+use Rattle.serve_clients.specs.Marks.{client_of, Changes, AreAlike, with_ready, with_unsent, with_busy, ready_if, unsent_if, told_of, one_settled, one_got, one_answered, one_waits, one_waited}
 use Rattle.serve_clients.specs.Agrees.{said_of, StateAgrees, EndAgrees, AllAgree, KeepsEnds}
 use Rattle.serve_clients.proofs.Marked.{changed, kept}
 
@@ -181,8 +181,13 @@ pub settled_keeps : {E : Type 0} (r : Result (Unit {0}) E) (at : ℕ) (old new :
 settled_keeps (Ok done) at old new ok err = keeps_by (λ x. with_ready true (one_settled x)) at old new (λ x. refl) ok
 settled_keeps (Err refused) at old new ok err = keeps_by one_settled at old new (λ x. refl) err
 
-pub expects_keeps : (at len : ℕ) (old mid new : Clients) → Changes (one_expects len) at old mid → KeepsEnds mid new → KeepsEnds old new
-expects_keeps at len old mid new changes keeps = keeps_twice old mid new (keeps_by (one_expects len) at old mid (λ x. refl) changes) keeps
+answered_said : (is_get : Bool) (len : ℕ) (x : Client) → said_of (one_answered is_get len x) ≡ said_of x
+answered_said true len x = refl
+answered_said false len x = refl
+
+pub answered_keeps : {E : Type 0} (r : Result (Unit {0}) E) (is_get : Bool) (at len : ℕ) (old new : Clients) → OnOk r (Changes (λ x. with_ready true (one_answered is_get len x)) at old new) → OnErr r (Changes (one_answered is_get len) at old new) → KeepsEnds old new
+answered_keeps (Ok done) is_get at len old new ok err = keeps_by (λ x. with_ready true (one_answered is_get len x)) at old new (λ x. answered_said is_get len x) ok
+answered_keeps (Err refused) is_get at len old new ok err = keeps_by (one_answered is_get len) at old new (answered_said is_get len) err
 
 pub waited_keeps : {E : Type 0} (r : Result (Unit {0}) E) (at : ℕ) (old new : Clients) → OnOk r (Changes (λ x. with_ready true (one_waited x)) at old new) → OnErr r (Changes one_waited at old new) → KeepsEnds old new
 waited_keeps (Ok done) at old new ok err = keeps_by (λ x. with_ready true (one_waited x)) at old new (λ x. refl) ok

@@ -1,5 +1,5 @@
 -- The clients by their ids, and the lists of those that are marked. Source: mcgate's own.
-use Rattle.std.specs.Prelude.{◌≡◌, ℕ, ◌+◌, ◌-◌, ◌^◌, min, Bool, true, false, not, ◌||◌, ◌&&◌, nat_eq, length, List, [], ◌∷◌, ◌++◌, Option, Some, None, if◌then◌else◌, slice_get, slice_set, Contains}
+use Rattle.std.specs.Prelude.{◌≡◌, ℕ, ◌+◌, ◌-◌, ◌/◌, ◌^◌, min, max, Bool, true, false, not, ◌||◌, ◌&&◌, nat_eq, length, List, [], ◌∷◌, ◌++◌, Option, Some, None, if◌then◌else◌, slice_get, slice_set, Contains}
 use Rattle.std.specs.Option.{option_map, option_flatten}
 use Rattle.wire_parts.specs.Sending.{bytes_of}
 use Rattle.serve_wire.specs.declared.outcomes.Ready.{Ready}
@@ -49,9 +49,18 @@ with_busy flag x = record x { is_busy = flag }
 abbrev pub one_settled : Client → Client
 one_settled x = record x { settled = min (x.settled + 1) (2 ^ 64 - 1); calls_out = x.calls_out - 1 }
 
--- the client, when the next answer to it is expected to take so many bytes
-abbrev pub one_expects : ℕ → Client → Client
-one_expects len x = record x { expects = Some len }
+-- how many bytes were expected of the answer to its next get, if one was answered before
+abbrev pub expected : Option ℕ → ℕ
+expected None = 0
+expected (Some len) = len
+
+-- the client when one of its gets was answered by so many bytes, which aren't shown yet: so many are expected of the next answer, or a quarter of what was expected of this one
+abbrev pub one_got : ℕ → Client → Client
+one_got len x = record x { expects = Some (max len (expected x.expects / 4)); answered = min (x.answered + len) (2 ^ 64 - 1) }
+
+-- the client after one of its calls, a get or not, was settled by an answer of so many bytes
+abbrev pub one_answered : Bool → ℕ → Client → Client
+one_answered is_get len x = if is_get then one_settled (one_got len x) else one_settled x
 
 -- the client after one of its calls began to wait for a server, and after one waits no longer
 abbrev pub one_waits : Client → Client

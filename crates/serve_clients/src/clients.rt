@@ -1,25 +1,31 @@
 //! The clients' ends, by their ids in the core, and which of them are to be served.
 
-ghost use Rattle.std.specs.Prelude.{◌≡◌, ◌≢◌, ℕ, ◌+◌, ◌-◌, ◌<◌, ◌++◌, ◌∷◌, [], OnOk, OnErr, Some, None, if◌then◌else◌, true, false, length, min, nat_lt, filter, slice_get, slice_set};
+ghost use Rattle.std.specs.Prelude.{◌≡◌, ◌≢◌, ◌↔◌, IsTrue, ℕ, ◌+◌, ◌-◌, ◌<◌, ◌++◌, ◌∷◌, [], OnOk, OnErr, Some, None, if◌then◌else◌, true, false, length, min, nat_lt, filter, count_by, is_some, slice_get, slice_set};
 ghost use Rattle.std.specs.Option.{option_map, option_flatten, option_copied_mut};
 ghost use Rattle.std.specs.Borrow.{sem};
 ghost use Rattle.wire_parts.specs.Sending.{bytes_of};
-ghost use Rattle.serve_clients.specs.Marks.{client_of, Changes, AreAlike, EndsBusy, ids_with, ids_if, is_idle, with_ready, with_unsent, with_busy, ready_if, unsent_if, told_of, noted, will_send, one_settled, one_expects, one_waits, one_waited};
+ghost use Rattle.serve_clients.specs.Marks.{client_of, Changes, AreAlike, EndsBusy, ids_with, ids_if, is_idle, with_ready, with_unsent, with_busy, ready_if, unsent_if, told_of, noted, will_send, one_settled, one_got, one_answered, one_waits, one_waited};
 ghost use Rattle.serve_clients.specs.Agrees.{Breaks, KeepsEnds};
 ghost use Rattle.serve_clients.specs.Lending.{LendsClient};
 ghost use Rattle.serve_clients.specs.Waits.{waits_a_turn};
-ghost use Rattle.serve_clients.specs.declared.clients.TheConstants.{HELD_BACK};
+ghost use Rattle.serve_clients.specs.Holdings.{unshown, replies_of, input_left, held_for, held_at, MayBegin, MayGoOn};
+ghost use Rattle.serve_clients.specs.declared.clients.TheConstants.{HELD_BACK, INPUT};
 
 use serve_wire::Ready;
 use serve_wire::conn::{Conn, Limits};
 use std::alloc::{AllocError, Global};
 
-// What is kept of a client, and for one that does not read it. Above the latter nothing is read of the client, and none of its
-// commands begins.
+/// From so many bytes on that are held of replies to a client none of its commands begins, and nothing is read of it.
+pub const SHARE: usize = 1_048_576;
+
+// What is kept of a client, and for one that does not read it.
 const LIMITS: Limits = Limits {
     held: 1_048_576,
-    unsent: 1_048_576,
+    unsent: SHARE,
 };
+
+// The core holds so many bytes at most of what a client sent.
+const INPUT: usize = 2_097_152;
 
 // How much room a client's read has at least, and where long data come.
 const READ: usize = 16_384;
@@ -46,6 +52,11 @@ pub struct Client {
     calls_out: usize,
     // How many bytes the answer to its next get is expected to take, once one was answered.
     expects: Option<usize>,
+    // How many bytes of answers to its gets were not shown yet, at most.
+    answered: usize,
+    // How many bytes of what it sent the core holds, at most, and how many it was given last.
+    input: usize,
+    fed: usize,
     /// Whether what is to be sent to it was held back in the turn before.
     is_held_back: bool,
     /// It sends no more, or nothing more is read of it.
@@ -74,6 +85,9 @@ impl Client {
             waiting: 0,
             calls_out: 0,
             expects: None,
+            answered: 0,
+            input: 0,
+            fed: 0,
             is_held_back: false,
             is_ended: false,
             is_broken: false,
@@ -89,14 +103,55 @@ impl Client {
         !self.conn.has_backlog()
     }
 
-    /// Whether a command of it may begin: it takes what is shown to it, and none of its calls waits.
-    fn may_begin(&self) -> bool {
-        self.waiting == 0 && self.has_room()
+    // How many bytes of answers to its gets wait to be shown, at most. Without a call that is out none does.
+    fn unshown(&self) -> usize
+        ensures { result ≡ unshown self.now }
+    {
+        if self.calls_out == 0 {
+            0
+        } else {
+            self.answered
+        }
     }
 
-    /// Whether one of its commands may go on, or begin.
-    pub fn may_go_on(&self) -> bool {
-        self.settled > 0 || self.may_begin()
+    // How many bytes of replies are held for it.
+    fn replies(&self) -> usize
+        ensures { result ≡ min (replies_of self.now) usize.MAX }
+    {
+        self.conn.unsent.len().saturating_add(self.unshown())
+    }
+
+    // Whether a command of it may begin where so many bytes of replies are its share: none of its calls waits, and less is held.
+    fn may_begin(&self, share: usize) -> bool
+        ensures { IsTrue result ↔ MayBegin share self.now }
+    {
+        self.waiting == 0 && self.replies() < share
+    }
+
+    /// Whether one of its commands may go on, or begin where so many bytes of replies are its share: none of its calls waits, and less is
+    /// held.
+    ///
+    /// Source: mcgate's own.
+    pub fn may_go_on(&self, share: usize) -> bool
+        ensures { IsTrue result ↔ MayGoOn share self.now }
+    {
+        self.settled > 0 || self.may_begin(share)
+    }
+
+    /// How many bytes are held for it: of what it sent, at most, and of replies. Of one that is broken off none are counted.
+    ///
+    /// Source: mcgate's own.
+    pub fn held(&self) -> usize
+        ensures { result ≡ held_for self.now }
+    {
+        if self.is_broken {
+            return 0;
+        }
+        self.conn
+            .held
+            .len()
+            .saturating_add(self.replies())
+            .saturating_add(self.input)
     }
 
     /// Whether something may be read of it. Behind a message that waits nothing is read: the core would move it, byte by byte, when
@@ -108,7 +163,7 @@ impl Client {
             && self.wants_more
             && !self.is_ended
             && self.conn.held.is_empty()
-            && self.may_begin()
+            && self.may_begin(SHARE)
     }
 
     /// Whether bytes that were read wait for room in the core.
@@ -130,19 +185,69 @@ impl Client {
         self.reads_long = self.conn.held.len() >= self.read_room();
     }
 
-    /// One of its commands went on.
-    pub fn went_on(&mut self)
-        ensures { self.new ≡ record self.old { settled = self.old.settled - 1 } }
+    /// The core was given so many bytes of what it sent.
+    pub fn has_fed(&mut self, count: usize)
+        ensures { self.new ≡ record self.old { input = min (self.old.input + count) INPUT; fed = count } }
     {
+        self.input = self.input.saturating_add(count).min(INPUT);
+        self.fed = count;
+    }
+
+    /// The core is done with a message of it: before what it was given last it holds nothing more.
+    pub fn has_passed(&mut self)
+        ensures { self.new ≡ record self.old { input = min self.old.input self.old.fed } }
+    {
+        self.input = self.input.min(self.fed);
+    }
+
+    /// The core holds nothing of what it sent.
+    pub fn end_input(&mut self)
+        ensures { self.new ≡ record self.old { input = 0 } }
+    {
+        self.input = 0;
+    }
+
+    // How many bytes of what it sent the core holds at most after one of its commands went on, or began.
+    fn input_left(&self) -> usize
+        ensures { result ≡ input_left self.now }
+    {
+        if self.settled == 0 {
+            self.input.min(self.fed)
+        } else {
+            self.input
+        }
+    }
+
+    /// One of its commands went on, or began and needs no call.
+    pub fn went_on(&mut self)
+        ensures { self.new ≡ record self.old { input = input_left self.old; settled = self.old.settled - 1 } }
+    {
+        self.input = self.input_left();
         self.settled = self.settled.saturating_sub(1);
     }
 
     /// One of its commands went on, or began, by a call.
     pub fn has_called(&mut self)
-        ensures { self.new ≡ record self.old { settled = self.old.settled - 1; calls_out = min (self.old.calls_out + 1) usize.MAX } }
+        ensures { self.new ≡ record self.old { input = input_left self.old; settled = self.old.settled - 1; calls_out = min (self.old.calls_out + 1) usize.MAX } }
     {
         self.went_on();
         self.calls_out = self.calls_out.saturating_add(1);
+    }
+
+    /// So many bytes of replies were shown to it.
+    pub fn has_shown(&mut self, count: usize)
+        ensures { self.new ≡ record self.old { answered = unshown self.old - count } }
+    {
+        self.answered = self.unshown().saturating_sub(count);
+    }
+
+    // One of its gets was answered by so many bytes.
+    fn has_got(&mut self, len: usize)
+        ensures { self.new ≡ one_got len self.old }
+    {
+        let before = self.expects.unwrap_or(0);
+        self.expects = Some(len.max(before / 4));
+        self.answered = self.answered.saturating_add(len);
     }
 
     // One of its calls was settled, or has failed.
@@ -285,12 +390,25 @@ fn mark_settled_at(
     }
 }
 
-// The next answer to it is expected to take so many bytes.
-fn expect_at(place: &mut Option<Client>, len: usize)
-    ensures { place.new ≡ option_map (one_expects len) place.old }
+// A get of it was answered by so many bytes.
+fn mark_got_at(
+    place: &mut Option<Client>,
+    ids: &mut Vec<usize>,
+    id: usize,
+    len: usize,
+) -> Result<(), AllocError>
+    ensures client { OnOk result (place.new ≡ option_map (λ x. with_ready true (one_settled (one_got len x))) place.old) }
+    ensures listed { OnOk result (ids.new.items ≡ ids_with (λ x. x.is_ready) place.old id ids.old.items) }
+    ensures refused { OnErr result (place.new ≡ option_map (λ x. one_settled (one_got len x)) place.old) }
+    ensures unlisted { OnErr result (ids.new.items ≡ ids.old.items) }
 {
-    if let Some(client) = place {
-        client.expects = Some(len);
+    match place {
+        Some(client) => {
+            client.has_got(len);
+            client.has_settled();
+            mark(&mut client.is_ready, ids, id)
+        }
+        None => Ok(()),
     }
 }
 
@@ -419,6 +537,13 @@ impl Clients {
         ensures { result ≡ length self.now.all.items }
     {
         self.all.len()
+    }
+
+    /// How many clients there are.
+    pub fn count(&self) -> usize
+        ensures { result ≡ count_by is_some self.now.all.items }
+    {
+        self.all.iter().filter(|place| place.is_some()).count()
     }
 
     /// The client of this id. It stays as the borrower leaves it, and all else stays as it is.
@@ -562,35 +687,45 @@ impl Clients {
         }
     }
 
-    /// A call of it was settled by an answer of so many bytes. The answer to its next get is expected to take as many as that to a get, or a quarter
-    /// of what was expected of this one where that is more.
-    #[tactic(auto, using(crate::proofs::Agreeing::expects_keeps))]
+    // A get of it was answered by so many bytes.
+    fn mark_got(&mut self, id: usize, len: usize) -> Result<(), AllocError>
+        ensures client { OnOk result (Changes (λ x. with_ready true (one_settled (one_got len x))) id self.old self.new) }
+        ensures listed { OnOk result (self.new.ready.items ≡ ids_with (λ x. x.is_ready) (client_of self.old id) id self.old.ready.items) }
+        ensures refused { OnErr result (Changes (λ x. one_settled (one_got len x)) id self.old self.new) }
+        ensures unlisted { OnErr result (self.new.ready.items ≡ self.old.ready.items) }
+        ensures rest { self.new ≡ record self.old { all = self.new.all; ready = self.new.ready } }
+    {
+        match self.all.get_mut(id) {
+            Some(place) => mark_got_at(place, &mut self.ready, id, len),
+            None => Ok(()),
+        }
+    }
+
+    /// A call of it was settled by an answer of so many bytes. They are held for it until they are shown, if it is to a get; and then the answer to its
+    /// next get is expected to take as many, or a quarter of what was expected of this one where that is more.
+    #[tactic(auto, using(crate::proofs::Agreeing::answered_keeps))]
     pub fn mark_answered(&mut self, id: usize, is_get: bool, len: usize) -> Result<(), AllocError>
         ensures ends { KeepsEnds self.old self.new }
+        ensures client { OnOk result (Changes (λ x. with_ready true (one_answered is_get len x)) id self.old self.new) }
+        ensures listed { OnOk result (self.new.ready.items ≡ ids_with (λ x. x.is_ready) (client_of self.old id) id self.old.ready.items) }
+        ensures refused { OnErr result (Changes (one_answered is_get len) id self.old self.new) }
+        ensures unlisted { OnErr result (self.new.ready.items ≡ self.old.ready.items) }
+        ensures rest { self.new ≡ record self.old { all = self.new.all; ready = self.new.ready } }
     {
-        if !is_get {
-            return self.mark_settled(id);
+        if is_get {
+            self.mark_got(id, len)
+        } else {
+            self.mark_settled(id)
         }
-        let before = self.expected(id);
-        self.expect(id, len.max(before / 4));
-        self.mark_settled(id)
     }
 
-    // How many bytes were expected of the answers to its gets, if one was answered before.
-    fn expected(&self, id: usize) -> usize {
+    /// How many bytes are held for the client of this id ([`Client::held`]).
+    pub fn held(&self, id: usize) -> usize
+        ensures { result ≡ held_at self.now id }
+    {
         match self.all.get(id) {
-            Some(Some(client)) => client.expects.unwrap_or(0),
+            Some(Some(client)) => client.held(),
             _ => 0,
-        }
-    }
-
-    // The answer to its next get is expected to take so many bytes.
-    fn expect(&mut self, id: usize, len: usize)
-        ensures client { Changes (one_expects len) id self.old self.new }
-        ensures rest { self.new ≡ record self.old { all = self.new.all } }
-    {
-        if let Some(place) = self.all.get_mut(id) {
-            expect_at(place, len);
         }
     }
 

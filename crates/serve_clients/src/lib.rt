@@ -13,4 +13,4 @@
 mod clients;
 pub mod socket;
 
-pub use clients::{Client, Clients};
+pub use clients::{Client, Clients, SHARE};

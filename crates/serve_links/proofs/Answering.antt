@@ -31,7 +31,7 @@ pub record Answers (at : ℕ) (sent : List SentCall) (bytes : List ℕ) (a : Ser
   pub spelled : List ℕ
   pub whole : bytes ≡ spelled ++ rest
   pub orderly :
-      (past : List Step) → IsOrderly past → (talk_in past at).out ≡ said_asks sent → (talk_in past at).awaits ≡ false
+      (past : List Step) → IsOrderly past → (talk_in past at).out ≡ said_asks sent → (talk_in past at).awaits ≡ false → (talk_in past at).late ≡ []
       → IsOrderly (steps ++ past) × (talk_in (steps ++ past) at ≡ record (talk_in past at) { told = (talk_in past at).told ++ spelled; out = said_asks sent' })
 
 spells_within : (dialect : Dialect) (ask : Ask) (bytes : List ℕ) (answer : Answer) (used : ℕ) → SpellsIn dialect ask bytes answer used → used ≤ length bytes
@@ -39,7 +39,7 @@ spells_within Classic ask bytes answer used s = spelled_within ask bytes answer 
 spells_within Meta ask bytes answer used s = spelled_within (in_meta ask) bytes s.told used s.spells
 
 -- so many bytes spell it, whatever follows them
-spells_front : (dialect : Dialect) (ask : Ask) (bytes : List ℕ) (answer : Answer) (used : ℕ) → SpellsIn dialect ask bytes answer used → SpellsIn dialect ask (take used bytes ++ drop used bytes) answer (length (take used bytes))
+pub spells_front : (dialect : Dialect) (ask : Ask) (bytes : List ℕ) (answer : Answer) (used : ℕ) → SpellsIn dialect ask bytes answer used → SpellsIn dialect ask (take used bytes ++ drop used bytes) answer (length (take used bytes))
 spells_front dialect ask bytes answer used s =
     let within = spells_within dialect ask bytes answer used s in
     let count : length (take used bytes) ≡ used = omega (arith, within, length-take used bytes) in
@@ -63,7 +63,7 @@ one at (call ∷ calls) bytes a answer sent' rest b s = record {
   walks = (a, (a, refl, (refl, asks)), s.settles.2);
   spelled = spelled;
   whole = s.whole ∙ ap (λ l. l ++ s.more) (sym (take-append-drop s.used s.front)) ∙ append_assoc spelled (drop s.used s.front) s.more ∙ ap (λ l. spelled ++ l) (sym s.rest);
-  orderly = λ past o out off. ((record { at = at; ask = ask; bytes = spelled; earlier = past; last = refl }, (next past out off, o)), told past out);
+  orderly = λ past o out off alone. ((record { at = at; ask = ask; bytes = spelled; earlier = past; last = refl }, (next past out off alone, o)), told past out);
 }
   where
     number : ℕ
@@ -81,13 +81,14 @@ one at (call ∷ calls) bytes a answer sent' rest b s = record {
     asks : of_calls.asked a.core number ≡ Some ask
     asks = ap (λ (p : ℕ × Dialect). of_calls.asked a.core p.0) first ∙ s.answers.asks
 
-    next : (past : List Step) → (talk_in past at).out ≡ said_asks (call ∷ calls) → (talk_in past at).awaits ≡ false → IsNextAnswer number ask answer spelled (talk_in past at)
-    next past out off = record {
+    next : (past : List Step) → (talk_in past at).out ≡ said_asks (call ∷ calls) → (talk_in past at).awaits ≡ false → (talk_in past at).late ≡ [] → IsNextAnswer number ask answer spelled (talk_in past at)
+    next past out off alone = record {
       dialect = call.dialect;
       said = call.ticket.ask;
       others = said_asks calls;
       is_first = out;
       none_before = off;
+      none_late = alone;
       more = drop s.used s.front;
       spells = spells_front call.dialect ask s.front answer s.used (subst (λ (p : ℕ × Dialect). SpellsIn p.1 ask s.front answer s.used) (sym first) s.answers.spells);
     }
@@ -116,11 +117,11 @@ both at sent bytes a mid left m sent' rest b f g = record {
 }
   where
     orderly :
-        (past : List Step) → IsOrderly past → (talk_in past at).out ≡ said_asks sent → (talk_in past at).awaits ≡ false
+        (past : List Step) → IsOrderly past → (talk_in past at).out ≡ said_asks sent → (talk_in past at).awaits ≡ false → (talk_in past at).late ≡ []
         → IsOrderly ((g.steps ++ f.steps) ++ past) × (talk_in ((g.steps ++ f.steps) ++ past) at ≡ record (talk_in past at) { told = (talk_in past at).told ++ (f.spelled ++ g.spelled); out = said_asks sent' })
-    orderly past o out off =
-        let first = f.orderly past o out off in
-        let later = g.orderly (f.steps ++ past) first.0 (ap (λ (t : Talk). t.out) first.1) (ap (λ (t : Talk). t.awaits) first.1 ∙ off) in
+    orderly past o out off alone =
+        let first = f.orderly past o out off alone in
+        let later = g.orderly (f.steps ++ past) first.0 (ap (λ (t : Talk). t.out) first.1) (ap (λ (t : Talk). t.awaits) first.1 ∙ off) (ap (λ (t : Talk). t.late) first.1 ∙ alone) in
         subst (λ l. IsOrderly l × (talk_in l at ≡ record (talk_in past at) { told = (talk_in past at).told ++ (f.spelled ++ g.spelled); out = said_asks sent' })) (sym (append_assoc g.steps f.steps past)) (
           later.0,
           later.1 ∙ ap (λ (t : Talk). record t { told = t.told ++ g.spelled; out = said_asks sent' }) first.1
@@ -140,7 +141,7 @@ answers_each at [] sent bytes a sent' rest b s = record {
   walks = s.2;
   spelled = [];
   whole = sym s.1;
-  orderly = λ past o out off. (o, none past out);
+  orderly = λ past o out off alone. (o, none past out);
 }
   where
     none : (past : List Step) → (talk_in past at).out ≡ said_asks sent → talk_in past at ≡ record (talk_in past at) { told = (talk_in past at).told ++ []; out = said_asks sent' }

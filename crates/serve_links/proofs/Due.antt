@@ -6,8 +6,8 @@ use Rattle.mc_types.specs.declared.ask.Ask.{Ask}
 use Rattle.core_proxy.specs.declared.note.Poll.TheVariants as polls
 use Rattle.serve_wire.proofs.Steps.{equal}
 use Rattle.serve_links.specs.declared.calls.calls.SentCall.{SentCall}
-use Rattle.serve_links.specs.CoreSteps.{Step, Opened, NotOpened, Fed, Polled, Stopped, Settled, Gave, Closed, LeftLine, Broke, Loaded, Linked, Asked, Greeted, Spelled, Lost}
-use Rattle.serve_links.specs.Talks.{Talk, first_talk, with_ask, greeted, with_answer, given_up, talk_after, talk_in, IsCalledIn, times, called_by, calls_of, calls_in, AreDue, MayFollow, IsOrderly}
+use Rattle.serve_links.specs.CoreSteps.{Step, Opened, NotOpened, Fed, Polled, Stopped, Settled, Gave, Closed, LeftLine, Broke, Loaded, Linked, Asked, Greeted, Spelled, Late, CameLate, Lost}
+use Rattle.serve_links.specs.Talks.{Talk, first_talk, with_ask, greeted, with_answer, turned_late, with_late, given_up, talk_after, talk_in, IsCalledIn, times, called_by, calls_of, calls_in, AreDue, MayFollow, IsOrderly}
 use Rattle.serve_links.specs.Story.{numbers_of}
 
 -- ---- numbers among others
@@ -115,6 +115,16 @@ none_more (Greeted i dialect bytes ∷ past) at o = none_due (Greeted i dialect 
 none_more (Spelled i number ask answer bytes ∷ past) at o = none_due (Spelled i number ask answer bytes) past at (by (nat_eq i at)) (none_more past at o.1)
   where
     by : (b : Bool) → (if b then with_answer bytes (talk_in past at) else talk_in past at).asked ≡ (talk_in past at).asked
+    by true = refl
+    by false = refl
+none_more (Late i number ∷ past) at o = none_due (Late i number) past at (by (nat_eq i at)) (none_more past at o.1)
+  where
+    by : (b : Bool) → (if b then turned_late (talk_in past at) else talk_in past at).asked ≡ (talk_in past at).asked
+    by true = refl
+    by false = refl
+none_more (CameLate i number ask answer bytes ∷ past) at o = none_due (CameLate i number ask answer bytes) past at (by (nat_eq i at)) (none_more past at o.1)
+  where
+    by : (b : Bool) → (if b then with_late bytes (talk_in past at) else talk_in past at).asked ≡ (talk_in past at).asked
     by true = refl
     by false = refl
 none_more (Lost i why ∷ past) at o = none_due (Lost i why) past at (by (nat_eq i at)) (none_more past at o.1)

@@ -13,4 +13,5 @@ pub mod Showing
 pub mod Due
 pub mod Answering
 pub mod LinkGoes
+pub mod LateGoes
 pub mod Taking

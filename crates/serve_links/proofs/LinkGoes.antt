@@ -21,13 +21,13 @@ use Rattle.serve_links.specs.declared.link.Opening.{Opening}
 use Rattle.serve_links.specs.declared.link.Opening.TheVariants as opening
 use Rattle.serve_links.specs.declared.link.Link.{Link}
 use Rattle.serve_links.specs.declared.news.Cause.{Cause}
-use Rattle.serve_links.specs.CoreSteps.{Step, Opened, NotOpened, Fed, Polled, Stopped, Settled, Gave, Closed, LeftLine, Broke, Loaded, Linked, Asked, Greeted, Spelled, Lost, AreOf, IsOfTurn, IsFailure, IsGivingUp, IsSending, Fails}
+use Rattle.serve_links.specs.CoreSteps.{Step, Opened, NotOpened, Fed, Polled, Stopped, Settled, Gave, Closed, LeftLine, Broke, Loaded, Linked, Asked, Greeted, Spelled, Late, CameLate, Lost, AreOf, IsOfTurn, IsFailure, IsGivingUp, IsSending, Fails}
 use Rattle.serve_links.specs.Dialects.{asked_in}
 use Rattle.serve_links.specs.Lines.{first_asked_of, awaits_first, first_dialect, SameLine, KeepsLines, IsNewEnd, HasNewEnd, OpensBy, TakesGreeting, HasLearnt, Learns}
 use Rattle.serve_links.specs.Links.{FailsTo}
 use Rattle.serve_links.specs.Settled.{SettlesSome}
 use Rattle.serve_links.specs.Talks.{SaidAsk, Talk, first_talk, with_ask, greeted, given_up, talk_in, AreDue, IsOrderly, IsOfServer}
-use Rattle.serve_links.specs.Story.{said_asks, numbers_of, AreCalled, MayGo, MayAllGo, TalkAgrees, ConnAgrees, LineAgrees, LineLost, LineFails, ShowsWhy, WasShown, AreShown, LineCalled, LineState, line_of, KeepsOthers, LineGoesFrom, LineGoes, AnEnd, Agrees, AgreesLosing}
+use Rattle.serve_links.specs.Story.{said_asks, said_late, numbers_of, AreCalled, MayGo, MayAllGo, TalkAgrees, ConnAgrees, LineAgrees, LineLost, LineFails, ShowsWhy, WasShown, AreShown, LineCalled, LineState, line_of, KeepsOthers, LineGoesFrom, LineGoes, AnEnd, Agrees, AgreesLosing}
 use Rattle.serve_links.proofs.Talking.{calls_later, one_more, IsPlain, plain_talk, called_all_later, called_more, called_last, called_first, called_of, waiting_called, FailsInOrder, fail_in_order}
 use Rattle.serve_links.proofs.Due.{due_less, due_first, due_last, due_behind, due_between, due_later, due_asked}
 use Rattle.serve_links.proofs.Walked.{walked, of_both}
@@ -64,10 +64,10 @@ quiet h d = untouched d h
 -- ---- what agrees, in equal words
 
 pub talk_as :
-    {h : List Event} {at : ℕ} {text text' : List ℕ} {t t' : Talk} {c c' : ℕ} {held held' unsent unsent' : List ℕ} {out out' : List SaidAsk} {awaits awaits' : Bool} {dialect dialect' : Dialect}
-    → text' ≡ text → t' ≡ t → c' ≡ c → held' ≡ held → unsent' ≡ unsent → out' ≡ out → awaits' ≡ awaits → dialect' ≡ dialect
-    → TalkAgrees h at text t c held unsent out awaits dialect → TalkAgrees h at text' t' c' held' unsent' out' awaits' dialect'
-talk_as {h} {at} {text} {text'} {t} {t'} {c} {c'} {held} {held'} {unsent} {unsent'} {out} {out'} {awaits} {awaits'} {dialect} {dialect'} text_is t_is c_is held_same unsent_same out_same awaits_same dialect_same was = record {
+    {h : List Event} {at : ℕ} {text text' : List ℕ} {t t' : Talk} {c c' : ℕ} {held held' unsent unsent' : List ℕ} {out out' : List SaidAsk} {awaits awaits' : Bool} {dialect dialect' : Dialect} {late late' : List SaidAsk}
+    → text' ≡ text → t' ≡ t → c' ≡ c → held' ≡ held → unsent' ≡ unsent → out' ≡ out → awaits' ≡ awaits → dialect' ≡ dialect → late' ≡ late
+    → TalkAgrees h at text t c held unsent out awaits dialect late → TalkAgrees h at text' t' c' held' unsent' out' awaits' dialect' late'
+talk_as {h} {at} {text} {text'} {t} {t'} {c} {c'} {held} {held'} {unsent} {unsent'} {out} {out'} {awaits} {awaits'} {dialect} {dialect'} {late} {late'} text_is t_is c_is held_same unsent_same out_same awaits_same dialect_same late_same was = record {
   is_to = ap (λ n. role n h) c_is ∙ was.is_to;
   address = ap (λ n. address_of n h) c_is ∙ was.address ∙ ap (λ (x : List ℕ). Some x) (sym text_is);
   sent_is = ap (λ (x : Talk). x.sent) t_is ∙ was.sent_is ∙ ap (λ n. taken n h ++ unsent) (sym c_is) ∙ ap (λ l. taken c' h ++ l) (sym unsent_same);
@@ -75,6 +75,7 @@ talk_as {h} {at} {text} {text'} {t} {t'} {c} {c'} {held} {held'} {unsent} {unsen
   out_is = ap (λ (x : Talk). x.out) t_is ∙ was.out_is ∙ sym out_same;
   awaits_is = ap (λ (x : Talk). x.awaits) t_is ∙ was.awaits_is ∙ sym awaits_same;
   dialect_is = ap (λ (x : Talk). x.dialect) t_is ∙ was.dialect_is ∙ sym dialect_same;
+  late_is = ap (λ (x : Talk). x.late) t_is ∙ was.late_is ∙ sym late_same;
 }
 
 -- a link that has this connection
@@ -159,17 +160,17 @@ line_then {P} {Q} {R} {Is} {at} {a} {b} {c} {h} {h'} {h''} {x} {y} {z} g k = rec
 
 -- ---- a link that has the same
 
-abbrev OfConn : ℕ → List Step → List Event → List ℕ → List SaidAsk → Bool → Dialect → Option (ℕ × List ℕ × List ℕ) → Type 0
-OfConn at past h text out awaits dialect None = (talk_in past at).out ≡ []
-OfConn at past h text out awaits dialect (Some e) = TalkAgrees h at text (talk_in past at) e.0 e.1 e.2 out awaits dialect × (is_over e.0 h ≡ false)
+abbrev OfConn : ℕ → List Step → List Event → List ℕ → List SaidAsk → Bool → Dialect → List SaidAsk → Option (ℕ × List ℕ × List ℕ) → Type 0
+OfConn at past h text out awaits dialect late None = (talk_in past at).out ≡ []
+OfConn at past h text out awaits dialect late (Some e) = TalkAgrees h at text (talk_in past at) e.0 e.1 e.2 out awaits dialect late × (is_over e.0 h ≡ false)
 
 abbrev OfLine : ℕ → List Step → List Event → LineState → Type 0
-OfLine at past h s = OfConn at past h s.0 s.2 s.4 s.5 s.1 × MayAllGo past at s.3 × AreDue past at (numbers_of s.3) × AreCalled past at s.2
+OfLine at past h s = OfConn at past h s.0 s.2 s.4 s.5 s.6 s.1 × MayAllGo past at s.3 × AreDue past at (numbers_of s.3) × AreCalled past at s.2
 
 to_line : (at : ℕ) (past : List Step) (h : List Event) (x : Link) → LineAgrees at past h x → OfLine at past h (line_of x)
 to_line at past h x a = (by x.conn refl, a.waiting, a.due, a.called)
   where
-    by : (o : Option Conn) → x.conn ≡ o → OfConn at past h x.text.items (said_asks x.calls.sent.items) x.awaits_dialect x.dialect (option_map (λ (c : Conn). (c.number, c.held.items, bytes_of c.unsent)) o)
+    by : (o : Option Conn) → x.conn ≡ o → OfConn at past h x.text.items (said_asks x.calls.sent.items) x.awaits_dialect x.dialect (said_late x.late.items) (option_map (λ (c : Conn). (c.number, c.held.items, bytes_of c.unsent)) o)
     by None e = a.none_out e
     by (Some c) e = (a.conn c e, a.goes_on c e)
 
@@ -177,10 +178,10 @@ from_line : (at : ℕ) (past : List Step) (h : List Event) (y : Link) → OfLine
 from_line at past h y o = record { conn = λ conn is. (there conn is).0; goes_on = λ conn is. (there conn is).1; waiting = o.1; due = o.2; none_out = λ none. there_none none; called = o.3 }
   where
     there : (conn : Conn) → y.conn ≡ Some conn → ConnAgrees at past h y conn conn.held.items × (is_over conn.number h ≡ false)
-    there conn is = subst (λ (q : Option Conn). OfConn at past h y.text.items (said_asks y.calls.sent.items) y.awaits_dialect y.dialect (option_map (λ (c : Conn). (c.number, c.held.items, bytes_of c.unsent)) q)) is o.0
+    there conn is = subst (λ (q : Option Conn). OfConn at past h y.text.items (said_asks y.calls.sent.items) y.awaits_dialect y.dialect (said_late y.late.items) (option_map (λ (c : Conn). (c.number, c.held.items, bytes_of c.unsent)) q)) is o.0
 
     there_none : y.conn ≡ None → (talk_in past at).out ≡ []
-    there_none none = subst (λ (q : Option Conn). OfConn at past h y.text.items (said_asks y.calls.sent.items) y.awaits_dialect y.dialect (option_map (λ (c : Conn). (c.number, c.held.items, bytes_of c.unsent)) q)) none o.0
+    there_none none = subst (λ (q : Option Conn). OfConn at past h y.text.items (said_asks y.calls.sent.items) y.awaits_dialect y.dialect (said_late y.late.items) (option_map (λ (c : Conn). (c.number, c.held.items, bytes_of c.unsent)) q)) none o.0
 
 pub same_line : (at : ℕ) (past : List Step) (h : List Event) (x y : Link) → line_of y ≡ line_of x → LineAgrees at past h x → LineAgrees at past h y
 same_line at past h x y same a = from_line at past h y (subst (OfLine at past h) (sym same) (to_line at past h x a))
@@ -200,16 +201,17 @@ line_keeps {at = at} {h = h} {h' = h'} {x = x} {y = y} still same =
     line_moves refl (still 0).after (shut_still still (same_conn x y same)) (ap (λ (s : LineState). s.0) same)
     (λ past a. (same_line at past h' x y same (line_stays h h' at [] past x (λ conn is. still conn.number) refl a), all_kept (1, at) h h' still))
 
--- of six parts
-of_six :
-    {A B C D E F : Type 0} {a a' : A} {b b' : B} {c c' : C} {d d' : D} {e e' : E} {f f' : F} → a' ≡ a → b' ≡ b → c' ≡ c → d' ≡ d → e' ≡ e → f' ≡ f
-    → ◌≡◌ {A = A × B × C × D × E × F} (a', b', c', d', e', f') (a, b, c, d, e, f)
-of_six {a = a} {a' = a'} {b = b} {b' = b'} {c = c} {c' = c'} {d = d} {d' = d'} {e = e} {e' = e'} {f = f} {f' = f'} p q r s t u =
-    ap (λ x. (x, b', c', d', e', f')) p ∙ ap (λ x. (a, x, c', d', e', f')) q ∙ ap (λ x. (a, b, x, d', e', f')) r ∙ ap (λ x. (a, b, c, x, e', f')) s ∙ ap (λ x. (a, b, c, d, x, f')) t ∙ ap (λ x. (a, b, c, d, e, x)) u
+-- of seven parts
+pub of_seven :
+    {A B C D E F G : Type 0} {a a' : A} {b b' : B} {c c' : C} {d d' : D} {e e' : E} {f f' : F} {g g' : G} → a' ≡ a → b' ≡ b → c' ≡ c → d' ≡ d → e' ≡ e → f' ≡ f → g' ≡ g
+    → ◌≡◌ {A = A × B × C × D × E × F × G} (a', b', c', d', e', f', g') (a, b, c, d, e, f, g)
+of_seven {a = a} {a' = a'} {b = b} {b' = b'} {c = c} {c' = c'} {d = d} {d' = d'} {e = e} {e' = e'} {f = f} {f' = f'} {g = g} {g' = g'} p q r s t u v =
+    ap (λ x. (x, b', c', d', e', f', g')) p ∙ ap (λ x. (a, x, c', d', e', f', g')) q ∙ ap (λ x. (a, b, x, d', e', f', g')) r ∙ ap (λ x. (a, b, c, x, e', f', g')) s ∙ ap (λ x. (a, b, c, d, x, f', g')) t
+    ∙ ap (λ x. (a, b, c, d, e, x, g')) u ∙ ap (λ x. (a, b, c, d, e, f, x)) v
 
 -- what a link's own functions leave as it was
 pub keeps_line : (x y : Link) → KeepsLines x y → line_of y ≡ line_of x
-keeps_line x y k = of_six (ap (λ t. t.items) k.text) (conns x.conn y.conn k.conn) (ap (λ c. said_asks c.sent.items) k.calls) (ap (λ w. w.items) k.waiting) k.awaits k.dialect
+keeps_line x y k = of_seven (ap (λ t. t.items) k.text) (conns x.conn y.conn k.conn) (ap (λ c. said_asks c.sent.items) k.calls) (ap (λ w. w.items) k.waiting) k.awaits k.dialect (ap (λ w. said_late w.items) k.late)
   where
     ends : (c d : Conn) → d.number ≡ c.number → d.held.items ≡ c.held.items → bytes_of d.unsent ≡ bytes_of c.unsent → ◌≡◌ {A = ℕ × List ℕ × List ℕ} (d.number, d.held.items, bytes_of d.unsent) (c.number, c.held.items, bytes_of c.unsent)
     ends c d n l u =
@@ -226,8 +228,8 @@ keeps_line x y k = of_six (ap (λ t. t.items) k.text) (conns x.conn y.conn k.con
 -- ---- reads and writes
 
 talk_reads :
-    (h h' : List Event) (at : ℕ) (text : List ℕ) (t : Talk) (c : ℕ) (held held' unsent : List ℕ) (out : List SaidAsk) (awaits : Bool) (dialect : Dialect) → ReadsOn c held held' h h' → TalkAgrees h at text t c held unsent out awaits dialect
-    → TalkAgrees h' at text t c held' unsent out awaits dialect
+    (h h' : List Event) (at : ℕ) (text : List ℕ) (t : Talk) (c : ℕ) (held held' unsent : List ℕ) (out : List SaidAsk) (awaits : Bool) (dialect : Dialect) {late : List SaidAsk} → ReadsOn c held held' h h' → TalkAgrees h at text t c held unsent out awaits dialect late
+    → TalkAgrees h' at text t c held' unsent out awaits dialect late
 talk_reads h h' at text t c held held' unsent out awaits dialect r was = record {
   is_to = r.same_role ∙ was.is_to;
   address = r.same_address ∙ was.address;
@@ -236,6 +238,7 @@ talk_reads h h' at text t c held held' unsent out awaits dialect r was = record 
   out_is = was.out_is;
   awaits_is = was.awaits_is;
   dialect_is = was.dialect_is;
+  late_is = was.late_is;
 }
 
 -- what agrees but for its connection is over, and shows why
@@ -259,7 +262,7 @@ line_reads_to {After} {at = at} {h = h} {h' = h'} x y c d was is number unsent r
     agrees : (past : List Step) → LineAgrees at past h x → After at past h' y
     agrees past a =
         let now = talk_reads h h' at x.text.items (talk_in past at) c.number c.held.items d.held.items (bytes_of c.unsent) (said_asks x.calls.sent.items) x.awaits_dialect x.dialect r (a.conn c was) in
-        let conn = talk_as (ap (λ (z : Link). z.text.items) is) refl number refl unsent (ap (λ (z : Link). said_asks z.calls.sent.items) is) (ap (λ (z : Link). z.awaits_dialect) is) (ap (λ (z : Link). z.dialect) is) now in
+        let conn = talk_as (ap (λ (z : Link). z.text.items) is) refl number refl unsent (ap (λ (z : Link). said_asks z.calls.sent.items) is) (ap (λ (z : Link). z.awaits_dialect) is) (ap (λ (z : Link). z.dialect) is) (ap (λ (z : Link). said_late z.late.items) is) now in
         let waits = sym (ap (λ (z : Link). z.waiting.items) is) in
         after past a conn (subst (λ w. MayAllGo past at w) waits a.waiting) (subst (λ w. AreDue past at (numbers_of w)) waits a.due) (subst (λ l. AreCalled past at l) (sym (ap (λ (z : Link). said_asks z.calls.sent.items) is)) a.called)
 
@@ -280,8 +283,8 @@ line_reads_over {at = at} {h' = h'} why x y c d was is number unsent r shows =
     (λ past a agrees waiting due called. over_so why at past h' y d (ap (λ (z : Link). z.conn) is) agrees (subst (λ n. ShowsWhy why (talk_in past at) n h') (sym number) (shows (talk_in past at))) waiting due called)
 
 talk_sends :
-    (h h' : List Event) (at : ℕ) (text : List ℕ) (t : Talk) (c : ℕ) (held unsent unsent' : List ℕ) (out : List SaidAsk) (awaits : Bool) (dialect : Dialect) → SendsOn c unsent unsent' h h' → TalkAgrees h at text t c held unsent out awaits dialect
-    → TalkAgrees h' at text t c held unsent' out awaits dialect
+    (h h' : List Event) (at : ℕ) (text : List ℕ) (t : Talk) (c : ℕ) (held unsent unsent' : List ℕ) (out : List SaidAsk) (awaits : Bool) (dialect : Dialect) {late : List SaidAsk} → SendsOn c unsent unsent' h h' → TalkAgrees h at text t c held unsent out awaits dialect late
+    → TalkAgrees h' at text t c held unsent' out awaits dialect late
 talk_sends h h' at text t c held unsent unsent' out awaits dialect s was = record {
   is_to = s.same_role ∙ was.is_to;
   address = s.same_address ∙ was.address;
@@ -290,6 +293,7 @@ talk_sends h h' at text t c held unsent unsent' out awaits dialect s was = recor
   out_is = was.out_is;
   awaits_is = was.awaits_is;
   dialect_is = was.dialect_is;
+  late_is = was.late_is;
 }
 
 -- what is to be sent goes out, as far as it is taken, and this holds of the link then
@@ -304,7 +308,7 @@ line_sends_to {After} {at = at} {h = h} {h' = h'} x y c d was is number held s a
     agrees : (past : List Step) → LineAgrees at past h x → After at past h' y
     agrees past a =
         let now = talk_sends h h' at x.text.items (talk_in past at) c.number c.held.items (bytes_of c.unsent) (bytes_of d.unsent) (said_asks x.calls.sent.items) x.awaits_dialect x.dialect s (a.conn c was) in
-        let conn = talk_as (ap (λ (z : Link). z.text.items) is) refl number held refl (ap (λ (z : Link). said_asks z.calls.sent.items) is) (ap (λ (z : Link). z.awaits_dialect) is) (ap (λ (z : Link). z.dialect) is) now in
+        let conn = talk_as (ap (λ (z : Link). z.text.items) is) refl number held refl (ap (λ (z : Link). said_asks z.calls.sent.items) is) (ap (λ (z : Link). z.awaits_dialect) is) (ap (λ (z : Link). z.dialect) is) (ap (λ (z : Link). said_late z.late.items) is) now in
         let waits = sym (ap (λ (z : Link). z.waiting.items) is) in
         after past a conn (subst (λ w. MayAllGo past at w) waits a.waiting) (subst (λ w. AreDue past at (numbers_of w)) waits a.due) (subst (λ l. AreCalled past at l) (sym (ap (λ (z : Link). said_asks z.calls.sent.items) is)) a.called)
 
@@ -328,7 +332,7 @@ line_sends_over {at = at} {h' = h'} why x y c d was is number held s shows =
 
 first_agrees :
     (h : List Event) (at number : ℕ) (text : List ℕ) (dialect : ServerDialect) (t : Talk) → IsNew number h
-    → TalkAgrees (connects number at text ∷ h) at text (first_talk dialect t) number [] (first_asked_of dialect) [] (awaits_first dialect) (first_dialect dialect)
+    → TalkAgrees (connects number at text ∷ h) at text (first_talk dialect t) number [] (first_asked_of dialect) [] (awaits_first dialect) (first_dialect dialect) []
 first_agrees h at number text dialect t new = record {
   is_to = ap (λ b. if b then Some (1, at) else role number h) (equal number);
   address = address_begins h text at number;
@@ -337,6 +341,7 @@ first_agrees h at number text dialect t new = record {
   out_is = refl;
   awaits_is = refl;
   dialect_is = refl;
+  late_is = refl;
 }
 
 -- a new connection was nobody's
@@ -373,8 +378,8 @@ begins at core h h' x y dialect number new noted has = record {
     by past a (Some d) e end =
         let talk = ap (λ b. if b then first_talk dialect (talk_in past at) else talk_in past at) (equal at) in
         let none : said_asks y.calls.sent.items ≡ [] = ap (λ c. said_asks c.sent.items) has.calls ∙ ap said_asks has.none_out in
-        let first = subst (λ k. TalkAgrees k at x.text.items (first_talk dialect (talk_in past at)) number [] (first_asked_of dialect) [] (awaits_first dialect) (first_dialect dialect)) (sym noted) (first_agrees h at number x.text.items dialect (talk_in past at) new) in
-        has_conn at (Linked at dialect ∷ past) h' y d e (talk_as (ap (λ t. t.items) has.text) talk end.0 end.1 end.2 none has.awaits has.speaks first)
+        let first = subst (λ k. TalkAgrees k at x.text.items (first_talk dialect (talk_in past at)) number [] (first_asked_of dialect) [] (awaits_first dialect) (first_dialect dialect) []) (sym noted) (first_agrees h at number x.text.items dialect (talk_in past at) new) in
+        has_conn at (Linked at dialect ∷ past) h' y d e (talk_as (ap (λ t. t.items) has.text) talk end.0 end.1 end.2 none has.awaits has.speaks (ap said_late has.none_late) first)
         (ap (λ n. is_over n h') end.0 ∙ ap (is_over number) noted ∙ new.goes_on)
         (calls_later (Linked at dialect ∷ []) past at y.waiting.items (subst (λ w. MayAllGo past at w) (sym (ap (λ w. w.items) has.waiting)) a.waiting))
         (due_later (Linked at dialect ∷ []) past at (numbers_of y.waiting.items) (ap (λ (t : Talk). t.asked) talk) (subst (λ w. AreDue past at (numbers_of w)) (sym (ap (λ w. w.items) has.waiting)) a.due))
@@ -405,8 +410,8 @@ line_opens {at} {core} {h} {h'} x y dialect opening.NoMemory opens = begins_in_v
 -- ---- what the server tells of its dialects
 
 talk_greets :
-    (h : List Event) (at : ℕ) (text : List ℕ) (t : Talk) (c : ℕ) (bytes held unsent : List ℕ) (out : List SaidAsk) (awaits : Bool) (old dialect : Dialect) → TalkAgrees h at text t c (bytes ++ held) unsent out awaits old
-    → TalkAgrees h at text (greeted dialect bytes t) c held unsent out false dialect
+    (h : List Event) (at : ℕ) (text : List ℕ) (t : Talk) (c : ℕ) (bytes held unsent : List ℕ) (out : List SaidAsk) (awaits : Bool) (old dialect : Dialect) {late : List SaidAsk} → TalkAgrees h at text t c (bytes ++ held) unsent out awaits old late
+    → TalkAgrees h at text (greeted dialect bytes t) c held unsent out false dialect late
 talk_greets h at text t c bytes held unsent out awaits old dialect was = record {
   is_to = was.is_to;
   address = was.address;
@@ -415,6 +420,7 @@ talk_greets h at text t c bytes held unsent out awaits old dialect was = record 
   out_is = was.out_is;
   awaits_is = refl;
   dialect_is = refl;
+  late_is = was.late_is;
 }
 
 -- it is taken from the front of what is held, where it is awaited
@@ -439,10 +445,10 @@ line_learns {at} {core} {h} x y can on l = by l.told
         agreed : (past : List Step) → LineAgrees at past h x → LineAgrees at (step ∷ past) h y
         agreed past a =
             let talk = ap (λ b. if b then greeted y.dialect takes.0 (talk_in past at) else talk_in past at) (equal at) in
-            let before = talk_as refl refl refl (sym takes.1) refl refl refl refl (a.conn c was) in
+            let before = talk_as refl refl refl (sym takes.1) refl refl refl refl refl (a.conn c was) in
             let now = talk_greets h at x.text.items (talk_in past at) c.number takes.0 d.held.items (bytes_of c.unsent) (said_asks x.calls.sent.items) x.awaits_dialect x.dialect y.dialect before in
             has_conn at (step ∷ past) h y d is
-            (talk_as (ap (λ (z : Link). z.text.items) learnt.rest) talk (ap (λ (z : Conn). z.number) takes.3) refl (ap (λ (z : Conn). bytes_of z.unsent) takes.3) (ap (λ (z : Link). said_asks z.calls.sent.items) learnt.rest) learnt.told refl now)
+            (talk_as (ap (λ (z : Link). z.text.items) learnt.rest) talk (ap (λ (z : Conn). z.number) takes.3) refl (ap (λ (z : Conn). bytes_of z.unsent) takes.3) (ap (λ (z : Link). said_asks z.calls.sent.items) learnt.rest) learnt.told refl (ap (λ (z : Link). said_late z.late.items) learnt.rest) now)
             (ap (λ (z : Conn). is_over z.number h) takes.3 ∙ a.goes_on c was)
             (calls_later (step ∷ []) past at y.waiting.items (subst (λ w. MayAllGo past at w) (sym (ap (λ (z : Link). z.waiting.items) learnt.rest)) a.waiting))
             (due_later (step ∷ []) past at (numbers_of y.waiting.items) (ap (λ (t : Talk). t.asked) talk) (subst (λ w. AreDue past at (numbers_of w)) (sym (ap (λ (z : Link). z.waiting.items) learnt.rest)) a.due))
@@ -464,9 +470,9 @@ one_said [] call = refl
 one_said (first ∷ calls) call = ap (λ (l : List SaidAsk). (first.ticket.number, first.dialect, first.ticket.ask) ∷ l) (one_said calls call)
 
 talk_asks :
-    (h : List Event) (at : ℕ) (text : List ℕ) (t : Talk) (c : ℕ) (held unsent : List ℕ) (out : List SaidAsk) (awaits : Bool) (speaks : Dialect) (number : ℕ) (dialect : Dialect) (ask : Ask)
-    → TalkAgrees h at text t c held unsent out awaits speaks
-    → TalkAgrees h at text (with_ask number dialect ask t) c held (unsent ++ spelling_of (asked_in dialect ask)) (out ++ (number, dialect, ask) ∷ []) awaits speaks
+    (h : List Event) (at : ℕ) (text : List ℕ) (t : Talk) (c : ℕ) (held unsent : List ℕ) (out : List SaidAsk) (awaits : Bool) (speaks : Dialect) (number : ℕ) (dialect : Dialect) (ask : Ask) {late : List SaidAsk}
+    → TalkAgrees h at text t c held unsent out awaits speaks late
+    → TalkAgrees h at text (with_ask number dialect ask t) c held (unsent ++ spelling_of (asked_in dialect ask)) (out ++ (number, dialect, ask) ∷ []) awaits speaks late
 talk_asks h at text t c held unsent out awaits speaks number dialect ask was = record {
   is_to = was.is_to;
   address = was.address;
@@ -475,19 +481,20 @@ talk_asks h at text t c held unsent out awaits speaks number dialect ask was = r
   out_is = ap (λ (l : List SaidAsk). l ++ (number, dialect, ask) ∷ []) was.out_is;
   awaits_is = was.awaits_is;
   dialect_is = was.dialect_is;
+  late_is = was.late_is;
 }
 
 -- a call that the core gave out for its server is asked
 pub line_asks :
     {at : ℕ} {core : ServedCore} {h : List Event} (x y : Link) (c d : Conn) (call : SentCall) → x.conn ≡ Some c → y ≡ record x { calls = y.calls; conn = Some d } → d ≡ record c { unsent = d.unsent }
-    → y.calls.sent.items ≡ x.calls.sent.items ++ call ∷ [] → bytes_of d.unsent ≡ bytes_of c.unsent ++ spelling_of (asked_in call.dialect call.ticket.ask)
+    → x.late.items ≡ [] → y.calls.sent.items ≡ x.calls.sent.items ++ call ∷ [] → bytes_of d.unsent ≡ bytes_of c.unsent ++ spelling_of (asked_in call.dialect call.ticket.ask)
     → LineGoesFrom (LineCalled call) LineAgrees IsSending at core h x core h y
-line_asks {at} {core} {h} x y c d call was is same more unsent = record {
+line_asks {at} {core} {h} x y c d call was is same alone more unsent = record {
   steps = step ∷ [];
   kinds = (tt, tt);
   own = (refl, tt);
   walks = (core, refl, refl);
-  agrees = λ past o a. (((a.1, due_first past at call.ticket.number (numbers_of x.waiting.items) a.2), o), agreed past a.0 a.1 a.2, all_kept (1, at) h h (quiet h));
+  agrees = λ past o a. (((a.1, due_first past at call.ticket.number (numbers_of x.waiting.items) a.2, (a.0.conn c was).late_is ∙ ap said_late alone), o), agreed past a.0 a.1 a.2, all_kept (1, at) h h (quiet h));
   shown = λ past o a shown. shown_later (step ∷ []) past h h (tt, tt) (none_since h) shown;
   shut = shut_still (quiet h) (ap conn_of is ∙ ap (λ (z : Conn). Some z.number) same ∙ sym (ap (option_map (λ (z : Conn). z.number)) was));
   text = ap (λ (z : Link). z.text.items) is;
@@ -501,7 +508,7 @@ line_asks {at} {core} {h} x y c d call was is same more unsent = record {
         let talk = ap (λ b. if b then with_ask call.ticket.number call.dialect call.ticket.ask (talk_in past at) else talk_in past at) (equal at) in
         let now = talk_asks h at x.text.items (talk_in past at) c.number c.held.items (bytes_of c.unsent) (said_asks x.calls.sent.items) x.awaits_dialect x.dialect call.ticket.number call.dialect call.ticket.ask (a.conn c was) in
         has_conn at (step ∷ past) h y d (ap (λ (z : Link). z.conn) is)
-        (talk_as (ap (λ (z : Link). z.text.items) is) talk (ap (λ (z : Conn). z.number) same) (ap (λ (z : Conn). z.held.items) same) unsent (ap said_asks more ∙ one_said x.calls.sent.items call) (ap (λ (z : Link). z.awaits_dialect) is) (ap (λ (z : Link). z.dialect) is) now)
+        (talk_as (ap (λ (z : Link). z.text.items) is) talk (ap (λ (z : Conn). z.number) same) (ap (λ (z : Conn). z.held.items) same) unsent (ap said_asks more ∙ one_said x.calls.sent.items call) (ap (λ (z : Link). z.awaits_dialect) is) (ap (λ (z : Link). z.dialect) is) (ap (λ (z : Link). said_late z.late.items) is) now)
         (ap (λ (z : Conn). is_over z.number h) same ∙ a.goes_on c was)
         (calls_later (step ∷ []) past at y.waiting.items (subst (λ w. MayAllGo past at w) (sym (ap (λ (z : Link). z.waiting.items) is)) a.waiting))
         (due_asked step past at call.ticket.number (numbers_of y.waiting.items) (ap (λ (t : Talk). t.asked) talk) (subst (λ w. AreDue past at (numbers_of (call ∷ w))) (sym (ap (λ (z : Link). z.waiting.items) is)) due))
@@ -512,7 +519,7 @@ line_asks {at} {core} {h} x y c d call was is same more unsent = record {
 waits_with : (at : ℕ) (past : List Step) (h : List Event) (x y : Link) → y ≡ record x { waiting = y.waiting } → LineAgrees at past h x → MayAllGo past at y.waiting.items → AreDue past at (numbers_of y.waiting.items) → LineAgrees at past h y
 waits_with at past h x y is a waiting due = record {
   conn = λ conn there.
-      talk_as (ap (λ (z : Link). z.text.items) is) refl refl refl refl (ap (λ (z : Link). said_asks z.calls.sent.items) is) (ap (λ (z : Link). z.awaits_dialect) is) (ap (λ (z : Link). z.dialect) is)
+      talk_as (ap (λ (z : Link). z.text.items) is) refl refl refl refl (ap (λ (z : Link). said_asks z.calls.sent.items) is) (ap (λ (z : Link). z.awaits_dialect) is) (ap (λ (z : Link). z.dialect) is) (ap (λ (z : Link). said_late z.late.items) is)
       (a.conn conn (sym (ap (λ (z : Link). z.conn) is) ∙ there));
   goes_on = λ conn there. a.goes_on conn (sym (ap (λ (z : Link). z.conn) is) ∙ there);
   waiting = waiting;
@@ -556,8 +563,8 @@ line_takes {at = at} {h = h} x y call before after is was now =
 -- ---- answers
 
 talk_answers :
-    (h : List Event) (at : ℕ) (text : List ℕ) (t : Talk) (c : ℕ) (spelled held unsent : List ℕ) (out out' : List SaidAsk) (awaits : Bool) (dialect : Dialect) → TalkAgrees h at text t c (spelled ++ held) unsent out awaits dialect
-    → TalkAgrees h at text (record t { told = t.told ++ spelled; out = out' }) c held unsent out' awaits dialect
+    (h : List Event) (at : ℕ) (text : List ℕ) (t : Talk) (c : ℕ) (spelled held unsent : List ℕ) (out out' : List SaidAsk) (awaits : Bool) (dialect : Dialect) {late : List SaidAsk} → TalkAgrees h at text t c (spelled ++ held) unsent out awaits dialect late
+    → TalkAgrees h at text (record t { told = t.told ++ spelled; out = out' }) c held unsent out' awaits dialect late
 talk_answers h at text t c spelled held unsent out out' awaits dialect was = record {
   is_to = was.is_to;
   address = was.address;
@@ -566,20 +573,21 @@ talk_answers h at text t c spelled held unsent out out' awaits dialect was = rec
   out_is = refl;
   awaits_is = was.awaits_is;
   dialect_is = was.dialect_is;
+  late_is = was.late_is;
 }
 
 -- the answers in front of what is held settle calls, and this is left of it
 settles_to :
-    {After : ℕ → List Step → List Event → Link → Type 0} {at : ℕ} {core core' : ServedCore} {h : List Event} (x y : Link) (c d : Conn) (rest : List ℕ) → x.conn ≡ Some c → y.conn ≡ Some d → x.awaits_dialect ≡ false
-    → y.text.items ≡ x.text.items → y.waiting.items ≡ x.waiting.items → y.awaits_dialect ≡ x.awaits_dialect → y.dialect ≡ x.dialect → d.number ≡ c.number → bytes_of d.unsent ≡ bytes_of c.unsent
+    {After : ℕ → List Step → List Event → Link → Type 0} {at : ℕ} {core core' : ServedCore} {h : List Event} (x y : Link) (c d : Conn) (rest : List ℕ) → x.conn ≡ Some c → y.conn ≡ Some d → x.awaits_dialect ≡ false → x.late.items ≡ []
+    → y.text.items ≡ x.text.items → y.waiting.items ≡ x.waiting.items → y.awaits_dialect ≡ x.awaits_dialect → y.dialect ≡ x.dialect → y.late.items ≡ x.late.items → d.number ≡ c.number → bytes_of d.unsent ≡ bytes_of c.unsent
     → ((past : List Step) → ConnAgrees at past h y d rest → is_over d.number h ≡ false → MayAllGo past at y.waiting.items → AreDue past at (numbers_of y.waiting.items) → AreCalled past at (said_asks y.calls.sent.items) → After at past h y)
     → SettlesSome x.calls.sent.items c.held.items core y.calls.sent.items rest core' → LineGoesFrom LineAgrees After IsOfTurn at core h x core' h y
-settles_to {After} {at} {core} {core'} {h} x y c d rest was is off text waiting awaits speaks number unsent after s = record {
+settles_to {After} {at} {core} {core'} {h} x y c d rest was is off alone text waiting awaits speaks late number unsent after s = record {
   steps = g.steps;
   kinds = g.kinds;
   own = g.own;
   walks = g.walks;
-  agrees = λ past o a. let t = a.conn c was in let r = g.orderly past o t.out_is (t.awaits_is ∙ off) in (r.0, agreed past a r.1, all_kept (1, at) h h (quiet h));
+  agrees = λ past o a. let t = a.conn c was in let r = g.orderly past o t.out_is (t.awaits_is ∙ off) (t.late_is ∙ ap said_late alone) in (r.0, agreed past a r.1, all_kept (1, at) h h (quiet h));
   shown = λ past o a shown. shown_later g.steps past h h g.unlost (none_since h) shown;
   shut = shut_still (quiet h) (ap (option_map (λ (z : Conn). z.number)) is ∙ ap (λ n. Some n) number ∙ sym (ap (option_map (λ (z : Conn). z.number)) was));
   text = text;
@@ -590,27 +598,27 @@ settles_to {After} {at} {core} {core'} {h} x y c d rest was is off text waiting 
 
     agreed : (past : List Step) → LineAgrees at past h x → talk_in (g.steps ++ past) at ≡ record (talk_in past at) { told = (talk_in past at).told ++ g.spelled; out = said_asks y.calls.sent.items } → After at (g.steps ++ past) h y
     agreed past a talk =
-        let before = talk_as refl refl refl (sym g.whole) refl refl refl refl (a.conn c was) in
+        let before = talk_as refl refl refl (sym g.whole) refl refl refl refl refl (a.conn c was) in
         let now = talk_answers h at x.text.items (talk_in past at) c.number g.spelled rest (bytes_of c.unsent) (said_asks x.calls.sent.items) (said_asks y.calls.sent.items) x.awaits_dialect x.dialect before in
-        after (g.steps ++ past) (talk_as text talk number refl unsent refl awaits speaks now) (ap (λ n. is_over n h) number ∙ a.goes_on c was) (calls_later g.steps past at y.waiting.items (subst (λ w. MayAllGo past at w) (sym waiting) a.waiting))
+        after (g.steps ++ past) (talk_as text talk number refl unsent refl awaits speaks (ap said_late late) now) (ap (λ n. is_over n h) number ∙ a.goes_on c was) (calls_later g.steps past at y.waiting.items (subst (λ w. MayAllGo past at w) (sym waiting) a.waiting))
         (due_later g.steps past at (numbers_of y.waiting.items) (ap (λ (t : Talk). t.asked) talk) (subst (λ w. AreDue past at (numbers_of w)) (sym waiting) a.due))
         (called_all_later g.steps past at (said_asks y.calls.sent.items) (g.called past a.called))
 
 -- what is left of it is held
 pub line_settles :
-    {at : ℕ} {core core' : ServedCore} {h : List Event} (x y : Link) (c d : Conn) → x.conn ≡ Some c → y.conn ≡ Some d → x.awaits_dialect ≡ false → y.text.items ≡ x.text.items → y.waiting.items ≡ x.waiting.items
-    → y.awaits_dialect ≡ x.awaits_dialect → y.dialect ≡ x.dialect → d.number ≡ c.number → bytes_of d.unsent ≡ bytes_of c.unsent → SettlesSome x.calls.sent.items c.held.items core y.calls.sent.items d.held.items core'
+    {at : ℕ} {core core' : ServedCore} {h : List Event} (x y : Link) (c d : Conn) → x.conn ≡ Some c → y.conn ≡ Some d → x.awaits_dialect ≡ false → x.late.items ≡ [] → y.text.items ≡ x.text.items → y.waiting.items ≡ x.waiting.items
+    → y.awaits_dialect ≡ x.awaits_dialect → y.dialect ≡ x.dialect → y.late.items ≡ x.late.items → d.number ≡ c.number → bytes_of d.unsent ≡ bytes_of c.unsent → SettlesSome x.calls.sent.items c.held.items core y.calls.sent.items d.held.items core'
     → LineGoes IsOfTurn at core h x core' h y
-line_settles {at} {core} {core'} {h} x y c d was is off text waiting awaits speaks number unsent s =
-    settles_to x y c d d.held.items was is off text waiting awaits speaks number unsent (λ past agrees goes_on waits due called. has_conn at past h y d is agrees goes_on waits due called) s
+line_settles {at} {core} {core'} {h} x y c d was is off alone text waiting awaits speaks late number unsent s =
+    settles_to x y c d d.held.items was is off alone text waiting awaits speaks late number unsent (λ past agrees goes_on waits due called. has_conn at past h y d is agrees goes_on waits due called) s
 
 -- or it is lost
 pub line_loses :
-    {at : ℕ} {core core' : ServedCore} {h : List Event} (x y : Link) (c d : Conn) (rest : List ℕ) → x.conn ≡ Some c → y.conn ≡ Some d → x.awaits_dialect ≡ false → y.text.items ≡ x.text.items
-    → y.waiting.items ≡ x.waiting.items → y.awaits_dialect ≡ x.awaits_dialect → y.dialect ≡ x.dialect → d.number ≡ c.number → bytes_of d.unsent ≡ bytes_of c.unsent → SettlesSome x.calls.sent.items c.held.items core y.calls.sent.items rest core'
+    {at : ℕ} {core core' : ServedCore} {h : List Event} (x y : Link) (c d : Conn) (rest : List ℕ) → x.conn ≡ Some c → y.conn ≡ Some d → x.awaits_dialect ≡ false → x.late.items ≡ [] → y.text.items ≡ x.text.items
+    → y.waiting.items ≡ x.waiting.items → y.awaits_dialect ≡ x.awaits_dialect → y.dialect ≡ x.dialect → y.late.items ≡ x.late.items → d.number ≡ c.number → bytes_of d.unsent ≡ bytes_of c.unsent → SettlesSome x.calls.sent.items c.held.items core y.calls.sent.items rest core'
     → LineGoesFrom LineAgrees LineLost IsOfTurn at core h x core' h y
-line_loses {at} {core} {core'} {h} x y c d rest was is off text waiting awaits speaks number unsent s =
-    settles_to x y c d rest was is off text waiting awaits speaks number unsent
+line_loses {at} {core} {core'} {h} x y c d rest was is off alone text waiting awaits speaks late number unsent s =
+    settles_to x y c d rest was is off alone text waiting awaits speaks late number unsent
     (λ past agrees goes_on waits due called. record { conn = λ conn there. subst (λ (z : Conn). (held : List ℕ) × ConnAgrees at past h y z held) (same_some (sym is ∙ there)) (rest, agrees); waiting = waits; due = due; none_out = λ none. absurd (none_some (sym none ∙ is)); called = called }) s
 
 -- ---- the end of a connection
@@ -656,7 +664,7 @@ line_closes {at} {core} {h} {h'} why x y r r_is some none closed text waiting se
           text = x.text.items;
           held = (a.lost.conn c e).0;
           unsent = bytes_of c.unsent;
-          agrees = record { is_to = t.is_to; address = t.address; sent_is = t.sent_is; told_is = t.told_is; out_is = refl; awaits_is = refl; dialect_is = refl };
+          agrees = record { is_to = t.is_to; address = t.address; sent_is = t.sent_is; told_is = t.told_is; out_is = refl; awaits_is = refl; dialect_is = refl; late_is = refl };
           shows = a.shows c e;
         }
 
@@ -696,6 +704,8 @@ failed_own at (Loaded configuration generation ∷ steps) kinds = absurd kinds.0
 failed_own at (Linked a dialect ∷ steps) kinds = absurd kinds.0
 failed_own at (Asked a number dialect ask ∷ steps) kinds = absurd kinds.0
 failed_own at (Greeted a dialect bytes ∷ steps) kinds = absurd kinds.0
+failed_own at (Late a number ∷ steps) kinds = absurd kinds.0
+failed_own at (CameLate a number ask answer bytes ∷ steps) kinds = absurd kinds.0
 failed_own at (Spelled a number ask answer bytes ∷ steps) kinds = absurd kinds.0
 failed_own at (Lost a why ∷ steps) kinds = absurd kinds.0
 
@@ -719,6 +729,8 @@ failed_giving why (step ∷ steps) kinds = (gives step kinds.0, failed_giving wh
     gives (Linked a dialect) is = absurd is
     gives (Asked a number dialect ask) is = absurd is
     gives (Greeted a dialect bytes) is = absurd is
+    gives (Late a number) is = absurd is
+    gives (CameLate a number ask answer bytes) is = absurd is
     gives (Spelled a number ask answer bytes) is = absurd is
     gives (Lost a cause) is = absurd is
 

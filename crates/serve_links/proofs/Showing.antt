@@ -4,7 +4,7 @@ use Rattle.serve_wire.specs.Events.{Event}
 use Rattle.serve_wire.specs.Agreement.{Extends}
 use Rattle.serve_wire.proofs.Steps.{extends_twice}
 use Rattle.serve_links.specs.declared.news.Cause.{Cause}
-use Rattle.serve_links.specs.CoreSteps.{Step, Opened, NotOpened, Fed, Polled, Stopped, Settled, Gave, Closed, LeftLine, Broke, Loaded, Linked, Asked, Greeted, Spelled, Lost, AreOf}
+use Rattle.serve_links.specs.CoreSteps.{Step, Opened, NotOpened, Fed, Polled, Stopped, Settled, Gave, Closed, LeftLine, Broke, Loaded, Linked, Asked, Greeted, Spelled, Late, CameLate, Lost, AreOf}
 use Rattle.serve_links.specs.Story.{WasShown, ShownBy, AreShown}
 use Rattle.serve_links.proofs.Talking.{IsPlain}
 
@@ -25,6 +25,8 @@ IsUnlost (Loaded configuration generation) = Unit {0}
 IsUnlost (Linked at dialect) = Unit {0}
 IsUnlost (Asked at number dialect ask) = Unit {0}
 IsUnlost (Greeted at dialect bytes) = Unit {0}
+IsUnlost (Late at number) = Unit {0}
+IsUnlost (CameLate at number ask answer bytes) = Unit {0}
 IsUnlost (Spelled at number ask answer bytes) = Unit {0}
 
 pub plain_unlost : (steps : List Step) → AreOf IsPlain steps → AreOf IsUnlost steps
@@ -47,6 +49,8 @@ plain_unlost (step ∷ steps) kinds = (unlost step kinds.0, plain_unlost steps k
     unlost (Linked at dialect) is = absurd is
     unlost (Asked at number dialect ask) is = absurd is
     unlost (Greeted at dialect bytes) is = absurd is
+    unlost (Late at number) is = absurd is
+    unlost (CameLate at number ask answer bytes) is = absurd is
     unlost (Spelled at number ask answer bytes) is = absurd is
 
 -- nothing has happened since
@@ -86,6 +90,8 @@ shown_since (step ∷ steps) h h' more shown = (by step shown.0, shown_since ste
     by (Linked at dialect) was = tt
     by (Asked at number dialect ask) was = tt
     by (Greeted at dialect bytes) was = tt
+    by (Late at number) was = tt
+    by (CameLate at number ask answer bytes) was = tt
     by (Spelled at number ask answer bytes) was = tt
 
 -- and so it is with steps by which none is given up
@@ -109,4 +115,6 @@ shown_later (step ∷ steps) past h h' kinds more shown = (by step kinds.0, show
     by (Linked at dialect) is = tt
     by (Asked at number dialect ask) is = tt
     by (Greeted at dialect bytes) is = tt
+    by (Late at number) is = tt
+    by (CameLate at number ask answer bytes) is = tt
     by (Spelled at number ask answer bytes) is = tt

@@ -75,8 +75,8 @@ all_told past steps clients none was = each_told (steps ++ past) clients (λ j z
 
 -- a connection that nothing touched, and of which nothing more was told
 pub talk_stays :
-    (h h' : List Event) (at : ℕ) (text : List ℕ) (t t' : Talk) (c : ℕ) (held unsent : List ℕ) (out : List SaidAsk) (awaits : Bool) (dialect : Dialect) → IsUntouched c h h' → t' ≡ t
-    → TalkAgrees h at text t c held unsent out awaits dialect → TalkAgrees h' at text t' c held unsent out awaits dialect
+    (h h' : List Event) (at : ℕ) (text : List ℕ) (t t' : Talk) (c : ℕ) (held unsent : List ℕ) (out : List SaidAsk) (awaits : Bool) (dialect : Dialect) {late : List SaidAsk} → IsUntouched c h h' → t' ≡ t
+    → TalkAgrees h at text t c held unsent out awaits dialect late → TalkAgrees h' at text t' c held unsent out awaits dialect late
 talk_stays h h' at text t t' c held unsent out awaits dialect same e was = record {
   is_to = same.same_role ∙ was.is_to;
   address = same.same_address ∙ was.address;
@@ -85,6 +85,7 @@ talk_stays h h' at text t t' c held unsent out awaits dialect same e was = recor
   out_is = ap (λ (x : Talk). x.out) e ∙ was.out_is;
   awaits_is = ap (λ (x : Talk). x.awaits) e ∙ was.awaits_is;
   dialect_is = ap (λ (x : Talk). x.dialect) e ∙ was.dialect_is;
+  late_is = ap (λ (x : Talk). x.late) e ∙ was.late_is;
 }
 
 -- a link whose connection nothing touched, and of whose server nothing more was told

@@ -5,8 +5,8 @@ use Rattle.mc_types.specs.declared.ask.Ask.{Ask}
 use Rattle.mc_types.specs.declared.call.Outcome.TheVariants.{Failed}
 use Rattle.core_proxy.specs.declared.note.Poll.TheVariants as polls
 use Rattle.serve_links.specs.declared.calls.calls.SentCall.{SentCall}
-use Rattle.serve_links.specs.CoreSteps.{Step, Opened, NotOpened, Fed, Polled, Stopped, Settled, Gave, Closed, LeftLine, Broke, Loaded, Linked, Asked, Greeted, Spelled, Lost, AreOf}
-use Rattle.serve_links.specs.Talks.{SaidAsk, first_talk, with_ask, greeted, with_answer, given_up, talk_in, IsCalledIn, MayBeAsked, ComesBy, MayFollow, IsOrderly, IsOfClients, IsOfServer}
+use Rattle.serve_links.specs.CoreSteps.{Step, Opened, NotOpened, Fed, Polled, Stopped, Settled, Gave, Closed, LeftLine, Broke, Loaded, Linked, Asked, Greeted, Spelled, Late, CameLate, Lost, AreOf}
+use Rattle.serve_links.specs.Talks.{SaidAsk, first_talk, with_ask, greeted, with_answer, turned_late, with_late, given_up, talk_in, IsCalledIn, MayBeAsked, ComesBy, MayFollow, IsOrderly, IsOfClients, IsOfServer}
 use Rattle.serve_links.specs.Story.{TellsNone, MayGo, MayAllGo, AreCalled, said_asks}
 use Rattle.serve_links.specs.Links.{AllFail}
 use Rattle.serve_links.specs.CoreSteps.{Walks, IsFailure}
@@ -55,6 +55,8 @@ IsPlain (Loaded configuration generation) = Unit {0}
 IsPlain (Linked at dialect) = ⊥
 IsPlain (Asked at number dialect ask) = ⊥
 IsPlain (Greeted at dialect bytes) = ⊥
+IsPlain (Late at number) = ⊥
+IsPlain (CameLate at number ask answer bytes) = ⊥
 IsPlain (Spelled at number ask answer bytes) = ⊥
 IsPlain (Lost at why) = ⊥
 
@@ -77,6 +79,8 @@ clients_plain (step ∷ steps) kinds = (plain step kinds.0, clients_plain steps 
     plain (Linked at dialect) is = is
     plain (Asked at number dialect ask) is = is
     plain (Greeted at dialect bytes) is = is
+    plain (Late at number) is = is
+    plain (CameLate at number ask answer bytes) is = is
     plain (Spelled at number ask answer bytes) is = is
     plain (Lost at why) is = is
 
@@ -97,6 +101,8 @@ plain_talk (Loaded configuration generation ∷ steps) kinds past j = plain_talk
 plain_talk (Linked at dialect ∷ steps) kinds past j = absurd kinds.0
 plain_talk (Asked at number dialect ask ∷ steps) kinds past j = absurd kinds.0
 plain_talk (Greeted at dialect bytes ∷ steps) kinds past j = absurd kinds.0
+plain_talk (Late at number ∷ steps) kinds past j = absurd kinds.0
+plain_talk (CameLate at number ask answer bytes ∷ steps) kinds past j = absurd kinds.0
 plain_talk (Spelled at number ask answer bytes ∷ steps) kinds past j = absurd kinds.0
 plain_talk (Lost at why ∷ steps) kinds past j = absurd kinds.0
 
@@ -120,6 +126,8 @@ clients_orderly (step ∷ steps) kinds past o = (follows step (steps ++ past) ki
     follows (Linked at dialect) before is = absurd is
     follows (Asked at number dialect ask) before is = absurd is
     follows (Greeted at dialect bytes) before is = absurd is
+    follows (Late at number) before is = absurd is
+    follows (CameLate at number ask answer bytes) before is = absurd is
     follows (Spelled at number ask answer bytes) before is = absurd is
     follows (Lost at why) before is = absurd is
 
@@ -179,6 +187,8 @@ server_tells_none at (Settled number outcome ∷ steps) own past j = server_tell
 server_tells_none at (Linked a dialect ∷ steps) own past j = server_tells_none at steps own.1 past j
 server_tells_none at (Asked a number dialect ask ∷ steps) own past j = server_tells_none at steps own.1 past j
 server_tells_none at (Greeted a dialect bytes ∷ steps) own past j = server_tells_none at steps own.1 past j
+server_tells_none at (Late a number ∷ steps) own past j = server_tells_none at steps own.1 past j
+server_tells_none at (CameLate a number ask answer bytes ∷ steps) own past j = server_tells_none at steps own.1 past j
 server_tells_none at (Spelled a number ask answer bytes ∷ steps) own past j = server_tells_none at steps own.1 past j
 server_tells_none at (Lost a why ∷ steps) own past j = server_tells_none at steps own.1 past j
 server_tells_none at (Opened client ∷ steps) own past j = absurd own.0
@@ -204,6 +214,10 @@ talk_elsewhere at (Greeted a dialect bytes ∷ steps) own past j other =
     ap (λ b. if b then greeted dialect bytes (talk_in (steps ++ past) j) else talk_in (steps ++ past) j) (ap (λ n. nat_eq n j) own.0 ∙ other) ∙ talk_elsewhere at steps own.1 past j other
 talk_elsewhere at (Spelled a number ask answer bytes ∷ steps) own past j other =
     ap (λ b. if b then with_answer bytes (talk_in (steps ++ past) j) else talk_in (steps ++ past) j) (ap (λ n. nat_eq n j) own.0 ∙ other) ∙ talk_elsewhere at steps own.1 past j other
+talk_elsewhere at (Late a number ∷ steps) own past j other =
+    ap (λ b. if b then turned_late (talk_in (steps ++ past) j) else talk_in (steps ++ past) j) (ap (λ n. nat_eq n j) own.0 ∙ other) ∙ talk_elsewhere at steps own.1 past j other
+talk_elsewhere at (CameLate a number ask answer bytes ∷ steps) own past j other =
+    ap (λ b. if b then with_late bytes (talk_in (steps ++ past) j) else talk_in (steps ++ past) j) (ap (λ n. nat_eq n j) own.0 ∙ other) ∙ talk_elsewhere at steps own.1 past j other
 talk_elsewhere at (Lost a why ∷ steps) own past j other =
     ap (λ b. if b then given_up (talk_in (steps ++ past) j) else talk_in (steps ++ past) j) (ap (λ n. nat_eq n j) own.0 ∙ other) ∙ talk_elsewhere at steps own.1 past j other
 talk_elsewhere at (Opened client ∷ steps) own past j other = absurd own.0

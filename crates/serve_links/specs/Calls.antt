@@ -1,5 +1,5 @@
 -- What is done with the calls of one server that are out. Source: mcgate's own.
-use Rattle.std.specs.Prelude.{◌≡◌, ℕ, List, [], ◌∷◌, Option, Some, None}
+use Rattle.std.specs.Prelude.{◌≡◌, ℕ, List, [], ◌∷◌, drop, Option, Some, None}
 use Rattle.mc_types.specs.Fits.{Fits}
 use Rattle.mc_types.specs.declared.ask.Ask.{Ask}
 use Rattle.mc_types.specs.declared.ask.Dialect.{Dialect}
@@ -14,6 +14,9 @@ use Rattle.core_accepted.specs.declared.served.ServedCore.{ServedCore}
 use Rattle.core_accepted.specs.Results.{IsSettled}
 use Rattle.serve_links.specs.Dialects.{SpellsIn, IsCutIn}
 use Rattle.serve_links.specs.declared.calls.calls.SentCall.{SentCall}
+use Rattle.serve_links.specs.declared.calls.calls.LateCall.{LateCall}
+use Rattle.serve_links.specs.declared.calls.calls.LateRead.{LateRead}
+use Rattle.serve_links.specs.declared.calls.calls.LateRead.TheVariants as lates
 use Rattle.serve_links.specs.declared.calls.calls.Next.{Next}
 use Rattle.serve_links.specs.declared.calls.calls.Next.TheVariants as nexts
 
@@ -68,3 +71,24 @@ SettlesNext sent bytes core (nexts.Settled client used) sent' core' =
     (answer : Answer) × AnswersFirst sent bytes core.core answer used × SettlesFirst sent core (Answered answer) (Some client) sent' core'
 SettlesNext sent bytes core nexts.More sent' core' = AwaitsFirst sent bytes core.core × (sent' ≡ sent) × (core' ≡ core)
 SettlesNext sent bytes core nexts.Foreign sent' core' = (sent' ≡ sent) × (core' ≡ core)
+
+-- the same call as one that is late
+abbrev pub as_late : SentCall → LateCall
+as_late call = record { number = call.ticket.number; dialect = call.dialect; ask = call.ticket.ask }
+
+-- it is the first of those that are out, if there is one
+abbrev pub IsFirstLate : List SentCall → Option LateCall → Type 0
+IsFirstLate [] late = late ≡ None
+IsFirstLate (call ∷ sent) late = late ≡ Some (as_late call)
+
+-- so many bytes are the answer to a late call, or none are
+abbrev pub IsReadLate : LateCall → List ℕ → LateRead → Type 0
+IsReadLate call bytes (lates.Whole used) = (answer : Answer) × SpellsIn call.dialect call.ask bytes answer used
+IsReadLate call bytes lates.More = Unit {0}
+IsReadLate call bytes lates.Foreign = Unit {0}
+
+-- the bytes begin with the answer to the first of these late calls: both are gone; or nothing has changed
+abbrev pub PassesOver : List LateCall → List ℕ → LateRead → List LateCall → List ℕ → Type 0
+PassesOver late bytes (lates.Whole used) late' bytes' = (call : LateCall) × (late ≡ call ∷ late') × (bytes' ≡ drop used bytes) × ((answer : Answer) × SpellsIn call.dialect call.ask bytes answer used)
+PassesOver late bytes lates.More late' bytes' = (late' ≡ late) × (bytes' ≡ bytes)
+PassesOver late bytes lates.Foreign late' bytes' = (late' ≡ late) × (bytes' ≡ bytes)

@@ -23,7 +23,7 @@ use Rattle.serve_links.specs.declared.settings.ServerDialect.{ServerDialect}
 use Rattle.serve_links.specs.declared.news.Cause.{Cause}
 
 -- one call of a core that changes it, and what came of it; or what was done at a connection, which changes no core: a client was broken off, as its connection failed or memory was refused for its bytes; or at a
--- server's a new one was begun, a call's ask is to be sent, what the server told of its dialects was taken from its bytes, they spell the answer to a call, or it was given up, for a cause, or as that was wanted
+-- server's a new one was begun, a call's ask is to be sent, what the server told of its dialects was taken from its bytes, they spell the answer to a call, a call that is out there is late, they spell the answer to such a call, or it was given up, for a cause, or as that was wanted
 pub data Step : Type 0 where
   Opened : (client : ℕ) → Step
   NotOpened : (fault : CoreFault) → Step
@@ -40,6 +40,8 @@ pub data Step : Type 0 where
   Asked : (at number : ℕ) (dialect : Dialect) (ask : Ask) → Step
   Greeted : (at : ℕ) (dialect : Dialect) (bytes : List ℕ) → Step
   Spelled : (at number : ℕ) (ask : Ask) (answer : Answer) (bytes : List ℕ) → Step
+  Late : (at number : ℕ) → Step
+  CameLate : (at number : ℕ) (ask : Ask) (answer : Answer) (bytes : List ℕ) → Step
   Lost : (at : ℕ) (why : Option Cause) → Step
 
 -- a core goes from one state to another by this call: as the core's own call of that name goes, and with each log that may have led to it. By what was done at a connection it stays; where bytes
@@ -61,6 +63,8 @@ Does (Loaded configuration generation) old new = IsLoaded old configuration gene
 Does (Linked at dialect) old new = new ≡ old
 Does (Asked at number dialect ask) old new = new ≡ old
 Does (Greeted at dialect bytes) old new = new ≡ old
+Does (Late at number) old new = new ≡ old
+Does (CameLate at number ask answer bytes) old new = new ≡ old
 Does (Spelled at number ask answer bytes) old new = (new ≡ old) × (of_calls.asked old.core number ≡ Some ask)
 Does (Lost at why) old new = new ≡ old
 
@@ -100,6 +104,8 @@ IsOfTurn (Broke client) = Unit {0}
 IsOfTurn (Linked at dialect) = Unit {0}
 IsOfTurn (Asked at number dialect ask) = Unit {0}
 IsOfTurn (Greeted at dialect bytes) = Unit {0}
+IsOfTurn (Late at number) = Unit {0}
+IsOfTurn (CameLate at number ask answer bytes) = Unit {0}
 IsOfTurn (Spelled at number ask answer bytes) = Unit {0}
 IsOfTurn (Lost at why) = IsSome why
 
@@ -119,6 +125,8 @@ IsSettlement (Loaded configuration generation) = ⊥
 IsSettlement (Linked at dialect) = ⊥
 IsSettlement (Asked at number dialect ask) = ⊥
 IsSettlement (Greeted at dialect bytes) = ⊥
+IsSettlement (Late at number) = ⊥
+IsSettlement (CameLate at number ask answer bytes) = ⊥
 IsSettlement (Spelled at number ask answer bytes) = ⊥
 IsSettlement (Lost at why) = ⊥
 
@@ -138,10 +146,12 @@ IsFailure (Loaded configuration generation) = ⊥
 IsFailure (Linked at dialect) = ⊥
 IsFailure (Asked at number dialect ask) = ⊥
 IsFailure (Greeted at dialect bytes) = ⊥
+IsFailure (Late at number) = ⊥
+IsFailure (CameLate at number ask answer bytes) = ⊥
 IsFailure (Spelled at number ask answer bytes) = ⊥
 IsFailure (Lost at why) = ⊥
 
--- a call of a server is to be sent, over a connection that was there or a new one, or has failed; or a connection is given up for a cause
+-- a call of a server is to be sent, over a connection that was there or a new one, or is late, or has failed; or a connection is given up for a cause
 abbrev pub IsSending : Step → Type 0
 IsSending (Settled number outcome) = outcome ≡ Failed
 IsSending (Linked at dialect) = Unit {0}
@@ -157,6 +167,8 @@ IsSending (LeftLine client) = ⊥
 IsSending (Broke client) = ⊥
 IsSending (Loaded configuration generation) = ⊥
 IsSending (Greeted at dialect bytes) = ⊥
+IsSending (Late at number) = Unit {0}
+IsSending (CameLate at number ask answer bytes) = ⊥
 IsSending (Spelled at number ask answer bytes) = ⊥
 IsSending (Lost at why) = IsSome why
 
@@ -177,6 +189,8 @@ IsGivingUp why (Loaded configuration generation) = ⊥
 IsGivingUp why (Linked at dialect) = ⊥
 IsGivingUp why (Asked at number dialect ask) = ⊥
 IsGivingUp why (Greeted at dialect bytes) = ⊥
+IsGivingUp why (Late at number) = ⊥
+IsGivingUp why (CameLate at number ask answer bytes) = ⊥
 IsGivingUp why (Spelled at number ask answer bytes) = ⊥
 
 -- it goes on by calls of it alone, and keeps its configuration

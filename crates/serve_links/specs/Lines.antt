@@ -43,11 +43,12 @@ SameLine None y = y ≡ None
 SameLine (Some x) None = ⊥
 SameLine (Some x) (Some y) = SameEnd x y
 
--- a link is to the server that it was to, has the connection that it had, with the same bytes, and the same calls, asks in the same dialect, and awaits of its server's dialects what it did
+-- a link is to the server that it was to, has the connection that it had, with the same bytes, and the same calls, late ones too, asks in the same dialect, and awaits of its server's dialects what it did
 pub record KeepsLines (old new : Link) : Type 0 where
   pub text : new.text ≡ old.text
   pub conn : SameLine old.conn new.conn
   pub calls : new.calls ≡ old.calls
+  pub late : new.late ≡ old.late
   pub waiting : new.waiting ≡ old.waiting
   pub awaits : new.awaits_dialect ≡ old.awaits_dialect
   pub dialect : new.dialect ≡ old.dialect
@@ -57,13 +58,14 @@ abbrev pub IsNewEnd : ℕ → ServerDialect → Option Conn → Type 0
 IsNewEnd number dialect None = ⊥
 IsNewEnd number dialect (Some x) = (x.number ≡ number) × (x.held.items ≡ []) × (bytes_of x.unsent ≡ first_asked_of dialect)
 
--- no call is out over it yet, calls are asked in the first dialect, and what the server tells of its dialects is awaited where it is asked for that
+-- no call is out over it yet, none is late, calls are asked in the first dialect, and what the server tells of its dialects is awaited where it is asked for that
 pub record HasNewEnd (number : ℕ) (dialect : ServerDialect) (old new : Link) : Type 0 where
   pub none_there : old.conn ≡ None
   pub text : new.text ≡ old.text
   pub conn : IsNewEnd number dialect new.conn
   pub none_out : old.calls.sent.items ≡ []
   pub calls : new.calls ≡ old.calls
+  pub none_late : new.late.items ≡ []
   pub waiting : new.waiting ≡ old.waiting
   pub awaits : new.awaits_dialect ≡ awaits_first dialect
   pub speaks : new.dialect ≡ first_dialect dialect

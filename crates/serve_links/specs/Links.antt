@@ -1,5 +1,5 @@
 -- The links of a proxy to its servers. Source: mcgate's own.
-use Rattle.std.specs.Prelude.{◌≡◌, ◌≢◌, Bool, true, false, Option, Some, ℕ, ◌+◌, List, [], ◌∷◌, ◌++◌, length, None, IfSome, slice_get}
+use Rattle.std.specs.Prelude.{◌≡◌, Bool, true, false, Option, Some, ℕ, ◌+◌, List, [], ◌∷◌, ◌++◌, length, None, IfSome, slice_get}
 use Rattle.mc_types.specs.declared.call.Outcome.TheVariants.{Failed}
 use Rattle.core_accepted.specs.declared.served.ServedCore.{ServedCore}
 use Rattle.serve_links.specs.declared.calls.calls.SentCall.{SentCall}
@@ -43,13 +43,3 @@ IsClosedAt at links = IfSome (slice_get links at) (λ link. link.conn ≡ None)
 abbrev pub vain_cause : Bool → Option Cause
 vain_cause true = Some causes.VainReads
 vain_cause false = None
-
--- for this cause a link is late: where that is a call, calls are out
-abbrev pub IsLateBy : Cause → Link → Type 0
-IsLateBy causes.CallLate link = link.calls.sent.items ≢ []
-IsLateBy causes.ConnectLate link = Unit {0}
-IsLateBy causes.Unreachable link = ⊥
-IsLateBy causes.Closed link = ⊥
-IsLateBy causes.Broken link = ⊥
-IsLateBy causes.Foreign link = ⊥
-IsLateBy causes.VainReads link = ⊥

@@ -12,10 +12,11 @@ use Rattle.serve_clients.specs.declared.clients.Clients.{Clients}
 use Rattle.serve_clients.specs.Agrees.{EndAgrees, AllAgree}
 use Rattle.serve_clients.specs.Marks.{client_of}
 use Rattle.serve_links.specs.declared.calls.calls.SentCall.{SentCall}
+use Rattle.serve_links.specs.declared.calls.calls.LateCall.{LateCall}
 use Rattle.serve_links.specs.declared.link.Link.{Link}
 use Rattle.serve_links.specs.declared.news.Cause.{Cause}
 use Rattle.serve_links.specs.declared.news.Cause.TheVariants as causes
-use Rattle.serve_links.specs.CoreSteps.{Step, Opened, NotOpened, Fed, Polled, Stopped, Settled, Gave, Closed, LeftLine, Broke, Loaded, Linked, Asked, Greeted, Spelled, Lost, Walks, AreOf}
+use Rattle.serve_links.specs.CoreSteps.{Step, Opened, NotOpened, Fed, Polled, Stopped, Settled, Gave, Closed, LeftLine, Broke, Loaded, Linked, Asked, Greeted, Spelled, Late, CameLate, Lost, Walks, AreOf}
 use Rattle.serve_links.specs.Shut.{AreShut, StaysShut}
 use Rattle.serve_links.specs.Talks.{SaidAsk, Talk, talk_in, IsCalledIn, MayBeAsked, AreDue, IsUnasked, IsOrderly, IsOfClients, IsOfServer}
 use Rattle.std.specs.Option.{option_map}
@@ -37,6 +38,8 @@ fed_in (Loaded configuration generation ∷ steps) i = fed_in steps i
 fed_in (Linked at dialect ∷ steps) i = fed_in steps i
 fed_in (Asked at number dialect ask ∷ steps) i = fed_in steps i
 fed_in (Greeted at dialect bytes ∷ steps) i = fed_in steps i
+fed_in (Late at number ∷ steps) i = fed_in steps i
+fed_in (CameLate at number ask answer bytes ∷ steps) i = fed_in steps i
 fed_in (Spelled at number ask answer bytes ∷ steps) i = fed_in steps i
 fed_in (Lost at why ∷ steps) i = fed_in steps i
 
@@ -57,6 +60,8 @@ gave_in (Loaded configuration generation ∷ steps) i = gave_in steps i
 gave_in (Linked at dialect ∷ steps) i = gave_in steps i
 gave_in (Asked at number dialect ask ∷ steps) i = gave_in steps i
 gave_in (Greeted at dialect bytes ∷ steps) i = gave_in steps i
+gave_in (Late at number ∷ steps) i = gave_in steps i
+gave_in (CameLate at number ask answer bytes ∷ steps) i = gave_in steps i
 gave_in (Spelled at number ask answer bytes ∷ steps) i = gave_in steps i
 gave_in (Lost at why ∷ steps) i = gave_in steps i
 
@@ -77,6 +82,8 @@ is_open_in (Loaded configuration generation ∷ steps) i = is_open_in steps i
 is_open_in (Linked at dialect ∷ steps) i = is_open_in steps i
 is_open_in (Asked at number dialect ask ∷ steps) i = is_open_in steps i
 is_open_in (Greeted at dialect bytes ∷ steps) i = is_open_in steps i
+is_open_in (Late at number ∷ steps) i = is_open_in steps i
+is_open_in (CameLate at number ask answer bytes ∷ steps) i = is_open_in steps i
 is_open_in (Spelled at number ask answer bytes ∷ steps) i = is_open_in steps i
 is_open_in (Lost at why ∷ steps) i = is_open_in steps i
 
@@ -97,6 +104,8 @@ is_broken_in (Loaded configuration generation ∷ steps) i = is_broken_in steps 
 is_broken_in (Linked at dialect ∷ steps) i = is_broken_in steps i
 is_broken_in (Asked at number dialect ask ∷ steps) i = is_broken_in steps i
 is_broken_in (Greeted at dialect bytes ∷ steps) i = is_broken_in steps i
+is_broken_in (Late at number ∷ steps) i = is_broken_in steps i
+is_broken_in (CameLate at number ask answer bytes ∷ steps) i = is_broken_in steps i
 is_broken_in (Spelled at number ask answer bytes ∷ steps) i = is_broken_in steps i
 is_broken_in (Lost at why ∷ steps) i = is_broken_in steps i
 
@@ -155,6 +164,10 @@ HasOrHad past h clients id conn = (option_map (λ x. x.conn.number) (client_of c
 abbrev pub said_asks : List SentCall → List SaidAsk
 said_asks calls = each (λ call. (call.ticket.number, call.dialect, call.ticket.ask)) calls
 
+-- late ones, as a walk has them
+abbrev pub said_late : List LateCall → List SaidAsk
+said_late calls = each (λ call. (call.number, call.dialect, call.ask)) calls
+
 -- the core gave out this call for this server, and it may be asked in its dialect
 abbrev pub MayGo : List Step → ℕ → SentCall → Type 0
 MayGo past at call = MayBeAsked past call.ticket.number at call.dialect call.ticket.ask
@@ -174,8 +187,8 @@ abbrev pub numbers_of : List SentCall → List ℕ
 numbers_of calls = each (λ call. call.ticket.number) calls
 
 -- a connection agrees with what was said over it: it is to this server, and was begun at the address that this text names; what was to be sent is what it took, and then what is unsent; what it delivered told all
--- that was told, and is else held; these calls are out, what the server tells of its dialects is awaited or not, and calls are asked in this dialect
-pub record TalkAgrees (h : List Event) (at : ℕ) (text : List ℕ) (talk : Talk) (c : ℕ) (held unsent : List ℕ) (out : List SaidAsk) (awaits : Bool) (dialect : Dialect) : Type 0 where
+-- that was told, and is else held; these calls are out, what the server tells of its dialects is awaited or not, calls are asked in this dialect, and these were late
+pub record TalkAgrees (h : List Event) (at : ℕ) (text : List ℕ) (talk : Talk) (c : ℕ) (held unsent : List ℕ) (out : List SaidAsk) (awaits : Bool) (dialect : Dialect) (late : List SaidAsk) : Type 0 where
   pub is_to : role c h ≡ Some (1, at)
   pub address : AddressAgrees h text c
   pub sent_is : talk.sent ≡ taken c h ++ unsent
@@ -183,10 +196,11 @@ pub record TalkAgrees (h : List Event) (at : ℕ) (text : List ℕ) (talk : Talk
   pub out_is : talk.out ≡ out
   pub awaits_is : talk.awaits ≡ awaits
   pub dialect_is : talk.dialect ≡ dialect
+  pub late_is : talk.late ≡ late
 
 -- so does that of a link, if it has one, where so much of it is held
 abbrev pub ConnAgrees : ℕ → List Step → List Event → Link → Conn → List ℕ → Type 0
-ConnAgrees at past h link conn held = TalkAgrees h at link.text.items (talk_in past at) conn.number held (bytes_of conn.unsent) (said_asks link.calls.sent.items) link.awaits_dialect link.dialect
+ConnAgrees at past h link conn held = TalkAgrees h at link.text.items (talk_in past at) conn.number held (bytes_of conn.unsent) (said_asks link.calls.sent.items) link.awaits_dialect link.dialect (said_late link.late.items)
 
 -- a link agrees with these calls, its connection is not over, and all calls that wait for it may go there, and weren't asked yet; without a connection no call is out there
 pub record LineAgrees (at : ℕ) (past : List Step) (h : List Event) (link : Link) : Type 0 where
@@ -209,11 +223,10 @@ pub record LineLost (at : ℕ) (past : List Step) (h : List Event) (link : Link)
 abbrev pub HasHappened : Event → List Event → Type 0
 HasHappened event h = (later earlier : List Event) × (h ≡ later ++ event ∷ earlier)
 
--- what the wire shows, or what was said, of a connection that is given up for this cause: it has ended, or has failed, or calls are out there. For want of a connection none is given up
+-- what the wire shows, or what was said, of a connection that is given up for this cause: it has ended, or has failed, or reads were in vain while calls are out there. For want of a connection none is given up
 abbrev pub Shows : Cause → Talk → ℕ → List Event → Type 0
 Shows causes.Unreachable talk c h = ⊥
 Shows causes.ConnectLate talk c h = Unit {0}
-Shows causes.CallLate talk c h = talk.out ≢ []
 Shows causes.Closed talk c h = HasHappened (ends c) h
 Shows causes.Broken talk c h = HasHappened (fails c) h
 Shows causes.Foreign talk c h = Unit {0}
@@ -232,7 +245,7 @@ pub record WasShown (why : Option Cause) (at : ℕ) (past : List Step) (h : List
   pub text : List ℕ
   pub held : List ℕ
   pub unsent : List ℕ
-  pub agrees : TalkAgrees before at text (talk_in past at) conn held unsent (talk_in past at).out (talk_in past at).awaits (talk_in past at).dialect
+  pub agrees : TalkAgrees before at text (talk_in past at) conn held unsent (talk_in past at).out (talk_in past at).awaits (talk_in past at).dialect (talk_in past at).late
   pub shows : ShowsWhy why (talk_in past at) conn before
 
 -- so it is with a step by which one is given up
@@ -252,6 +265,8 @@ ShownBy (Loaded configuration generation) past h = Unit {0}
 ShownBy (Linked at dialect) past h = Unit {0}
 ShownBy (Asked at number dialect ask) past h = Unit {0}
 ShownBy (Greeted at dialect bytes) past h = Unit {0}
+ShownBy (Late at number) past h = Unit {0}
+ShownBy (CameLate at number ask answer bytes) past h = Unit {0}
 ShownBy (Spelled at number ask answer bytes) past h = Unit {0}
 
 -- and with each of these
@@ -272,13 +287,13 @@ LineCalled call at past h link = LineAgrees at past h link × MayGo past at call
 abbrev pub LinesAgree : List Step → List Event → List Link → Type 0
 LinesAgree past h links = (at : ℕ) (link : Link) → slice_get links at ≡ Some link → LineAgrees at past h link
 
--- all that a link has to do with its connection and its calls: what names its server's address, the connection's number, what is held of it and what is to be sent, the calls that are out, those that wait, and
--- whether its server is to tell of its dialects, and in which dialect calls are asked
+-- all that a link has to do with its connection and its calls: what names its server's address, the connection's number, what is held of it and what is to be sent, the calls that are out, those that wait,
+-- whether its server is to tell of its dialects, in which dialect calls are asked, and those that were late
 abbrev pub LineState : Type 0
-LineState = List ℕ × Option (ℕ × List ℕ × List ℕ) × List SaidAsk × List SentCall × Bool × Dialect
+LineState = List ℕ × Option (ℕ × List ℕ × List ℕ) × List SaidAsk × List SentCall × Bool × Dialect × List SaidAsk
 
 abbrev pub line_of : Link → LineState
-line_of link = (link.text.items, option_map (λ (x : Conn). (x.number, x.held.items, bytes_of x.unsent)) link.conn, said_asks link.calls.sent.items, link.waiting.items, link.awaits_dialect, link.dialect)
+line_of link = (link.text.items, option_map (λ (x : Conn). (x.number, x.held.items, bytes_of x.unsent)) link.conn, said_asks link.calls.sent.items, link.waiting.items, link.awaits_dialect, link.dialect, said_late link.late.items)
 
 -- all connections that were of others than this one, and all that aren't its now, are as they were
 pub record KeepsOthers (its : ℕ × ℕ) (h h' : List Event) : Type 0 where

@@ -13,18 +13,20 @@ use Rattle.core_proxy.specs.declared.note.Poll.TheVariants as polls
 use Rattle.serve_links.specs.Dialects.{asked_in, SpellsIn, IsGreeting}
 use Rattle.serve_links.specs.declared.settings.ServerDialect.{ServerDialect}
 use Rattle.serve_links.specs.Lines.{first_asked_of, awaits_first, first_dialect}
-use Rattle.serve_links.specs.CoreSteps.{Step, Opened, NotOpened, Fed, Polled, Stopped, Settled, Gave, Closed, LeftLine, Broke, Loaded, Linked, Asked, Greeted, Spelled, Lost}
+use Rattle.serve_links.specs.CoreSteps.{Step, Opened, NotOpened, Fed, Polled, Stopped, Settled, Gave, Closed, LeftLine, Broke, Loaded, Linked, Asked, Greeted, Spelled, Late, CameLate, Lost}
 
 -- a call that a server was asked: its number, in which dialect it was asked, and its ask
 abbrev pub SaidAsk : Type 0
 SaidAsk = ℕ × Dialect × Ask
 
--- of a server's connection: what was to be sent over it, which bytes that came over it told something, the calls that are out there, the one that was asked first in front, whether the server is still
--- to tell of its dialects, before it answers any call, in which dialect calls are asked there from now on; and the numbers of all calls that the server was ever asked, the last in front
+-- of a server's connection: what was to be sent over it, which bytes that came over it told something, the calls that are out there, the one that was asked first in front, before them those that were late, which have
+-- failed, and whose answers are still to come first; whether the server is still to tell of its dialects, before it answers any call, in which dialect calls are asked there from now on; and the numbers of all calls that
+-- the server was ever asked, the last in front
 pub record Talk : Type 0 where
   pub sent : List ℕ
   pub told : List ℕ
   pub out : List SaidAsk
+  pub late : List SaidAsk
   pub awaits : Bool
   pub dialect : Dialect
   pub asked : List ℕ
@@ -34,13 +36,18 @@ abbrev pub behind : List SaidAsk → List SaidAsk
 behind [] = []
 behind (ask ∷ asks) = asks
 
+-- the first, if there is one
+abbrev pub first_of : List SaidAsk → List SaidAsk
+first_of [] = []
+first_of (ask ∷ asks) = ask ∷ []
+
 -- where there was no connection yet
 abbrev pub no_talk : Talk
-no_talk = record { sent = []; told = []; out = []; awaits = false; dialect = Classic; asked = [] }
+no_talk = record { sent = []; told = []; out = []; late = []; awaits = false; dialect = Classic; asked = [] }
 
 -- a new connection, to a server that is asked so
 abbrev pub first_talk : ServerDialect → Talk → Talk
-first_talk dialect talk = record { sent = first_asked_of dialect; told = []; out = []; awaits = awaits_first dialect; dialect = first_dialect dialect; asked = talk.asked }
+first_talk dialect talk = record { sent = first_asked_of dialect; told = []; out = []; late = []; awaits = awaits_first dialect; dialect = first_dialect dialect; asked = talk.asked }
 
 -- one more call is asked in its dialect
 abbrev pub with_ask : ℕ → Dialect → Ask → Talk → Talk
@@ -54,15 +61,25 @@ greeted dialect bytes talk = record talk { told = talk.told ++ bytes; awaits = f
 abbrev pub with_answer : List ℕ → Talk → Talk
 with_answer bytes talk = record talk { told = talk.told ++ bytes; out = behind talk.out }
 
+-- the first call is late: it keeps its place
+abbrev pub turned_late : Talk → Talk
+turned_late talk = record talk { out = behind talk.out; late = talk.late ++ first_of talk.out }
+
+-- the answer to the first late call came
+abbrev pub with_late : List ℕ → Talk → Talk
+with_late bytes talk = record talk { told = talk.told ++ bytes; late = behind talk.late }
+
 -- it was given up: no call is out there any more, and nothing is awaited
 abbrev pub given_up : Talk → Talk
-given_up talk = record talk { out = []; awaits = false }
+given_up talk = record talk { out = []; late = []; awaits = false }
 
 -- what a step adds to what was said over the connection of the server of this number
 abbrev pub talk_after : Step → ℕ → Talk → Talk
 talk_after (Linked at dialect) i talk = if nat_eq at i then first_talk dialect talk else talk
 talk_after (Asked at number dialect ask) i talk = if nat_eq at i then with_ask number dialect ask talk else talk
 talk_after (Greeted at dialect bytes) i talk = if nat_eq at i then greeted dialect bytes talk else talk
+talk_after (Late at number) i talk = if nat_eq at i then turned_late talk else talk
+talk_after (CameLate at number ask answer bytes) i talk = if nat_eq at i then with_late bytes talk else talk
 talk_after (Spelled at number ask answer bytes) i talk = if nat_eq at i then with_answer bytes talk else talk
 talk_after (Lost at why) i talk = if nat_eq at i then given_up talk else talk
 talk_after (Opened client) i talk = talk
@@ -132,6 +149,8 @@ calls_of (Loaded configuration generation) at = []
 calls_of (Linked server dialect) at = []
 calls_of (Asked server number dialect ask) at = []
 calls_of (Greeted server dialect bytes) at = []
+calls_of (Late server number) at = []
+calls_of (CameLate server number ask answer bytes) at = []
 calls_of (Spelled server number ask answer bytes) at = []
 calls_of (Lost server why) at = []
 
@@ -150,6 +169,23 @@ pub record IsNextAnswer (number : ℕ) (ask : Ask) (answer : Answer) (bytes : Li
   pub said : Ask
   pub others : List SaidAsk
   pub is_first : talk.out ≡ (number, dialect, said) ∷ others
+  pub none_before : talk.awaits ≡ false
+  pub none_late : talk.late ≡ []
+  pub more : List ℕ
+  pub spells : SpellsIn dialect ask (bytes ++ more) answer (length bytes)
+
+-- the call of this number was asked first of those that are out
+pub record IsFirstOut (number : ℕ) (talk : Talk) : Type 0 where
+  pub dialect : Dialect
+  pub ask : Ask
+  pub others : List SaidAsk
+  pub is_first : talk.out ≡ (number, dialect, ask) ∷ others
+
+-- the call of this number, which asks this, is the first of those that were late, nothing else is told before its answer, and these bytes, whatever follows them, spell this one to it, in the dialect in which it was asked
+pub record IsNextLate (number : ℕ) (ask : Ask) (answer : Answer) (bytes : List ℕ) (talk : Talk) : Type 0 where
+  pub dialect : Dialect
+  pub others : List SaidAsk
+  pub is_first : talk.late ≡ (number, dialect, ask) ∷ others
   pub none_before : talk.awaits ≡ false
   pub more : List ℕ
   pub spells : SpellsIn dialect ask (bytes ++ more) answer (length bytes)
@@ -174,15 +210,24 @@ pub record IsUnasked (number : ℕ) (steps : List Step) : Type 0 where
   pub at : ℕ
   pub due : AreDue steps at (number ∷ [])
 
--- no call is answered but by what its server's bytes spell, and none fails that its server has
+-- or the last step was that the call is late
+pub record IsJustLate (number : ℕ) (steps : List Step) : Type 0 where
+  pub at : ℕ
+  pub earlier : List Step
+  pub last : steps ≡ Late at number ∷ earlier
+
+-- no call is answered but by what its server's bytes spell, and none fails that its server has and that isn't late
 abbrev pub ComesBy : ℕ → Outcome → List Step → Type 0
 ComesBy number (Answered answer) past = IsJustSpelled number answer past
-ComesBy number Failed past = IsOutNowhere number past ⊎ IsUnasked number past
+ComesBy number Failed past = IsOutNowhere number past ⊎ IsUnasked number past ⊎ IsJustLate number past
 
--- after these steps this one may come: a server is asked what the core gave out for it, once, in a dialect that it speaks; tells of its dialects where it is asked for that, and then answers its calls in their order; and a call is settled by its answer
+-- after these steps this one may come: a server is asked what the core gave out for it, once, in a dialect that it speaks, and not while late answers are still to come; tells of its dialects where it is asked for that, and then answers its calls in
+-- their order, those that are late too, whose answers settle nothing; and a call is settled by its answer
 abbrev pub MayFollow : Step → List Step → Type 0
-MayFollow (Asked at number dialect ask) past = MayBeAsked past number at dialect ask × AreDue past at (number ∷ [])
+MayFollow (Asked at number dialect ask) past = MayBeAsked past number at dialect ask × AreDue past at (number ∷ []) × ((talk_in past at).late ≡ [])
 MayFollow (Greeted at dialect bytes) past = ((talk_in past at).awaits ≡ true) × IsGreeting dialect bytes
+MayFollow (Late at number) past = IsFirstOut number (talk_in past at)
+MayFollow (CameLate at number ask answer bytes) past = IsNextLate number ask answer bytes (talk_in past at)
 MayFollow (Spelled at number ask answer bytes) past = IsNextAnswer number ask answer bytes (talk_in past at)
 MayFollow (Settled number outcome) past = ComesBy number outcome past
 MayFollow (Linked at dialect) past = Unit {0}
@@ -219,6 +264,8 @@ IsOfClients (Settled number outcome) = ⊥
 IsOfClients (Linked at dialect) = ⊥
 IsOfClients (Asked at number dialect ask) = ⊥
 IsOfClients (Greeted at dialect bytes) = ⊥
+IsOfClients (Late at number) = ⊥
+IsOfClients (CameLate at number ask answer bytes) = ⊥
 IsOfClients (Spelled at number ask answer bytes) = ⊥
 IsOfClients (Lost at why) = ⊥
 
@@ -228,6 +275,8 @@ IsOfServer i (Settled number outcome) = Unit {0}
 IsOfServer i (Linked at dialect) = at ≡ i
 IsOfServer i (Asked at number dialect ask) = at ≡ i
 IsOfServer i (Greeted at dialect bytes) = at ≡ i
+IsOfServer i (Late at number) = at ≡ i
+IsOfServer i (CameLate at number ask answer bytes) = at ≡ i
 IsOfServer i (Spelled at number ask answer bytes) = at ≡ i
 IsOfServer i (Lost at why) = at ≡ i
 IsOfServer i (Opened client) = ⊥

@@ -4,5 +4,5 @@
 mod calls;
 mod sending;
 
-pub use calls::{LinkCalls, Next, SentCall, fail_call};
+pub use calls::{LateCall, LateRead, LinkCalls, Next, SentCall, fail_call};
 pub use sending::send_ask;

@@ -2,13 +2,14 @@
 
 ghost use Rattle.std.specs.Prelude.{◌≡◌, ◌≢◌, true, IfSome, ◌+◌, ◌<◌, ◌++◌, false, ◌∷◌, [], None, length, MatchOption, IfOk, IfErr, OnOk, OnErr, option_map};
 ghost use Rattle.mc_types.specs.declared.ask.Dialect.TheVariants.{Classic};
-ghost use Rattle.serve_links.specs.Links.{IsDown, IsTaken, IsLateBy, vain_cause};
+ghost use Rattle.serve_links.specs.Links.{IsDown, IsTaken, vain_cause};
 ghost use Rattle.wire_parts.specs.Sending.{bytes_of};
 ghost use Rattle.serve_links.specs.Lines.{first_asked_of, awaits_first, first_dialect, KeepsLines, HasNewEnd, OpensBy, Learns};
 
-use crate::calls::{LinkCalls, SentCall};
+use crate::calls::{LateCall, LinkCalls, SentCall};
 use crate::news::{Cause, LinkNews};
 use crate::settings::{ServerDialect, Settings};
+use crate::tally::LinkTally;
 use mc_types::Dialect;
 use serve_wire::conn::{Conn, Limits};
 use serve_wire::{Connected, Wire};
@@ -106,6 +107,15 @@ pub enum Opening {
     NoMemory,
 }
 
+/// What a link has waited for too long.
+#[derive(Clone, Copy, PartialEq, Eq)]
+pub enum Lateness {
+    /// Its connection is to stand.
+    Connection,
+    /// A call is to be answered.
+    Call,
+}
+
 /// One server's link.
 #[derive(Drop)]
 pub struct Link {
@@ -113,6 +123,9 @@ pub struct Link {
     pub text: Vec<u8>,
     pub conn: Option<Conn>,
     pub calls: LinkCalls,
+    /// Calls that went out before those and were late: they have failed, and their answers are still to come. While there are any, further calls
+    /// fail at once.
+    pub late: VecDeque<LateCall>,
     // Calls that wait until the server takes more, the one that came first in front. Some are out while one waits.
     waiting: VecDeque<SentCall>,
     /// In which dialect calls go out from now on.
@@ -125,6 +138,8 @@ pub struct Link {
     pub is_connected: bool,
     /// How many times in a row it failed since its server last answered.
     failures: u32,
+    /// What has become of it so far.
+    pub tally: LinkTally,
     /// Where those are as many as are allowed: until then its calls fail at once.
     held_until: u64,
     /// How many reads in a row brought no whole answer.
@@ -149,6 +164,7 @@ impl Link {
         ensures down { IfOk result IsDown }
         ensures awaits { IfOk result (λ link. link.awaits_dialect ≡ false) }
         ensures dialect { IfOk result (λ link. link.dialect ≡ Classic) }
+        ensures late { IfOk result (λ link. link.late.items ≡ []) }
         ensures text { IfOk result (λ link. link.text.items ≡ text.now) }
     {
         let text = text.to_vec(alloc)?;
@@ -159,18 +175,21 @@ impl Link {
         ensures down { IsDown result }
         ensures awaits { result.awaits_dialect ≡ false }
         ensures dialect { result.dialect ≡ Classic }
+        ensures late { result.late.items ≡ [] }
         ensures text { result.text ≡ text }
     {
         Link {
             text,
             conn: None,
             calls: LinkCalls::new(alloc),
+            late: VecDeque::new(alloc),
             waiting: VecDeque::new(alloc),
             dialect: Dialect::Classic,
             awaits_dialect: false,
             opened: 0,
             is_connected: false,
             failures: 0,
+            tally: LinkTally::new(),
             held_until: 0,
             vain_reads: 0,
             awaited: None,
@@ -181,6 +200,13 @@ impl Link {
             news_from: 0,
             was_down: false,
         }
+    }
+
+    /// Whether answers are still to come of calls that have failed.
+    pub fn awaits_late(&self) -> bool
+        ensures { result ≡ false → self.now.late.items ≡ [] }
+    {
+        !self.late.is_empty()
     }
 
     // Whether what is to be sent is a backlog.
@@ -260,7 +286,7 @@ impl Link {
         self.waiting.remove(place)
     }
 
-    /// The first of the calls that wait, if it has waited too long to go out, by the clock of calls that wait.
+    /// The first of the calls that wait, if it has waited too long to go out, by the clock of calls that wait, or none goes out for now.
     pub fn next_too_late(&mut self, pace: u64, settings: &Settings) -> Option<SentCall>
         ensures waiting { MatchOption result (self.new.waiting.items ≡ self.old.waiting.items) (λ call. self.old.waiting.items ≡ call ∷ self.new.waiting.items) }
         ensures rest { self.new ≡ record self.old { waiting = self.new.waiting } }
@@ -271,8 +297,11 @@ impl Link {
         self.next_waiting()
     }
 
-    // Whether the first of those that wait has waited so long.
+    // Whether the first of those that wait has waited so long, or late answers are awaited.
     fn has_waited_long(&self, pace: u64, settings: &Settings) -> bool {
+        if self.awaits_late() {
+            return true;
+        }
         match self.waiting.front() {
             Some(call) => call.paced.saturating_add(settings.call_ms) < pace,
             None => false,
@@ -310,7 +339,7 @@ impl Link {
         Some(left - waiting)
     }
 
-    /// When it fails if nothing comes, in milliseconds: its first call, or its connection, has taken too long then.
+    /// When it is late if nothing comes, in milliseconds: its first call, or its connection, has taken too long then.
     pub fn time_limit(&self, settings: &Settings) -> Option<u64>
         ensures { self.now.is_connected ≡ true → self.now.calls.sent.items ≡ [] → result ≡ None }
     {
@@ -326,16 +355,14 @@ impl Link {
         }
     }
 
-    /// Why it has failed by now, if it has taken too long.
-    pub fn lateness(&self, now: u64, settings: &Settings) -> Option<Cause>
-        ensures { IfSome result (λ cause. IsLateBy cause self.now) }
-    {
+    /// What it has waited for too long by now.
+    pub fn lateness(&self, now: u64, settings: &Settings) -> Option<Lateness> {
         match self.time_limit(settings) {
             Some(limit) if limit < now => {
                 if self.is_connected {
-                    Some(Cause::CallLate)
+                    Some(Lateness::Call)
                 } else {
-                    Some(Cause::ConnectLate)
+                    Some(Lateness::Connection)
                 }
             }
             _ => None,
@@ -370,8 +397,12 @@ impl Link {
         self.stand()
     }
 
-    /// Whether a call fails at once: the server failed too many times in a row, and either it isn't to be tried yet, or a call tries.
+    /// Whether a call fails at once: late answers are awaited; or the server failed too many times in a row, and either it isn't to be tried
+    /// yet, or a call tries.
     pub fn is_held_back(&self, now: u64, settings: &Settings) -> bool {
+        if self.awaits_late() {
+            return true;
+        }
         settings.fail_limit <= self.failures && (now < self.held_until || !self.calls.is_empty())
     }
 
@@ -395,7 +426,8 @@ impl Link {
     }
 
     /// A connection to its server is begun, at the address that its text names. Where the server is to tell its dialects, calls go out in the
-    /// classic one until it has. Where memory is refused for its end, the connection is closed. While it has one, or calls are out, none is begun.
+    /// classic one until it has. Where memory is refused for its end, the connection is closed. While it has one, or calls are out or late, none is
+    /// begun.
     ///
     /// Source: mcgate's own.
     pub fn connect<N: Net, W: Wire>(
@@ -409,7 +441,7 @@ impl Link {
     ) -> Opening
         ensures opens { OpensBy server dialect result self.old self.new (W.history wire.old) (W.history wire.new) }
     {
-        if self.conn.is_some() || !self.calls.is_empty() {
+        if self.conn.is_some() || !self.calls.is_empty() || self.awaits_late() {
             return Opening::Failed;
         }
         match wire.connect(net, server, &self.text) {
@@ -435,6 +467,7 @@ impl Link {
     ) -> Result<(), AllocError>
         requires unlinked { self.old.conn ≡ None }
         requires none_out { self.old.calls.sent.items ≡ [] }
+        requires none_late { self.old.late.items ≡ [] }
         ensures ok { OnOk result (HasNewEnd number dialect self.old self.new) }
         ensures err { OnErr result (KeepsLines self.old self.new) }
     {
@@ -502,6 +535,7 @@ impl Link {
             return false;
         }
         self.is_connected = true;
+        self.tally.note_stood();
         self.news = if self.was_down {
             Some(LinkNews::Back)
         } else {
@@ -511,14 +545,36 @@ impl Link {
         true
     }
 
-    /// The connection is of no use any more, or could not be made: the number of the one that is to be closed.
+    /// A call of it took too long, which is news.
+    pub fn turn_late(&mut self)
+        ensures { self.new ≡ record self.old { tally = self.new.tally; news = self.new.news; was_down = self.new.was_down } }
+    {
+        self.tally.note_late();
+        self.news = Some(LinkNews::Late);
+        self.was_down = true;
+    }
+
+    /// Its server has answered, after calls were late, which is news.
+    pub fn come_back(&mut self)
+        ensures { self.new ≡ record self.old { failures = self.new.failures; vain_reads = self.new.vain_reads; awaited = self.new.awaited; news = self.new.news; was_down = self.new.was_down } }
+    {
+        self.failures = 0;
+        self.vain_reads = 0;
+        self.awaited = None;
+        self.was_down = false;
+        self.news = Some(LinkNews::Back);
+    }
+
+    /// The connection is of no use any more, or could not be made: the number of the one that is to be closed. Late answers are awaited no longer.
     pub fn close(&mut self, cause: Cause, now: u64, settings: &Settings) -> Option<usize>
         ensures number { result ≡ option_map (λ x. x.number) self.old.conn }
         ensures conn { self.new.conn ≡ None }
         ensures text { self.new.text ≡ self.old.text }
         ensures calls { self.new.calls ≡ self.old.calls }
+        ensures late { self.new.late.items ≡ [] }
         ensures waiting { self.new.waiting ≡ self.old.waiting }
     {
+        self.late.clear();
         let cause = if self.is_connected {
             cause
         } else {
@@ -529,6 +585,7 @@ impl Link {
         self.is_connected = false;
         self.was_down = true;
         self.failures = self.failures.saturating_add(1);
+        self.tally.note_failed(cause);
         self.held_until = now.saturating_add(settings.retry_ms);
         self.news = Some(LinkNews::Failed(cause, self.failures));
         number

@@ -10,8 +10,6 @@ pub enum Cause {
     Unreachable,
     /// A connection took too long to stand.
     ConnectLate,
-    /// A call took too long.
-    CallLate,
     /// The server closed the connection.
     Closed,
     /// Reading or writing failed.
@@ -23,6 +21,30 @@ pub enum Cause {
     VainReads,
 }
 
+/// All causes.
+pub const CAUSES: [Cause; 6] = [
+    Cause::Unreachable,
+    Cause::ConnectLate,
+    Cause::Closed,
+    Cause::Broken,
+    Cause::Foreign,
+    Cause::VainReads,
+];
+
+impl Cause {
+    /// Its name where failures are counted.
+    pub fn name(self) -> &'static str {
+        match self {
+            Cause::Unreachable => "unreachable",
+            Cause::ConnectLate => "connect_late",
+            Cause::Closed => "closed",
+            Cause::Broken => "broken",
+            Cause::Foreign => "foreign",
+            Cause::VainReads => "vain_reads",
+        }
+    }
+}
+
 /// What happened to a server's link.
 #[derive(Clone, Copy, PartialEq, Eq)]
 pub enum LinkNews {
@@ -30,7 +52,9 @@ pub enum LinkNews {
     Opened,
     /// It failed, so many times in a row since the server last answered.
     Failed(Cause, u32),
-    /// A connection stands again.
+    /// A call took too long: its calls fail until the server has answered those that were out.
+    Late,
+    /// A connection stands again, or the server has answered all calls that were late.
     Back,
 }
 
@@ -39,7 +63,6 @@ fn words_of(cause: Cause) -> &'static str {
     match cause {
         Cause::Unreachable => "no connection could be made",
         Cause::ConnectLate => "a connection took too long to stand",
-        Cause::CallLate => "a call took too long",
         Cause::Closed => "it closed the connection",
         Cause::Broken => "reading or writing failed",
         Cause::Foreign => "it sent what is no answer to the oldest call",
@@ -51,6 +74,7 @@ impl Display for LinkNews {
     fn fmt<W: fmt::Write>(&self, f: &mut fmt::Formatter<W>) -> fmt::Result {
         match *self {
             LinkNews::Opened => f.write_str("connected"),
+            LinkNews::Late => f.write_str("late: a call took too long"),
             LinkNews::Back => f.write_str("back"),
             LinkNews::Failed(cause, times) => {
                 let words = words_of(cause);

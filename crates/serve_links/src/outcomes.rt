@@ -1,10 +1,12 @@
 //! The outcomes of a link's calls, for the core and the clients: answers settle them, or they fail.
 
-ghost use Rattle.std.specs.Prelude.{◌≡◌, ◌≢◌, true, ◌++◌, [], drop, None, IfSome, IfOk, OnOk};
+ghost use Rattle.std.specs.Prelude.{◌≡◌, ◌≢◌, ℕ, List, true, ◌++◌, [], drop, None, IfSome, IfOk, OnOk};
 ghost use Rattle.serve_wire.specs.Ends.{HoldsAnew};
 ghost use Rattle.serve_clients.specs.Agrees.{KeepsEnds};
 ghost use Rattle.serve_links.specs.Calls.{SettlesNext};
-ghost use Rattle.serve_links.specs.CoreSteps.{GoesBy, IsSettlement, Fails};
+ghost use Rattle.serve_wire.specs.Events.{Event};
+ghost use Rattle.serve_links.specs.CoreSteps.{GoesBy, IsSettlement, IsSending, Fails};
+ghost use Rattle.serve_links.specs.Story.{LineGoes};
 ghost use Rattle.core_accepted.specs.declared.served.ServedCore.{ServedCore};
 ghost use Rattle.serve_links.specs.Links.{AllFail, FailsTo, IsDown};
 ghost use Rattle.serve_links.specs.Settled.{HoldsNoAnswer, SettlesSome, SettlesFront, used_by};
@@ -88,6 +90,25 @@ pub fn fail_all(
 {
     fail_sent(&mut link.calls, core, clients)?;
     fail_waiting(link, core, clients)
+}
+
+/// The calls that are out on the link have failed, as one of them is late, and keep their places.
+pub fn fail_late(
+    link: &mut Link,
+    core: &mut ServedCore,
+    clients: &mut Clients,
+) -> Result<(), AllocError>
+    ensures goes { (at : ℕ) (h : List Event) → LineGoes IsSending at core.old h link.old core.new h link.new }
+    ensures ends { KeepsEnds clients.old clients.new }
+{
+    link.turn_late();
+    for _ in 0..link.calls.len() {
+        let Some(client) = link.fail_late(core)? else {
+            return Ok(());
+        };
+        clients.mark_settled(client)?;
+    }
+    Ok(())
 }
 
 /// What came of the answers that a link holds.

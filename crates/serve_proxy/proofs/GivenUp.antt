@@ -16,14 +16,14 @@ use Rattle.serve_links.specs.declared.calls.calls.SentCall.{SentCall}
 use Rattle.serve_links.specs.declared.link.Link.{Link}
 use Rattle.serve_links.specs.declared.news.Cause.{Cause}
 use Rattle.serve_links.specs.declared.news.Cause.TheVariants as causes
-use Rattle.serve_links.specs.Links.{vain_cause, IsLateBy}
-use Rattle.serve_links.specs.CoreSteps.{Step, Opened, NotOpened, Fed, Polled, Stopped, Settled, Gave, Closed, LeftLine, Broke, Loaded, Linked, Asked, Greeted, Spelled, Lost, Walks, AreOf, GoesBy, IsOfTurn, IsGivingUp, IsSending, Fails}
+use Rattle.serve_links.specs.Links.{vain_cause}
+use Rattle.serve_links.specs.CoreSteps.{Step, Opened, NotOpened, Fed, Polled, Stopped, Settled, Gave, Closed, LeftLine, Broke, Loaded, Linked, Asked, Greeted, Spelled, Late, CameLate, Lost, Walks, AreOf, GoesBy, IsOfTurn, IsGivingUp, IsSending, Fails}
 use Rattle.serve_links.specs.Talks.{SaidAsk, talk_in}
 use Rattle.serve_links.specs.Story.{said_asks, line_of, LineAgrees, LineLost, LineFails, ShowsWhy, LineGoesFrom, AnEnd, Agrees, AgreesBut, AllGoFrom}
 use Rattle.serve_links.proofs.LinkGoes.{as_failing, line_between, line_keeps}
 use Rattle.serve_links.proofs.Story.{go_between, all_but, but_all}
 use Rattle.serve_proxy.specs.declared.sockets.Sockets.{Sockets}
-use Rattle.serve_proxy.specs.Ends.{end_of, over_by, over_of, idle_cause, cause_after, broken_unless, IsLateAt, LineUnless, LineStandsUnless, EndsGoFrom, AgreesUnless, AllGoOn, AllGoUnless, AllGoFromUnless}
+use Rattle.serve_proxy.specs.Ends.{end_of, over_by, over_of, idle_cause, broken_unless, LineUnless, LineStandsUnless, EndsGoFrom, AgreesUnless, AllGoOn, AllGoUnless, AllGoFromUnless}
 use Rattle.serve_proxy.proofs.Going.{and_then, stays, line_lends}
 use Rattle.serve_proxy.proofs.Staying.{stay_clients}
 use Rattle.serve_proxy.proofs.Linking.{but_clients}
@@ -84,16 +84,6 @@ line_none {h} {h'} {x} {y} at v is s = subst (λ o. LineStandsUnless (over_of o)
 false_true : false ≡ true → ⊥
 false_true e = cc
 
--- a link that is late shows that
-late_shows : (cause : Cause) (at : ℕ) (past : List Step) (h : List Event) (y : Link) (conn : Conn) → IsLateBy cause y → LineAgrees at past h y → y.conn ≡ Some conn → ShowsWhy (Some cause) (talk_in past at) conn.number h
-late_shows causes.CallLate at past h y conn late a there = out_some at past h y conn a there late
-late_shows causes.ConnectLate at past h y conn late a there = tt
-late_shows causes.Unreachable at past h y conn late a there = absurd late
-late_shows causes.Closed at past h y conn late a there = absurd late
-late_shows causes.Broken at past h y conn late a there = absurd late
-late_shows causes.Foreign at past h y conn late a there = absurd late
-late_shows causes.VainReads at past h y conn late a there = absurd late
-
 -- ---- among all
 
 unless_one : (cause : Option Cause) (at : ℕ) (past : List Step) (x : AnEnd) → AgreesBut (LineUnless cause) at past x → AgreesUnless at cause past x
@@ -135,13 +125,9 @@ failing_at : (why : Option Cause) (at : ℕ) (past : List Step) (x : AnEnd) → 
 failing_at why at past x this a =
     record { orderly = a.orderly; clients = a.clients; told = a.told; links = λ j link other there. a.links j link there; this = this; gone = a.gone; shown = a.shown; shut = a.shut; unlinked = a.unlinked }
 
-pub late_fails : {Q : List Step → AnEnd → Type 0} {Is : Step → Type 0} {a b : AnEnd} (cause : Cause) (at : ℕ) → IsLateAt (Some cause) at a.links → AllGoFrom (AgreesBut (LineFails (Some cause)) at) Q Is a b → AllGoFrom Agrees Q Is a b
-late_fails {a = a} cause at late g = go_between (λ past was. failing_at (Some cause) at past a (this past was) was) (λ past was. was) g
-  where
-    this : (past : List Step) → Agrees past a → (link : Link) → slice_get a.links at ≡ Some link → LineFails (Some cause) at past a.history link
-    this past was link there =
-        let agrees = was.links at link there in
-        as_failing (Some cause) at past a.history link (λ conn is. late_shows cause at past a.history link conn (subst (λ o. IfSome o (IsLateBy cause)) there late) agrees is) agrees
+pub unconnected : {Q : List Step → AnEnd → Type 0} {Is : Step → Type 0} {a b : AnEnd} (at : ℕ) → AllGoFrom (AgreesBut (LineFails (Some causes.ConnectLate)) at) Q Is a b → AllGoFrom Agrees Q Is a b
+unconnected {a = a} at g =
+    go_between (λ past was. failing_at (Some causes.ConnectLate) at past a (λ link there. as_failing (Some causes.ConnectLate) at past a.history link (λ conn is. tt) (was.links at link there)) was) (λ past was. was) g
 
 -- or for what is no answer, or where that is wanted
 pub foreign_at : (at : ℕ) (past : List Step) (x : AnEnd) → Agrees past x → AgreesBut (LineFails (Some causes.Foreign)) at past x
@@ -169,6 +155,8 @@ fails_of why (Loaded configuration generation ∷ steps) a b kinds walks = absur
 fails_of why (Linked at dialect ∷ steps) a b kinds walks = absurd kinds.0
 fails_of why (Asked at number dialect ask ∷ steps) a b kinds walks = absurd kinds.0
 fails_of why (Greeted at dialect bytes ∷ steps) a b kinds walks = absurd kinds.0
+fails_of why (Late at number ∷ steps) a b kinds walks = absurd kinds.0
+fails_of why (CameLate at number ask answer bytes ∷ steps) a b kinds walks = absurd kinds.0
 fails_of why (Spelled at number ask answer bytes ∷ steps) a b kinds walks = absurd kinds.0
 
 -- ---- what came of a read
@@ -223,12 +211,6 @@ pub sent_not :
     {h h' : List Event} {cs cs' : Clients} {ls ls' : List Link} (at : ℕ) (has_sent : Bool) → has_sent ≡ false → EndsGoFrom Agrees (AgreesUnless at (broken_unless has_sent)) h h' cs cs' ls ls'
     → EndsGoFrom Agrees (AgreesBut (LineFails (Some causes.Broken)) at) h h' cs cs' ls ls'
 sent_not {h} {h'} {cs} {cs'} {ls} {ls'} at has_sent is did = subst (λ b. EndsGoFrom Agrees (AgreesUnless at (broken_unless b)) h h' cs cs' ls ls') is did
-
--- where it stopped nothing is to be given up
-pub idle_stopped :
-    {E : Type 0} {h h' : List Event} {cs cs' : Clients} {ls ls' : List Link} (at : ℕ) (r : Result (Option Cause) E) → IsErr r → EndsGoFrom Agrees Agrees h h' cs cs' ls ls' → EndsGoFrom Agrees (AgreesUnless at (cause_after r)) h h' cs cs' ls ls'
-idle_stopped at (Ok cause) is g = absurd (false_true is)
-idle_stopped at (Err refused) is g = g
 
 -- nothing more was done
 pub as_before : {P : List Step → AnEnd → Type 0} {Is : Step → Type 0} {a : AnEnd} → AllGoFrom P P Is a a

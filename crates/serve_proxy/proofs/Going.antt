@@ -31,7 +31,7 @@ use Rattle.serve_clients.proofs.Agreeing.{state_stays, agree_still}
 use Rattle.serve_links.specs.declared.calls.calls.SentCall.{SentCall}
 use Rattle.serve_links.specs.declared.link.Link.{Link}
 use Rattle.serve_links.specs.declared.news.Cause.{Cause}
-use Rattle.serve_links.specs.CoreSteps.{Step, Opened, NotOpened, Fed, Polled, Stopped, Settled, Gave, Closed, LeftLine, Broke, Loaded, Linked, Asked, Greeted, Spelled, Lost, Does, Walks, AreOf, GoesBy, IsOfTurn, IsFailure, IsSending, IsGivingUp, Fails}
+use Rattle.serve_links.specs.CoreSteps.{Step, Opened, NotOpened, Fed, Polled, Stopped, Settled, Gave, Closed, LeftLine, Broke, Loaded, Linked, Asked, Greeted, Spelled, Late, CameLate, Lost, Does, Walks, AreOf, GoesBy, IsOfTurn, IsFailure, IsSending, IsGivingUp, Fails}
 use Rattle.serve_links.specs.Talks.{Talk, AreDue, IsOfClients}
 use Rattle.serve_links.specs.Pieces.{FeedsHeld}
 use Rattle.serve_links.specs.Story.{fed_in, gave_in, is_open_in, is_broken_in, AgreesWith, IsTold, AreTold, TellsNone, HasOrHad, numbers_of, LineState, line_of, LineAgrees, LineLost, LineCalled, LinesAgree, OneGoes, LineGoesFrom, LineGoes, AnEnd, Agrees, AgreesGiven, AgreesBut, AgreesCalled, AgreesDue, AgreesLosing, AllGoFrom, AllGo, texts_of, AgreesSent}
@@ -206,6 +206,8 @@ IsSilent (Loaded configuration generation) = ⊥
 IsSilent (Linked at dialect) = ⊥
 IsSilent (Asked at number dialect ask) = ⊥
 IsSilent (Greeted at dialect bytes) = ⊥
+IsSilent (Late at number) = ⊥
+IsSilent (CameLate at number ask answer bytes) = ⊥
 IsSilent (Spelled at number ask answer bytes) = ⊥
 IsSilent (Lost at why) = ⊥
 
@@ -225,6 +227,8 @@ tells_none (Loaded configuration generation ∷ steps) kinds past j = absurd kin
 tells_none (Linked at dialect ∷ steps) kinds past j = absurd kinds.0
 tells_none (Asked at number dialect ask ∷ steps) kinds past j = absurd kinds.0
 tells_none (Greeted at dialect bytes ∷ steps) kinds past j = absurd kinds.0
+tells_none (Late at number ∷ steps) kinds past j = absurd kinds.0
+tells_none (CameLate at number ask answer bytes ∷ steps) kinds past j = absurd kinds.0
 tells_none (Spelled at number ask answer bytes ∷ steps) kinds past j = absurd kinds.0
 tells_none (Lost at why ∷ steps) kinds past j = absurd kinds.0
 
@@ -247,6 +251,8 @@ silent_turn (step ∷ steps) kinds = (of_turn step kinds.0, silent_turn steps ki
     of_turn (Linked at dialect) is = tt
     of_turn (Asked at number dialect ask) is = tt
     of_turn (Greeted at dialect bytes) is = tt
+    of_turn (Late at number) is = tt
+    of_turn (CameLate at number ask answer bytes) is = tt
     of_turn (Spelled at number ask answer bytes) is = tt
     of_turn (Lost at why) is = absurd is
 
@@ -269,6 +275,8 @@ silent_plain (step ∷ steps) kinds = (plain step kinds.0, silent_plain steps ki
     plain (Linked at dialect) is = is
     plain (Asked at number dialect ask) is = is
     plain (Greeted at dialect bytes) is = is
+    plain (Late at number) is = is
+    plain (CameLate at number ask answer bytes) is = is
     plain (Spelled at number ask answer bytes) is = is
     plain (Lost at why) is = is
 
@@ -291,6 +299,8 @@ silent_clients (step ∷ steps) kinds = (of_clients step kinds.0, silent_clients
     of_clients (Linked at dialect) is = is
     of_clients (Asked at number dialect ask) is = is
     of_clients (Greeted at dialect bytes) is = is
+    of_clients (Late at number) is = is
+    of_clients (CameLate at number ask answer bytes) is = is
     of_clients (Spelled at number ask answer bytes) is = is
     of_clients (Lost at why) is = is
 
@@ -313,6 +323,8 @@ fails_send (step ∷ steps) kinds = (sends step kinds.0, fails_send steps kinds.
     sends (Linked at dialect) is = tt
     sends (Asked at number dialect ask) is = tt
     sends (Greeted at dialect bytes) is = is
+    sends (Late at number) is = tt
+    sends (CameLate at number ask answer bytes) is = is
     sends (Spelled at number ask answer bytes) is = is
     sends (Lost at why) is = absurd is
 
@@ -337,6 +349,8 @@ gives_up_send cause (step ∷ steps) kinds = (sends step kinds.0, gives_up_send 
     sends (Linked at dialect) is = tt
     sends (Asked at number dialect ask) is = tt
     sends (Greeted at dialect bytes) is = is
+    sends (Late at number) is = tt
+    sends (CameLate at number ask answer bytes) is = is
     sends (Spelled at number ask answer bytes) is = is
 
 sends_turn : (steps : List Step) → AreOf IsSending steps → AreOf IsOfTurn steps
@@ -358,6 +372,8 @@ sends_turn (step ∷ steps) kinds = (of_turn step kinds.0, sends_turn steps kind
     of_turn (Linked at dialect) is = tt
     of_turn (Asked at number dialect ask) is = tt
     of_turn (Greeted at dialect bytes) is = tt
+    of_turn (Late at number) is = tt
+    of_turn (CameLate at number ask answer bytes) is = tt
     of_turn (Spelled at number ask answer bytes) is = tt
     of_turn (Lost at why) is = is
 
@@ -467,7 +483,7 @@ refused_go {h} {cs} {ls} number a b is =
       kinds = (refl, tt);
       walks = (a, refl, is);
       agree = λ past due. let was = due.0 in record {
-        orderly = (inr due.1, was.orderly);
+        orderly = (inr (inl due.1), was.orderly);
         clients = agree_told h (fed_in past) (gave_in past) (fed_in (step ∷ past)) (gave_in (step ∷ past)) cs (λ j. (refl, refl)) was.clients;
         told = all_told past (step ∷ []) cs (λ j. (refl, refl, refl, refl)) was.told;
         links = lines_told h (step ∷ []) past ls (refl, tt) was.links;

@@ -1,4 +1,4 @@
--- To which client most is to be sent.
+-- For which client most is held.
 use Rattle.std.proofs.Common.{◌≡◌, ◌≢◌, ◌⊎◌, inl, inr, ℕ, ◌+◌, ◌-◌, ◌^◌, ◌<◌, ◌≤◌, min, Bool, List, true, false, if◌then◌else◌, Option, Some, None, length, refl, sym, ap, ◌∙◌, subst, arith}
 use Rattle.std.proofs.lemmas.Bool.{cases_eq, cases_lt, leb-false}
 use Rattle.std.proofs.lemmas.Option.{slice_get_past}
@@ -8,39 +8,23 @@ use Rattle.serve_clients.specs.declared.clients.Client.{Client}
 use Rattle.serve_clients.specs.declared.clients.Clients.{Clients}
 use Rattle.serve_clients.specs.Marks.{client_of, AreAlike}
 use Rattle.serve_clients.specs.Agrees.{said_of, KeepsEnds}
-use Rattle.serve_proxy.specs.Stalls.{unsent_of, unsent_at, HasMost, OnlyMost, greater_of}
+use Rattle.serve_clients.specs.Holdings.{held_of, held_at}
+use Rattle.serve_proxy.specs.Stalls.{HasMost, OnlyMost, greater_of}
 
--- of the clients below this number, one to which most is to be sent, and how much
+-- of the clients below this number, one for which most is held, and how much
 abbrev pub IsMostBelow : Clients → ℕ → Option (ℕ × ℕ) → Type 0
 IsMostBelow clients n None = n ≡ 0
-IsMostBelow clients n (Some best) = (best.1 ≡ unsent_at clients best.0) × ((other : ℕ) → other < n → unsent_at clients other ≤ best.1)
-
-none_some : {A : Type 0} {x : A} → None ≡ Some x → ⊥
-none_some e = cc
-
-same_some : {A : Type 0} {x y : A} → Some x ≡ Some y → x ≡ y
-same_some e = cc
-
--- where its end is the one that it had, as much is to be sent to a client
-same_unsent : (o o' : Option Client) → option_map said_of o' ≡ option_map said_of o → unsent_of o' ≡ unsent_of o
-same_unsent None None e = refl
-same_unsent (Some x) None e = absurd (none_some e)
-same_unsent None (Some y) e = absurd (none_some (sym e))
-same_unsent (Some x) (Some y) e = ap (λ (s : ℕ × List ℕ × List ℕ × Bool × Bool). min (length s.2) (2 ^ 64 - 1)) (same_some e)
+IsMostBelow clients n (Some best) = (best.1 ≡ held_at clients best.0) × ((other : ℕ) → other < n → held_at clients other ≤ best.1)
 
 -- and one more
-pub most_more :
-    (clients now : Clients) (n count : ℕ) (best best' : Option (ℕ × ℕ)) → KeepsEnds clients now → count ≡ unsent_at now n → best' ≡ greater_of best n count → IsMostBelow clients n best → IsMostBelow clients (n + 1) best'
-most_more clients now n count best best' keeps is new was = subst (IsMostBelow clients (n + 1)) (sym new) (by best was)
+pub most_more : (clients : Clients) (n count : ℕ) (best best' : Option (ℕ × ℕ)) → count ≡ held_at clients n → best' ≡ greater_of best n count → IsMostBelow clients n best → IsMostBelow clients (n + 1) best'
+most_more clients n count best best' here new was = subst (IsMostBelow clients (n + 1)) (sym new) (by best was)
   where
-    here : count ≡ unsent_at clients n
-    here = is ∙ same_unsent (client_of clients n) (client_of now n) (keeps n)
-
-    up_to : (most : ℕ) → count ≤ most → ((other : ℕ) → other < n → unsent_at clients other ≤ most) → (other : ℕ) → other < n + 1 → unsent_at clients other ≤ most
+    up_to : (most : ℕ) → count ≤ most → ((other : ℕ) → other < n → held_at clients other ≤ most) → (other : ℕ) → other < n + 1 → held_at clients other ≤ most
     up_to most it others other below = split (cases_eq other n)
       where
-        split : (other ≡ n) ⊎ (other ≢ n) → unsent_at clients other ≤ most
-        split (inl e) = subst (λ k. unsent_at clients k ≤ most) (sym e) (subst (λ k. k ≤ most) here it)
+        split : (other ≡ n) ⊎ (other ≢ n) → held_at clients other ≤ most
+        split (inl e) = subst (λ k. held_at clients k ≤ most) (sym e) (subst (λ k. k ≤ most) here it)
         split (inr e) = others other (omega arith)
 
     by : (best : Option (ℕ × ℕ)) → IsMostBelow clients n best → IsMostBelow clients (n + 1) (greater_of best n count)
@@ -55,9 +39,9 @@ most_more clients now n count best best' keeps is new was = subst (IsMostBelow c
 most_there : (clients : Clients) (n : ℕ) (best : ℕ × ℕ) → length clients.all.items ≤ n → IsMostBelow clients n (Some best) → HasMost clients best.0
 most_there clients n best all was other = split (cases_lt other n)
   where
-    split : (other < n) ⊎ (n ≤ other) → unsent_at clients other ≤ unsent_at clients best.0
-    split (inl below) = subst (λ k. unsent_at clients other ≤ k) was.0 (was.1 other below)
-    split (inr above) = subst (λ o. unsent_of (option_flatten o) ≤ unsent_at clients best.0) (sym (slice_get_past clients.all.items other (omega arith))) (omega arith)
+    split : (other < n) ⊎ (n ≤ other) → held_at clients other ≤ held_at clients best.0
+    split (inl below) = subst (λ k. held_at clients other ≤ k) was.0 (was.1 other below)
+    split (inr above) = subst (λ o. held_of (option_flatten o) ≤ held_at clients best.0) (sym (slice_get_past clients.all.items other (omega arith))) (omega arith)
 
 pub most_of_all : (clients : Clients) (n : ℕ) (best : Option (ℕ × ℕ)) → length clients.all.items ≤ n → IsMostBelow clients n best → IfSome best (λ found. HasMost clients found.0)
 most_of_all clients n None all was = tt

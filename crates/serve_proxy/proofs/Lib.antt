@@ -11,3 +11,5 @@ pub mod Linking
 pub mod GivenUp
 pub mod Stalling
 pub mod Greatest
+pub mod Sparing
+pub mod Refusing

@@ -35,7 +35,7 @@ use Rattle.serve_links.specs.Settled.{SettlesSome, SettlesFront}
 use Rattle.serve_links.specs.Links.{IsTaken}
 use Rattle.serve_links.specs.Lines.{IsNewEnd, OpensBy}
 use Rattle.serve_links.specs.Talks.{SaidAsk, talk_in, IsCalledIn}
-use Rattle.serve_links.specs.Story.{LineState, line_of, said_asks, numbers_of, MayGo, LineAgrees, LineLost, LineGoesFrom, LineGoes, AnEnd, Agrees, AgreesBut, AgreesCalled, AgreesSent, AllGoFrom, fed_in, gave_in}
+use Rattle.serve_links.specs.Story.{LineState, line_of, said_asks, said_late, numbers_of, MayGo, LineAgrees, LineLost, LineGoesFrom, LineGoes, AnEnd, Agrees, AgreesBut, AgreesCalled, AgreesSent, AllGoFrom, fed_in, gave_in}
 use Rattle.serve_links.proofs.LinkGoes.{as_lost, line_between, line_settles, line_loses, line_asks, line_waits, line_takes}
 use Rattle.serve_links.proofs.Story.{go_between}
 use Rattle.serve_links.proofs.Due.{none_more, one_due}
@@ -56,10 +56,10 @@ same_state c d number held unsent =
     ∙ ap (λ (l : List ℕ). let s : ℕ × List ℕ × List ℕ = (c.number, c.held.items, l) in s) unsent
 
 line_parts :
-    {t t' : List ℕ} {o o' : Option (ℕ × List ℕ × List ℕ)} {a a' : List SaidAsk} (w : List SentCall) (b : Bool) (l : Dialect) → t' ≡ t → o' ≡ o → a' ≡ a → ◌≡◌ {A = LineState} (t', o', a', w, b, l) (t, o, a, w, b, l)
-line_parts {t} {t'} {o} {o'} {a} {a'} w b l p q r =
-    ap (λ (x : List ℕ). let s : LineState = (x, o', a', w, b, l) in s) p ∙ ap (λ (x : Option (ℕ × List ℕ × List ℕ)). let s : LineState = (t, x, a', w, b, l) in s) q
-    ∙ ap (λ (x : List SaidAsk). let s : LineState = (t, o, x, w, b, l) in s) r
+    {t t' : List ℕ} {o o' : Option (ℕ × List ℕ × List ℕ)} {a a' : List SaidAsk} (w : List SentCall) (b : Bool) (l : Dialect) (e : List SaidAsk) → t' ≡ t → o' ≡ o → a' ≡ a → ◌≡◌ {A = LineState} (t', o', a', w, b, l, e) (t, o, a, w, b, l, e)
+line_parts {t} {t'} {o} {o'} {a} {a'} w b l e p q r =
+    ap (λ (x : List ℕ). let s : LineState = (x, o', a', w, b, l, e) in s) p ∙ ap (λ (x : Option (ℕ × List ℕ × List ℕ)). let s : LineState = (t, x, a', w, b, l, e) in s) q
+    ∙ ap (λ (x : List SaidAsk). let s : LineState = (t, o, x, w, b, l, e) in s) r
 
 -- a link whose end and calls are others, with the same in them
 pub line_same :
@@ -67,24 +67,24 @@ pub line_same :
     → line_of y ≡ line_of x
 line_same x y c d was is number held unsent sent =
     ap line_of is
-    ∙ line_parts x.waiting.items x.awaits_dialect x.dialect refl (ap (λ (s : ℕ × List ℕ × List ℕ). Some s) (same_state c d number held unsent) ∙ sym (ap (option_map {U = ℕ × List ℕ × List ℕ} conn_state) was)) (ap said_asks sent)
+    ∙ line_parts x.waiting.items x.awaits_dialect x.dialect (said_late x.late.items) refl (ap (λ (s : ℕ × List ℕ × List ℕ). Some s) (same_state c d number held unsent) ∙ sym (ap (option_map {U = ℕ × List ℕ × List ℕ} conn_state) was)) (ap said_asks sent)
 
 -- so has one that has the same calls in others
 pub line_calls : (x y : Link) → y ≡ record x { calls = y.calls } → y.calls.sent.items ≡ x.calls.sent.items → line_of y ≡ line_of x
-line_calls x y is sent = ap line_of is ∙ line_parts x.waiting.items x.awaits_dialect x.dialect refl refl (ap said_asks sent)
+line_calls x y is sent = ap line_of is ∙ line_parts x.waiting.items x.awaits_dialect x.dialect (said_late x.late.items) refl refl (ap said_asks sent)
 
 -- and one for which as many calls wait
 pub line_waiting : (x y : Link) → y ≡ record x { waiting = y.waiting } → y.waiting.items ≡ x.waiting.items → line_of y ≡ line_of x
 line_waiting x y is waiting =
-    ap line_of is ∙ ap (λ (w : List SentCall). let s : LineState = (x.text.items, option_map {U = ℕ × List ℕ × List ℕ} conn_state x.conn, said_asks x.calls.sent.items, w, x.awaits_dialect, x.dialect) in s) waiting
+    ap line_of is ∙ ap (λ (w : List SentCall). let s : LineState = (x.text.items, option_map {U = ℕ × List ℕ × List ℕ} conn_state x.conn, said_asks x.calls.sent.items, w, x.awaits_dialect, x.dialect, said_late x.late.items) in s) waiting
 
 -- ---- calls that are handed over
 
 -- it is asked
 pub asked :
-    (x y : Link) (c d : Conn) (call : SentCall) → x.conn ≡ Some c → y ≡ record x { calls = y.calls; conn = Some d } → d ≡ record c { unsent = d.unsent }
+    (x y : Link) (c d : Conn) (call : SentCall) → x.conn ≡ Some c → x.late.items ≡ [] → y ≡ record x { calls = y.calls; conn = Some d } → d ≡ record c { unsent = d.unsent }
     → (y.calls.sent.items ≡ x.calls.sent.items ++ call ∷ []) × (bytes_of d.unsent ≡ bytes_of c.unsent ++ spelling_of (asked_in call.dialect call.ticket.ask)) → LineTakes call x y
-asked x y c d call was is same did = λ at h core. line_asks x y c d call was is same did.0 did.1
+asked x y c d call was alone is same did = λ at h core. line_asks x y c d call was is same alone did.0 did.1
 
 -- it is given back
 pub not_asked :
@@ -175,18 +175,18 @@ line_may_lose {at = at} {h' = h'} {y = y} g = line_between (λ past was. was) (�
 
 -- answers settled calls, and what is left is held
 pub settled :
-    {at : ℕ} {core core' : ServedCore} {h : List Event} (x y : Link) (c d : Conn) (sent : List SentCall) → x.conn ≡ Some c → x.awaits_dialect ≡ false → y.conn ≡ Some d → y.text.items ≡ x.text.items → y.waiting.items ≡ x.waiting.items
-    → y.awaits_dialect ≡ x.awaits_dialect → y.dialect ≡ x.dialect → y.calls.sent.items ≡ sent → HoldsAnew c d → SettlesSome x.calls.sent.items c.held.items core sent d.held.items core' → LineGoes IsOfTurn at core h x core' h y
-settled {core = core} {core' = core'} x y c d sent was off is text waiting awaits speaks same holds s =
-    line_settles x y c d was is off text waiting awaits speaks (ap (λ (z : Conn). z.number) holds) (ap (λ (z : Conn). bytes_of z.unsent) holds)
+    {at : ℕ} {core core' : ServedCore} {h : List Event} (x y : Link) (c d : Conn) (sent : List SentCall) → x.conn ≡ Some c → x.awaits_dialect ≡ false → x.late.items ≡ [] → y.conn ≡ Some d → y.text.items ≡ x.text.items → y.waiting.items ≡ x.waiting.items
+    → y.awaits_dialect ≡ x.awaits_dialect → y.dialect ≡ x.dialect → y.late.items ≡ x.late.items → y.calls.sent.items ≡ sent → HoldsAnew c d → SettlesSome x.calls.sent.items c.held.items core sent d.held.items core' → LineGoes IsOfTurn at core h x core' h y
+settled {core = core} {core' = core'} x y c d sent was off alone is text waiting awaits speaks late same holds s =
+    line_settles x y c d was is off alone text waiting awaits speaks late (ap (λ (z : Conn). z.number) holds) (ap (λ (z : Conn). bytes_of z.unsent) holds)
     (subst (λ (l : List SentCall). SettlesSome x.calls.sent.items c.held.items core l d.held.items core') (sym same) s)
 
 -- or may be lost
 pub settled_some :
-    {at : ℕ} {core core' : ServedCore} {h : List Event} (x y : Link) (c d : Conn) (sent : List SentCall) → x.conn ≡ Some c → x.awaits_dialect ≡ false → y.conn ≡ Some d → y.text.items ≡ x.text.items → y.waiting.items ≡ x.waiting.items
-    → y.awaits_dialect ≡ x.awaits_dialect → y.dialect ≡ x.dialect → y.calls.sent.items ≡ sent → HoldsAnew c d → SettlesFront x.calls.sent.items c.held.items core sent core' → LineGoesFrom LineAgrees LineLost IsOfTurn at core h x core' h y
-settled_some {core = core} {core' = core'} x y c d sent was off is text waiting awaits speaks same holds s =
-    line_loses x y c d s.0 was is off text waiting awaits speaks (ap (λ (z : Conn). z.number) holds) (ap (λ (z : Conn). bytes_of z.unsent) holds)
+    {at : ℕ} {core core' : ServedCore} {h : List Event} (x y : Link) (c d : Conn) (sent : List SentCall) → x.conn ≡ Some c → x.awaits_dialect ≡ false → x.late.items ≡ [] → y.conn ≡ Some d → y.text.items ≡ x.text.items → y.waiting.items ≡ x.waiting.items
+    → y.awaits_dialect ≡ x.awaits_dialect → y.dialect ≡ x.dialect → y.late.items ≡ x.late.items → y.calls.sent.items ≡ sent → HoldsAnew c d → SettlesFront x.calls.sent.items c.held.items core sent core' → LineGoesFrom LineAgrees LineLost IsOfTurn at core h x core' h y
+settled_some {core = core} {core' = core'} x y c d sent was off alone is text waiting awaits speaks late same holds s =
+    line_loses x y c d s.0 was is off alone text waiting awaits speaks late (ap (λ (z : Conn). z.number) holds) (ap (λ (z : Conn). bytes_of z.unsent) holds)
     (subst (λ (l : List SentCall). SettlesSome x.calls.sent.items c.held.items core l s.0 core') (sym same) s.1)
 
 -- ---- what came of a read

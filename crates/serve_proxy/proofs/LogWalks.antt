@@ -22,7 +22,7 @@ use Rattle.core_proxy.specs.declared.note.Poll.TheVariants as polls
 use Rattle.core_accepted.specs.declared.served.ServedCore.{ServedCore}
 use Rattle.core_accepted.specs.Logs.{MayHaveLed, LogsGoBy, IsFreshLog, BeginSo, fed}
 use Rattle.core_accepted.specs.Results.{PollStops, TakesResult, SettleStops}
-use Rattle.serve_links.specs.CoreSteps.{Step, Opened, NotOpened, Fed, Polled, Stopped, Settled, Gave, Closed, LeftLine, Broke, Loaded, Linked, Asked, Greeted, Spelled, Lost, Does, Walks}
+use Rattle.serve_links.specs.CoreSteps.{Step, Opened, NotOpened, Fed, Polled, Stopped, Settled, Gave, Closed, LeftLine, Broke, Loaded, Linked, Asked, Greeted, Spelled, Late, CameLate, Lost, Does, Walks}
 use Rattle.core_accepted.proofs.Keeping.{since_are_fresh}
 use Rattle.core_accepted.proofs.Losses.{servers_may_lose}
 use Rattle.serve_links.proofs.Walked.{walks_keep_since}
@@ -201,6 +201,8 @@ module _ (opening : ℕ → List ℕ → Option Item) (past : List (Entry dialec
   step_goes (Linked at _) does = by_none opening past old new led Holds holds does
   step_goes (Asked at number _ ask) does = by_none opening past old new led Holds holds does
   step_goes (Greeted at _ bytes) does = by_none opening past old new led Holds holds does
+  step_goes (Late at number) does = by_none opening past old new led Holds holds does
+  step_goes (CameLate at number ask answer bytes) does = by_none opening past old new led Holds holds does
   step_goes (Spelled at number ask answer bytes) does = by_none opening past old new led Holds holds does.0
   step_goes (Lost at why) does = by_none opening past old new led Holds holds does
 

@@ -1,7 +1,6 @@
 -- What stays of the ends of a proxy, and the links one by one.
 use Rattle.std.proofs.Common.{◌≡◌, ℕ, zero, suc, Bool, true, false, List, [], ◌∷◌, get_or, Option, Some, None, Result, Ok, Err, refl, sym, ap, ◌∙◌, subst}
 use Rattle.std.proofs.Math.ListN.{set}
-use Rattle.std.specs.Prelude.{IsErr}
 use Rattle.wire_parts.specs.Sending.{bytes_of}
 use Rattle.serve_wire.specs.Events.{Event}
 use Rattle.serve_wire.specs.Events.{is_over}
@@ -25,7 +24,7 @@ use Rattle.std.specs.Option.{is_some}
 use Rattle.serve_links.specs.Lines.{SameLine, KeepsLines, OpensBy}
 use Rattle.serve_links.specs.Story.{line_of}
 use Rattle.serve_links.proofs.LinkGoes.{keeps_line, line_keeps, line_reads, line_reads_over, line_sends, line_sends_over, line_opens as line_begins, line_shuts}
-use Rattle.serve_proxy.specs.Ends.{lines_of, over_by, over_after, broken_unless, IsQuiet, EndsStay, LineStands, LineStandsUnless}
+use Rattle.serve_proxy.specs.Ends.{lines_of, over_by, broken_unless, IsQuiet, EndsStay, LineStands, LineStandsUnless}
 
 -- ---- lines of links
 
@@ -60,14 +59,6 @@ pub line_unread :
     (at : ℕ) (h h' : List Event) (x y : Link) (c d : Conn) → x.conn ≡ Some c → y ≡ record x { conn = Some d } → d.number ≡ c.number → bytes_of d.unsent ≡ bytes_of c.unsent → ReadsOn c.number c.held.items d.held.items h h' → h' ≡ h
     → LineStands at h h' x y
 line_unread at h h' x y c d was is number unsent r same = λ core. line_reads x y c d was is number unsent r (ap (is_over c.number) same)
-
-false_true : false ≡ true → ⊥
-false_true e = cc
-
--- where it stopped nothing is over
-pub none_after : {E : Type 0} (r : Result (Option Got) E) → IsErr r → over_after r ≡ None
-none_after (Ok got) is = absurd (false_true is)
-none_after (Err refused) is = refl
 
 -- what was to be sent went, as far as it was taken, and it stands still or has failed
 pub line_sent :

@@ -19,7 +19,6 @@ use Rattle.serve_links.specs.declared.news.Cause.{Cause}
 use Rattle.serve_links.specs.declared.news.Cause.TheVariants as causes
 use Rattle.serve_wire.specs.declared.conn.conn.Got.{Got}
 use Rattle.serve_wire.specs.declared.conn.conn.Got.TheVariants as got
-use Rattle.serve_links.specs.Links.{IsLateBy}
 use Rattle.serve_proxy.specs.declared.sockets.Sockets.{Sockets}
 use Rattle.serve_links.specs.Story.{LineState, line_of, LineAgrees, LineLost, LineFails, LineCalled, LineGoesFrom, LineGoes, OneGoes, AnEnd, Agrees, AgreesGiven, AgreesBut, AgreesCalled, AgreesSent, AgreesLosing, AllGoFrom, AllGo, texts_of}
 
@@ -88,10 +87,6 @@ abbrev pub over_of : Option Got → Option Cause
 over_of None = None
 over_of (Some what) = over_by what
 
-abbrev pub over_after : {E : Type 0} → Result (Option Got) E → Option Cause
-over_after (Ok read) = over_of read
-over_after (Err refused) = None
-
 -- why a link is to be given up on which nothing is out: nothing may come over it
 abbrev pub idle_cause : Got → Option Cause
 idle_cause got.Bytes = Some causes.Foreign
@@ -100,19 +95,10 @@ idle_cause got.Full = Some causes.Foreign
 idle_cause got.Ended = Some causes.Closed
 idle_cause got.Failed = Some causes.Broken
 
--- why it is to be given up by what was said of that, if something was
-abbrev pub cause_after : {E : Type 0} → Result (Option Cause) E → Option Cause
-cause_after (Ok cause) = cause
-cause_after (Err refused) = None
-
 -- and by whether what was to be sent could be written
 abbrev pub broken_unless : Bool → Option Cause
 broken_unless true = None
 broken_unless false = Some causes.Broken
-
--- the link at this place is late for this cause, if there is one
-abbrev pub IsLateAt : Option Cause → ℕ → List Link → Type 0
-IsLateAt cause at links = IfSome cause (λ why. IfSome (slice_get links at) (IsLateBy why))
 
 -- wherever it stands, a link takes over this call, which may go to its server
 abbrev pub LineTakes : SentCall → Link → Link → Type 0
@@ -238,7 +224,7 @@ HasNoConns h = (conn : ℕ) → (role conn h ≡ None) × (is_open conn h ≡ fa
 
 -- the line of a link to the server whose address this text names, without a connection, and without calls
 abbrev pub down_line : List ℕ → LineState
-down_line text = (text, None, [], [], false, Classic)
+down_line text = (text, None, [], [], false, Classic, [])
 
 -- behind the links that were there, which have the lines that they had, come links to these texts, without a connection
 abbrev pub AddsLines : List Link → List Link → Type 0

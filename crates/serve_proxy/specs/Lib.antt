@@ -3,3 +3,5 @@ pub mod LogsGoOn
 pub mod Beginning
 pub mod Stillness
 pub mod Stalls
+pub mod Spares
+pub mod Budgets

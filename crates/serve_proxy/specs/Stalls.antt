@@ -1,11 +1,12 @@
--- Clients that take nothing of much that is to be sent to them. Source: mcgate's own.
-use Rattle.std.specs.Prelude.{◌≡◌, ◌⊎◌, ℕ, ◌+◌, ◌-◌, ◌^◌, ◌<◌, ◌≤◌, min, length, nat_lt, nat_le, Option, Some, None, IfSome, if◌then◌else◌, slice_get}
+-- Clients that take nothing of much that is to be sent to them, and those for which most is held. Source: mcgate's own.
+use Rattle.std.specs.Prelude.{◌≡◌, ◌⊎◌, ℕ, ◌+◌, ◌<◌, ◌≤◌, length, nat_lt, nat_le, Option, Some, None, IfSome, if◌then◌else◌, slice_get}
 use Rattle.std.specs.Option.{option_map, option_flatten}
 use Rattle.wire_parts.specs.Sending.{bytes_of}
 use Rattle.serve_clients.specs.declared.clients.Client.{Client}
 use Rattle.serve_clients.specs.declared.clients.Clients.{Clients}
 use Rattle.serve_clients.specs.Marks.{client_of}
 use Rattle.serve_clients.specs.Agrees.{said_of}
+use Rattle.serve_clients.specs.Holdings.{held_at}
 use Rattle.serve_proxy.specs.declared.stalls.TheConstants.{MUCH}
 use Rattle.serve_proxy.specs.declared.stalls.Stalls.{Stalls}
 
@@ -32,23 +33,15 @@ abbrev pub OnlyStalled : (now : ℕ) → Stalls → Clients → Clients → Type
 OnlyStalled now stalls old new =
     (id : ℕ) → (option_map said_of (client_of new id) ≡ option_map said_of (client_of old id)) ⊎ IfSome (client_of old id) (HasStalled stalls.ms now (since_of stalls id))
 
--- how many bytes are to be sent to the client of this id, so far as they can be counted
-abbrev pub unsent_of : Option Client → ℕ
-unsent_of None = 0
-unsent_of (Some client) = min (length (bytes_of client.conn.unsent)) (2 ^ 64 - 1)
-
-abbrev pub unsent_at : Clients → ℕ → ℕ
-unsent_at clients id = unsent_of (client_of clients id)
-
--- to none is more to be sent than to the client of this id
+-- for none more bytes are held than for the client of this id
 abbrev pub HasMost : Clients → ℕ → Type 0
-HasMost clients id = (other : ℕ) → unsent_at clients other ≤ unsent_at clients id
+HasMost clients id = (other : ℕ) → held_at clients other ≤ held_at clients id
 
--- of a client to which most was to be sent so far and this one, that to which more is, and how much
+-- of a client for which most was held so far and this one, that for which more is, and how much
 abbrev pub greater_of : Option (ℕ × ℕ) → ℕ → ℕ → Option (ℕ × ℕ)
 greater_of None id count = Some (id, count)
 greater_of (Some best) id count = if nat_le count best.1 then Some best else Some (id, count)
 
--- each client has the end that it had, or to none was more to be sent
+-- each client has the end that it had, or for none was more held
 abbrev pub OnlyMost : Clients → Clients → Type 0
 OnlyMost old new = (id : ℕ) → (option_map said_of (client_of new id) ≡ option_map said_of (client_of old id)) ⊎ HasMost old id

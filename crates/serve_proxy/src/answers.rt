@@ -1,16 +1,16 @@
 //! Links are read, and whole answers settle the calls that are out.
 
-ghost use Rattle.std.specs.Prelude.{◌≡◌, ℕ, false, IfOk};
+ghost use Rattle.std.specs.Prelude.{◌≡◌, ℕ, [], false, IfOk};
 ghost use Rattle.serve_clients.specs.Agrees.{KeepsEnds};
 ghost use Rattle.serve_links.specs.Story.{line_of};
-ghost use Rattle.serve_proxy.specs.Ends.{LineStandsUnless, LineGoesUnless, LineGoesLosing, over_by, over_after, AgreesUnless, Stay, GoAloneUnless, AllFailOn, AllGoOr, AllGoUnless, AllGoFromUnless};
+ghost use Rattle.serve_proxy.specs.Ends.{LineStandsUnless, LineGoesUnless, LineGoesLosing, over_by, over_of, AgreesUnless, Stay, GoAloneUnless, AllFailOn, AllGoOr, AllGoUnless, AllGoFromUnless};
 
 use crate::calls::begin_settled;
 use crate::failing::fail_link;
 use crate::sockets::Sockets;
 use core_accepted::ServedCore;
 use serve_clients::Clients;
-use serve_links::{Cause, KEPT_ROOM, Link, settle_held, vain};
+use serve_links::{Cause, KEPT_ROOM, LateEnd, Link, settle_held, vain};
 use serve_wire::Wire;
 use serve_wire::conn::Got;
 use std::alloc::AllocError;
@@ -63,7 +63,7 @@ fn read_link<W: Wire>(
 ) -> io::Result<Option<Cause>>
     ensures ends { AllGoUnless at result W.history core.old sockets.old core.new sockets.new }
 {
-    match sockets.read_link_once(at)? {
+    match sockets.read_link_once(at) {
         Some(got) => settle_read(core, sockets, at, got),
         None => Ok(None),
     }
@@ -124,7 +124,7 @@ fn settle_line(
     ensures ends { KeepsEnds clients.old clients.new }
 {
     if !link.awaits_dialect {
-        return settle_all(link, core, clients, is_freed, false, polls);
+        return settle_after_late(link, core, clients, is_freed, false, polls);
     }
     if !link.learn() {
         return Ok(Some(Cause::Foreign));
@@ -132,7 +132,31 @@ fn settle_line(
     if link.awaits_dialect {
         return Ok(vain(link.has_read(false, polls)));
     }
-    settle_all(link, core, clients, is_freed, true, polls)
+    settle_after_late(link, core, clients, is_freed, true, polls)
+}
+
+// Late answers come before all others, and are thrown away. Why the link fails by that, if it does.
+fn settle_after_late(
+    link: &mut Link,
+    core: &mut ServedCore,
+    clients: &mut Clients,
+    is_freed: &mut bool,
+    has_answered: bool,
+    polls: Option<u32>,
+) -> Result<Option<Cause>, AllocError>
+    requires { link.old.awaits_dialect ≡ false }
+    ensures goes { IfOk result (λ cause. LineGoesUnless cause core.old link.old core.new link.new) }
+    ensures lost { LineGoesLosing core.old link.old core.new link.new }
+    ensures ends { KeepsEnds clients.old clients.new }
+{
+    if !link.awaits_late() {
+        return settle_all(link, core, clients, is_freed, has_answered, polls);
+    }
+    match link.throw_late() {
+        LateEnd::Over => settle_all(link, core, clients, is_freed, true, polls),
+        LateEnd::More => Ok(None),
+        LateEnd::Foreign => Ok(Some(Cause::Foreign)),
+    }
 }
 
 // All whole answers are settled, after another whole answer or not. Why the link fails by that, if it does.
@@ -144,7 +168,8 @@ fn settle_all(
     has_answered: bool,
     polls: Option<u32>,
 ) -> Result<Option<Cause>, AllocError>
-    requires { link.old.awaits_dialect ≡ false }
+    requires told { link.old.awaits_dialect ≡ false }
+    requires alone { link.old.late.items ≡ [] }
     ensures goes { IfOk result (λ cause. LineGoesUnless cause core.old link.old core.new link.new) }
     ensures lost { LineGoesLosing core.old link.old core.new link.new }
     ensures ends { KeepsEnds clients.old clients.new }
@@ -163,12 +188,12 @@ fn settle_all(
 
 impl<W: Wire> Sockets<W> {
     // One read of the link, if something may have come over it: what it gave.
-    fn read_link_once(&mut self, at: usize) -> Result<Option<Got>, AllocError>
-        ensures ends { GoAloneUnless at (over_after result) W.history self.old self.new }
+    fn read_link_once(&mut self, at: usize) -> Option<Got>
+        ensures ends { GoAloneUnless at (over_of result) W.history self.old self.new }
     {
         match self.links.all.get_mut(at) {
             Some(link) => read_line(link, &mut self.wire),
-            None => Ok(None),
+            None => None,
         }
     }
 
@@ -197,18 +222,21 @@ impl<W: Wire> Sockets<W> {
     }
 }
 
-/// One read of the link, if something may have come over its connection: what it gave.
-pub fn read_line<W: Wire>(link: &mut Link, wire: &mut W) -> Result<Option<Got>, AllocError>
-    ensures stands { (at : ℕ) → LineStandsUnless (over_after result) at (W.history wire.old) (W.history wire.new) link.old link.new }
+/// One read of the link, if something may have come over its connection: what it gave. What comes is too much where memory is refused for it.
+pub fn read_line<W: Wire>(link: &mut Link, wire: &mut W) -> Option<Got>
+    ensures stands { (at : ℕ) → LineStandsUnless (over_of result) at (W.history wire.old) (W.history wire.new) link.old link.new }
 {
     let room = link.read_room();
     let Some(conn) = link.conn.as_mut() else {
-        return Ok(None);
+        return None;
     };
     if !conn.readable {
-        return Ok(None);
+        return None;
     }
-    Ok(Some(conn.read_once(wire, room)?))
+    match conn.read_once(wire, room) {
+        Ok(got) => Some(got),
+        Err(_) => Some(Got::Full),
+    }
 }
 
 // Whether it holds much, and whether it has much room.
@@ -219,11 +247,12 @@ fn note_room(link: &Link) -> (bool, bool) {
     }
 }
 
-// Something came over it: whether it stands by that, which is news.
+// Something came over it: whether that may be news, as it stands by that, or awaits late answers.
 #[tactic(auto, using(crate::proofs::Staying::kept_line))]
 fn has_come(link: &mut Link) -> bool
     ensures line { line_of link.new ≡ line_of link.old }
 {
     link.reads_long = link.may_have_more();
-    link.stand()
+    let has_stood = link.stand();
+    has_stood || link.awaits_late()
 }

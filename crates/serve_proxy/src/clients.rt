@@ -1,10 +1,13 @@
 //! What is noted of a client, by its id, as it is served. Nothing here knows the core.
 
-ghost use Rattle.std.specs.Prelude.{◌≡◌, true, None, IfSome, slice_set};
+ghost use Rattle.std.specs.Prelude.{◌≡◌, true, None, IfSome, sum, slice_set};
 ghost use Rattle.serve_wire.specs.Calls.{Closes};
 ghost use Rattle.serve_clients.specs.Agrees.{said_of};
+ghost use Rattle.serve_clients.specs.Marks.{client_of};
+ghost use Rattle.serve_clients.specs.Holdings.{MayGoOn};
 ghost use Rattle.serve_links.specs.Shut.{client_conn};
 ghost use Rattle.serve_proxy.specs.Ends.{Stay, GoAlone, AllGoClosed};
+ghost use Rattle.serve_proxy.specs.Budgets.{share_by};
 
 use crate::sockets::{Sockets, close_if_any};
 use serve_clients::Client;
@@ -19,9 +22,9 @@ pub enum Rest {
     Idle,
     /// A reply is waited for.
     Waiting,
-    /// A key or a server is waited for.
+    /// A key or a server is waited for, or that less is held for all clients.
     Busy,
-    /// It takes no more output.
+    /// It takes no more output, or its share is held for it.
     Full,
     /// Its time is up.
     More,
@@ -37,19 +40,28 @@ fn end(client: &mut Client)
     client.is_ended = true;
 }
 
-// Whether one of its commands may go on, or begin. Of one that is broken off none begins, once all that have begun wait for answers.
-fn may_go_on(client: &Client, in_rounds: bool) -> bool {
+// Whether one of its commands may go on, or begin where it has so large a share. Of one that is broken off none begins, once all that have
+// begun wait for answers.
+fn may_go_on(client: &Client, share: usize, in_rounds: bool) -> bool
+    ensures { result ≡ true → MayGoOn share client.now }
+{
     let begins_none = client.is_broken && client.wants_more && client.settled == 0;
-    client.may_go_on() && (in_rounds || !begins_none)
+    client.may_go_on(share) && (in_rounds || !begins_none)
 }
 
-// What its polls ended with, and whether more may be done for it. In rounds all is read as it comes.
-fn note_rest(client: &mut Client, rest: Rest, in_rounds: bool) -> bool
+// What its polls ended with, and whether more may be done for it where it has so large a share. In rounds all is read as it comes.
+fn note_rest(client: &mut Client, rest: Rest, share: usize, in_rounds: bool) -> bool
     ensures said { said_of client.new ≡ said_of client.old }
 {
     let is_left = rest == Rest::Full && client.is_broken && client.wants_more;
     client.wants_more = in_rounds || rest == Rest::Idle || rest == Rest::Waiting || is_left;
-    rest == Rest::More || client.can_read() || (rest == Rest::Idle && client.has_held())
+    match rest {
+        Rest::More => true,
+        Rest::Idle => client.can_read() || client.has_held(),
+        // (what was shown since made room)
+        Rest::Full => client.can_read() || may_go_on(client, share, in_rounds),
+        Rest::Waiting | Rest::Busy => client.can_read(),
+    }
 }
 
 impl<W: Wire> Sockets<W> {
@@ -61,10 +73,48 @@ impl<W: Wire> Sockets<W> {
     /// Whether one of its commands may go on, or begin.
     pub fn may_go_on(&mut self, id: usize) -> bool
         ensures ends { Stay W.history self.old self.new }
+        ensures share { result ≡ true → IfSome (client_of self.old.clients id) (MayGoOn (share_by self.old.stalls.budget.most (sum self.old.stalls.budget.held.items) self.old.links.settings.clients)) }
     {
+        let share = self.share();
         match self.clients.get_mut(id) {
-            Some(client) => may_go_on(client, self.in_rounds),
+            Some(client) => may_go_on(client, share, self.in_rounds),
             None => false,
+        }
+    }
+
+    /// What its polls end with where none of its commands may go on or begin.
+    pub fn rest_of(&self, id: usize) -> Rest {
+        if self.stalls.budget.is_scarce() && self.clients.held(id) > 0 {
+            Rest::Busy
+        } else {
+            Rest::Full
+        }
+    }
+
+    /// The core is done with a message of it.
+    pub fn note_passed(&mut self, id: usize)
+        ensures ends { Stay W.history self.old self.new }
+    {
+        if let Some(client) = self.clients.get_mut(id) {
+            client.has_passed();
+        }
+    }
+
+    /// The core holds nothing of what it sent, if it is so.
+    pub fn end_input_if(&mut self, id: usize, is_so: bool)
+        ensures ends { Stay W.history self.old self.new }
+    {
+        if is_so {
+            self.end_input(id);
+            self.note_held(id);
+        }
+    }
+
+    fn end_input(&mut self, id: usize)
+        ensures ends { Stay W.history self.old self.new }
+    {
+        if let Some(client) = self.clients.get_mut(id) {
+            client.end_input();
         }
     }
 
@@ -111,6 +161,7 @@ impl<W: Wire> Sockets<W> {
     {
         // Who was served has room that it may not need for long.
         self.rooms.note(false, true, self.time);
+        self.note_held(id);
         let is_more = self.note_rest(id, rest);
         self.mark_busy_if(id, rest == Rest::Busy)?;
         self.mark_ready_if(id, is_more)
@@ -130,8 +181,9 @@ impl<W: Wire> Sockets<W> {
     fn note_rest(&mut self, id: usize, rest: Rest) -> bool
         ensures ends { Stay W.history self.old self.new }
     {
+        let share = self.share();
         match self.clients.get_mut(id) {
-            Some(client) => note_rest(client, rest, self.in_rounds),
+            Some(client) => note_rest(client, rest, share, self.in_rounds),
             None => false,
         }
     }

@@ -2,13 +2,13 @@
 
 ghost use Rattle.std.specs.Prelude.{◌≡◌, OnOk};
 ghost use Rattle.serve_links.specs.Links.{IsDownAt, IsClosedAt};
-ghost use Rattle.serve_proxy.specs.Ends.{idle_cause, cause_after, IsLateAt, GoAloneUnless, AllFailOn, AllGiveUp, AllGoOr};
+ghost use Rattle.serve_proxy.specs.Ends.{idle_cause, GoAloneUnless, AllFailOn, AllGiveUp, AllGoOr};
 
 use crate::answers::{read_line, serve_link};
 use crate::calls::fail_waited;
 use crate::sockets::{Sockets, close_if_any};
 use core_accepted::ServedCore;
-use serve_links::{Cause, Link, fail_all};
+use serve_links::{Cause, Lateness, Link, fail_all, fail_late as fail_out};
 use serve_wire::Wire;
 use serve_wire::conn::Got;
 use std::alloc::AllocError;
@@ -49,13 +49,13 @@ pub fn look_at_idle<W: Wire>(
 ) -> Result<(), AllocError>
     ensures ends { AllFailOn W.history core.old sockets.old core.new sockets.new }
 {
-    match sockets.read_idle(at)? {
+    match sockets.read_idle(at) {
         Some(cause) => fail_link(core, sockets, at, cause),
         None => Ok(()),
     }
 }
 
-/// Links that have taken too long fail, if one may have. What has come over them is read and settled before: the system was asked for it
+/// Links whose connections have taken too long fail, if one may have, and so do calls that have, with all others of their links. What has come over them is read and settled before: the system was asked for it
 /// after the clock was looked at, and had nothing.
 pub fn fail_late<W: Wire>(core: &mut ServedCore, sockets: &mut Sockets<W>) -> io::Result<()>
     ensures ends { AllGoOr result W.history core.old sockets.old core.new sockets.new }
@@ -80,8 +80,54 @@ fn fail_if_late<W: Wire>(
 {
     read_late(core, sockets, at)?;
     match sockets.lateness(at) {
-        Some(cause) => Ok(fail_link(core, sockets, at, cause)?),
+        Some(late) => Ok(fail_by(core, sockets, at, late)?),
         None => Ok(fail_waited(core, sockets, at)?),
+    }
+}
+
+// What the link has waited for has taken too long.
+fn fail_by<W: Wire>(
+    core: &mut ServedCore,
+    sockets: &mut Sockets<W>,
+    at: usize,
+    late: Lateness,
+) -> Result<(), AllocError>
+    ensures ends { AllFailOn W.history core.old sockets.old core.new sockets.new }
+{
+    match late {
+        Lateness::Connection => fail_link(core, sockets, at, Cause::ConnectLate),
+        Lateness::Call => fail_calls(core, sockets, at),
+    }
+}
+
+// The link's calls have all failed. Those that are out keep their places, so that their answers meet no other calls; until these have come, further
+// calls fail at once.
+fn fail_calls<W: Wire>(
+    core: &mut ServedCore,
+    sockets: &mut Sockets<W>,
+    at: usize,
+) -> Result<(), AllocError>
+    ensures ends { AllFailOn W.history core.old sockets.old core.new sockets.new }
+{
+    fail_sent(core, sockets, at)?;
+    fail_waited(core, sockets, at)
+}
+
+// Those that are out have.
+fn fail_sent<W: Wire>(
+    core: &mut ServedCore,
+    sockets: &mut Sockets<W>,
+    at: usize,
+) -> Result<(), AllocError>
+    ensures ends { AllFailOn W.history core.old sockets.old core.new sockets.new }
+{
+    match sockets.links.all.get_mut(at) {
+        None => Ok(()),
+        Some(link) => {
+            sockets.links.has_news = true;
+            sockets.is_freed = true;
+            fail_out(link, core, &mut sockets.clients)
+        }
     }
 }
 
@@ -111,9 +157,10 @@ fn look_again<W: Wire>(core: &mut ServedCore, sockets: &mut Sockets<W>, at: usiz
     serve_link(core, sockets, at)
 }
 
-// Whether the link's connection stands, and nothing is out on it or waits for it.
+// Whether the link's connection stands, nothing is out on it or waits for it, and no late answer is awaited.
 fn is_idle(link: &Link) -> bool {
-    link.is_connected && !link.awaits_dialect && link.calls.is_empty() && link.waiting() == 0
+    let is_awaited = link.awaits_dialect || link.awaits_late();
+    link.is_connected && !is_awaited && link.calls.is_empty() && link.waiting() == 0
 }
 
 // Why a link fails on which nothing is out, by what one read gave.
@@ -130,25 +177,23 @@ fn idle_fault(got: Got) -> Option<Cause>
 
 impl<W: Wire> Sockets<W> {
     // One read of the link, where nothing is out on its connection and something may have come over it. Why it fails by that, if it does.
-    fn read_idle(&mut self, at: usize) -> Result<Option<Cause>, AllocError>
-        ensures ends { GoAloneUnless at (cause_after result) W.history self.old self.new }
+    fn read_idle(&mut self, at: usize) -> Option<Cause>
+        ensures ends { GoAloneUnless at result W.history self.old self.new }
     {
         let Some(link) = self.links.all.get_mut(at) else {
-            return Ok(None);
+            return None;
         };
         if !is_idle(link) {
-            return Ok(None);
+            return None;
         }
-        match read_line(link, &mut self.wire)? {
-            Some(got) => Ok(idle_fault(got)),
-            None => Ok(None),
+        match read_line(link, &mut self.wire) {
+            Some(got) => idle_fault(got),
+            None => None,
         }
     }
 
-    // Why the link has failed by now, if it has taken too long.
-    fn lateness(&self, at: usize) -> Option<Cause>
-        ensures { IsLateAt result at self.now.links.all.items }
-    {
+    // What the link has waited for too long by now.
+    fn lateness(&self, at: usize) -> Option<Lateness> {
         self.links.lateness(at, self.time)
     }
 }

@@ -14,7 +14,8 @@
 //! - A link that broke, is late or brought what is no answer fails its calls (`failing.rt`).
 //! - Settled commands go on when their clients are polled next (`serving.rt`), and the core's replies go to the client's end
 //!   (`showing.rt`), from which they are sent.
-//! - A client that takes nothing of much that is to be sent to it is closed after a while (`stalls.rt`).
+//! - A client that takes nothing of much that is to be sent to it is closed after a while (`stalls.rt`), and how much is held for clients is
+//!   counted (`budget.rt`).
 //! - Room that large data took is lent to the next client that wants such, and goes back after a while (`rooms.rt`).
 //!
 //! Each list of what is to be done is taken and worked off (`worklist.rt`); what is marked meanwhile is for the next stage or turn.
@@ -23,6 +24,7 @@
 mod accepting;
 mod answers;
 mod beginning;
+mod budget;
 mod calls;
 mod clients;
 mod clock;

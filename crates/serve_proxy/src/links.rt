@@ -5,14 +5,14 @@ ghost use Rattle.std.specs.Prelude.{◌≡◌, ◌↔◌, true, None, [], ◌∷
 ghost use Rattle.serve_clients.specs.declared.clients.Clients.{Clients};
 ghost use Rattle.serve_links.specs.Links.{calls_out};
 ghost use Rattle.serve_links.specs.Story.{line_of, texts_of};
-ghost use Rattle.serve_proxy.specs.Ends.{lines_of, LinksTake, LinksGive, LineStands, LineTakes, IsOpenAt, IsLateAt, AsksIn, EndsGo, AddsLines};
+ghost use Rattle.serve_proxy.specs.Ends.{lines_of, LinksTake, LinksGive, LineStands, LineTakes, IsOpenAt, AsksIn, EndsGo, AddsLines};
 
 use crate::clock::earlier;
 use crate::texts::text_at;
 use mc_types::{Ask, Dialect};
 use route_json::addresses::Servers;
 use serve_links::calls::SentCall;
-use serve_links::{Cause, KEPT_ROOM, Link, LinkNews, Opening, Settings};
+use serve_links::{Cause, KEPT_ROOM, Lateness, Link, LinkNews, Opening, Settings};
 use serve_wire::{Ready, Wire};
 use std::alloc::{AllocError, Global};
 use std::net::Net;
@@ -58,11 +58,14 @@ fn begin<W: Wire, N: Net>(
     }
 }
 
-// The call is written to the link, or given back.
+// The call is written to the link, or given back, as it is where late answers are awaited.
 fn write_to(link: &mut Link, call: SentCall) -> Result<(), SentCall>
     ensures ok { OnOk result (LineTakes call link.old link.new) }
     ensures err { IfErr result (λ given. (given ≡ call) × (line_of link.new ≡ line_of link.old)) }
 {
+    if link.awaits_late() {
+        return Err(call);
+    }
     match link.conn.as_mut() {
         Some(conn) => link.calls.begin(call, &mut conn.unsent),
         None => Err(call),
@@ -389,7 +392,7 @@ impl Links {
         self.all.get_mut(at)?.next_to_go(places)
     }
 
-    /// The first of the calls that wait for it, if that has waited too long to go out.
+    /// The first of the calls that wait for it, if that has waited too long to go out, or none goes out for now.
     pub fn next_too_late(&mut self, at: usize) -> Option<SentCall>
         ensures call { MatchOption result (lines_of self.new.all.items ≡ lines_of self.old.all.items) (λ call. LinksGive at call self.old.all.items self.new.all.items) }
     {
@@ -409,10 +412,8 @@ impl Links {
         }
     }
 
-    /// Why the link has failed by now, if it has taken too long. One over which more may have come than was read isn't late yet.
-    pub fn lateness(&self, at: usize, time: u64) -> Option<Cause>
-        ensures { IsLateAt result at self.now.all.items }
-    {
+    /// What the link has waited for too long by now. One over which more may have come than was read isn't late yet.
+    pub fn lateness(&self, at: usize, time: u64) -> Option<Lateness> {
         match self.all.get(at) {
             Some(link) if !link.may_have_more() => link.lateness(time, &self.settings),
             _ => None,

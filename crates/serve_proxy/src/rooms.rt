@@ -2,6 +2,7 @@
 
 ghost use Rattle.std.specs.Prelude.{◌≡◌, []};
 ghost use Rattle.wire_parts.specs.Sending.{bytes_of};
+ghost use Rattle.serve_proxy.specs.Spares.{left_in};
 
 use bytes::BytesMut;
 use serve_clients::Client;
@@ -28,6 +29,7 @@ pub struct Rooms {
     /// When spare buffers, and those of links and clients, give their room back, if they have much.
     pub until: Option<u64>,
     ghost none: { input.items ≡ [] },
+    ghost spare: { left_in spares.items ≡ [] },
 }
 
 impl Rooms {
@@ -91,11 +93,13 @@ impl Rooms {
     }
 
     /// The buffer that became spare last, if there is one.
+    #[tactic(auto, using(crate::proofs::Sparing::one_less))]
     pub fn take_spare(&mut self) -> Option<SendBuffer> {
         self.spares.pop()
     }
 
     /// The buffer is spare, if it has much room. What is in it is lost.
+    #[tactic(auto, using(crate::proofs::Sparing::one_more))]
     pub fn keep_spare(&mut self, buffer: SendBuffer, time: u64) {
         let mut buffer = buffer;
         buffer.clear();

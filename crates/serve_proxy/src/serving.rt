@@ -5,6 +5,7 @@ ghost use Rattle.wire_parts.specs.Sending.{bytes_of};
 ghost use Rattle.serve_wire.specs.Events.{Event};
 ghost use Rattle.core_accepted.specs.declared.served.ServedCore.{ServedCore};
 ghost use Rattle.serve_links.specs.CoreSteps.{IsOfTurn, Broke};
+ghost use Rattle.serve_clients.specs.Agrees.{said_of};
 ghost use Rattle.serve_links.specs.Story.{OneGoes};
 ghost use Rattle.serve_proxy.specs.Ends.{Stay, AllGoOn, AllClose, AllGiven, OneGives, IsClosing, IsAllSent, IsAllSentTo};
 
@@ -167,8 +168,20 @@ fn read_end<W: Wire>(client: &mut Client, wire: &mut W, rooms: &mut Rooms, tally
 fn feed_end(core: &mut ServedCore, id: usize, client: &mut Client, rooms: &mut Rooms)
     ensures one { (h : List Event) → OneGoes IsOfTurn id core.old h client.old core.new h client.new }
 {
+    let before = client.conn.held.len();
     feed_held(core, id, client);
+    note_fed(client, before);
     rooms.take_input(&mut client.conn.held);
+}
+
+// Of so many bytes that its end held the core was given those that it holds no more.
+fn note_fed(client: &mut Client, before: usize)
+    ensures said { said_of client.new ≡ said_of client.old }
+{
+    let fed = before.saturating_sub(client.conn.held.len());
+    if fed > 0 {
+        client.has_fed(fed);
+    }
 }
 
 // What can be done for the client is done.
@@ -183,7 +196,7 @@ fn poll_client<W: Wire, N: Net>(
     for _ in 0..sockets.polls() {
         if !sockets.may_go_on(id) {
             leave_line(core, sockets, id);
-            return Ok(Rest::Full);
+            return Ok(sockets.rest_of(id));
         }
         match poll_once(net, core, sockets, id)? {
             Rest::More => {}
@@ -217,13 +230,16 @@ fn poll_once<W: Wire, N: Net>(
             send_call(net, core, sockets, id, ticket)?;
             Ok(Rest::More)
         }
-        Ok(Polled::Did(_note)) => {
+        Ok(Polled::Did(note)) => {
             sockets.note_went_on(id);
-            sockets.tally.note_command();
+            sockets.tally.note_command(&note);
             sockets.is_freed = true;
             Ok(Rest::More)
         }
-        Ok(Polled::Own) | Ok(Polled::Refused) => Ok(Rest::More),
+        Ok(Polled::Own) | Ok(Polled::Refused) => {
+            sockets.note_passed(id);
+            Ok(Rest::More)
+        }
         Ok(Polled::Idle) => Ok(Rest::Idle),
         Ok(Polled::Waiting) => Ok(Rest::Waiting),
         Ok(Polled::Queued) | Ok(Polled::Busy) => Ok(Rest::Busy),

@@ -36,7 +36,10 @@ fn show_end(core: &mut ServedCore, id: usize, client: &mut Client) -> usize
     ensures one { (h : List Event) → OneGoes IsOfTurn id core.old h client.old core.new h client.new }
 {
     match show(core, id, client) {
-        Ok(shown) => shown,
+        Ok(shown) => {
+            client.has_shown(shown);
+            shown
+        }
         Err(CoreFault::NoMemory) => {
             client.break_off();
             0
@@ -203,5 +206,7 @@ fn give_back_client<W: Wire>(
     // What the core has for it, mostly room alone, goes to its end.
     show_client(core, sockets, id)?;
     sockets.give_back_end(id);
-    Ok(core.give_back_room(id))
+    let is_done = core.give_back_room(id);
+    sockets.end_input_if(id, is_done);
+    Ok(is_done)
 }

@@ -1,10 +1,13 @@
-//! Clients that take nothing of much that is to be sent to them: since when, and which are closed for that.
+//! Clients that take nothing of much that is to be sent to them, or for whom too much is held: since when, and which are closed for that.
 
-ghost use Rattle.std.specs.Prelude.{IfSome, ◌≡◌, ◌≢◌, ◌↔◌, ℕ, ◌<◌, IsTrue, OnOk, None, length, slice_set};
+ghost use Rattle.std.specs.Prelude.{IfSome, ◌≡◌, ◌≢◌, ◌↔◌, ℕ, ◌<◌, ◌-◌, IsTrue, OnOk, None, length, min, sum, slice_set};
 ghost use Rattle.serve_proxy.specs.Ends.{Stay, AllGoOn, AllGoBreaking};
-ghost use Rattle.serve_proxy.specs.Stalls.{since_of, since_by, HasStalled, OnlyStalled, unsent_at, HasMost, OnlyMost, greater_of};
+ghost use Rattle.serve_proxy.specs.Stalls.{since_of, since_by, HasStalled, OnlyStalled, HasMost, OnlyMost, greater_of};
+ghost use Rattle.serve_proxy.specs.Budgets.{others_than, share_by};
 ghost use Rattle.serve_clients.specs.Marks.{client_of};
+ghost use Rattle.serve_clients.specs.Holdings.{held_at};
 
+use crate::budget::Budget;
 use crate::clock::earlier;
 use crate::sending::write_client;
 use crate::sockets::Sockets;
@@ -20,7 +23,7 @@ const MUCH: usize = 1_048_576;
 // How many milliseconds a client may take nothing, where nothing else is set.
 const USUAL_MS: u64 = 10_000;
 
-// How many bytes are to be sent to all clients at most, where nothing else is set.
+// How many bytes are held for all clients at most, where nothing else is set.
 const USUAL_MOST: usize = 1_073_741_824;
 
 // What is to be told is told once in so many milliseconds at most.
@@ -33,10 +36,8 @@ pub struct Stalls {
     ms: u64,
     // By their ids, in milliseconds.
     since: Vec<Option<u64>>,
-    // How many bytes were to be sent to each after its last write, and to all, and to all at most.
-    unsent: Vec<usize>,
-    all_unsent: usize,
-    most: usize,
+    // How many bytes are held for clients.
+    pub budget: Budget,
     // Nobody has stalled before this time.
     late_from: Option<u64>,
     // How many were closed and not told of.
@@ -77,21 +78,19 @@ impl Stalls {
         Stalls {
             ms: USUAL_MS,
             since: Vec::new(alloc),
-            unsent: Vec::new(alloc),
-            all_unsent: 0,
-            most: USUAL_MOST,
+            budget: Budget::new(alloc, USUAL_MOST),
             late_from: None,
             closed: 0,
             quiet_until: 0,
         }
     }
 
-    /// A client that takes nothing of much for so many milliseconds has stalled, and so many bytes are to be sent to all at most.
+    /// A client that takes nothing of much for so many milliseconds has stalled, and so many bytes are held for all at most.
     pub fn bound(&mut self, ms: u64, most: usize)
-        ensures { self.new ≡ record self.old { ms = ms; most = most } }
+        ensures { self.new ≡ record self.old { ms = ms; budget = record self.old.budget { most = most } } }
     {
         self.ms = ms;
-        self.most = most;
+        self.budget.bound(most);
     }
 
     /// A client of this id can be noted.
@@ -99,17 +98,8 @@ impl Stalls {
         ensures there { OnOk result (id < length self.new.since.items) }
         ensures same { (other : ℕ) → since_of self.new other ≡ since_of self.old other }
     {
-        self.make_unsent(id)?;
+        self.budget.make_place(id)?;
         self.make_since(id)
-    }
-
-    fn make_unsent(&mut self, id: usize) -> Result<(), AllocError>
-        ensures { self.new ≡ record self.old { unsent = self.new.unsent } }
-    {
-        for _ in self.unsent.len()..=id {
-            self.unsent.push(0)?;
-        }
-        Ok(())
     }
 
     fn make_since(&mut self, id: usize) -> Result<(), AllocError>
@@ -120,17 +110,6 @@ impl Stalls {
             self.since.push(None)?;
         }
         Ok(())
-    }
-
-    // So many bytes are to be sent to the client.
-    fn note_unsent(&mut self, id: usize, count: usize)
-        ensures { self.new ≡ record self.old { unsent = self.new.unsent; all_unsent = self.new.all_unsent } }
-    {
-        if let Some(unsent) = self.unsent.get_mut(id) {
-            let others = self.all_unsent.saturating_sub(*unsent);
-            self.all_unsent = others.saturating_add(count);
-            *unsent = count;
-        }
     }
 
     // Nobody has stalled before this time, either.
@@ -146,7 +125,6 @@ impl Stalls {
         ensures since { self.new.since.items ≡ slice_set self.old.since.items id (since_by before after now (since_of self.old id)) }
     {
         self.note_since(id, before, after, now);
-        self.note_unsent(id, after);
         self.note_if_none(after > MUCH, now.saturating_add(self.ms));
     }
 
@@ -172,7 +150,7 @@ impl Stalls {
     pub fn forget(&mut self, id: usize)
         ensures since { self.new.since.items ≡ slice_set self.old.since.items id None }
     {
-        self.note_unsent(id, 0);
+        self.budget.note(id, 0);
         if let Some(since) = self.since.get_mut(id) {
             *since = None;
         }
@@ -186,11 +164,6 @@ impl Stalls {
             Some(since) => *since,
             None => None,
         }
-    }
-
-    // Whether more bytes are to be sent to all than may be.
-    fn is_over(&self) -> bool {
-        self.all_unsent > self.most
     }
 
     // Whether somebody may have stalled by now.
@@ -242,7 +215,7 @@ impl Stalls {
     }
 }
 
-/// After all clients were written, those that have stalled are broken off, and those to which most is to be sent, if too much is to all.
+/// After all clients were written, those that have stalled are broken off, and those for which most is held, if too much is for all.
 pub fn close_slow<W: Wire>(core: &ServedCore, sockets: &mut Sockets<W>) -> io::Result<()>
     ensures ends { AllGoOn W.history core.now sockets.old core.now sockets.new }
 {
@@ -251,12 +224,12 @@ pub fn close_slow<W: Wire>(core: &ServedCore, sockets: &mut Sockets<W>) -> io::R
     Ok(())
 }
 
-// Where more bytes are to be sent to all clients than are set, the client to which most are is broken off, until no more are than that.
+// Where more bytes are held for all clients than may be, the client for which most are is broken off, until no more are than that.
 fn shed<W: Wire>(core: &ServedCore, sockets: &mut Sockets<W>) -> Result<(), AllocError>
     ensures ends { AllGoOn W.history core.now sockets.old core.now sockets.new }
 {
     for _ in 0..sockets.clients.len() {
-        if !sockets.stalls.is_over() {
+        if !sockets.stalls.budget.is_over() {
             return Ok(());
         }
         shed_one(core, sockets)?;
@@ -264,7 +237,7 @@ fn shed<W: Wire>(core: &ServedCore, sockets: &mut Sockets<W>) -> Result<(), Allo
     Ok(())
 }
 
-// The client to which most is to be sent is broken off.
+// The client for which most is held is broken off.
 fn shed_one<W: Wire>(core: &ServedCore, sockets: &mut Sockets<W>) -> Result<(), AllocError>
     ensures ends { AllGoOn W.history core.now sockets.old core.now sockets.new }
     ensures only { OnlyMost sockets.old.clients sockets.new.clients }
@@ -273,7 +246,7 @@ fn shed_one<W: Wire>(core: &ServedCore, sockets: &mut Sockets<W>) -> Result<(), 
         return Ok(());
     };
     sockets.break_client(id);
-    sockets.stalls.note_unsent(id, 0);
+    sockets.note_held(id);
     sockets.stalls.note_closed(true);
     sockets.mark_ready_if(id, true)
 }
@@ -340,26 +313,15 @@ fn write_again<W: Wire>(
 {
     let (is_more, _) = write_client(core, sockets, id);
     let is_broken = sockets.break_stalled(id);
+    sockets.note_held(id);
     sockets.stalls.note_closed(is_broken);
     sockets.mark_ready_if(id, is_more || is_broken)
 }
 
 impl<W: Wire> Sockets<W> {
-    // How many bytes are to be sent to the client.
-    fn unsent_of(&mut self, id: usize) -> usize
-        ensures ends { Stay W.history self.old self.new }
-        ensures count { result ≡ unsent_at self.old.clients id }
-    {
-        match self.clients.get_mut(id) {
-            Some(client) => client.conn.unsent.len(),
-            None => 0,
-        }
-    }
-
-    // The client to which most bytes are to be sent.
-    fn greatest(&mut self) -> Option<usize>
-        ensures ends { Stay W.history self.old self.new }
-        ensures most { IfSome result (HasMost self.old.clients) }
+    // The client for which most bytes are held.
+    fn greatest(&self) -> Option<usize>
+        ensures { IfSome result (HasMost self.now.clients) }
     {
         match self.greatest_with() {
             Some((id, _)) => Some(id),
@@ -368,16 +330,32 @@ impl<W: Wire> Sockets<W> {
     }
 
     // The same, and how many.
-    fn greatest_with(&mut self) -> Option<(usize, usize)>
-        ensures ends { Stay W.history self.old self.new }
-        ensures most { IfSome result (λ found. HasMost self.old.clients found.0) }
+    fn greatest_with(&self) -> Option<(usize, usize)>
+        ensures { IfSome result (λ found. HasMost self.now.clients found.0) }
     {
         let mut best = None;
         for id in 0..self.clients.len() {
-            let count = self.unsent_of(id);
-            best = greater(best, id, count);
+            best = greater(best, id, self.clients.held(id));
         }
         best
+    }
+
+    /// How many bytes are held for the client is noted. Where they were scarce and became fewer, clients that wait for that can go on.
+    pub fn note_held(&mut self, id: usize)
+        ensures ends { Stay W.history self.old self.new }
+        ensures noted { self.new.stalls.budget.held.items ≡ slice_set self.old.stalls.budget.held.items id (min (held_at self.old.clients id) (usize.MAX - others_than id self.old.stalls.budget.held.items)) }
+        ensures clients { self.new.clients ≡ self.old.clients }
+    {
+        let held = self.clients.held(id);
+        let is_freed = self.stalls.budget.note_freed(id, held);
+        self.is_freed = self.is_freed || is_freed;
+    }
+
+    /// Of how many bytes of replies each client has its share.
+    pub fn share(&self) -> usize
+        ensures { result ≡ share_by self.now.stalls.budget.most (sum self.now.stalls.budget.held.items) self.now.links.settings.clients }
+    {
+        self.stalls.budget.share(self.links.settings.clients)
     }
 
     // The client is broken off, and no other.

@@ -119,33 +119,107 @@ taken 1 => ERROR\r\n
 open 1 => no
 taken 9 => nothing
 
-An answer that is late is nobody's: its connection is closed, and the next call goes to a new one, whose answer isn't late.
+An answer that is late is nobody's. Until it has come calls fail at once; then they go over the same connection.
 host 127.0.0.1:5001
-peer 8
+peer 9
 awaits 7
 sends END\r\n
 awaits 14
 until 4500
 sends VALUE b 0 1\r\n1\r\nEND\r\n
-answers 127.0.0.1:5001
-peer 9
-awaits 7
-until 5500
-sends END\r\n
+awaits 21
+sends VALUE d 0 1\r\n2\r\nEND\r\n
 answers 127.0.0.1:5001
 peer 1
 sends get a\r\n
 until 3000
 sends get b\r\n
-until 5000
+until 4200
 sends get c\r\n
+until 5000
+sends get d\r\n
 calls 0
 proxy <one server>
 turn 100
-taken 1 => END\r\nSERVER_ERROR call failed\r\nEND\r\n
+taken 1 => END\r\nSERVER_ERROR call failed\r\nSERVER_ERROR call failed\r\nVALUE d 0 1\r\n2\r\nEND\r\n
+open 9 => yes
+taken 9 => get a\r\nget b\r\nget d\r\n
+news => server 0: connected; server 0: late: a call took too long; server 0: back
+
+All calls that are out fail when one is late, and all of their answers have to come, however they are cut.
+host 127.0.0.1:5001
+peer 9
+awaits 14
+until 1500
+sends VALUE a 0 1\r\n1\r\nEN
+until 1600
+sends D\r\nVALUE b 0
+until 2000
+sends  1\r\n2\r\nEND\r\n
+awaits 21
+sends END\r\n
+answers 127.0.0.1:5001
+peer 1
+sends get a\r\nget b\r\n
+until 1800
+sends get c\r\n
+until 2500
+sends get d\r\n
+calls 0
+proxy <one server>
+turn 60
+taken 1 => SERVER_ERROR call failed\r\nSERVER_ERROR call failed\r\nSERVER_ERROR call failed\r\nEND\r\n
+taken 9 => get a\r\nget b\r\nget d\r\n
+
+A late answer may come with the next one behind it, and what is no answer to the late call isn't one to the next.
+host 127.0.0.1:5001
+peer 8
+awaits 7
+until 1500
+sends END\r\n
+awaits 14
+until 3500
+sends STORED\r\nEND\r\n
+answers 127.0.0.1:5001
+peer 9
+awaits 7
+sends END\r\n
+answers 127.0.0.1:5001
+peer 1
+sends get a\r\n
+until 2000
+sends get b\r\n
+until 4000
+sends get c\r\n
+calls 0
+proxy <one server>
+turn 80
+taken 1 => SERVER_ERROR call failed\r\nSERVER_ERROR call failed\r\nEND\r\n
 open 8 => no
+taken 8 => get a\r\nget b\r\n
 taken 9 => get c\r\n
-news => server 0: connected; server 0: failed: a call took too long, 1 in a row; server 0: back
+
+A connection that ends while late answers are to come: the next call goes to a new one.
+host 127.0.0.1:5001
+peer 8
+awaits 7
+until 1500
+ends
+answers 127.0.0.1:5001
+peer 9
+awaits 7
+sends END\r\n
+answers 127.0.0.1:5001
+peer 1
+sends get a\r\n
+until 2000
+sends get b\r\n
+calls 0
+proxy <one server>
+turn 60
+taken 1 => SERVER_ERROR call failed\r\nEND\r\n
+open 8 => no
+taken 9 => get b\r\n
 
 Bytes that came while nothing was out are no answer to the next call, which goes to a new connection.
 host 127.0.0.1:5001
@@ -600,7 +674,7 @@ open 2 => yes
 open 3 => yes
 news => server 0: connected; 1 stalled
 
-Where more than three million bytes are to be sent to all, the client is closed to which most are.
+Where more than three million bytes are held for all, the client is closed for which most are.
 host 127.0.0.1:5001
 peer 9
 awaits 7
@@ -632,6 +706,75 @@ turn 45
 open 1 => no
 open 2 => yes
 news => server 0: connected; 1 stalled
+
+So is the one that sent most of what isn't done.
+host 127.0.0.1:5001
+peer 9
+awaits 7
+sends END\r\n
+answers 127.0.0.1:5001
+peer 1
+sends set a 0 0 1000000\r\n«2 <data>»
+calls 0
+peer 2
+sends set b 0 0 1000000\r\n«1 <data>»
+calls 100
+peer 3
+sends get c\r\n
+calls 200
+proxy <one server>
+bounds 10000 250000
+turn 20
+open 1 => no
+open 2 => yes
+taken 3 => END\r\n
+taken 9 => get c\r\n
+news => 1 stalled; server 0: connected
+
+While more than three quarters of 450,000 bytes are held, no command begins of a client that takes little. It does when another one is gone.
+host 127.0.0.1:5001
+peer 9
+awaits 7
+sends END\r\n
+awaits 39
+sends «4 VALUE k# 0 100000\r\n<data>\r\nEND\r\n»
+awaits 46
+sends END\r\n
+awaits 54
+sends «1 VALUE k# 0 100000\r\n<data>\r\nEND\r\n»
+awaits 61
+sends END\r\n
+awaits 68
+sends END\r\n
+answers 127.0.0.1:5001
+peer 1
+room 10000
+sends get a\r\n
+awaits 5
+sends «4 get k#\r\n»
+until 9000
+fails
+calls 0
+peer 2
+room 60000
+sends get a\r\n
+awaits 5
+sends get k1\r\n
+until 600
+sends get b\r\n
+calls 300
+peer 3
+sends get c\r\n
+calls 700
+proxy <one server>
+bounds 100000 450000
+turn 40
+taken 3 => END\r\n
+took 9 get a\r\n«4 get k#\r\n»get a\r\nget k1\r\nget c\r\n => yes
+turn 120
+open 1 => no
+open 2 => yes
+took 9 get a\r\n«4 get k#\r\n»get a\r\nget k1\r\nget c\r\nget b\r\n => yes
 
 Megabytes of commands at once come to the server as they are, and as many of answers to the client, whatever is read and taken at once.
 host 127.0.0.1:5001

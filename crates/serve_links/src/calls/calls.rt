@@ -8,13 +8,13 @@ ghost use Rattle.mc_types.specs.declared.ask.Dialect.TheVariants.{Meta};
 ghost use Rattle.wire_meta_gets.specs.Usual.{IsUsualTo};
 ghost use Rattle.serve_links.specs.Dialects.{asked_in};
 ghost use Rattle.core_accepted.specs.Results.{IsSettled};
-ghost use Rattle.serve_links.specs.Calls.{IsReadFor, IsReadNext, first_asked, FitsFirst, SettlesFirst, SettlesNext};
+ghost use Rattle.serve_links.specs.Calls.{IsReadFor, IsReadNext, IsFirstLate, IsReadLate, first_asked, FitsFirst, SettlesFirst, SettlesNext};
 ghost use Rattle.mc_types.specs.declared.call.Outcome.TheVariants.{Failed};
 
 use crate::calls::sending::send_ask;
 use core_accepted::ServedCore;
 use core_proxy::Ticket;
-use mc_types::{Ask, Dialect, Op, Outcome, SpareBodies, is_ask};
+use mc_types::{Ask, Dialect, Op, Outcome, SharedAsk, SpareBodies, is_ask};
 use std::alloc::{AllocError, Global};
 use std::collections::VecDeque;
 use wire_answers::laws::spelled_answers_fit;
@@ -48,6 +48,27 @@ pub struct SentCall {
     pub bulk: usize,
     /// In which dialect its server is asked for a classic get; all else is asked as it is.
     pub dialect: Dialect,
+}
+
+/// A call that has failed, as it was late, and whose answer is still to come.
+#[derive(Drop)]
+pub struct LateCall {
+    /// The command's number.
+    pub number: u64,
+    /// In which dialect its server was asked.
+    pub dialect: Dialect,
+    pub ask: SharedAsk,
+}
+
+/// What of a server's bytes is the answer to a call that is late.
+#[derive(Clone, Copy)]
+pub enum LateRead {
+    /// So many bytes.
+    Whole(usize),
+    /// It isn't whole yet.
+    More,
+    /// No answer to it begins so, or memory was refused for it.
+    Foreign,
 }
 
 /// What was done with a server's bytes.
@@ -378,6 +399,41 @@ impl LinkCalls {
                     None => unreachable!(),
                 }
             }
+        }
+    }
+
+    /// The first of the calls that are out, as one that is late. The only error is that its ask can't be shared once more.
+    pub fn first_late(&self) -> Result<Option<LateCall>, AllocError>
+        ensures { IfOk result (IsFirstLate self.now.sent.items) }
+    {
+        let Some(call) = self.sent.front() else {
+            return Ok(None);
+        };
+        let ask = call.ticket.ask.copy()?;
+        Ok(Some(LateCall {
+            number: call.ticket.number,
+            dialect: call.dialect,
+            ask,
+        }))
+    }
+
+    /// What of these bytes is the answer to a call that is late.
+    pub fn read_late(&mut self, call: &LateCall, received: &Received) -> LateRead
+        ensures sent { self.new.sent ≡ self.old.sent }
+        ensures read { IsReadLate call.now received.now result }
+    {
+        let read = read_for(
+            call.dialect,
+            self.alloc,
+            &mut self.forms,
+            &mut self.spares,
+            call.ask.get(),
+            received,
+        );
+        match read {
+            AnswerRead::Answer(_answer, used) => LateRead::Whole(used),
+            AnswerRead::More => LateRead::More,
+            AnswerRead::Foreign => LateRead::Foreign,
         }
     }
 

@@ -14,7 +14,7 @@ returns-in_err-answers-clause-lost c =
     let x = c.args.link.now in
     let k = c.in-Some.conn.now in
     let d = c.settle_held.new.conn in
-    λ at h. settled_some x (record x { calls = c.settle_held.new.calls; conn = Some d }) k d c.settle_held.new.calls.sent.items (sym c.in-Some.ensures.value) c.requires refl refl refl refl refl refl c.settle_held.ensures.rest c.settle_held.ensures.front
+    λ at h. settled_some x (record x { calls = c.settle_held.new.calls; conn = Some d }) k d c.settle_held.new.calls.sent.items (sym c.in-Some.ensures.value) c.requires.told c.requires.alone refl refl refl refl refl refl refl c.settle_held.ensures.rest c.settle_held.ensures.front
 
 pub returns-in_err-answers-clause-ends : goal.returns-in_err-answers-clause-ends
 returns-in_err-answers-clause-ends c = c.settle_held.ensures.ends
@@ -25,8 +25,8 @@ returns-then-not-answers c =
     let k = c.in-Some.conn.now in
     let d = c.settle_held.new.conn in
     record {
-      goes = λ at h. foreign_goes (settled_some x c.has_read-has_failed.new.self k d c.settle_held.new.calls.sent.items (sym c.in-Some.ensures.value) c.requires (ap (λ (z : Link). z.conn) c.has_read-has_failed.ensures.rest) (ap (λ (z : Link). z.text.items) c.has_read-has_failed.ensures.rest) (ap (λ (z : Link). z.waiting.items) c.has_read-has_failed.ensures.rest) (ap (λ (z : Link). z.awaits_dialect) c.has_read-has_failed.ensures.rest) (ap (λ (z : Link). z.dialect) c.has_read-has_failed.ensures.rest) (ap (λ (z : Link). z.calls.sent.items) c.has_read-has_failed.ensures.rest) c.settle_held.ensures.rest c.settle_held.ensures.front);
-      lost = λ at h. settled_some x c.has_read-has_failed.new.self k d c.settle_held.new.calls.sent.items (sym c.in-Some.ensures.value) c.requires (ap (λ (z : Link). z.conn) c.has_read-has_failed.ensures.rest) (ap (λ (z : Link). z.text.items) c.has_read-has_failed.ensures.rest) (ap (λ (z : Link). z.waiting.items) c.has_read-has_failed.ensures.rest) (ap (λ (z : Link). z.awaits_dialect) c.has_read-has_failed.ensures.rest) (ap (λ (z : Link). z.dialect) c.has_read-has_failed.ensures.rest) (ap (λ (z : Link). z.calls.sent.items) c.has_read-has_failed.ensures.rest) c.settle_held.ensures.rest c.settle_held.ensures.front;
+      goes = λ at h. foreign_goes (settled_some x c.has_read-has_failed.new.self k d c.settle_held.new.calls.sent.items (sym c.in-Some.ensures.value) c.requires.told c.requires.alone (ap (λ (z : Link). z.conn) c.has_read-has_failed.ensures.rest) (ap (λ (z : Link). z.text.items) c.has_read-has_failed.ensures.rest) (ap (λ (z : Link). z.waiting.items) c.has_read-has_failed.ensures.rest) (ap (λ (z : Link). z.awaits_dialect) c.has_read-has_failed.ensures.rest) (ap (λ (z : Link). z.dialect) c.has_read-has_failed.ensures.rest) (ap (λ (z : Link). z.late.items) c.has_read-has_failed.ensures.rest) (ap (λ (z : Link). z.calls.sent.items) c.has_read-has_failed.ensures.rest) c.settle_held.ensures.rest c.settle_held.ensures.front);
+      lost = λ at h. settled_some x c.has_read-has_failed.new.self k d c.settle_held.new.calls.sent.items (sym c.in-Some.ensures.value) c.requires.told c.requires.alone (ap (λ (z : Link). z.conn) c.has_read-has_failed.ensures.rest) (ap (λ (z : Link). z.text.items) c.has_read-has_failed.ensures.rest) (ap (λ (z : Link). z.waiting.items) c.has_read-has_failed.ensures.rest) (ap (λ (z : Link). z.awaits_dialect) c.has_read-has_failed.ensures.rest) (ap (λ (z : Link). z.dialect) c.has_read-has_failed.ensures.rest) (ap (λ (z : Link). z.late.items) c.has_read-has_failed.ensures.rest) (ap (λ (z : Link). z.calls.sent.items) c.has_read-has_failed.ensures.rest) c.settle_held.ensures.rest c.settle_held.ensures.front;
       ends = c.settle_held.ensures.ends;
     }
 
@@ -36,7 +36,7 @@ returns c =
     let k = c.in-Some.conn.now in
     let d = c.settle_held.new.conn in
     record {
-      goes = λ at h. vain_goes c.has_read-has_failed.result c.vain.result c.vain.ensures c.has_read-has_failed.ensures.failed (settled x c.has_read-has_failed.new.self k d c.settle_held.new.calls.sent.items (sym c.in-Some.ensures.value) c.requires (ap (λ (z : Link). z.conn) c.has_read-has_failed.ensures.rest) (ap (λ (z : Link). z.text.items) c.has_read-has_failed.ensures.rest) (ap (λ (z : Link). z.waiting.items) c.has_read-has_failed.ensures.rest) (ap (λ (z : Link). z.awaits_dialect) c.has_read-has_failed.ensures.rest) (ap (λ (z : Link). z.dialect) c.has_read-has_failed.ensures.rest) (ap (λ (z : Link). z.calls.sent.items) c.has_read-has_failed.ensures.rest) c.settle_held.ensures.rest (c.in_ok-answers.ensures.settled c.if-not-answers.false));
-      lost = λ at h. settled_some x c.has_read-has_failed.new.self k d c.settle_held.new.calls.sent.items (sym c.in-Some.ensures.value) c.requires (ap (λ (z : Link). z.conn) c.has_read-has_failed.ensures.rest) (ap (λ (z : Link). z.text.items) c.has_read-has_failed.ensures.rest) (ap (λ (z : Link). z.waiting.items) c.has_read-has_failed.ensures.rest) (ap (λ (z : Link). z.awaits_dialect) c.has_read-has_failed.ensures.rest) (ap (λ (z : Link). z.dialect) c.has_read-has_failed.ensures.rest) (ap (λ (z : Link). z.calls.sent.items) c.has_read-has_failed.ensures.rest) c.settle_held.ensures.rest c.settle_held.ensures.front;
+      goes = λ at h. vain_goes c.has_read-has_failed.result c.vain.result c.vain.ensures c.has_read-has_failed.ensures.failed (settled x c.has_read-has_failed.new.self k d c.settle_held.new.calls.sent.items (sym c.in-Some.ensures.value) c.requires.told c.requires.alone (ap (λ (z : Link). z.conn) c.has_read-has_failed.ensures.rest) (ap (λ (z : Link). z.text.items) c.has_read-has_failed.ensures.rest) (ap (λ (z : Link). z.waiting.items) c.has_read-has_failed.ensures.rest) (ap (λ (z : Link). z.awaits_dialect) c.has_read-has_failed.ensures.rest) (ap (λ (z : Link). z.dialect) c.has_read-has_failed.ensures.rest) (ap (λ (z : Link). z.late.items) c.has_read-has_failed.ensures.rest) (ap (λ (z : Link). z.calls.sent.items) c.has_read-has_failed.ensures.rest) c.settle_held.ensures.rest (c.in_ok-answers.ensures.settled c.if-not-answers.false));
+      lost = λ at h. settled_some x c.has_read-has_failed.new.self k d c.settle_held.new.calls.sent.items (sym c.in-Some.ensures.value) c.requires.told c.requires.alone (ap (λ (z : Link). z.conn) c.has_read-has_failed.ensures.rest) (ap (λ (z : Link). z.text.items) c.has_read-has_failed.ensures.rest) (ap (λ (z : Link). z.waiting.items) c.has_read-has_failed.ensures.rest) (ap (λ (z : Link). z.awaits_dialect) c.has_read-has_failed.ensures.rest) (ap (λ (z : Link). z.dialect) c.has_read-has_failed.ensures.rest) (ap (λ (z : Link). z.late.items) c.has_read-has_failed.ensures.rest) (ap (λ (z : Link). z.calls.sent.items) c.has_read-has_failed.ensures.rest) c.settle_held.ensures.rest c.settle_held.ensures.front;
       ends = c.settle_held.ensures.ends;
     }

@@ -8,7 +8,7 @@ use Rattle.serve_proxy.proofs.GivenUp.{foreign_goes, vain_goes}
 use Rattle.serve_proxy.proofs.answers.settle_line.Goals as goal
 
 pub returns-then-not-link : goal.returns-then-not-link
-returns-then-not-link c = record { goes = c.settle_all.ensures.goes; lost = c.settle_all.ensures.lost; ends = c.settle_all.ensures.ends }
+returns-then-not-link c = record { goes = c.settle_after_late.ensures.goes; lost = c.settle_after_late.ensures.lost; ends = c.settle_after_late.ensures.ends }
 
 pub returns-then-not-learn : goal.returns-then-not-learn
 returns-then-not-learn c = record {
@@ -28,7 +28,7 @@ returns-then-link c = record {
 
 pub returns : goal.returns
 returns c = record {
-  goes = IfOk-weaker c.settle_all-2.result _ _ (λ cause goes at h. line_then (line_learns c.args.link.now c.learn.new.self c.learn.result c.if-not-link.false c.learn.ensures) (goes at h)) c.settle_all-2.ensures.goes;
-  lost = λ at h. line_then (line_learns c.args.link.now c.learn.new.self c.learn.result c.if-not-link.false c.learn.ensures) (c.settle_all-2.ensures.lost at h);
-  ends = c.settle_all-2.ensures.ends;
+  goes = IfOk-weaker c.settle_after_late-2.result _ _ (λ cause goes at h. line_then (line_learns c.args.link.now c.learn.new.self c.learn.result c.if-not-link.false c.learn.ensures) (goes at h)) c.settle_after_late-2.ensures.goes;
+  lost = λ at h. line_then (line_learns c.args.link.now c.learn.new.self c.learn.result c.if-not-link.false c.learn.ensures) (c.settle_after_late-2.ensures.lost at h);
+  ends = c.settle_after_late-2.ensures.ends;
 }

@@ -1,16 +1,19 @@
-use Rattle.std.proofs.Common.{inl}
+use Rattle.std.proofs.Common.{inl, refl, ap, ◌∙◌}
+use Rattle.std.specs.Option.{option_map}
+use Rattle.serve_clients.proofs.Agreeing.{keeps_none, keeps_twice}
 use Rattle.serve_proxy.specs.Stalls.{HasMost}
-use Rattle.serve_proxy.proofs.Going.{and_then, breaking, stays}
+use Rattle.serve_proxy.proofs.Going.{and_then, breaking, stays, still}
 use Rattle.serve_proxy.proofs.Greatest.{only_most, if_there}
 use Rattle.serve_proxy.proofs.stalls.shed_one.Goals as goal
 
 pub returns : goal.returns
 returns g c = record {
-  ends = and_then (and_then (stays c.args.core.now c.greatest.ensures.ends) (breaking (c.break_client.ensures.ends c.args.core.now))) (stays c.args.core.now c.mark_ready_if.ensures.ends);
+  ends = and_then (and_then (breaking (c.break_client.ensures.ends c.args.core.now)) (stays c.args.core.now c.note_held.ensures.ends)) (stays c.args.core.now c.mark_ready_if.ensures.ends);
   only =
-      only_most c.args.sockets.now.clients c.greatest.new.self.clients c.break_client.new.self.clients c.mark_ready_if.new.self.clients c.in-Some.id c.greatest.ensures.ends.clients c.break_client.ensures.others c.mark_ready_if.ensures.ends.clients
-      (if_there (HasMost c.args.sockets.now.clients) c.greatest.result c.in-Some.id c.in-Some.is c.greatest.ensures.most);
+      only_most c.args.sockets.now.clients c.args.sockets.now.clients c.break_client.new.self.clients c.mark_ready_if.new.self.clients c.in-Some.id (keeps_none c.args.sockets.now.clients) c.break_client.ensures.others
+      (keeps_twice c.break_client.new.self.clients c.note_held.new.self.clients c.mark_ready_if.new.self.clients c.note_held.ensures.ends.clients c.mark_ready_if.ensures.ends.clients)
+      (if_there (HasMost c.args.sockets.now.clients) c.greatest.result c.in-Some.id c.in-Some.is c.greatest.ensures);
 }
 
 pub returns-in_default : goal.returns-in_default
-returns-in_default g c = record { ends = stays c.args.core.now c.greatest.ensures.ends; only = λ id. inl (c.greatest.ensures.ends.clients id) }
+returns-in_default g c = record { ends = still; only = λ id. inl refl }

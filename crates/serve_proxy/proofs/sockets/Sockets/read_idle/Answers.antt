@@ -1,20 +1,14 @@
 use Rattle.std.proofs.Common.{None}
-use Rattle.serve_proxy.proofs.GivenUp.{line_goes_unless, idle_stands, line_some, line_none, idle_stopped}
+use Rattle.serve_proxy.proofs.GivenUp.{line_goes_unless, idle_stands, line_some, line_none}
 use Rattle.serve_proxy.proofs.sockets.Sockets.read_idle.Goals as goal
 
-pub returns-in_err-got : goal.returns-in_err-got
-returns-in_err-got g c = record {
-  ends = idle_stopped c.args.at c.from_residual.result c.from_residual.ensures.0
-      (line_goes_unless None c.args.self.now.links.all.items c.args.at c.in-Some.link.now c.read_line.new.link c.in-Some.ensures.item.3.0 c.in-Some.ensures.value (c.in_err-got.ensures.stands c.args.at));
-}
-
-pub returns-in-Some-2 : goal.returns-in-Some-2
-returns-in-Some-2 g c = record {
+pub returns-in-Some-read_line : goal.returns-in-Some-read_line
+returns-in-Some-read_line g c = record {
   ends = line_goes_unless _ c.args.self.now.links.all.items c.args.at c.in-Some.link.now c.read_line.new.link c.in-Some.ensures.item.3.0 c.in-Some.ensures.value
-      (idle_stands c.args.at _ _ c.in-Some.link.now c.read_line.new.link c.in-Some-2.got c.idle_fault.result c.idle_fault.ensures (line_some c.args.at _ c.in-Some-2.got c.in-Some-2.is (c.in_ok-got.ensures.stands c.args.at)));
+      (idle_stands c.args.at _ _ c.in-Some.link.now c.read_line.new.link c.in-Some-read_line.got c.idle_fault.result c.idle_fault.ensures (line_some c.args.at _ c.in-Some-read_line.got c.in-Some-read_line.is (c.read_line.ensures.stands c.args.at)));
 }
 
 pub returns-in-None : goal.returns-in-None
 returns-in-None g c = record {
-  ends = line_goes_unless None c.args.self.now.links.all.items c.args.at c.in-Some.link.now c.read_line.new.link c.in-Some.ensures.item.3.0 c.in-Some.ensures.value (line_none c.args.at _ c.in-None.is (c.in_ok-got.ensures.stands c.args.at));
+  ends = line_goes_unless None c.args.self.now.links.all.items c.args.at c.in-Some.link.now c.read_line.new.link c.in-Some.ensures.item.3.0 c.in-Some.ensures.value (line_none c.args.at _ c.in-None.is (c.read_line.ensures.stands c.args.at));
 }

@@ -1,0 +1,207 @@
+-- Calls that are late, and their answers, as steps of a walk with which a link goes on to agree.
+use Rattle.std.proofs.Common.{◌≡◌, ℕ, ◌<◌, Bool, true, false, if◌then◌else◌, List, [], ◌∷◌, ◌++◌, take, drop, Option, Some, None, inr, refl, sym, ap, ◌∙◌, subst, append_assoc}
+use Rattle.std.proofs.lemmas.List.{take-append-drop}
+use Rattle.std.specs.Prelude.{is_some, slice_index_or}
+use Rattle.std.specs.Option.{option_map, option_to_list}
+use Rattle.mc_types.specs.declared.ask.Dialect.{Dialect}
+use Rattle.mc_types.specs.declared.answer.Answer.{Answer}
+use Rattle.mc_types.specs.declared.call.Outcome.TheVariants.{Failed}
+use Rattle.wire_parts.specs.Sending.{bytes_of}
+use Rattle.serve_wire.specs.Events.{Event, is_over}
+use Rattle.serve_wire.specs.declared.conn.conn.Conn.{Conn}
+use Rattle.serve_wire.proofs.Steps.{equal}
+use Rattle.core_accepted.specs.declared.served.ServedCore.{ServedCore}
+use Rattle.core_accepted.specs.Results.{IsSettled}
+use Rattle.serve_links.specs.declared.calls.calls.SentCall.{SentCall}
+use Rattle.serve_links.specs.declared.calls.calls.LateCall.{LateCall}
+use Rattle.serve_links.specs.declared.calls.calls.LateRead.{LateRead}
+use Rattle.serve_links.specs.declared.calls.calls.LateRead.TheVariants as lates
+use Rattle.serve_links.specs.declared.link.Link.{Link}
+use Rattle.serve_links.specs.Calls.{as_late, IsFirstLate, PassesOver, SettlesFirst}
+use Rattle.serve_links.specs.CoreSteps.{Step, Settled, Late, CameLate, IsOfTurn, IsSending}
+use Rattle.serve_links.specs.Dialects.{SpellsIn}
+use Rattle.serve_links.specs.Talks.{SaidAsk, Talk, behind, first_of, turned_late, with_late, talk_in, AreDue, IsFirstOut, IsNextLate}
+use Rattle.serve_links.specs.Story.{said_asks, said_late, numbers_of, AreCalled, MayAllGo, TalkAgrees, LineAgrees, LineGoes, LineState, line_of}
+use Rattle.serve_links.proofs.Talking.{calls_later, called_all_later}
+use Rattle.serve_links.proofs.Due.{due_later}
+use Rattle.serve_links.proofs.Showing.{none_since, shown_later}
+use Rattle.serve_links.proofs.Shutting.{shut_still}
+use Rattle.serve_links.proofs.Answering.{spells_front}
+use Rattle.serve_links.proofs.LinkGoes.{talk_as, of_seven, has_conn, quiet, all_kept, line_keeps}
+
+-- nothing was done
+pub line_still : {Is : Step → Type 0} {at : ℕ} {core : ServedCore} {h : List Event} (x : Link) → LineGoes Is at core h x core h x
+line_still {h = h} x = line_keeps (quiet h) refl
+
+abbrev conn_state : Conn → ℕ × List ℕ × List ℕ
+conn_state c = (c.number, c.held.items, bytes_of c.unsent)
+
+-- the same late calls, in another list
+pub late_kept : (x y : Link) → y ≡ record x { late = y.late } → y.late.items ≡ x.late.items → line_of y ≡ line_of x
+late_kept x y is late =
+    ap line_of is
+    ∙ ap (λ (l : List LateCall). let s : LineState = (x.text.items, option_map {U = ℕ × List ℕ × List ℕ} conn_state x.conn, said_asks x.calls.sent.items, x.waiting.items, x.awaits_dialect, x.dialect, said_late l) in s) late
+
+pub some_conn : (o : Option Conn) → is_some o ≡ true → (c : Conn) × (o ≡ Some c)
+some_conn None is = absurd (false_true is)
+  where
+    false_true : false ≡ true → ⊥
+    false_true e = cc
+some_conn (Some c) is = (c, refl)
+
+-- the one that was in front is gone
+pub passed :
+    {n : ℕ} (old new : List LateCall) (call : LateCall) (r : Option LateCall) → 0 < n → ((d : LateCall) → 0 < n → r ≡ Some (slice_index_or old 0 d)) → call ≡ slice_index_or old 0 call → old ≡ option_to_list r ++ new
+    → old ≡ call ∷ new
+passed old new call r within value lookup items = items ∙ ap (λ (o : Option LateCall). option_to_list o ++ new) (value call within ∙ ap (λ (z : LateCall). Some z) (sym lookup))
+
+one_late : (calls : List LateCall) (call : LateCall) → said_late (calls ++ call ∷ []) ≡ said_late calls ++ (call.number, call.dialect, call.ask) ∷ []
+one_late [] call = refl
+one_late (first ∷ calls) call = ap (λ (l : List SaidAsk). (first.number, first.dialect, first.ask) ∷ l) (one_late calls call)
+
+-- ---- a call that is late
+
+talk_turns :
+    (h : List Event) (at : ℕ) (text : List ℕ) (t : Talk) (c : ℕ) (held unsent : List ℕ) (first : SaidAsk) (rest late : List SaidAsk) (awaits : Bool) (dialect : Dialect)
+    → TalkAgrees h at text t c held unsent (first ∷ rest) awaits dialect late → TalkAgrees h at text (turned_late t) c held unsent rest awaits dialect (late ++ first ∷ [])
+talk_turns h at text t c held unsent first rest late awaits dialect was = record {
+  is_to = was.is_to;
+  address = was.address;
+  sent_is = was.sent_is;
+  told_is = was.told_is;
+  out_is = ap behind was.out_is;
+  awaits_is = was.awaits_is;
+  dialect_is = was.dialect_is;
+  late_is = ap (λ (l : List SaidAsk). l ++ first_of t.out) was.late_is ∙ ap (λ (l : List SaidAsk). late ++ first_of l) was.out_is;
+}
+
+-- the first call that is out fails, and keeps its place
+turns :
+    {at : ℕ} {core core' : ServedCore} {h : List Event} (x y : Link) (c : Conn) (call : SentCall) (rest : List SentCall) → x.conn ≡ Some c → y.conn ≡ x.conn → y.text.items ≡ x.text.items → y.waiting.items ≡ x.waiting.items
+    → y.awaits_dialect ≡ x.awaits_dialect → y.dialect ≡ x.dialect → x.calls.sent.items ≡ call ∷ rest → y.calls.sent.items ≡ rest → y.late.items ≡ x.late.items ++ as_late call ∷ []
+    → IsSettled core call.ticket.number Failed core' → LineGoes IsSending at core h x core' h y
+turns {at} {core} {core'} {h} x y c call rest was same text waiting awaits speaks sent left late settled = record {
+  steps = steps;
+  kinds = (refl, (tt, tt));
+  own = (tt, (refl, tt));
+  walks = (core, (core, refl, refl), settled);
+  agrees = λ past o a. ((inr (inr (record { at = at; earlier = past; last = refl })), (first past a, o)), agreed past a, all_kept (1, at) h h (quiet h));
+  shown = λ past o a shown. shown_later steps past h h (tt, (tt, tt)) (none_since h) shown;
+  shut = shut_still (quiet h) (ap (option_map (λ (z : Conn). z.number)) same);
+  text = text;
+}
+  where
+    steps : List Step
+    steps = Settled call.ticket.number Failed ∷ Late at call.ticket.number ∷ []
+
+    first : (past : List Step) → LineAgrees at past h x → IsFirstOut call.ticket.number (talk_in past at)
+    first past a = record { dialect = call.dialect; ask = call.ticket.ask; others = said_asks rest; is_first = (a.conn c was).out_is ∙ ap said_asks sent }
+
+    agreed : (past : List Step) → LineAgrees at past h x → LineAgrees at (steps ++ past) h y
+    agreed past a =
+        let talk = ap (λ b. if b then turned_late (talk_in past at) else talk_in past at) (equal at) in
+        let before = talk_as refl refl refl refl refl (sym (ap said_asks sent)) refl refl refl (a.conn c was) in
+        let now = talk_turns h at x.text.items (talk_in past at) c.number c.held.items (bytes_of c.unsent) (call.ticket.number, call.dialect, call.ticket.ask) (said_asks rest) (said_late x.late.items) x.awaits_dialect x.dialect before in
+        has_conn at (steps ++ past) h y c (same ∙ was) (talk_as text talk refl refl refl (ap said_asks left) awaits speaks (ap said_late late ∙ one_late x.late.items (as_late call)) now) (a.goes_on c was)
+        (calls_later steps past at y.waiting.items (subst (λ w. MayAllGo past at w) (sym waiting) a.waiting))
+        (due_later steps past at (numbers_of y.waiting.items) (ap (λ (t : Talk). t.asked) talk) (subst (λ w. AreDue past at (numbers_of w)) (sym waiting) a.due))
+        (called_all_later steps past at (said_asks y.calls.sent.items) (subst (λ (l : List SentCall). AreCalled past at (said_asks l)) (sym left) (subst (λ (l : List SentCall). AreCalled past at (said_asks l)) sent a.called).1))
+
+-- the same of the outcome as a link's calls have it
+pub line_turns :
+    {at : ℕ} {core core' : ServedCore} {h : List Event} (x y : Link) (c : Conn) (call : LateCall) (client : Option ℕ) → x.conn ≡ Some c → y.conn ≡ x.conn → y.text.items ≡ x.text.items → y.waiting.items ≡ x.waiting.items
+    → y.awaits_dialect ≡ x.awaits_dialect → y.dialect ≡ x.dialect → IsFirstLate x.calls.sent.items (Some call) → y.late.items ≡ x.late.items ++ call ∷ []
+    → SettlesFirst x.calls.sent.items core Failed client y.calls.sent.items core' → LineGoes IsSending at core h x core' h y
+line_turns {at} {core} {core'} {h} x y c call client was same text waiting awaits speaks first late settles = by x.calls.sent.items refl first settles
+  where
+    some_none : {z : LateCall} → Some z ≡ None → ⊥
+    some_none e = cc
+
+    same_call : {z w : LateCall} → Some z ≡ Some w → z ≡ w
+    same_call e = cc
+
+    by : (sent : List SentCall) → x.calls.sent.items ≡ sent → IsFirstLate sent (Some call) → SettlesFirst sent core Failed client y.calls.sent.items core' → LineGoes IsSending at core h x core' h y
+    by [] e is did = absurd (some_none is)
+    by (one ∷ rest) e is did =
+        turns x y c one rest was same text waiting awaits speaks e did.1 (late ∙ ap (λ (z : LateCall). x.late.items ++ z ∷ []) (same_call is)) did.2
+
+-- ---- its answer
+
+talk_throws :
+    (h : List Event) (at : ℕ) (text : List ℕ) (t : Talk) (c : ℕ) (spelled held unsent : List ℕ) (out : List SaidAsk) (first : SaidAsk) (rest : List SaidAsk) (awaits : Bool) (dialect : Dialect)
+    → TalkAgrees h at text t c (spelled ++ held) unsent out awaits dialect (first ∷ rest) → TalkAgrees h at text (with_late spelled t) c held unsent out awaits dialect rest
+talk_throws h at text t c spelled held unsent out first rest awaits dialect was = record {
+  is_to = was.is_to;
+  address = was.address;
+  sent_is = was.sent_is;
+  told_is = was.told_is ∙ sym (append_assoc t.told spelled held);
+  out_is = was.out_is;
+  awaits_is = was.awaits_is;
+  dialect_is = was.dialect_is;
+  late_is = ap behind was.late_is;
+}
+
+-- what is held begins with the answer to the first of those that were late: it is held no more
+pub line_throws :
+    {at : ℕ} {core : ServedCore} {h : List Event} (x y : Link) (c d : Conn) (call : LateCall) (rest : List LateCall) (answer : Answer) (used : ℕ) → x.conn ≡ Some c → y.conn ≡ Some d → x.awaits_dialect ≡ false
+    → y.text.items ≡ x.text.items → y.waiting.items ≡ x.waiting.items → y.awaits_dialect ≡ x.awaits_dialect → y.dialect ≡ x.dialect → y.calls.sent.items ≡ x.calls.sent.items → x.late.items ≡ call ∷ rest → y.late.items ≡ rest
+    → SpellsIn call.dialect call.ask c.held.items answer used → d.held.items ≡ drop used c.held.items → d.number ≡ c.number → bytes_of d.unsent ≡ bytes_of c.unsent → LineGoes IsOfTurn at core h x core h y
+line_throws {at} {core} {h} x y c d call rest answer used was is off text waiting awaits speaks sent late left spells held number unsent = record {
+  steps = step ∷ [];
+  kinds = (tt, tt);
+  own = (refl, tt);
+  walks = (core, refl, refl);
+  agrees = λ past o a. ((next past a, o), agreed past a, all_kept (1, at) h h (quiet h));
+  shown = λ past o a shown. shown_later (step ∷ []) past h h (tt, tt) (none_since h) shown;
+  shut = shut_still (quiet h) (ap (option_map (λ (z : Conn). z.number)) is ∙ ap (λ n. Some n) number ∙ sym (ap (option_map (λ (z : Conn). z.number)) was));
+  text = text;
+}
+  where
+    spelled : List ℕ
+    spelled = take used c.held.items
+
+    step : Step
+    step = CameLate at call.number call.ask answer spelled
+
+    whole : spelled ++ d.held.items ≡ c.held.items
+    whole = ap (λ l. spelled ++ l) held ∙ take-append-drop used c.held.items
+
+    next : (past : List Step) → LineAgrees at past h x → IsNextLate call.number call.ask answer spelled (talk_in past at)
+    next past a = record {
+      dialect = call.dialect;
+      others = said_late rest;
+      is_first = (a.conn c was).late_is ∙ ap said_late late;
+      none_before = (a.conn c was).awaits_is ∙ off;
+      more = drop used c.held.items;
+      spells = spells_front call.dialect call.ask c.held.items answer used spells;
+    }
+
+    agreed : (past : List Step) → LineAgrees at past h x → LineAgrees at (step ∷ past) h y
+    agreed past a =
+        let talk = ap (λ b. if b then with_late spelled (talk_in past at) else talk_in past at) (equal at) in
+        let before = talk_as refl refl refl whole refl refl refl refl (sym (ap said_late late)) (a.conn c was) in
+        let now = talk_throws h at x.text.items (talk_in past at) c.number spelled d.held.items (bytes_of c.unsent) (said_asks x.calls.sent.items) (call.number, call.dialect, call.ask) (said_late rest) x.awaits_dialect x.dialect before in
+        has_conn at (step ∷ past) h y d is (talk_as text talk number refl unsent (ap said_asks sent) awaits speaks (ap said_late left) now) (ap (λ n. is_over n h) number ∙ a.goes_on c was)
+        (calls_later (step ∷ []) past at y.waiting.items (subst (λ w. MayAllGo past at w) (sym waiting) a.waiting))
+        (due_later (step ∷ []) past at (numbers_of y.waiting.items) (ap (λ (t : Talk). t.asked) talk) (subst (λ w. AreDue past at (numbers_of w)) (sym waiting) a.due))
+        (called_all_later (step ∷ []) past at (said_asks y.calls.sent.items) (subst (λ (l : List SentCall). AreCalled past at (said_asks l)) (sym sent) a.called))
+
+-- or it isn't there
+passes_none :
+    {at : ℕ} {core : ServedCore} {h : List Event} (x y : Link) (c d : Conn) → x.conn ≡ Some c → y.conn ≡ Some d → y.text.items ≡ x.text.items → y.waiting.items ≡ x.waiting.items → y.awaits_dialect ≡ x.awaits_dialect
+    → y.dialect ≡ x.dialect → y.calls.sent.items ≡ x.calls.sent.items → d ≡ record c { held = d.held } → (y.late.items ≡ x.late.items) × (d.held.items ≡ c.held.items) → LineGoes IsOfTurn at core h x core h y
+passes_none {h = h} x y c d was is text waiting awaits speaks sent same kept = line_keeps (quiet h) (of_seven text ends (ap said_asks sent) waiting awaits speaks (ap said_late kept.0))
+  where
+    ends : option_map {U = ℕ × List ℕ × List ℕ} conn_state y.conn ≡ option_map {U = ℕ × List ℕ × List ℕ} conn_state x.conn
+    ends =
+        ap (option_map {U = ℕ × List ℕ × List ℕ} conn_state) is ∙ ap (λ (z : Conn). Some (conn_state z)) same
+        ∙ ap (λ (l : List ℕ). let e : ℕ × List ℕ × List ℕ = (c.number, l, bytes_of c.unsent) in Some e) kept.1 ∙ sym (ap (option_map {U = ℕ × List ℕ × List ℕ} conn_state) was)
+
+pub line_passes :
+    {at : ℕ} {core : ServedCore} {h : List Event} (x y : Link) (c d : Conn) (read : LateRead) → x.conn ≡ Some c → y.conn ≡ Some d → x.awaits_dialect ≡ false → y.text.items ≡ x.text.items → y.waiting.items ≡ x.waiting.items
+    → y.awaits_dialect ≡ x.awaits_dialect → y.dialect ≡ x.dialect → y.calls.sent.items ≡ x.calls.sent.items → d ≡ record c { held = d.held } → PassesOver x.late.items c.held.items read y.late.items d.held.items
+    → LineGoes IsOfTurn at core h x core h y
+line_passes x y c d (lates.Whole used) was is off text waiting awaits speaks sent same passes =
+    line_throws x y c d passes.0 y.late.items passes.3.0 used was is off text waiting awaits speaks sent passes.1 refl passes.3.1 passes.2 (ap (λ (z : Conn). z.number) same) (ap (λ (z : Conn). bytes_of z.unsent) same)
+line_passes x y c d lates.More was is off text waiting awaits speaks sent same passes = passes_none x y c d was is text waiting awaits speaks sent same passes
+line_passes x y c d lates.Foreign was is off text waiting awaits speaks sent same passes = passes_none x y c d was is text waiting awaits speaks sent same passes

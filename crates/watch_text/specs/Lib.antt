@@ -1,0 +1,4 @@
+pub mod Quoted
+pub mod Families
+pub mod Prometheus
+pub mod Json

@@ -1,0 +1,397 @@
+//! What a running proxy tells of itself, and the families of these numbers.
+
+use crate::families::{Amount, Family, Kind, Label, Sample, Samples};
+use std::alloc::{AllocError, Global};
+
+/// The program and what it uses.
+#[derive(Drop)]
+pub struct ProcessNumbers {
+    pub version: String,
+    /// For how long it has run.
+    pub uptime_ms: u64,
+    /// How long processors worked for it.
+    pub processor_ms: u64,
+    /// How much of its memory is in use, in bytes.
+    pub resident_bytes: u64,
+    /// How many of its lines could not be written.
+    pub lost_lines: u64,
+}
+
+/// Its configurations.
+#[derive(Clone, Copy)]
+pub struct ConfigNumbers {
+    /// Which one is in use, the first being 1.
+    pub generation: u64,
+    /// How many texts of its file were loaded since the start.
+    pub accepted: u64,
+    /// How many said what the one in use says.
+    pub unchanged: u64,
+    /// How many were not loaded, for whatever reason.
+    pub refused: u64,
+}
+
+/// Its clients.
+#[derive(Clone, Copy)]
+pub struct ClientNumbers {
+    /// How many are there.
+    pub connected: u64,
+    /// How many were taken.
+    pub accepted: u64,
+    /// How many were turned away, as there were too many.
+    pub refused: u64,
+    /// How many were closed, as they took too little.
+    pub closed_slow: u64,
+    /// How many bytes were read of them.
+    pub read_bytes: u64,
+    /// How many bytes there were to send to them.
+    pub sent_bytes: u64,
+}
+
+/// Commands of one operation that have ended, one for each key of a message.
+#[derive(Clone, Copy)]
+pub struct CommandNumbers {
+    /// The operation's name.
+    pub op: &'static str,
+    /// Those whose reply shows an item.
+    pub items: u64,
+    /// Those that were deletes, and were acknowledged.
+    pub acknowledged: u64,
+    /// All others.
+    pub others: u64,
+}
+
+/// Failures of a server's link for one cause.
+#[derive(Clone, Copy)]
+pub struct FailureNumbers {
+    /// The cause's name.
+    pub cause: &'static str,
+    pub count: u64,
+}
+
+/// One of its servers.
+#[derive(Drop)]
+pub struct ServerNumbers {
+    /// Its text in the configuration.
+    pub text: String,
+    /// Whether a connection to it stands.
+    pub is_up: bool,
+    /// How many connections to it stood.
+    pub connections: u64,
+    /// How many calls are out.
+    pub calls_out: u64,
+    /// How often its link failed, a row for each cause.
+    pub failures: Vec<FailureNumbers>,
+}
+
+/// What a running proxy tells of itself.
+#[derive(Drop)]
+pub struct Numbers {
+    pub process: ProcessNumbers,
+    pub config: ConfigNumbers,
+    pub clients: ClientNumbers,
+    pub commands: Vec<CommandNumbers>,
+    pub servers: Vec<ServerNumbers>,
+    /// How many requests for these numbers were answered before.
+    pub scrapes: u64,
+}
+
+fn one(name: &'static str, kind: Kind, help: &'static str, amount: Amount) -> Family {
+    Family {
+        name,
+        kind,
+        help,
+        samples: Samples::One(amount),
+    }
+}
+
+fn counter(name: &'static str, help: &'static str, count: u64) -> Family {
+    one(name, Kind::Counter, help, Amount::Count(count))
+}
+
+fn gauge(name: &'static str, help: &'static str, count: u64) -> Family {
+    one(name, Kind::Gauge, help, Amount::Count(count))
+}
+
+fn each(name: &'static str, kind: Kind, help: &'static str, samples: Vec<Sample>) -> Family {
+    Family {
+        name,
+        kind,
+        help,
+        samples: Samples::Each(samples),
+    }
+}
+
+fn label(alloc: Global, name: &'static str, value: &str) -> Result<Label, AllocError> {
+    Ok(Label {
+        name,
+        value: String::from_str(alloc, value)?,
+    })
+}
+
+// A number with one label.
+fn sample(
+    alloc: Global,
+    name: &'static str,
+    value: &str,
+    count: u64,
+) -> Result<Sample, AllocError> {
+    let mut labels = Vec::new(alloc);
+    labels.push(label(alloc, name, value)?)?;
+    Ok(Sample {
+        labels,
+        amount: Amount::Count(count),
+    })
+}
+
+// A number of a server.
+fn server_sample(alloc: Global, server: &ServerNumbers, count: u64) -> Result<Sample, AllocError> {
+    sample(alloc, "server", server.text.as_str(), count)
+}
+
+// How often a server failed for a cause.
+fn failure_sample(
+    alloc: Global,
+    server: &ServerNumbers,
+    failures: &FailureNumbers,
+) -> Result<Sample, AllocError> {
+    let mut failed = server_sample(alloc, server, failures.count)?;
+    failed.labels.push(label(alloc, "cause", failures.cause)?)?;
+    Ok(failed)
+}
+
+fn add_process(
+    alloc: Global,
+    process: &ProcessNumbers,
+    families: &mut Vec<Family>,
+) -> Result<(), AllocError> {
+    let mut builds = Vec::new(alloc);
+    builds.push(sample(alloc, "version", process.version.as_str(), 1)?)?;
+    families.push(each(
+        "mcgate_build_info",
+        Kind::Gauge,
+        "The version that runs.",
+        builds,
+    ))?;
+    families.push(one(
+        "mcgate_uptime_seconds",
+        Kind::Gauge,
+        "For how long it has run.",
+        Amount::Millis(process.uptime_ms),
+    ))?;
+    families.push(one(
+        "mcgate_cpu_seconds_total",
+        Kind::Counter,
+        "Processor time that it used.",
+        Amount::Millis(process.processor_ms),
+    ))?;
+    families.push(gauge(
+        "mcgate_resident_memory_bytes",
+        "Memory in use.",
+        process.resident_bytes,
+    ))?;
+    families.push(counter(
+        "mcgate_lost_lines_total",
+        "Lines that could not be written to its outputs.",
+        process.lost_lines,
+    ))?;
+    Ok(())
+}
+
+fn add_config(
+    alloc: Global,
+    config: &ConfigNumbers,
+    families: &mut Vec<Family>,
+) -> Result<(), AllocError> {
+    families.push(gauge(
+        "mcgate_generation",
+        "The configuration in use.",
+        config.generation,
+    ))?;
+    let mut reloads = Vec::new(alloc);
+    reloads.push(sample(alloc, "verdict", "accepted", config.accepted)?)?;
+    reloads.push(sample(alloc, "verdict", "unchanged", config.unchanged)?)?;
+    reloads.push(sample(alloc, "verdict", "refused", config.refused)?)?;
+    families.push(each(
+        "mcgate_reloads_total",
+        Kind::Counter,
+        "New texts of its file, by what became of them.",
+        reloads,
+    ))?;
+    Ok(())
+}
+
+fn add_clients(
+    alloc: Global,
+    clients: &ClientNumbers,
+    families: &mut Vec<Family>,
+) -> Result<(), AllocError> {
+    families.push(gauge(
+        "mcgate_clients",
+        "Clients that are there.",
+        clients.connected,
+    ))?;
+    let mut came = Vec::new(alloc);
+    came.push(sample(alloc, "verdict", "accepted", clients.accepted)?)?;
+    came.push(sample(alloc, "verdict", "refused", clients.refused)?)?;
+    families.push(each(
+        "mcgate_client_connections_total",
+        Kind::Counter,
+        "Clients that came; those refused were too many.",
+        came,
+    ))?;
+    families.push(counter(
+        "mcgate_slow_clients_closed_total",
+        "Clients that were closed, as they took too little.",
+        clients.closed_slow,
+    ))?;
+    let mut bytes = Vec::new(alloc);
+    bytes.push(sample(alloc, "direction", "in", clients.read_bytes)?)?;
+    bytes.push(sample(alloc, "direction", "out", clients.sent_bytes)?)?;
+    families.push(each(
+        "mcgate_client_bytes_total",
+        Kind::Counter,
+        "Bytes that came from clients, and that there were to send to them.",
+        bytes,
+    ))?;
+    Ok(())
+}
+
+// A number of an operation.
+fn command_sample(
+    alloc: Global,
+    op: &'static str,
+    reply: &'static str,
+    count: u64,
+) -> Result<Sample, AllocError> {
+    let mut ended = sample(alloc, "op", op, count)?;
+    ended.labels.push(label(alloc, "reply", reply)?)?;
+    Ok(ended)
+}
+
+// How many commands of an operation have ended, for each kind of reply.
+fn add_command(
+    alloc: Global,
+    commands: &CommandNumbers,
+    samples: &mut Vec<Sample>,
+) -> Result<(), AllocError> {
+    let op = commands.op;
+    samples.push(command_sample(alloc, op, "item", commands.items)?)?;
+    samples.push(command_sample(alloc, op, "acknowledged", commands.acknowledged)?)?;
+    samples.push(command_sample(alloc, op, "other", commands.others)?)?;
+    Ok(())
+}
+
+fn add_commands(
+    alloc: Global,
+    commands: &[CommandNumbers],
+    families: &mut Vec<Family>,
+) -> Result<(), AllocError> {
+    let mut samples = Vec::new(alloc);
+    for of_op in commands {
+        add_command(alloc, of_op, &mut samples)?;
+    }
+    families.push(each(
+        "mcgate_commands_total",
+        Kind::Counter,
+        "Commands that have ended, one for each key: with an item in the reply, as an acknowledged delete, or otherwise.",
+        samples,
+    ))?;
+    Ok(())
+}
+
+// What is told of a server in one number.
+#[derive(Clone, Copy)]
+enum ServerCount {
+    Up,
+    Connections,
+    CallsOut,
+}
+
+fn server_count(server: &ServerNumbers, what: ServerCount) -> u64 {
+    match what {
+        ServerCount::Up => u64::from(server.is_up),
+        ServerCount::Connections => server.connections,
+        ServerCount::CallsOut => server.calls_out,
+    }
+}
+
+// A number of each server.
+fn server_samples(
+    alloc: Global,
+    servers: &[ServerNumbers],
+    what: ServerCount,
+) -> Result<Vec<Sample>, AllocError> {
+    let mut samples = Vec::new(alloc);
+    for server in servers {
+        samples.push(server_sample(alloc, server, server_count(server, what))?)?;
+    }
+    Ok(samples)
+}
+
+// How often a server failed, for each cause.
+fn add_failures(
+    alloc: Global,
+    server: &ServerNumbers,
+    samples: &mut Vec<Sample>,
+) -> Result<(), AllocError> {
+    for failures in &server.failures {
+        samples.push(failure_sample(alloc, server, failures)?)?;
+    }
+    Ok(())
+}
+
+fn failures_of(alloc: Global, servers: &[ServerNumbers]) -> Result<Vec<Sample>, AllocError> {
+    let mut samples = Vec::new(alloc);
+    for server in servers {
+        add_failures(alloc, server, &mut samples)?;
+    }
+    Ok(samples)
+}
+
+fn add_servers(
+    alloc: Global,
+    servers: &[ServerNumbers],
+    families: &mut Vec<Family>,
+) -> Result<(), AllocError> {
+    families.push(each(
+        "mcgate_server_up",
+        Kind::Gauge,
+        "1 where a connection to the server stands.",
+        server_samples(alloc, servers, ServerCount::Up)?,
+    ))?;
+    families.push(each(
+        "mcgate_server_connections_total",
+        Kind::Counter,
+        "Connections to the server that stood.",
+        server_samples(alloc, servers, ServerCount::Connections)?,
+    ))?;
+    families.push(each(
+        "mcgate_server_calls_out",
+        Kind::Gauge,
+        "Calls at the server that wait for its answer.",
+        server_samples(alloc, servers, ServerCount::CallsOut)?,
+    ))?;
+    families.push(each(
+        "mcgate_server_failures_total",
+        Kind::Counter,
+        "Failures of the link to the server, by cause.",
+        failures_of(alloc, servers)?,
+    ))?;
+    Ok(())
+}
+
+/// The families of these numbers. The only error is that memory was refused.
+pub fn families_of(alloc: Global, numbers: &Numbers) -> Result<Vec<Family>, AllocError> {
+    let mut families = Vec::new(alloc);
+    add_process(alloc, &numbers.process, &mut families)?;
+    add_config(alloc, &numbers.config, &mut families)?;
+    add_clients(alloc, &numbers.clients, &mut families)?;
+    add_commands(alloc, numbers.commands.as_slice(), &mut families)?;
+    add_servers(alloc, numbers.servers.as_slice(), &mut families)?;
+    families.push(counter(
+        "mcgate_scrapes_total",
+        "Requests for these numbers that were answered before.",
+        numbers.scrapes,
+    ))?;
+    Ok(families)
+}
