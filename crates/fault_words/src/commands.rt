@@ -32,8 +32,8 @@ pub enum Command {
 
 /// The names of the commands.
 pub const COMMANDS: [&str; 11] = [
-    "check", "certify", "replay", "where", "serve", "cache", "loopback", "history", "slots", "plan",
-    "help",
+    "check", "certify", "replay", "where", "serve", "cache", "loopback", "history", "slots",
+    "plan", "help",
 ];
 
 const CHECK_FLAGS: [&str; 8] = [
@@ -234,11 +234,8 @@ impl Command {
     /// What those words are.
     pub fn word(self) -> &'static str {
         match self {
-            Command::Check
-            | Command::Certify
-            | Command::History
-            | Command::Slots
-            | Command::Plan => "FILE",
+            Command::Check | Command::Certify | Command::History | Command::Slots | Command::Plan =>
+                "FILE",
             Command::Replay | Command::Loopback => "SCRIPT",
             Command::Where => "KEY",
             Command::Serve | Command::Cache => "",
