@@ -1,10 +1,9 @@
 -- For which client most is held.
-use Rattle.std.proofs.Common.{◌≡◌, ◌≢◌, ◌⊎◌, inl, inr, ℕ, ◌+◌, ◌-◌, ◌^◌, ◌<◌, ◌≤◌, min, Bool, List, true, false, if◌then◌else◌, Option, Some, None, length, refl, sym, ap, ◌∙◌, subst, arith}
+use Rattle.std.proofs.Common.{◌≡◌, ◌≢◌, ◌⊎◌, inl, inr, ℕ, ◌+◌, ◌-◌, ◌<◌, ◌≤◌, Bool, true, false, if◌then◌else◌, Option, Some, None, length, refl, sym, ap, ◌∙◌, subst, arith}
 use Rattle.std.proofs.lemmas.Bool.{cases_eq, cases_lt, leb-false}
 use Rattle.std.proofs.lemmas.Option.{slice_get_past}
 use Rattle.std.specs.Prelude.{nat_le, IfSome, slice_get}
 use Rattle.std.specs.Option.{option_map, option_flatten}
-use Rattle.serve_clients.specs.declared.clients.Client.{Client}
 use Rattle.serve_clients.specs.declared.clients.Clients.{Clients}
 use Rattle.serve_clients.specs.Marks.{client_of, AreAlike}
 use Rattle.serve_clients.specs.Agrees.{said_of, KeepsEnds}

@@ -192,7 +192,11 @@ impl<W: Wire> Sockets<W> {
         ensures ends { GoAloneUnless at (over_of result) W.history self.old self.new }
     {
         match self.links.all.get_mut(at) {
-            Some(link) => read_line(link, &mut self.wire),
+            Some(link) => {
+                let got = read_line(link, &mut self.wire);
+                self.stalls.note_short(lacks_memory(link, got));
+                got
+            }
             None => None,
         }
     }
@@ -236,6 +240,14 @@ pub fn read_line<W: Wire>(link: &mut Link, wire: &mut W) -> Option<Got>
     match conn.read_once(wire, room) {
         Ok(got) => Some(got),
         Err(_) => Some(Got::Full),
+    }
+}
+
+// Whether memory was refused for what came over it, by what a read gave.
+fn lacks_memory(link: &Link, got: Option<Got>) -> bool {
+    match (&link.conn, got) {
+        (Some(conn), Some(Got::Full)) => conn.held.len() < conn.limits.held,
+        _ => false,
     }
 }
 

@@ -1,6 +1,6 @@
 //! Clients that take nothing of much that is to be sent to them, or for whom too much is held: since when, and which are closed for that.
 
-ghost use Rattle.std.specs.Prelude.{IfSome, ◌≡◌, ◌≢◌, ◌↔◌, ℕ, ◌<◌, ◌-◌, IsTrue, OnOk, None, length, min, sum, slice_set};
+ghost use Rattle.std.specs.Prelude.{IfSome, ◌≡◌, ◌≢◌, ◌↔◌, ℕ, ◌<◌, ◌-◌, IsTrue, false, OnOk, None, length, min, sum, slice_set};
 ghost use Rattle.serve_proxy.specs.Ends.{Stay, AllGoOn, AllGoBreaking};
 ghost use Rattle.serve_proxy.specs.Stalls.{since_of, since_by, HasStalled, OnlyStalled, HasMost, OnlyMost, greater_of};
 ghost use Rattle.serve_proxy.specs.Budgets.{others_than, share_by};
@@ -38,6 +38,8 @@ pub struct Stalls {
     since: Vec<Option<u64>>,
     // How many bytes are held for clients.
     pub budget: Budget,
+    // Whether memory was refused for what a server sent.
+    is_short: bool,
     // Nobody has stalled before this time.
     late_from: Option<u64>,
     // How many were closed and not told of.
@@ -79,6 +81,7 @@ impl Stalls {
             ms: USUAL_MS,
             since: Vec::new(alloc),
             budget: Budget::new(alloc, USUAL_MOST),
+            is_short: false,
             late_from: None,
             closed: 0,
             quiet_until: 0,
@@ -110,6 +113,22 @@ impl Stalls {
             self.since.push(None)?;
         }
         Ok(())
+    }
+
+    /// Memory was refused for what a server sent, if it is so.
+    pub fn note_short(&mut self, is_so: bool)
+        ensures { self.new ≡ record self.old { is_short = self.new.is_short } }
+    {
+        self.is_short = self.is_short || is_so;
+    }
+
+    // Whether more bytes are held for all than may be, or memory was refused since that was asked last.
+    fn has_too_much(&mut self) -> bool
+        ensures { self.new ≡ record self.old { is_short = false } }
+    {
+        let is_short = self.is_short;
+        self.is_short = false;
+        is_short || self.budget.is_over()
     }
 
     // Nobody has stalled before this time, either.
@@ -224,12 +243,13 @@ pub fn close_slow<W: Wire>(core: &ServedCore, sockets: &mut Sockets<W>) -> io::R
     Ok(())
 }
 
-// Where more bytes are held for all clients than may be, the client for which most are is broken off, until no more are than that.
+// Where more bytes are held for all clients than may be, the client for which most are is broken off, until no more are than that; and once where
+// memory was refused for what a server sent.
 fn shed<W: Wire>(core: &ServedCore, sockets: &mut Sockets<W>) -> Result<(), AllocError>
     ensures ends { AllGoOn W.history core.now sockets.old core.now sockets.new }
 {
     for _ in 0..sockets.clients.len() {
-        if !sockets.stalls.budget.is_over() {
+        if !sockets.stalls.has_too_much() {
             return Ok(());
         }
         shed_one(core, sockets)?;

@@ -10,8 +10,8 @@ loop-preserved g c = and_then c.loop.invariant c.shed_one.ensures.ends
 pub returns-in_err-shed_one : goal.returns-in_err-shed_one
 returns-in_err-shed_one g c = record { ends = and_then c.loop.invariant c.shed_one.ensures.ends }
 
-pub returns-then-not-is_over : goal.returns-then-not-is_over
-returns-then-not-is_over g c = record { ends = c.loop.invariant }
+pub returns-then-not-has_too_much : goal.returns-then-not-has_too_much
+returns-then-not-has_too_much g c = record { ends = c.loop.invariant }
 
 pub returns : goal.returns
 returns g c = record { ends = c.loop.invariant }

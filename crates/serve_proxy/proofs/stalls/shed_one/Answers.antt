@@ -1,5 +1,4 @@
-use Rattle.std.proofs.Common.{inl, refl, ap, ◌∙◌}
-use Rattle.std.specs.Option.{option_map}
+use Rattle.std.proofs.Common.{inl, refl}
 use Rattle.serve_clients.proofs.Agreeing.{keeps_none, keeps_twice}
 use Rattle.serve_proxy.specs.Stalls.{HasMost}
 use Rattle.serve_proxy.proofs.Going.{and_then, breaking, stays, still}

@@ -4,5 +4,5 @@ use Rattle.serve_proxy.proofs.sockets.Sockets.end_input_if.Goals as goal
 pub returns-then-is_so : goal.returns-then-is_so
 returns-then-is_so g c = record { ends = stay_then c.end_input.ensures.ends c.note_held.ensures.ends }
 
-pub returns : goal.returns
-returns g c = record { ends = stay_still _ _ _ }
+pub returns-else-is_so : goal.returns-else-is_so
+returns-else-is_so g c = record { ends = stay_still _ _ _ }
