@@ -79,6 +79,7 @@ mcgate serve --any --listen a:1 --config c --reload-every 4 --reload-ms 5 --fail
 mcgate serve --listen a:1 --config c --history h => serve - after h fail-limit 3 auto
 mcgate serve --listen a:1 --config c --history h --any => refused, told
 mcgate serve --listen a:1 --config c --stall-ms 7 --memory-mb 8 => serve - fail-limit 3 stall-ms 7 memory 8388608 auto
+mcgate serve --listen a:1 --config c --metrics b:2 => serve - fail-limit 3 metrics b:2 auto
 mcgate serve --listen a:1 --config c --server-dialect auto => serve - fail-limit 3 auto
 mcgate serve --listen a:1 --config c --server-dialect classic => serve - fail-limit 3 classic
 mcgate serve --listen a:1 --config c --server-dialect meta => serve - fail-limit 3 meta
@@ -202,6 +203,9 @@ fn push_serve(out: &mut String, job: &ServeJob<'_>) -> Result<(), AllocError> {
     push_number(out, "fail-limit", Some(job.settings.fail_limit))?;
     if job.stall_ms != 10_000 {
         write!(out, " stall-ms {} memory {}", job.stall_ms, job.memory)?;
+    }
+    if let Some(metrics) = job.metrics {
+        write!(out, " metrics {metrics}")?;
     }
     write!(out, " {}", dialect_word(job.settings.server_dialect))?;
     push_beginning(out, "own", job.begun.opened)?;

@@ -32,8 +32,8 @@ pub enum Command {
 
 /// The names of the commands.
 pub const COMMANDS: [&str; 11] = [
-    "check", "certify", "replay", "where", "serve", "cache", "loopback", "history", "slots", "plan",
-    "help",
+    "check", "certify", "replay", "where", "serve", "cache", "loopback", "history", "slots",
+    "plan", "help",
 ];
 
 const CHECK_FLAGS: [&str; 8] = [
@@ -47,7 +47,7 @@ const CHECK_FLAGS: [&str; 8] = [
     "new-servers",
 ];
 
-const SERVE_FLAGS: [&str; 23] = [
+const SERVE_FLAGS: [&str; 24] = [
     "help",
     "check",
     "config",
@@ -65,6 +65,7 @@ const SERVE_FLAGS: [&str; 23] = [
     "polls",
     "stall-ms",
     "memory-mb",
+    "metrics",
     "server-dialect",
     "opened",
     "new-servers",
@@ -83,7 +84,7 @@ pub fn takes_of(flag: &str) -> Takes {
     match flag {
         "help" | "version" | "any" | "check" | "explain" | "dot" | "fleet" => Takes::Nothing,
         "config" | "certificate" | "with" | "history" | "after" => Takes::File,
-        "listen" | "add" | "remove" => Takes::Address,
+        "listen" | "metrics" | "add" | "remove" => Takes::Address,
         "pool" => Takes::Pool,
         "server-dialect" | "opened" | "new-servers" => Takes::Word,
         _ => Takes::Count,
@@ -233,11 +234,8 @@ impl Command {
     /// What those words are.
     pub fn word(self) -> &'static str {
         match self {
-            Command::Check
-            | Command::Certify
-            | Command::History
-            | Command::Slots
-            | Command::Plan => "FILE",
+            Command::Check | Command::Certify | Command::History | Command::Slots | Command::Plan =>
+                "FILE",
             Command::Replay | Command::Loopback => "SCRIPT",
             Command::Where => "KEY",
             Command::Serve | Command::Cache => "",

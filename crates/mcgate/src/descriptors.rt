@@ -7,10 +7,14 @@ use libc::types::rlimit;
 use libc::{RLIMIT_NOFILE, getrlimit};
 use mcgate_args::serve_arguments::ServeJob;
 use serve_proxy::Settings;
+use watch_http::visitors::PLACES;
 
 // So many descriptors are kept for what is neither a client nor a server of the configuration: the standard ones, the listener, what it
 // waits with, the file that is read again, and servers that a reload brings.
 const RESERVE: usize = 16;
+
+// And so many for who asks for numbers, where it listens for them: as many as may be there, the listener, and what waits for them.
+const WATCHING: usize = PLACES + 2;
 
 // How many descriptors the process may have open, if the system tells.
 fn most_descriptors() -> Option<usize> {
@@ -25,12 +29,12 @@ fn most_descriptors() -> Option<usize> {
 }
 
 // How many clients can be served at once where so many descriptors may be open: as many as are wanted, or what the servers and the
-// reserve leave, and one at least.
-fn clients_within(most: usize, servers: usize, wanted: usize) -> usize
+// rest leave, and one at least.
+fn clients_within(most: usize, servers: usize, rest: usize, wanted: usize) -> usize
     ensures wanted { result ≤ wanted ⊎ result ≡ 1 }
-    ensures within { result + (servers + 16) ≤ most ⊎ result ≡ 1 }
+    ensures within { result + (servers + rest) ≤ most ⊎ result ≡ 1 }
 {
-    let left = most.saturating_sub(servers).saturating_sub(RESERVE);
+    let left = most.saturating_sub(servers).saturating_sub(rest);
     wanted.min(left).max(1)
 }
 
@@ -46,10 +50,14 @@ pub fn within_descriptors<'a, R: Eprint>(
         return job;
     };
     let wanted = job.settings.clients;
-    let clients = clients_within(most, servers, wanted);
+    let rest = match job.metrics {
+        Some(_) => RESERVE + WATCHING,
+        None => RESERVE,
+    };
+    let clients = clients_within(most, servers, rest, wanted);
     if clients < wanted {
         let line = format_args!(
-            "mcgate: WARNING: {most} descriptors may be open (ulimit -n): {clients} clients are served at once, not {wanted}; {servers} are kept for servers, {RESERVE} for the rest"
+            "mcgate: WARNING: {most} descriptors may be open (ulimit -n): {clients} clients are served at once, not {wanted}; {servers} are kept for servers, {rest} for the rest"
         );
         lines.tell(rt, line);
     }

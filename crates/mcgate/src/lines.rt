@@ -36,12 +36,22 @@ impl Output {
 pub struct Lines {
     // How many were lost since it was told last.
     lost: u64,
+    // How many before that.
+    lost_before: u64,
 }
 
 impl Lines {
     /// None was lost yet.
     pub fn new() -> Lines {
-        Lines { lost: 0 }
+        Lines {
+            lost: 0,
+            lost_before: 0,
+        }
+    }
+
+    /// How many were lost so far.
+    pub fn lost(&self) -> u64 {
+        self.lost_before.saturating_add(self.lost)
     }
 
     // Notes what became of a line.
@@ -57,6 +67,7 @@ impl Lines {
             return;
         }
         if eprintln!(rt; "mcgate: {} lines could not be written before", self.lost).is_ok() {
+            self.lost_before = self.lost();
             self.lost = 0;
         }
     }

@@ -14,6 +14,7 @@ mod slots;
 mod special;
 mod started;
 mod warnings;
+mod watching;
 
 use cache::serve_cache;
 use certified::judge_text_by;
@@ -40,8 +41,8 @@ use mcgate_check::status::{BAD_INPUT, DONE, REFUSED};
 use mcgate_replay::Judging;
 use route_json::Config;
 use serve::{Judged, Servable, judge_text, look_up_only, serve_to_end};
-use slots::run_slots;
 use serve_proxy::Beginnings;
+use slots::run_slots;
 use special::{is_special, special_line};
 use started::{Begun, Started, begin, refused_after};
 use std::alloc::{AllocError, Global};
@@ -51,6 +52,7 @@ use std::net::Net;
 use std::process::ExitCode;
 use std::rt::{Clock, Env, Files};
 use warnings::say_warnings;
+use watching::Watching;
 
 /// The arguments, the program's name first. One that isn't UTF-8 is refused as the program has none such.
 fn arguments_of<R: AllocGlobal + Env>(rt: &R, details: &mut Details) -> Result<Vec<String>, Stop> {
@@ -348,6 +350,24 @@ fn run_loopback<R: Files + Input + AllocGlobal + Net + Clock + Eprint, W: Write>
     Ok(status)
 }
 
+/// Listens where a job says for who asks for numbers, if it does. Where it can't, a line of detail says why.
+fn watch_job<R: Net + Clock + AllocGlobal>(
+    rt: &R,
+    job: &ServeJob<'_>,
+    details: &mut Details,
+) -> Result<Option<Watching>, Stop> {
+    let Some(address) = job.metrics else {
+        return Ok(None);
+    };
+    match Watching::listen(rt, address) {
+        Ok(watching) => Ok(Some(watching)),
+        Err(error) => {
+            details.add_listen(rt.alloc(), address, &error);
+            Err(Stop::from(error))
+        }
+    }
+}
+
 /// Serves a configuration. Where it can't listen there, a line of detail says why.
 fn serve_job<R: Files + Input + AllocGlobal + Net + Clock + Print + Eprint>(
     rt: &R,
@@ -357,7 +377,8 @@ fn serve_job<R: Files + Input + AllocGlobal + Net + Clock + Print + Eprint>(
     lines: Lines,
     details: &mut Details,
 ) -> Result<u8, Stop> {
-    match serve_to_end(rt, &job, servable, started, lines) {
+    let watching = watch_job(rt, &job, details)?;
+    match serve_to_end(rt, &job, servable, started, lines, watching) {
         Ok((_serving, ended)) => ended,
         Err(error) => {
             details.add_listen(rt.alloc(), job.listen, &error);

@@ -10,6 +10,7 @@ use crate::lines::Lines;
 use crate::serving::{Proxy, Serving, resolve, tell_if_unknown};
 use crate::sharing::sharing_for;
 use crate::started::Started;
+use crate::watching::Watching;
 use gate_check::{Accepted, judge};
 use mcgate_args::details::Details;
 use mcgate_args::ends::Stop;
@@ -230,16 +231,17 @@ fn start<R: Net + Clock + AllocGlobal + Eprint>(
     servable: Servable,
     started: Started,
     lines: Lines,
+    watching: Option<Watching>,
 ) -> io::Result<Serving>
     ensures { IfOk result (λ serving. BeginsServing servable job.now.begun job.now.settings serving.end) }
 {
     let servers = servable.servers(rt.alloc())?;
     let mut lines = lines;
     let end = open(rt, &mut lines, job, servable, &servers)?;
-    Serving::new(rt, end, servers, started, lines)
+    Serving::new(rt, end, servers, started, lines, watching)
 }
 
-/// Serves a configuration, which starts so, and tells it. What it was in the end comes with the exit status after the turns that
+/// Serves a configuration, which starts so, and tells it; who asks for numbers gets them, where it listens for them. What it was in the end comes with the exit status after the turns that
 /// were asked, or with why it ended before.
 ///
 /// [`Stop::Device`] comes where the system's wait or clock fails, and [`Stop::Memory`] where memory was refused for a configuration that is
@@ -250,14 +252,30 @@ pub fn serve_to_end<R: Files + Input + Net + Clock + AllocGlobal + Print + Eprin
     servable: Servable,
     started: Started,
     lines: Lines,
+    watching: Option<Watching>,
 ) -> io::Result<(Serving, Result<u8, Stop>)>
     ensures served { IfOk result (λ ended. HasServed servable job.now.begun job.now.settings ended.1 ended.0.end) }
     ensures fresh { IfOk result (λ ended. StaysFresh servable job.now.begun ended.0.end.core.value) }
 {
-    let mut serving = start(rt, job, servable, started, lines)?;
+    let mut serving = start(rt, job, servable, started, lines, watching)?;
     let ended = serving.tell_and_run(rt, job);
     serving.logs_are_fresh();
     Ok((serving, ended))
+}
+
+// Looks up where it would listen. Where no such address is known, a line of detail says why.
+fn look_up_own<R: Net + AllocGlobal>(
+    rt: &R,
+    address: &str,
+    details: &mut Details,
+) -> Result<(), Stop> {
+    match resolve(rt, address) {
+        Ok(_) => Ok(()),
+        Err(error) => {
+            details.add_listen(rt.alloc(), address, &error);
+            Err(Stop::from(error))
+        }
+    }
 }
 
 // What is said where some servers' addresses aren't known.
@@ -280,9 +298,9 @@ pub fn look_up_only<R: Net + AllocGlobal + Eprint>(
         return Err(Stop::Memory);
     };
     let unknown = tell_unknown(rt, lines, &servers)?;
-    if let Err(error) = resolve(rt, job.listen) {
-        details.add_listen(rt.alloc(), job.listen, &error);
-        return Err(Stop::from(error));
+    look_up_own(rt, job.listen, details)?;
+    if let Some(metrics) = job.metrics {
+        look_up_own(rt, metrics, details)?;
     }
     if unknown > 0 {
         details.add(unknown_line(rt.alloc(), unknown, servers.len()));

@@ -12,6 +12,7 @@ use crate::lines::Lines;
 use crate::remembering::{Kept, Remembering, forget, remember};
 use crate::special::is_special;
 use crate::started::Started;
+use crate::watching::{Seen, Watching};
 use core_accepted::LoadFault;
 use gate_check::ReloadFault;
 use mc_types::ServerId;
@@ -84,6 +85,9 @@ pub struct Serving {
     /// How many turns ago.
     turns: u32,
     lines: Lines,
+    seen: Seen,
+    /// Who asks for numbers, where it listens for them.
+    watching: Option<Watching>,
 }
 
 // The text of a regular file. Of what is none the program doesn't wait for a text.
@@ -105,6 +109,15 @@ fn read_after(
     let config = read_config_after(alloc, servers.copy(alloc)?, text)?;
     let servers = config.servers().copy(alloc)?;
     Ok((config, servers))
+}
+
+// The lesser of two, where there are two.
+fn earlier(a: Option<u64>, b: Option<u64>) -> Option<u64> {
+    match (a, b) {
+        (Some(a), Some(b)) => Some(a.min(b)),
+        (a, None) => a,
+        (None, b) => b,
+    }
 }
 
 // Whether both texts say one JSON value. Where memory is refused they don't.
@@ -176,21 +189,25 @@ impl Serving {
         servers: Servers,
         started: Started,
         lines: Lines,
+        watching: Option<Watching>,
     ) -> io::Result<Serving>
         ensures { IfOk result (λ serving. serving.end ≡ end) }
     {
         let (text, memory) = started.into_parts();
+        let before = before_of(&memory);
         Ok(Serving {
             end,
             servers,
             text,
             generation: 1,
-            before: before_of(&memory),
+            before,
             memory,
             refused: None,
             since: Instant::now(rt)?,
             turns: 0,
             lines,
+            seen: Seen::new(before.saturating_add(1)),
+            watching,
         })
     }
 
@@ -233,7 +250,34 @@ impl Serving {
         );
         self.lines.tell(rt, line);
         self.tell_if_new(rt, job);
+        self.begin_watching(rt)
+    }
+
+    // From now on it wakes up for who asks for numbers, where it listens for them, and tells that.
+    fn begin_watching<R: Eprint>(&mut self, rt: &R) -> io::Result<()>
+        ensures { self.new.end ≡ self.old.end }
+    {
+        let Some(watching) = &self.watching else {
+            return Ok(());
+        };
+        self.end.wire().wake_by(watching.descriptor())?;
+        let address = watching.local_addr()?;
+        self.lines
+            .tell(rt, format_args!("mcgate: metrics on {address}"));
         Ok(())
+    }
+
+    // Who asks for numbers gets them, if there is somebody. Where the system doesn't tell, nothing is done.
+    fn turn_watching<R: Files + Clock + AllocGlobal>(&mut self, rt: &R)
+        ensures { self.new.end ≡ self.old.end }
+    {
+        let is_woken = self.end.wire().was_woken();
+        let lost_lines = self.lines.lost();
+        if let Some(watching) = &mut self.watching {
+            if is_woken || watching.is_due(rt) {
+                let _ = watching.turn(rt, &self.end, &self.servers, &self.seen, lost_lines);
+            }
+        }
     }
 
     // Tells that nothing is remembered of trees before, where no history is kept.
@@ -261,6 +305,7 @@ impl Serving {
             self.turn(rt, job)?;
             self.tell_news(rt);
             self.look_if_due(rt, job)?;
+            self.turn_watching(rt);
         }
         self.end.end_turns()?;
         Ok(DONE)
@@ -271,17 +316,29 @@ impl Serving {
         Ok(u64::try_from(millis).unwrap_or(u64::MAX))
     }
 
-    // One turn, which doesn't wait longer than until the file is to be read again.
+    // How long a turn may wait: until the file is to be read again, or who asked for numbers is to be closed.
+    fn most_wait<R: Clock>(&self, rt: &R, job: &ServeJob<'_>) -> io::Result<Option<Duration>> {
+        let until_watched = match &self.watching {
+            Some(watching) => watching.rest(rt)?,
+            None => None,
+        };
+        let until_read = match job.reload_ms {
+            Some(reload_ms) => Some(u64::from(reload_ms).saturating_sub(self.millis(rt)?)),
+            None => None,
+        };
+        Ok(earlier(until_watched, until_read).map(Duration::from_millis))
+    }
+
+    // One turn, which doesn't wait longer than that.
     #[tactic(auto, using(crate::proofs::Loads::goes_still))]
     fn turn<R: Net + Clock>(&mut self, rt: &R, job: &ServeJob<'_>) -> io::Result<()>
         ensures ends { AllGoOr result history_of self.old.end.core.value self.old.end.sockets self.new.end.core.value self.new.end.sockets }
     {
         self.turns = self.turns.saturating_add(1);
-        let Some(reload_ms) = job.reload_ms else {
-            return self.end.turn(rt);
-        };
-        let rest = u64::from(reload_ms).saturating_sub(self.millis(rt)?);
-        self.end.turn_within(rt, Duration::from_millis(rest))
+        match self.most_wait(rt, job)? {
+            Some(most) => self.end.turn_within(rt, most),
+            None => self.end.turn(rt),
+        }
     }
 
     // Tells what happened to servers and clients. Where it can't be told nothing else is done.
@@ -299,6 +356,7 @@ impl Serving {
         ensures ends { Stay history_of self.old.end.sockets self.new.end.sockets }
     {
         if let Some(count) = self.end.next_stalled() {
+            self.seen.closed_slow = self.seen.closed_slow.saturating_add(count);
             let line = format_args!("mcgate: clients closed that took too little: {count}");
             self.lines.tell(rt, line);
         }
@@ -389,6 +447,8 @@ impl Serving {
         ensures ends { self.new.end ≡ self.old.end }
         ensures memory { self.new.memory ≡ self.old.memory }
     {
+        let generation = self.generation.saturating_add(self.before);
+        self.seen.note_text(generation, is_used);
         if is_used {
             self.text = text;
             self.refused = None;

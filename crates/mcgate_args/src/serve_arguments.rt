@@ -13,6 +13,8 @@ pub struct ServeJob<'a> {
     pub file: &'a str,
     /// Where to listen: a host and a port.
     pub listen: &'a str,
+    /// Where to listen for who asks for numbers over HTTP.
+    pub metrics: Option<&'a str>,
     pub settings: Settings,
     /// How servers began.
     pub begun: Beginnings,
@@ -60,6 +62,7 @@ opens, fails or comes back.
   --polls N              after so many reads of a server in a row without a whole answer its calls have failed; without it, any number
   --stall-ms N           a client that takes nothing for so many milliseconds, while more than 1 MiB is to be sent to it, is closed, 10000
   --memory-mb N          where more than so many MiB are to be sent to all clients, the client to which most are is closed, 1024
+  --metrics HOST:PORT    answers there over HTTP what it counts: /metrics in Prometheus' text format, /stats.json in JSON
   --server-dialect WORD  how servers are asked for classic gets: classic, meta, or auto, by what each answers to an mn; auto
   --opened WORD          what the servers of the first configuration held before: any, or own: of each key nothing but what its tree
                          may put on them; any
@@ -98,6 +101,7 @@ pub fn serve_command<'a>(alloc: Global) -> Result<Command<'a>, AllocError> {
         .arg(option(alloc, "polls"))?
         .arg(option(alloc, "stall-ms"))?
         .arg(option(alloc, "memory-mb"))?
+        .arg(option(alloc, "metrics"))?
         .arg(option(alloc, "server-dialect"))?
         .arg(option(alloc, "opened"))?
         .arg(option(alloc, "new-servers"))?
@@ -176,6 +180,7 @@ pub fn serve_job<'a>(given: &ArgMatches<'a>) -> Result<Job<'a>, ArgumentsFault> 
     Ok(Job::Serve(ServeJob {
         file,
         listen,
+        metrics: given.get_str("metrics"),
         settings: settings_of(given)?,
         begun: begun_of(given)?,
         any,

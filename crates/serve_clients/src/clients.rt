@@ -539,6 +539,11 @@ impl Clients {
         self.all.len()
     }
 
+    /// How many clients there are.
+    pub fn count(&self) -> usize {
+        self.all.iter().flatten().count()
+    }
+
     /// The client of this id. It stays as the borrower leaves it, and all else stays as it is.
     pub fn get_mut(&mut self, id: usize) -> Option<&mut Client>
         ensures* writes_back { sem 𝓛 (LendsClient self.entry id result) }

@@ -2,6 +2,7 @@ pub mod Dialects
 pub mod Calls
 pub mod Sending
 pub mod CoreSteps
+pub mod Counting
 pub mod Lines
 pub mod Links
 pub mod Pieces

@@ -9,6 +9,7 @@ ghost use Rattle.serve_links.specs.Lines.{first_asked_of, awaits_first, first_di
 use crate::calls::{LateCall, LinkCalls, SentCall};
 use crate::news::{Cause, LinkNews};
 use crate::settings::{ServerDialect, Settings};
+use crate::tally::LinkTally;
 use mc_types::Dialect;
 use serve_wire::conn::{Conn, Limits};
 use serve_wire::{Connected, Wire};
@@ -137,6 +138,8 @@ pub struct Link {
     pub is_connected: bool,
     /// How many times in a row it failed since its server last answered.
     failures: u32,
+    /// What has become of it so far.
+    pub tally: LinkTally,
     /// Where those are as many as are allowed: until then its calls fail at once.
     held_until: u64,
     /// How many reads in a row brought no whole answer.
@@ -186,6 +189,7 @@ impl Link {
             opened: 0,
             is_connected: false,
             failures: 0,
+            tally: LinkTally::new(),
             held_until: 0,
             vain_reads: 0,
             awaited: None,
@@ -531,6 +535,7 @@ impl Link {
             return false;
         }
         self.is_connected = true;
+        self.tally.note_stood();
         self.news = if self.was_down {
             Some(LinkNews::Back)
         } else {
@@ -542,8 +547,9 @@ impl Link {
 
     /// A call of it took too long, which is news.
     pub fn turn_late(&mut self)
-        ensures { self.new ≡ record self.old { news = self.new.news; was_down = self.new.was_down } }
+        ensures { self.new ≡ record self.old { tally = self.new.tally; news = self.new.news; was_down = self.new.was_down } }
     {
+        self.tally.note_late();
         self.news = Some(LinkNews::Late);
         self.was_down = true;
     }
@@ -579,6 +585,7 @@ impl Link {
         self.is_connected = false;
         self.was_down = true;
         self.failures = self.failures.saturating_add(1);
+        self.tally.note_failed(cause);
         self.held_until = now.saturating_add(settings.retry_ms);
         self.news = Some(LinkNews::Failed(cause, self.failures));
         number

@@ -21,6 +21,30 @@ pub enum Cause {
     VainReads,
 }
 
+/// All causes.
+pub const CAUSES: [Cause; 6] = [
+    Cause::Unreachable,
+    Cause::ConnectLate,
+    Cause::Closed,
+    Cause::Broken,
+    Cause::Foreign,
+    Cause::VainReads,
+];
+
+impl Cause {
+    /// Its name where failures are counted.
+    pub fn name(self) -> &'static str {
+        match self {
+            Cause::Unreachable => "unreachable",
+            Cause::ConnectLate => "connect_late",
+            Cause::Closed => "closed",
+            Cause::Broken => "broken",
+            Cause::Foreign => "foreign",
+            Cause::VainReads => "vain_reads",
+        }
+    }
+}
+
 /// What happened to a server's link.
 #[derive(Clone, Copy, PartialEq, Eq)]
 pub enum LinkNews {

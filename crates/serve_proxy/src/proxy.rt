@@ -28,7 +28,7 @@ use gate_check::{Accepted, ReloadFault};
 use route_json::Config;
 use route_json::addresses::Servers;
 use route_tree::Tree;
-use serve_links::{Cause, LinkNews, Settings, Tally};
+use serve_links::{Cause, Link, LinkNews, Settings, Tally};
 use serve_wire::Wire;
 use std::alloc::{AllocError, Global};
 use std::io;
@@ -205,6 +205,16 @@ impl<W: Wire> ProxyEnd<W> {
         ensures { result ≡ self.now.sockets.tally }
     {
         self.sockets.tally
+    }
+
+    /// How many clients there are.
+    pub fn clients(&self) -> usize {
+        self.sockets.clients.count()
+    }
+
+    /// The link to the server of this number.
+    pub fn link(&self, server: usize) -> Option<&Link> {
+        self.sockets.links.all.get(server)
     }
 
     /// Whether so many calls are out, and nothing is left to do until something comes.

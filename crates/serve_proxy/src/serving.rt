@@ -230,9 +230,9 @@ fn poll_once<W: Wire, N: Net>(
             send_call(net, core, sockets, id, ticket)?;
             Ok(Rest::More)
         }
-        Ok(Polled::Did(_note)) => {
+        Ok(Polled::Did(note)) => {
             sockets.note_went_on(id);
-            sockets.tally.note_command();
+            sockets.tally.note_command(&note);
             sockets.is_freed = true;
             Ok(Rest::More)
         }

@@ -38,6 +38,9 @@ const MOST: usize = 549_755_813_888;
 // What is told under this token is told of the listener.
 const LISTENER: usize = usize::MAX;
 
+// What is told under this one is told of a descriptor for which a wait ends.
+const WAKER: usize = usize::MAX - 1;
+
 // The most reports of one wait.
 const EVENTS: usize = 1_024;
 
@@ -53,6 +56,8 @@ pub struct Sockets {
     count: usize,
     addresses: Vec<Address>,
     start: Instant,
+    // Whether the last wait told of a descriptor for which a wait ends.
+    is_woken: bool,
     log: Record,
     ghost fresh: { (c : ℕ) → count * 16777216 ≤ c → IsNew c log.events × (is_open c log.events ≡ false) },
 }
@@ -109,6 +114,17 @@ fn put_reports(
         }
     }
     Ok(())
+}
+
+// Whether something is told of a descriptor for which a wait ends.
+fn wakes(events: &Events) -> bool {
+    for event in events.iter() {
+        let Token(token) = event.token();
+        if token == WAKER {
+            return true;
+        }
+    }
+    false
 }
 
 // The number of the next connection, after so many.
@@ -210,6 +226,7 @@ impl Sockets {
             count: 0,
             addresses: Vec::new(alloc),
             start,
+            is_woken: false,
             log: Record::new(),
         })
     }
@@ -217,6 +234,17 @@ impl Sockets {
     /// Where it listens.
     pub fn local_addr(&self) -> io::Result<SocketAddr> {
         self.listener.local_addr()
+    }
+
+    /// From now on a wait also ends once this descriptor is readable, which only [`was_woken`](Sockets::was_woken) tells. An error comes where the
+    /// system doesn't watch it.
+    pub fn wake_by(&self, descriptor: RawFd) -> io::Result<()> {
+        self.poll.registry().register(&mut SourceFd(&descriptor), Token(WAKER), Interest::READABLE)
+    }
+
+    /// Whether such a descriptor became readable by the end of the last wait.
+    pub fn was_woken(&self) -> bool {
+        self.is_woken
     }
 }
 
@@ -232,6 +260,7 @@ impl Wire for Sockets {
 
     fn wait(&mut self, limit: Option<Duration>) -> io::Result<usize> {
         self.poll.poll(&mut self.events, limit)?;
+        self.is_woken = wakes(&self.events);
         put_reports(&mut self.reports, &self.events, &self.open)?;
         Ok(self.reports.len())
     }

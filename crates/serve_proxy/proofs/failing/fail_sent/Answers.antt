@@ -10,6 +10,6 @@ returns-in-None g c = record { ends = still }
 pub returns-in-Some : goal.returns-in-Some
 returns-in-Some g c = record {
   ends = and_then
-      (line_goes_to None c.args.sockets.now.links.all.items c.args.at c.in-Some.link.now c.fail_out.new.link c.in-Some.ensures.item.3.0 c.in-Some.ensures.value (c.fail_out.ensures.goes c.args.at (g.W.Wire.history c.args.sockets.now.wire)))
-      (stays c.fail_out.new.core (stay_clients _ _ _ _ c.fail_out.ensures.ends));
+      (line_goes_to None c.args.sockets.now.links.all.items c.args.at c.in-Some.link.now c.fail_late.new.link c.in-Some.ensures.item.3.0 c.in-Some.ensures.value (c.fail_late.ensures.goes c.args.at (g.W.Wire.history c.args.sockets.now.wire)))
+      (stays c.fail_late.new.core (stay_clients _ _ _ _ c.fail_late.ensures.ends));
 }

@@ -1,0 +1,309 @@
+//! What a proxy that runs tells over HTTP of what it counts.
+
+use crate::serving::{Proxy, resolve};
+use gate_gaps::names::op_name;
+use mc_types::{Op, ServerId};
+use route_json::addresses::Servers;
+use serve_links::CAUSES;
+use std::alloc::{AllocError, Global};
+use std::io;
+use std::net::{Net, SocketAddr};
+use std::os::fd::RawFd;
+use std::rt::{Clock, Files};
+use std::time::Instant;
+use watch_http::request::Page;
+use watch_http::visitors::{PLACES, Visitors};
+use watch_text::families::Family;
+use watch_text::json::write_json;
+use watch_text::numbers::{
+    ClientNumbers, CommandNumbers, ConfigNumbers, FailureNumbers, Numbers, ProcessNumbers,
+    ServerNumbers, families_of,
+};
+use watch_text::prometheus::write_prometheus;
+
+// All operations.
+const OPS: [Op; 12] = [
+    Op::Get,
+    Op::Gat,
+    Op::Set,
+    Op::Add,
+    Op::Replace,
+    Op::Append,
+    Op::Prepend,
+    Op::Cas,
+    Op::Delete,
+    Op::Incr,
+    Op::Decr,
+    Op::Touch,
+];
+
+/// What is counted of a proxy that runs, besides what its end counts.
+#[derive(Clone, Copy)]
+pub struct Seen {
+    pub config: ConfigNumbers,
+    /// How many clients were closed, as they took too little.
+    pub closed_slow: u64,
+}
+
+impl Seen {
+    /// Nothing yet: the generation of this number is in use.
+    pub fn new(generation: u32) -> Seen {
+        Seen {
+            config: ConfigNumbers {
+                generation: u64::from(generation),
+                accepted: 0,
+                unchanged: 0,
+                refused: 0,
+            },
+            closed_slow: 0,
+        }
+    }
+
+    /// A new text came, after which the generation of this number is in use: whether the text says it.
+    pub fn note_text(&mut self, generation: u32, is_used: bool) {
+        let config = &mut self.config;
+        let generation = u64::from(generation);
+        if !is_used {
+            config.refused = config.refused.saturating_add(1);
+        } else if generation == config.generation {
+            config.unchanged = config.unchanged.saturating_add(1);
+        } else {
+            config.accepted = config.accepted.saturating_add(1);
+        }
+        config.generation = generation;
+    }
+}
+
+/// Who asks for the numbers, and since when it runs.
+#[derive(Drop)]
+pub struct Watching {
+    visitors: Visitors,
+    began: Instant,
+}
+
+// What the system tells of the process.
+#[derive(Clone, Copy)]
+struct Used {
+    processor_ms: u64,
+    resident_bytes: u64,
+}
+
+// The number at this place of words.
+fn number_at(words: &str, place: usize) -> Option<u64> {
+    words.split(' ').nth(place)?.parse::<u64>().ok()
+}
+
+// What a text tells that the system has of a process: after its name come words, of which the 12th and 13th are ticks of processor time, and
+// the 22nd pages of memory.
+fn used_in(text: &str) -> Option<Used> {
+    let (_, words) = text.rsplit_once(") ")?;
+    let ticks = number_at(words, 11)?.saturating_add(number_at(words, 12)?);
+    let second = u64::try_from(libc::sysconf(libc::_SC_CLK_TCK)).ok()?;
+    let page = u64::try_from(libc::sysconf(libc::_SC_PAGESIZE)).ok()?;
+    Some(Used {
+        processor_ms: ticks.saturating_mul(1000).checked_div(second)?,
+        resident_bytes: number_at(words, 21)?.saturating_mul(page),
+    })
+}
+
+// What the process has used so far; nothing where the system doesn't tell.
+fn process_use<R: Files + AllocGlobal>(rt: &R) -> Used {
+    let nothing = Used {
+        processor_ms: 0,
+        resident_bytes: 0,
+    };
+    match std::fs::read_to_string(rt, "/proc/self/stat") {
+        Ok(text) => used_in(text.as_str()).unwrap_or(nothing),
+        Err(_) => nothing,
+    }
+}
+
+fn clients_of(end: &Proxy, seen: &Seen) -> ClientNumbers {
+    let tally = end.tally();
+    ClientNumbers {
+        connected: end.clients() as u64,
+        accepted: tally.accepted,
+        refused: tally.refused,
+        closed_slow: seen.closed_slow,
+        read_bytes: tally.read,
+        sent_bytes: tally.shown,
+    }
+}
+
+fn commands_of(alloc: Global, end: &Proxy) -> Result<Vec<CommandNumbers>, AllocError> {
+    let tally = end.tally();
+    let mut commands = Vec::new(alloc);
+    for op in OPS {
+        let of_op = tally.of(op);
+        commands.push(CommandNumbers {
+            op: op_name(op),
+            items: of_op.items,
+            acknowledged: of_op.acknowledged,
+            others: of_op.others,
+        })?;
+    }
+    Ok(commands)
+}
+
+// What is counted of the server of this number and text.
+fn server_of(
+    alloc: Global,
+    end: &Proxy,
+    server: usize,
+    text: &str,
+) -> Result<Option<ServerNumbers>, AllocError> {
+    let Some(link) = end.link(server) else {
+        return Ok(None);
+    };
+    let mut failures = Vec::new(alloc);
+    failures.push(FailureNumbers {
+        cause: "call_late",
+        count: link.tally.late,
+    })?;
+    for cause in CAUSES {
+        failures.push(FailureNumbers {
+            cause: cause.name(),
+            count: link.tally.failed(cause),
+        })?;
+    }
+    Ok(Some(ServerNumbers {
+        text: String::from_str(alloc, text)?,
+        is_up: link.is_connected && !link.awaits_late(),
+        connections: link.tally.stood,
+        calls_out: link.calls.len() as u64,
+        failures,
+    }))
+}
+
+fn servers_of(
+    alloc: Global,
+    end: &Proxy,
+    servers: &Servers,
+) -> Result<Vec<ServerNumbers>, AllocError> {
+    let mut told = Vec::new(alloc);
+    for server in 0..servers.len() {
+        let Ok(number) = u32::try_from(server) else {
+            return Ok(told);
+        };
+        if let Some(text) = servers.get(ServerId::new(number)) {
+            if let Some(numbers) = server_of(alloc, end, server, text)? {
+                told.push(numbers)?;
+            }
+        }
+    }
+    Ok(told)
+}
+
+// The text of a page.
+fn body_of(alloc: Global, page: Page, families: &[Family]) -> io::Result<Vec<u8>> {
+    let mut body = Vec::new(alloc);
+    match page {
+        Page::Metrics => write_prometheus(families, &mut body)?,
+        Page::Stats => write_json(families, &mut body)?,
+    }
+    Ok(body)
+}
+
+impl Watching {
+    /// They are listened for at this address, a host and a port, and it runs since now. An error comes where nothing can listen there, or memory
+    /// was refused.
+    pub fn listen<R: Net + Clock + AllocGlobal>(rt: &R, address: &str) -> io::Result<Watching> {
+        Ok(Watching {
+            visitors: Visitors::listen(rt, resolve(rt, address)?)?,
+            began: Instant::now(rt)?,
+        })
+    }
+
+    /// A descriptor that is readable once one of them can go on.
+    pub fn descriptor(&self) -> RawFd {
+        self.visitors.descriptor()
+    }
+
+    /// Where they are listened for.
+    pub fn local_addr(&self) -> io::Result<SocketAddr> {
+        self.visitors.local_addr()
+    }
+
+    // For how many milliseconds it has run.
+    fn uptime<R: Clock>(&self, rt: &R) -> io::Result<u64> {
+        let millis = self.began.elapsed(rt)?.as_millis();
+        Ok(u64::try_from(millis).unwrap_or(u64::MAX))
+    }
+
+    /// In how many milliseconds a turn is due though none of them can go on.
+    pub fn rest<R: Clock>(&self, rt: &R) -> io::Result<Option<u64>> {
+        match self.visitors.limit() {
+            Some(limit) => Ok(Some(limit.saturating_sub(self.uptime(rt)?))),
+            None => Ok(None),
+        }
+    }
+
+    /// Whether a turn is due though none of them can go on.
+    pub fn is_due<R: Clock>(&self, rt: &R) -> bool {
+        matches!(self.rest(rt), Ok(Some(0)))
+    }
+
+    // What there is to tell.
+    fn numbers<R: Files + Clock + AllocGlobal>(
+        &self,
+        rt: &R,
+        end: &Proxy,
+        servers: &Servers,
+        seen: &Seen,
+        lost_lines: u64,
+    ) -> io::Result<Numbers> {
+        let used = process_use(rt);
+        Ok(Numbers {
+            process: ProcessNumbers {
+                version: String::from_str(rt.alloc(), "1")?,
+                uptime_ms: self.uptime(rt)?,
+                processor_ms: used.processor_ms,
+                resident_bytes: used.resident_bytes,
+                lost_lines,
+            },
+            config: seen.config,
+            clients: clients_of(end, seen),
+            commands: commands_of(rt.alloc(), end)?,
+            servers: servers_of(rt.alloc(), end, servers)?,
+            scrapes: self.visitors.answered(),
+        })
+    }
+
+    // The text of a page, by what there is to tell.
+    fn page<R: Files + Clock + AllocGlobal>(
+        &self,
+        rt: &R,
+        page: Page,
+        end: &Proxy,
+        servers: &Servers,
+        seen: &Seen,
+        lost_lines: u64,
+    ) -> io::Result<Vec<u8>> {
+        let numbers = self.numbers(rt, end, servers, seen, lost_lines)?;
+        let families = families_of(rt.alloc(), &numbers)?;
+        body_of(rt.alloc(), page, families.as_slice())
+    }
+
+    /// Each of them goes on as far as it can; those that wait for a page get it. One for whose page memory is refused is closed.
+    pub fn turn<R: Files + Clock + AllocGlobal>(
+        &mut self,
+        rt: &R,
+        end: &Proxy,
+        servers: &Servers,
+        seen: &Seen,
+        lost_lines: u64,
+    ) -> io::Result<()> {
+        let now = self.uptime(rt)?;
+        self.visitors.turn(now)?;
+        for _ in 0..PLACES {
+            let Some((place, page)) = self.visitors.next_page() else {
+                return Ok(());
+            };
+            match self.page(rt, page, end, servers, seen, lost_lines) {
+                Ok(body) => self.visitors.answer(place, body.as_slice()),
+                Err(_) => self.visitors.close(place),
+            }
+        }
+        Ok(())
+    }
+}
