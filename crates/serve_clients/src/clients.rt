@@ -1,6 +1,6 @@
 //! The clients' ends, by their ids in the core, and which of them are to be served.
 
-ghost use Rattle.std.specs.Prelude.{◌≡◌, ◌≢◌, ◌↔◌, IsTrue, ℕ, ◌+◌, ◌-◌, ◌<◌, ◌++◌, ◌∷◌, [], OnOk, OnErr, Some, None, if◌then◌else◌, true, false, length, min, nat_lt, filter, count_by, is_some, slice_get, slice_set};
+ghost use Rattle.std.specs.Prelude.{◌≡◌, ◌≢◌, ◌↔◌, IsTrue, ℕ, ◌+◌, ◌-◌, ◌<◌, ◌++◌, ◌∷◌, [], OnOk, OnErr, Some, None, if◌then◌else◌, true, false, length, min, nat_lt, filter, slice_get, slice_set};
 ghost use Rattle.std.specs.Option.{option_map, option_flatten, option_copied_mut};
 ghost use Rattle.std.specs.Borrow.{sem};
 ghost use Rattle.wire_parts.specs.Sending.{bytes_of};
@@ -540,10 +540,8 @@ impl Clients {
     }
 
     /// How many clients there are.
-    pub fn count(&self) -> usize
-        ensures { result ≡ count_by is_some self.now.all.items }
-    {
-        self.all.iter().filter(|place| place.is_some()).count()
+    pub fn count(&self) -> usize {
+        self.all.iter().flatten().count()
     }
 
     /// The client of this id. It stays as the borrower leaves it, and all else stays as it is.
