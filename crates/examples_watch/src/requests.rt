@@ -92,7 +92,11 @@ fn answers_have_heads(rt: HostRuntime) -> Result<(), Fail> {
 
 // What is sent to a client of these bytes, which are taken in two parts.
 fn sent_to(alloc: Global, first: &[u8], second: &[u8]) -> io::Result<usize> {
-    match Asking::new(alloc).take(alloc, first)? {
+    let asking = Asking::new(alloc);
+    if asking.room() < first.len() {
+        return Ok(2);
+    }
+    match asking.take(alloc, first)? {
         Exchange::Asking(asking) => sent_after(alloc, asking, second),
         _ => Ok(1),
     }
