@@ -80,10 +80,12 @@ fn page_of(alloc: Global, body: &[u8]) -> io::Result<Vec<u8>> {
 #[test]
 fn answers_have_heads(rt: HostRuntime) -> Result<(), Fail> {
     let refused = refusal_of(rt.alloc(), Refusal::NotAllowed)?;
-    let wanted = b"HTTP/1.1 405 Method Not Allowed\r\nAllow: GET\r\nContent-Type: text/plain\r\nContent-Length: 22\r\nConnection: close\r\n\r\n405 Method Not Allowed";
+    let wanted =
+        b"HTTP/1.1 405 Method Not Allowed\r\nAllow: GET\r\nContent-Type: text/plain\r\nContent-Length: 22\r\nConnection: close\r\n\r\n405 Method Not Allowed";
     assert!(rt; refused.as_slice() == wanted.as_slice());
     let page = page_of(rt.alloc(), b"{}\n")?;
-    let wanted = b"HTTP/1.1 200 OK\r\nContent-Type: application/json\r\nContent-Length: 3\r\nConnection: close\r\n\r\n{}\n";
+    let wanted =
+        b"HTTP/1.1 200 OK\r\nContent-Type: application/json\r\nContent-Length: 3\r\nConnection: close\r\n\r\n{}\n";
     assert!(rt; page.as_slice() == wanted.as_slice());
     Ok(())
 }

@@ -79,7 +79,11 @@ fn server_lines(
 
 // How many there are.
 fn count_of(concerns: &Concerns) -> usize {
-    concerns.all().iter().filter(|found| found.is_some()).count()
+    concerns
+        .all()
+        .iter()
+        .filter(|found| found.is_some())
+        .count()
 }
 
 // How many servers there are, the first of them, and what to do.

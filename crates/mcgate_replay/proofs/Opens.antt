@@ -80,11 +80,7 @@ module _ (P : Key → Type 0) where
 
   removed : (test : Key → Bool) (es : Entries) → Each OfKey es → Each OfKey (remove_entry test es)
   removed test [] all = tt
-  removed test (f ∷ es) all = by (test f.0) (removed test es all.1)
-    where
-      by : (b : Bool) → Each OfKey (remove_entry test es) → Each OfKey (cond b es (f ∷ remove_entry test es))
-      by true rest = all.1
-      by false rest = (all.0, rest)
+  removed test (f ∷ es) all = elim (test f.0) as (λ b. Each OfKey (cond b es (f ∷ remove_entry test es))) [ true ↦ all.1 | false ↦ (all.0, removed test es all.1) ]
 
   fewer : (n : ℕ) (es : Entries) → Each OfKey es → Each OfKey (take n es)
   fewer zero [] all = tt
@@ -97,11 +93,11 @@ module _ (P : Key → Type 0) where
 
   found : (test : Key → Bool) (es : Entries) (e : Key × Entry) → lookup_entry test es ≡ Some e → Each OfKey es → OfKey e
   found test [] e is all = absurd (cc)
-  found test (f ∷ es) e is all = by (test f.0) is (λ later. found test es e later all.1)
-    where
-      by : (b : Bool) → cond b (Some f) (lookup_entry test es) ≡ Some e → (lookup_entry test es ≡ Some e → OfKey e) → OfKey e
-      by true is rest = subst OfKey (same_entry f e is) all.0
-      by false is rest = rest is
+  found test (f ∷ es) e is all =
+      (elim (test f.0) as (λ b. cond b (Some f) (lookup_entry test es) ≡ Some e → OfKey e) [
+        | true ↦ λ this. subst OfKey (same_entry f e this) all.0
+        | false ↦ λ later. found test es e later all.1
+      ]) is
 
   stored : (c : Contents) (key : Key) (item : CacheItem) → P key → Each OfKey c.entries → Each OfKey (storing c key item).entries
   stored c key item here all = by (lookup_entry (same_key key) c.entries) refl
@@ -116,11 +112,11 @@ module _ (P : Key → Type 0) where
   -- what is held is of such a key
   looked : (key : Key) (es : Entries) (entry : Entry) → lookup (same_key key) es ≡ Some entry → Each OfKey es → P key
   looked key [] entry is all = absurd (cc)
-  looked key (f ∷ es) entry is all = by (same_key key f.0) refl is (λ later. looked key es entry later all.1)
-    where
-      by : (b : Bool) → same_key key f.0 ≡ b → cond b (Some f.1) (lookup (same_key key) es) ≡ Some entry → (lookup (same_key key) es ≡ Some entry → P key) → P key
-      by true same is rest = subst P (sym ((bytes_eq-Decides key f.0).0 same)) all.0
-      by false same is rest = rest is
+  looked key (f ∷ es) entry is all =
+      (elim (same_key key f.0) as (λ b. same_key key f.0 ≡ b → cond b (Some f.1) (lookup (same_key key) es) ≡ Some entry → P key) [
+        | true ↦ λ same this. subst P (sym ((bytes_eq-Decides key f.0).0 same)) all.0
+        | false ↦ λ other later. looked key es entry later all.1
+      ]) refl is
 
 module _ (begun : Beginnings) (config : Configuration) (server : ℕ) where
   abbrev Allowed : Key → Type 0
@@ -145,13 +141,11 @@ module _ (begun : Beginnings) (config : Configuration) (server : ℕ) where
 
   put_all : (at : ℕ) (events : List Scripted) (c : Contents) → first_excluded begun config at events ≡ None → Each (OfKey Allowed) c.entries → Each (OfKey Allowed) (put_by_all server c events).entries
   put_all at [] c fits all = all
-  put_all at (event ∷ events) c fits all = by (is_excluded begun config event) refl fits (λ none kept. put_all (at + 1) events (put_by server c event) none kept)
-    where
-      by : (b : Bool) → is_excluded begun config event ≡ b → cond b (Some at) (first_excluded begun config (at + 1) events) ≡ None
-          → (first_excluded begun config (at + 1) events ≡ None → Each (OfKey Allowed) (put_by server c event).entries → Each (OfKey Allowed) (put_by_all server (put_by server c event) events).entries)
-          → Each (OfKey Allowed) (put_by_all server (put_by server c event) events).entries
-      by true is none rest = absurd (cc)
-      by false is none rest = rest none (put_one event c is all)
+  put_all at (event ∷ events) c fits all =
+      (elim (is_excluded begun config event) as (λ b. is_excluded begun config event ≡ b → cond b (Some at) (first_excluded begun config (at + 1) events) ≡ None → Each (OfKey Allowed) (put_by_all server (put_by server c event) events).entries) [
+        | true ↦ λ is none. absurd (cc)
+        | false ↦ λ is none. put_all (at + 1) events (put_by server c event) none (put_one event c is all)
+      ]) refl fits
 
   -- what a server that isn't arbitrary may hold its tree puts there
   put_there : (b : Beginning) (founder put : Bool) → is_any b ≡ false → may_begin_with b founder put ≡ true → put ≡ true

@@ -237,6 +237,7 @@ impl<W: Wire> Sockets<W> {
     {
         self.stalls.forget(id);
         self.drop_end(id);
+        self.note_held(id);
     }
 
     /// Its end gives back the room in which nothing is left.

@@ -169,7 +169,6 @@ impl Stalls {
     pub fn forget(&mut self, id: usize)
         ensures since { self.new.since.items ≡ slice_set self.old.since.items id None }
     {
-        self.budget.note(id, 0);
         if let Some(since) = self.since.get_mut(id) {
             *since = None;
         }

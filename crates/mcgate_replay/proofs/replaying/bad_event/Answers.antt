@@ -1,8 +1,7 @@
-use Rattle.std.proofs.Common.{ℕ, List, Some, map, sym, ap, ◌∙◌}
+use Rattle.std.proofs.Common.{ℕ, Some, map, sym, ap, ◌∙◌}
 use Rattle.script_text.specs.Script.{either}
 use Rattle.script_events.specs.Bad.{first_bad}
 use Rattle.script_events.specs.Scripted.{scripted_of}
-use Rattle.script_events.specs.declared.script.Event.{Event}
 use Rattle.mcgate_replay.specs.Growing.{excluded_by}
 use Rattle.mcgate_replay.specs.Replay.{servers_of, events_of}
 use Rattle.mcgate_replay.proofs.Printing.{none_or_excluded, bad_there}
@@ -16,4 +15,4 @@ returns-in-Some-clause-first c =
 pub returns-in-None-clause-first : goal.returns-in-None-clause-first
 returns-in-None-clause-first c =
     let s = c.args.script.now in
-    none_or_excluded (first_bad (servers_of s) (events_of s)) (excluded_by c.args.judging s.config (events_of s)) c.excluded_event.result (sym (c.in-None.ensures.first ∙ ap (λ (n : ℕ). first_bad n (events_of s)) c.server_count.ensures)) (c.excluded_event.ensures.first ∙ ap (λ (es : List Event). excluded_by c.args.judging s.config (map scripted_of es)) c.deref.ensures.value)
+    none_or_excluded (first_bad (servers_of s) (events_of s)) (excluded_by c.args.judging s.config (events_of s)) c.excluded_event.result (sym (c.in-None.ensures.first ∙ ap (λ (n : ℕ). first_bad n (events_of s)) c.server_count.ensures)) (c.excluded_event.ensures.first ∙ ap (λ es. excluded_by c.args.judging s.config (map scripted_of es)) c.deref.ensures.value)

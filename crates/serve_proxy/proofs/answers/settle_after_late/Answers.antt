@@ -10,9 +10,9 @@ returns-then-not-awaits_late c = record { goes = c.settle_all.ensures.goes; lost
 
 pub returns-in-Over : goal.returns-in-Over
 returns-in-Over c = record {
-  goes = IfOk-weaker c.settle_all-2.result _ _ (λ cause goes at h. line_then (c.throw_late.ensures.goes at c.args.core.now h) (goes at h)) c.settle_all-2.ensures.goes;
-  lost = λ at h. line_then (c.throw_late.ensures.goes at c.args.core.now h) (c.settle_all-2.ensures.lost at h);
-  ends = c.settle_all-2.ensures.ends;
+  goes = IfOk-weaker c.settle_all-in-Over.result _ _ (λ cause goes at h. line_then (c.throw_late.ensures.goes at c.args.core.now h) (goes at h)) c.settle_all-in-Over.ensures.goes;
+  lost = λ at h. line_then (c.throw_late.ensures.goes at c.args.core.now h) (c.settle_all-in-Over.ensures.lost at h);
+  ends = c.settle_all-in-Over.ensures.ends;
 }
 
 pub returns-in-More : goal.returns-in-More
