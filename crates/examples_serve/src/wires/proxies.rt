@@ -731,6 +731,51 @@ taken 3 => END\r\n
 taken 9 => get c\r\n
 news => 1 stalled; server 0: connected
 
+While more than three quarters of 450,000 bytes are held, no command begins of a client that takes little. It does when another one is gone.
+host 127.0.0.1:5001
+peer 9
+awaits 7
+sends END\r\n
+awaits 39
+sends «4 VALUE k# 0 100000\r\n<data>\r\nEND\r\n»
+awaits 46
+sends END\r\n
+awaits 54
+sends «1 VALUE k# 0 100000\r\n<data>\r\nEND\r\n»
+awaits 61
+sends END\r\n
+awaits 68
+sends END\r\n
+answers 127.0.0.1:5001
+peer 1
+room 10000
+sends get a\r\n
+awaits 5
+sends «4 get k#\r\n»
+until 9000
+fails
+calls 0
+peer 2
+room 60000
+sends get a\r\n
+awaits 5
+sends get k1\r\n
+until 600
+sends get b\r\n
+calls 300
+peer 3
+sends get c\r\n
+calls 700
+proxy <one server>
+bounds 100000 450000
+turn 40
+taken 3 => END\r\n
+took 9 get a\r\n«4 get k#\r\n»get a\r\nget k1\r\nget c\r\n => yes
+turn 120
+open 1 => no
+open 2 => yes
+took 9 get a\r\n«4 get k#\r\n»get a\r\nget k1\r\nget c\r\nget b\r\n => yes
+
 Megabytes of commands at once come to the server as they are, and as many of answers to the client, whatever is read and taken at once.
 host 127.0.0.1:5001
 peer 9
