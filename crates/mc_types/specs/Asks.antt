@@ -9,6 +9,10 @@ use Rattle.mc_types.specs.declared.ask.Dialect.{Dialect}
 use Rattle.mc_types.specs.declared.ask.Dialect.TheVariants.{Classic, Meta}
 use Rattle.mc_types.specs.declared.ask.Ask.{Ask}
 
+-- all operations
+abbrev pub all_ops : List Op
+all_ops = Get ∷ Gat ∷ Set ∷ Add ∷ Replace ∷ Append ∷ Prepend ∷ Cas ∷ Delete ∷ Incr ∷ Decr ∷ Touch ∷ []
+
 -- the most bytes of data
 abbrev pub data_limit : ℕ
 data_limit = DATA_LIMIT

@@ -1,7 +1,7 @@
 //! What is asked of a server, in both dialects.
 
 ghost use Rattle.std.specs.Prelude.{◌≡◌, ◌≤◌, ◌<◌, ◌^◌, [], None, false, IfOk, IfSome, length};
-ghost use Rattle.mc_types.specs.Asks.{AreInRange, IsExptime, data_limit};
+ghost use Rattle.mc_types.specs.Asks.{all_ops, AreInRange, IsExptime, data_limit};
 
 use crate::body::Body;
 use crate::key::Key;
@@ -25,6 +25,28 @@ pub enum Op {
     Incr,
     Decr,
     Touch,
+}
+
+impl Op {
+    /// All operations, in the order of their declaration.
+    pub fn all() -> [Op; 12]
+        ensures { result ≡ all_ops }
+    {
+        [
+            Op::Get,
+            Op::Gat,
+            Op::Set,
+            Op::Add,
+            Op::Replace,
+            Op::Append,
+            Op::Prepend,
+            Op::Cas,
+            Op::Delete,
+            Op::Incr,
+            Op::Decr,
+            Op::Touch,
+        ]
+    }
 }
 
 /// The two dialects of memcached's text protocol.

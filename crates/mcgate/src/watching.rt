@@ -21,22 +21,6 @@ use watch_text::numbers::{
 };
 use watch_text::prometheus::write_prometheus;
 
-// All operations.
-const OPS: [Op; 12] = [
-    Op::Get,
-    Op::Gat,
-    Op::Set,
-    Op::Add,
-    Op::Replace,
-    Op::Append,
-    Op::Prepend,
-    Op::Cas,
-    Op::Delete,
-    Op::Incr,
-    Op::Decr,
-    Op::Touch,
-];
-
 /// What is counted of a proxy that runs, besides what its end counts.
 #[derive(Clone, Copy)]
 pub struct Seen {
@@ -133,7 +117,7 @@ fn clients_of(end: &Proxy, seen: &Seen) -> ClientNumbers {
 fn commands_of(alloc: Global, end: &Proxy) -> Result<Vec<CommandNumbers>, AllocError> {
     let tally = end.tally();
     let mut commands = Vec::new(alloc);
-    for op in OPS {
+    for op in Op::all() {
         let of_op = tally.of(op);
         commands.push(CommandNumbers {
             op: op_name(op),

@@ -4,7 +4,7 @@ use Rattle.std.specs.Io.KnownBytes.{Appends}
 use Rattle.text_words.specs.Escapes.{escaped}
 use Rattle.route_tree.specs.Tag.{hash_part, key_hash}
 use Rattle.mc_types.specs.declared.ask.Op.{Op}
-use Rattle.mc_types.specs.declared.ask.Op.TheVariants.{Get, Gat, Set, Add, Replace, Append, Prepend, Cas, Delete, Incr, Decr, Touch}
+use Rattle.mc_types.specs.Asks.{all_ops}
 use Rattle.route_tree.specs.declared.place.Place.{Place}
 use Rattle.route_tree.specs.At.{tree_at}
 use Rattle.route_tree.specs.Place.{IsPlaceOf}
@@ -34,9 +34,6 @@ op_front op = codes "  " ++ op_name op
 -- the operation and these servers
 abbrev pub op_line : Addresses → NamedPools → Op → List ℕ → List ℕ
 op_line addresses pools op servers = op_front op ++ servers_text addresses pools servers ++ codes "\n"
-
-abbrev pub all_ops : List Op
-all_ops = Get ∷ Gat ∷ Set ∷ Add ∷ Replace ∷ Append ∷ Prepend ∷ Cas ∷ Delete ∷ Incr ∷ Decr ∷ Touch ∷ []
 
 -- a line for each operation, with the servers that the plain tree has for it
 abbrev pub op_lines : Addresses → NamedPools → Plan → List Op → List ℕ

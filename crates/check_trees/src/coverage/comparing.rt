@@ -98,20 +98,7 @@ fn compare(
     plain: &Plain,
     mut counts: ComparedCounts,
 ) -> Result<ComparedCounts, AllocError> {
-    for op in [
-        Op::Get,
-        Op::Gat,
-        Op::Set,
-        Op::Add,
-        Op::Replace,
-        Op::Append,
-        Op::Prepend,
-        Op::Cas,
-        Op::Delete,
-        Op::Incr,
-        Op::Decr,
-        Op::Touch,
-    ] {
+    for op in Op::all() {
         counts = compare_taken(alloc, plain, op, counts)?;
     }
     for deleting in [Deleting::Delete, Deleting::Md] {

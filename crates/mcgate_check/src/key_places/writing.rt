@@ -2,11 +2,12 @@
 
 ghost use Rattle.std.specs.Prelude.{◌≡◌, [], ◌∷◌, IfOk, IfErr, OnOk};
 ghost use Rattle.std.specs.Io.KnownBytes.{Appends};
+ghost use Rattle.mc_types.specs.Asks.{all_ops};
 ghost use Rattle.route_tree.specs.At.{tree_at};
 ghost use Rattle.mcgate_check.specs.Asking as spec;
 ghost use Rattle.gate_check.specs.Tables.{IsTable};
 ghost use Rattle.mcgate_check.specs.Checking.{IsNoOverrun};
-ghost use Rattle.mcgate_check.specs.Blocks.{key_line, named_text, servers_text, op_front, op_line, op_lines, all_ops, WritesBlock, WritesBlocks};
+ghost use Rattle.mcgate_check.specs.Blocks.{key_line, named_text, servers_text, op_front, op_line, op_lines, WritesBlock, WritesBlocks};
 
 use crate::RunFault;
 use crate::key_places::asking::add_asked;
@@ -124,25 +125,6 @@ fn write_ops<W: Write>(
     Ok(())
 }
 
-fn all_ops() -> [Op; 12]
-    ensures { result ≡ all_ops }
-{
-    [
-        Op::Get,
-        Op::Gat,
-        Op::Set,
-        Op::Add,
-        Op::Replace,
-        Op::Append,
-        Op::Prepend,
-        Op::Cas,
-        Op::Delete,
-        Op::Incr,
-        Op::Decr,
-        Op::Touch,
-    ]
-}
-
 // The lines of the operations of a key.
 fn write_all_ops<W: Write>(
     alloc: Global,
@@ -155,7 +137,7 @@ fn write_all_ops<W: Write>(
     ensures err { IfErr result IsNoOverrun }
 {
     let plain = config.tree().at(alloc, key)?;
-    let ops = all_ops();
+    let ops = Op::all();
     write_ops(alloc, config.servers(), pools, &plain, &ops, out)
 }
 
