@@ -42,8 +42,8 @@ pub trait Wire {
         ensures ok { OnOk result (history self.new ≡ admits conn client ∷ history self.old) }
         ensures err { OnErr result (history self.new ≡ history self.old) };
 
-    /// Looks up the address that a text names, so that connections to it can be begun without a wait.
-    fn resolve<N: Net>(&mut self, net: &N, text: &[u8]) -> io::Result<()>
+    /// Looks up an address, which is where this text names a server from now on, so that connections to it can be begun without a wait.
+    fn resolve<N: Net>(&mut self, net: &N, text: &[u8], address: &[u8]) -> io::Result<()>
         ensures { history self.new ≡ history self.old };
 
     /// Begins a connection to this server, at the address that its text was found to name. It is reported as this server's.

@@ -401,7 +401,7 @@ impl Wire for Memory {
         Ok(())
     }
 
-    fn resolve<N: Net>(&mut self, _net: &N, text: &[u8]) -> io::Result<()> {
+    fn resolve<N: Net>(&mut self, _net: &N, text: &[u8], _address: &[u8]) -> io::Result<()> {
         match host_at(&mut self.hosts, text) {
             Some(host) => {
                 host.is_known = true;

@@ -310,8 +310,8 @@ impl Wire for Sockets {
         Ok(())
     }
 
-    fn resolve<N: Net>(&mut self, net: &N, text: &[u8]) -> io::Result<()> {
-        let socket = look_up(net, text)?;
+    fn resolve<N: Net>(&mut self, net: &N, text: &[u8], address: &[u8]) -> io::Result<()> {
+        let socket = look_up(net, address)?;
         Ok(put_address(self.alloc, &mut self.addresses, text, socket)?)
     }
 
