@@ -35,7 +35,8 @@ pub fn fail_link<W: Wire>(
             close_if_any(&mut sockets.wire, closed);
             sockets.links.has_news = true;
             sockets.is_freed = true;
-            fail_all(link, core, &mut sockets.clients)
+            fail_all(link, core, &mut sockets.clients);
+            Ok(())
         }
     }
 }
@@ -126,7 +127,8 @@ fn fail_sent<W: Wire>(
         Some(link) => {
             sockets.links.has_news = true;
             sockets.is_freed = true;
-            fail_out(link, core, &mut sockets.clients)
+            fail_out(link, core, &mut sockets.clients);
+            Ok(())
         }
     }
 }
