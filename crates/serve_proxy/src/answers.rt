@@ -177,7 +177,7 @@ fn settle_all(
     let Some(conn) = link.conn.as_mut() else {
         return Ok(None);
     };
-    let answers = settle_held(&mut link.calls, core, clients, is_freed, conn);
+    let answers = settle_held(&mut link.calls, core, clients, is_freed, conn)?;
     link.awaited = answers.awaited;
     let has_failed = link.has_read(has_answered || answers.has_settled, polls);
     if !answers.is_kept {

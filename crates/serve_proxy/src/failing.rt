@@ -35,8 +35,7 @@ pub fn fail_link<W: Wire>(
             close_if_any(&mut sockets.wire, closed);
             sockets.links.has_news = true;
             sockets.is_freed = true;
-            fail_all(link, core, &mut sockets.clients);
-            Ok(())
+            fail_all(link, core, &mut sockets.clients)
         }
     }
 }
@@ -127,7 +126,8 @@ fn fail_sent<W: Wire>(
         Some(link) => {
             sockets.links.has_news = true;
             sockets.is_freed = true;
-            fail_out(link, core, &mut sockets.clients);
+            // (where memory is refused those that are left fail in the next turn)
+            let _ = fail_out(link, core, &mut sockets.clients);
             Ok(())
         }
     }
