@@ -91,6 +91,13 @@ fn give_back_line(link: &mut Link, alloc: Global) -> bool
     }
 }
 
+// It comes to the end of these. Where memory is refused for that, one is missing there.
+fn list(ids: &mut Vec<usize>, at: usize, is_short: &mut bool) {
+    if ids.push(at).is_err() {
+        *is_short = true;
+    }
+}
+
 /// The links, and the lists of those that are marked.
 #[derive(Drop)]
 pub struct Links {
@@ -235,7 +242,7 @@ impl Links {
         if let Some(link) = self.all.get_mut(at) {
             if !link.is_ready {
                 link.is_ready = true;
-                self.is_short = self.ready.push(at).is_err() || self.is_short;
+                list(&mut self.ready, at, &mut self.is_short);
             }
         }
         Ok(())
@@ -257,7 +264,7 @@ impl Links {
         if let Some(link) = self.all.get_mut(at) {
             if !link.has_output {
                 link.has_output = true;
-                self.is_short = self.with_output.push(at).is_err() || self.is_short;
+                list(&mut self.with_output, at, &mut self.is_short);
             }
         }
         Ok(())
@@ -287,10 +294,10 @@ impl Links {
         };
         let (is_ready, has_output) = (link.is_ready, link.has_output);
         if is_ready {
-            self.is_short = self.ready.push(at).is_err() || self.is_short;
+            list(&mut self.ready, at, &mut self.is_short);
         }
         if has_output {
-            self.is_short = self.with_output.push(at).is_err() || self.is_short;
+            list(&mut self.with_output, at, &mut self.is_short);
         }
     }
 
