@@ -2,8 +2,8 @@
 
 use crate::arguments::ArgumentsFault;
 use clap::ArgMatches;
+use core_accepted::{Beginning, Beginnings};
 use mcgate_replay::Judging;
-use serve_proxy::{Beginning, Beginnings};
 
 // What servers held by the word after a flag: anything where it is `any` or left out, and nothing of others where it is this one.
 fn beginning_of(

@@ -26,7 +26,7 @@ use core_accepted::laws::begun_core_is_fresh;
 use core_accepted::{Beginnings, LoadFault, ServedCore};
 use gate_check::{Accepted, ReloadFault};
 use route_json::Config;
-use route_json::addresses::Servers;
+use route_json::addresses::{Servers, address_in};
 use route_tree::Tree;
 use serve_links::{Cause, Link, LinkNews, Settings, Tally};
 use serve_wire::Wire;
@@ -134,12 +134,14 @@ impl<W: Wire> ProxyEnd<W> {
         &self.sockets.wire
     }
 
-    /// Looks up the address that a server's text names. Connections that are begun from now on go there.
+    /// Looks up the address in a server's name. Connections to it that are begun from now on go there.
     pub fn resolve<N: Net>(&mut self, net: &N, text: &str) -> io::Result<()>
         ensures core { self.new.core ≡ self.old.core }
         ensures ends { Stay W.history self.old.sockets self.new.sockets }
     {
-        self.sockets.wire.resolve(net, text.as_bytes())
+        self.sockets
+            .wire
+            .resolve(net, text.as_bytes(), address_in(text).as_bytes())
     }
 
     /// Commands that begin from now on run by this configuration's tree, and those that are under way end on the trees on which they

@@ -42,8 +42,12 @@ pub trait Wire {
         ensures ok { OnOk result (history self.new ≡ admits conn client ∷ history self.old) }
         ensures err { OnErr result (history self.new ≡ history self.old) };
 
-    /// Looks up the address that a text names, so that connections to it can be begun without a wait.
-    fn resolve<N: Net>(&mut self, net: &N, text: &[u8]) -> io::Result<()>
+    /// Nobody is accepted from now on, and who would connect is refused.
+    fn stop_accepting(&mut self)
+        ensures { history self.new ≡ history self.old };
+
+    /// Looks up an address, which is where this text names a server from now on, so that connections to it can be begun without a wait.
+    fn resolve<N: Net>(&mut self, net: &N, text: &[u8], address: &[u8]) -> io::Result<()>
         ensures { history self.new ≡ history self.old };
 
     /// Begins a connection to this server, at the address that its text was found to name. It is reported as this server's.
@@ -67,6 +71,10 @@ pub trait Wire {
     fn write_parts(&mut self, conn: usize, parts: &[IoSlice<'_>]) -> WriteOutcome
         requires { 0 < length (io_slices_bytes parts.now) }
         ensures { Writes conn result (io_slices_bytes parts.now) (history self.old) (history self.new) };
+
+    /// Says to the peer that nothing more is sent over a connection. What comes is still read.
+    fn shut_writes(&mut self, conn: usize)
+        ensures { history self.new ≡ history self.old };
 
     /// Closes a connection. What is reported of it later is ignored.
     fn close(&mut self, conn: usize)

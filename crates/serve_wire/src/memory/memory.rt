@@ -348,6 +348,12 @@ fn close_line(lines: &mut Vec<Line>, conn: usize) {
     }
 }
 
+fn shut_line(lines: &mut Vec<Line>, conn: usize) {
+    if let Some(line) = line_at(lines, conn) {
+        line.peer.shut();
+    }
+}
+
 // The next who waits to be accepted.
 fn next_caller(callers: &mut VecDeque<Caller>, now: u64) -> Option<Peer> {
     match callers.front() {
@@ -401,7 +407,11 @@ impl Wire for Memory {
         Ok(())
     }
 
-    fn resolve<N: Net>(&mut self, _net: &N, text: &[u8]) -> io::Result<()> {
+    fn stop_accepting(&mut self) {
+        self.callers.clear();
+    }
+
+    fn resolve<N: Net>(&mut self, _net: &N, text: &[u8], _address: &[u8]) -> io::Result<()> {
         match host_at(&mut self.hosts, text) {
             Some(host) => {
                 host.is_known = true;
@@ -470,6 +480,10 @@ impl Wire for Memory {
             return WriteOutcome::NotReady;
         };
         self.write(conn, bytes.as_slice())
+    }
+
+    fn shut_writes(&mut self, conn: usize) {
+        shut_line(&mut self.lines, conn);
     }
 
     fn close(&mut self, conn: usize) {
