@@ -320,12 +320,7 @@ fn mark(flag: &mut bool, ids: &mut Vec<usize>, id: usize, is_short: &mut bool)
 }
 
 // The client of this place, if there is one, is to be served.
-fn mark_ready_at(
-    place: &mut Option<Client>,
-    ids: &mut Vec<usize>,
-    id: usize,
-    is_short: &mut bool,
-)
+fn mark_ready_at(place: &mut Option<Client>, ids: &mut Vec<usize>, id: usize, is_short: &mut bool)
     ensures client { place.new ≡ option_map (with_ready true) place.old }
     ensures listed { is_short.new ≡ false → ids.new.items ≡ ids_with (λ x. x.is_ready) place.old id ids.old.items }
     ensures short { is_short.new ≡ false → is_short.old ≡ false }
@@ -337,12 +332,7 @@ fn mark_ready_at(
 }
 
 // It has something to send.
-fn mark_output_at(
-    place: &mut Option<Client>,
-    ids: &mut Vec<usize>,
-    id: usize,
-    is_short: &mut bool,
-)
+fn mark_output_at(place: &mut Option<Client>, ids: &mut Vec<usize>, id: usize, is_short: &mut bool)
     ensures client { place.new ≡ option_map (with_unsent true) place.old }
     ensures listed { is_short.new ≡ false → ids.new.items ≡ ids_with (λ x. x.has_output) place.old id ids.old.items }
     ensures short { is_short.new ≡ false → is_short.old ≡ false }
@@ -354,12 +344,7 @@ fn mark_output_at(
 }
 
 // A command of it waits.
-fn mark_busy_at(
-    place: &mut Option<Client>,
-    ids: &mut Vec<usize>,
-    id: usize,
-    is_short: &mut bool,
-)
+fn mark_busy_at(place: &mut Option<Client>, ids: &mut Vec<usize>, id: usize, is_short: &mut bool)
     ensures client { place.new ≡ option_map (with_busy true) place.old }
     ensures listed { is_short.new ≡ false → ids.new.items ≡ ids_with (λ x. x.is_busy) place.old id ids.old.items }
     ensures short { is_short.new ≡ false → is_short.old ≡ false }
@@ -371,12 +356,7 @@ fn mark_busy_at(
 }
 
 // A call of it was settled, or has failed.
-fn mark_settled_at(
-    place: &mut Option<Client>,
-    ids: &mut Vec<usize>,
-    id: usize,
-    is_short: &mut bool,
-)
+fn mark_settled_at(place: &mut Option<Client>, ids: &mut Vec<usize>, id: usize, is_short: &mut bool)
     ensures client { place.new ≡ option_map (λ x. with_ready true (one_settled x)) place.old }
     ensures listed { is_short.new ≡ false → ids.new.items ≡ ids_with (λ x. x.is_ready) place.old id ids.old.items }
     ensures short { is_short.new ≡ false → is_short.old ≡ false }
@@ -413,12 +393,7 @@ fn mark_got_at(
 }
 
 // A call of it waits no longer.
-fn end_waiting_at(
-    place: &mut Option<Client>,
-    ids: &mut Vec<usize>,
-    id: usize,
-    is_short: &mut bool,
-)
+fn end_waiting_at(place: &mut Option<Client>, ids: &mut Vec<usize>, id: usize, is_short: &mut bool)
     ensures client { place.new ≡ option_map (λ x. with_ready true (one_waited x)) place.old }
     ensures listed { is_short.new ≡ false → ids.new.items ≡ ids_with (λ x. x.is_ready) place.old id ids.old.items }
     ensures short { is_short.new ≡ false → is_short.old ≡ false }
@@ -536,12 +511,7 @@ fn is_marked(place: &Option<Client>, mark: Marking) -> bool
 }
 
 // The id comes to the end of these where its client is marked so. Whether memory was there for that.
-fn list_if_marked(
-    place: &Option<Client>,
-    mark: Marking,
-    ids: &mut Vec<usize>,
-    id: usize,
-) -> bool
+fn list_if_marked(place: &Option<Client>, mark: Marking, ids: &mut Vec<usize>, id: usize) -> bool
     ensures { result ≡ true → ids.new.items ≡ (if is_marked mark place.now then ids.old.items ++ id ∷ [] else ids.old.items) }
 {
     if is_marked(place, mark) {
