@@ -44,7 +44,7 @@ fn fail_sent(
         let Some(client) = calls.fail_next(core) else {
             return Ok(());
         };
-        clients.mark_settled(client)?;
+        clients.mark_settled(client);
     }
     Ok(())
 }
@@ -69,8 +69,8 @@ fn fail_waiting(
         };
         let client = call.client;
         fail_call(core, call.ticket);
-        clients.end_waiting(client)?;
-        clients.mark_settled(client)?;
+        clients.end_waiting(client);
+        clients.mark_settled(client);
     }
     Ok(())
 }
@@ -126,7 +126,7 @@ fn fail_all_late(
         let Some(client) = link.fail_late(core)? else {
             return Ok(());
         };
-        clients.mark_settled(client)?;
+        clients.mark_settled(client);
     }
     Ok(())
 }
@@ -268,7 +268,7 @@ fn settle_in(
             Next::Settled { client, used: len } => {
                 used = used.saturating_add(len);
                 *is_freed = true;
-                clients.mark_answered(client, is_get, len)?;
+                clients.mark_answered(client, is_get, len);
             }
             Next::More => return Ok((used, HeldStop::More)),
             Next::Foreign => return Ok((used, HeldStop::Foreign)),
@@ -350,7 +350,7 @@ fn settle_copied(
         Next::Settled { client, used } => {
             conn.use_up(used);
             *is_freed = true;
-            clients.mark_answered(client, is_get, used)?;
+            clients.mark_answered(client, is_get, used);
             Ok(HeldFront::Settled)
         }
         Next::More => Ok(HeldFront::More),
@@ -456,7 +456,7 @@ fn settle_large(
     match settle_shared(calls, core, &front, conn) {
         (Next::Settled { client, used }, is_kept) => {
             *is_freed = true;
-            clients.mark_answered(client, is_get, used)?;
+            clients.mark_answered(client, is_get, used);
             if is_kept {
                 Ok(HeldFront::Settled)
             } else {

@@ -146,13 +146,15 @@ fn fail_sent<W: Wire>(
         Some(link) => {
             sockets.links.has_news = true;
             sockets.is_freed = true;
-            fail_out(
+            // (where memory is refused those that are left fail in the next turn)
+            let _ = fail_out(
                 link,
                 core,
                 &mut sockets.clients,
                 now,
                 &sockets.links.settings,
-            )
+            );
+            Ok(())
         }
     }
 }

@@ -56,6 +56,7 @@ fn run_turn<W: Wire, R: Net + Clock>(
 {
     // Something is waited for, and what is ready is noted.
     sockets.wait(rt, limit)?;
+    sockets.list_again();
     // Room that nothing needed for a while goes back.
     give_back_room(core, sockets)?;
     // Clients come.

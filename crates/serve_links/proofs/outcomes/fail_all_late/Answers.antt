@@ -25,11 +25,5 @@ returns-in_default-clause-goes c = λ at h. line_then (c.loop.invariant.goes at 
 pub returns-in_default-clause-ends : goal.returns-in_default-clause-ends
 returns-in_default-clause-ends c = c.loop.invariant.ends
 
-pub returns-in_err-mark_settled-clause-goes : goal.returns-in_err-mark_settled-clause-goes
-returns-in_err-mark_settled-clause-goes c = λ at h. line_then (c.loop.invariant.goes at h) (c.fail_late.ensures.goes at h)
-
-pub returns-in_err-mark_settled-clause-ends : goal.returns-in_err-mark_settled-clause-ends
-returns-in_err-mark_settled-clause-ends c = keeps_twice c.args.clients.now c.loop.clients c.mark_settled.new.self c.loop.invariant.ends c.mark_settled.ensures.ends
-
 pub returns : goal.returns
 returns c = record { goes = c.loop.invariant.goes; ends = c.loop.invariant.ends }
