@@ -107,7 +107,7 @@ fn listening(rt: &HostRuntime, servers: &Servers) -> io::Result<Sockets> {
     let mut wire = Sockets::listen(rt, any_port())?;
     for at in 0..servers.len() {
         if let Some(text) = text_at(servers, at) {
-            let _ = wire.resolve(rt, text.as_bytes());
+            let _ = wire.resolve(rt, text.as_bytes(), text.as_bytes());
         }
     }
     Ok(wire)

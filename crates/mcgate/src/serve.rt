@@ -17,7 +17,7 @@ use mcgate_args::ends::Stop;
 use mcgate_args::serve_arguments::ServeJob;
 use mcgate_check::checking::{print_fault, print_refused};
 use mcgate_check::status::DONE;
-use route_json::addresses::Servers;
+use route_json::addresses::{Servers, address_in};
 use route_json::{Config, read_config};
 use serve_proxy::{Beginnings, ProxyEnd, Settings, text_at};
 use serve_wire::Wire;
@@ -164,7 +164,7 @@ fn look_up_at<R: Net + Eprint>(
     ensures { history_of wire.new ≡ history_of wire.old }
 {
     if let Some(text) = text_at(servers, at) {
-        let found = wire.resolve(rt, text.as_bytes());
+        let found = wire.resolve(rt, text.as_bytes(), address_in(text).as_bytes());
         tell_if_unknown(rt, lines, text, found)?;
     }
     Ok(())
@@ -179,7 +179,7 @@ fn tell_unknown<R: Net + Eprint>(
     let mut unknown = 0usize;
     for at in 0..servers.len() {
         if let Some(text) = text_at(servers, at) {
-            let found = resolve(rt, text).map(|_| ());
+            let found = resolve(rt, address_in(text)).map(|_| ());
             if !tell_if_unknown(rt, lines, text, found)? {
                 unknown = unknown.saturating_add(1);
             }

@@ -60,7 +60,7 @@ fn listen<R: Net + Clock + AllocGlobal>(rt: &R, servers: &Servers) -> io::Result
     let mut wire = Sockets::listen(rt, any_port())?;
     for at in 0..servers.len() {
         if let Some(text) = text_at(servers, at) {
-            wire.resolve(rt, text.as_bytes())?;
+            wire.resolve(rt, text.as_bytes(), text.as_bytes())?;
         }
     }
     Ok(wire)

@@ -1,5 +1,5 @@
 pub mod Fronts
-pub mod Colons
+pub mod LastSigns
 pub mod Known
 pub mod Adding
 pub mod Each

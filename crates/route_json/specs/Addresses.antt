@@ -7,15 +7,19 @@ use Rattle.text_words.specs.Number.{number_below}
 abbrev pub is_printable : ℕ → Bool
 is_printable b = nat_lt 32 b && nat_lt b 127
 
--- the parts around a colon: one further on, or here
-abbrev pub colon_or : Option (List ℕ × List ℕ) → ℕ → List ℕ → Option (List ℕ × List ℕ)
-colon_or (Some p) x xs = Some (x ∷ p.0, p.1)
-colon_or None x xs = if x == 58 then Some ([], xs) else None
+-- the parts around a sign: one further on, or here
+abbrev pub sign_or : ℕ → Option (List ℕ × List ℕ) → ℕ → List ℕ → Option (List ℕ × List ℕ)
+sign_or sign (Some p) x xs = Some (x ∷ p.0, p.1)
+sign_or sign None x xs = if x == sign then Some ([], xs) else None
 
--- what stands before the last colon and what stands after it, where there is a colon
+-- what stands before the last of these signs and what stands after it, where there is one
+abbrev pub around : ℕ → List ℕ → Option (List ℕ × List ℕ)
+around sign [] = None
+around sign (x ∷ xs) = sign_or sign (around sign xs) x xs
+
+-- the parts around the last colon
 abbrev pub around_colon : List ℕ → Option (List ℕ × List ℕ)
-around_colon [] = None
-around_colon (x ∷ xs) = colon_or (around_colon xs) x xs
+around_colon = around 58
 
 -- 1..=65535
 abbrev pub is_port_number : Option ℕ → Bool

@@ -1,5 +1,6 @@
 pub mod Names
 pub mod Addresses
+pub mod ServerNames
 pub mod ServerTexts
 pub mod NumberedServers
 pub mod Fault

@@ -1,9 +1,10 @@
--- Texts of servers: an address, and the weight that may follow it. Source: mcgate's own, in the form of twemproxy's `host:port:weight`.
+-- Texts of servers: a name, and the weight that may follow it. Source: mcgate's own, in the form of twemproxy's `host:port:weight`.
 use Rattle.route_json.specs.declared.addresses.server_text.TheConstants.{MAX_WEIGHT}
 use Rattle.std.specs.Prelude.{ℕ, ◌^◌, ◌==◌, ◌&&◌, ◌||◌, List, length, nat_lt, nat_le, nat_eq, not, Bool, false, codes, Option, Some, None, if◌then◌else◌}
 use Rattle.std.specs.List.{list_any, starts_with, ends_with}
 use Rattle.text_words.specs.Number.{number_below}
-use Rattle.route_json.specs.Addresses.{around_colon, is_address}
+use Rattle.route_json.specs.Addresses.{around_colon}
+use Rattle.route_json.specs.ServerNames.{is_server_name}
 
 abbrev pub is_colon : ℕ → Bool
 is_colon b = b == 58
@@ -43,16 +44,16 @@ weight_within (Some n) = if nat_lt 0 n && nat_le n MAX_WEIGHT then Some n else N
 abbrev pub weight_of : List ℕ → Option ℕ
 weight_of digits = if nat_le (length digits) 2 then weight_within (number_below (2 ^ 32) digits) else None
 
--- this address with this weight, if it is an address and there is a weight
+-- this name with this weight, if it is a server's name and there is a weight
 abbrev pub with_weight : List ℕ → Option ℕ → Option (List ℕ × ℕ)
 with_weight a None = None
-with_weight a (Some w) = if is_address a then Some (a, w) else None
+with_weight a (Some w) = if is_server_name a then Some (a, w) else None
 
--- the address and the weight of the parts of a text `H:P:W`, if they are such; every other text is an address of weight 1
+-- the name and the weight of the parts of a text `H:P:W`, if they are such; every other text is a name of weight 1
 abbrev pub server_or : List ℕ → Option (List ℕ × List ℕ) → Option (List ℕ × ℕ)
 server_or text None = with_weight text (Some 1)
 server_or text (Some p) = with_weight p.0 (weight_of p.1)
 
--- the address and the weight that a server's text says
+-- the name and the weight that a server's text says
 abbrev pub server_in : List ℕ → Option (List ℕ × ℕ)
 server_in text = server_or text (weighted_parts text)

@@ -891,7 +891,7 @@ fn config_after(alloc: Global, first: &str, text: &str) -> Result<(Config, Serve
 fn resolve_all(rt: &HostRuntime, wire: &mut Memory, servers: &Servers) {
     for at in 0..servers.len() {
         if let Some(text) = text_at(servers, at) {
-            let _ = wire.resolve(rt, text.as_bytes());
+            let _ = wire.resolve(rt, text.as_bytes(), text.as_bytes());
         }
     }
 }

@@ -4,7 +4,7 @@ use crate::slots::arguments::SlotsChange;
 use crate::slots::fault::SlotsFault;
 use gate_gaps::{ConfigPool, read_pools};
 use mc_types::ServerId;
-use route_json::addresses::address::is_address;
+use route_json::addresses::is_server_name;
 use route_json::addresses::servers::MAX_SERVERS;
 use route_json::{ConfigFault, Servers, read_config_after};
 use route_slots::{Change, rewritten, table_of};
@@ -88,7 +88,7 @@ fn server_of<'a>(
     servers: &mut Servers,
     address: &'a str,
 ) -> Result<ServerId, SlotsFault<'a>> {
-    if !is_address(address) {
+    if !is_server_name(address) {
         return Err(SlotsFault::NoAddress(address));
     }
     if let Some(server) = servers.find(address) {

@@ -1,10 +1,11 @@
-//! Texts of servers: an address, and the weight that may follow it.
+//! Texts of servers: a name, and the weight that may follow it.
 
 ghost use Rattle.std.specs.Prelude.{◌≡◌, ◌<◌, ◌≤◌, IfSome, option_map};
 ghost use Rattle.std.specs.List.{list_any};
 ghost use Rattle.route_json.specs.ServerTexts.{is_colon, is_without_colons, is_in_brackets, is_host, weighted_parts, weight_of, with_weight, server_in};
 
-use crate::addresses::address::{around_colon, is_address};
+use crate::addresses::address::around_colon;
+use crate::addresses::name::is_server_name;
 use text_words::number::u32_number;
 
 /// The greatest weight of a server.
@@ -57,21 +58,22 @@ fn weight_of(digits: &[u8]) -> Option<u32>
     u32_number(digits).filter(|weight| 0 < *weight && *weight <= MAX_WEIGHT)
 }
 
-fn with_weight(address: &str, weight: Option<u32>) -> Option<(&str, u32)>
+fn with_weight(name: &str, weight: Option<u32>) -> Option<(&str, u32)>
     requires { IfSome weight (λ w. (0 < w) × (w ≤ MAX_WEIGHT)) }
-    ensures server { option_map (λ s. (s.0.now, s.1)) result ≡ with_weight address.now weight }
+    ensures server { option_map (λ s. (s.0.now, s.1)) result ≡ with_weight name.now weight }
     ensures within { IfSome result (λ s. (0 < s.1) × (s.1 ≤ MAX_WEIGHT)) }
 {
     match weight {
-        Some(weight) if is_address(address) => Some((address, weight)),
+        Some(weight) if is_server_name(name) => Some((name, weight)),
         _ => None,
     }
 }
 
-/// The address and the weight that a server's text says, or none where it says no server.
+/// The name and the weight that a server's text says, or none where it says no server.
 ///
 /// In a text `H:P:W`, where `P` and `W` have no `:`, and `H` isn't empty and has no `:` or begins with `[` and ends with
-/// `]`, the address is `H:P`, and `W` is a weight in 1..=[`MAX_WEIGHT`] of 1 or 2 digits. Every other text is an address of weight 1.
+/// `]`, the name is `H:P`, and `W` is a weight in 1..=[`MAX_WEIGHT`] of 1 or 2 digits. Every other text is a name of weight 1.
+/// In a name `P` may end in an epoch, as [`is_server_name`] says.
 ///
 /// Source: mcgate's own, in the form of twemproxy's `host:port:weight`.
 pub fn read_server(text: &str) -> Option<(&str, u32)>
@@ -79,7 +81,7 @@ pub fn read_server(text: &str) -> Option<(&str, u32)>
     ensures within { IfSome result (λ s. (0 < s.1) × (s.1 ≤ MAX_WEIGHT)) }
 {
     match weighted_parts(text) {
-        Some((address, weight)) => with_weight(address, weight_of(weight.as_bytes())),
+        Some((name, weight)) => with_weight(name, weight_of(weight.as_bytes())),
         None => with_weight(text, Some(1)),
     }
 }

@@ -4,7 +4,9 @@ ghost use Rattle.std.specs.Prelude.{◌≡◌, ◌<◌, [], ◌∷◌, ◌++◌,
 ghost use Rattle.std.specs.List.{list_any};
 ghost use Rattle.std.specs.Str.{bytes_eq};
 ghost use Rattle.route_json.specs.NumberedServers.{AreServers};
+ghost use Rattle.route_json.specs.ServerNames.{have_epochs, is_over};
 
+use crate::addresses::name::{address_in, are_some_in_epochs, is_named};
 use indexmap::IndexSet;
 use mc_types::ServerId;
 use std::alloc::{AllocError, Global};
@@ -13,7 +15,8 @@ use std::marker::Model;
 /// The most servers that there may be, so that a `ServerId` has room for each.
 pub const MAX_SERVERS: usize = 4_294_967_295;
 
-/// The servers of a configuration: address texts, none of them twice, whose place is the `ServerId`.
+/// The servers of a configuration: their names, none of them twice, whose place is the `ServerId`. A server that takes
+/// another epoch has another name.
 #[derive(Drop)]
 pub struct Servers {
     set: IndexSet<String>,
@@ -39,7 +42,7 @@ impl Servers {
         }
     }
 
-    /// How many servers there are, at most 4,294,967,295. No address stands twice.
+    /// How many servers there are, at most 4,294,967,295. No name stands twice.
     pub fn len(&self) -> usize
         ensures len { result ≡ length self.now }
         ensures servers { AreServers self.now }
@@ -54,7 +57,7 @@ impl Servers {
         self.len() == 0
     }
 
-    /// The address of a server.
+    /// The name of a server.
     pub fn get(&self, server: ServerId) -> Option<&str>
         ensures { option_map (λ s. s.now) result ≡ slice_get self.now server }
     {
@@ -63,7 +66,27 @@ impl Servers {
             .map(|text| text.as_str())
     }
 
-    /// The server of an address, if it is one of these.
+    /// Whether one of them has an epoch.
+    pub fn have_epochs(&self) -> bool
+        ensures { result ≡ have_epochs self.now }
+    {
+        are_some_in_epochs(self.set.as_slice())
+    }
+
+    /// Whether the epoch of a server is over: a server of a later number has its address.
+    pub fn is_over(&self, server: ServerId) -> bool
+        ensures { result ≡ is_over self.now server }
+    {
+        match self.get(server) {
+            Some(name) => {
+                let (_, later) = self.set.as_slice().split_at(server.number() as usize + 1);
+                is_named(address_in(name), later)
+            }
+            None => false,
+        }
+    }
+
+    /// The server of a name, if it is one of these.
     pub fn find(&self, address: &str) -> Option<ServerId>
         ensures found { result ≡ position (bytes_eq address.now) self.now }
         ensures known { is_some result ≡ list_any (bytes_eq address.now) self.now }
@@ -75,7 +98,7 @@ impl Servers {
         }
     }
 
-    /// Puts an address last that is none of these yet, and gives its number. The only error is running out of memory, and nothing
+    /// Puts a name last that is none of these yet, and gives its number. The only error is running out of memory, and nothing
     /// has changed then.
     pub fn push(&mut self, alloc: Global, address: &str) -> Result<ServerId, AllocError>
         requires new { list_any (bytes_eq address.now) self.old ≡ false }

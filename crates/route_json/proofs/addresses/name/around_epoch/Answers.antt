@@ -1,0 +1,6 @@
+use Rattle.std.proofs.Common.{arith}
+use Rattle.route_json.proofs.LastSigns.{split_at_last}
+use Rattle.route_json.proofs.addresses.name.around_epoch.Goals as goal
+
+pub returns : goal.returns
+returns c = split_at_last 35 c.args.name.now c.rsplit_once.result (omega arith) c.rsplit_once.ensures.cases
