@@ -47,7 +47,7 @@ fn send_looked<W: Wire, N: Net>(
     let call = SentCall {
         ticket,
         client: id,
-        since: time,
+        since: sockets.wire.last_millis(),
         paced: sockets.links.pace(),
         bulk,
         dialect: sockets.links.dialect_of(at),

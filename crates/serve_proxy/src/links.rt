@@ -3,6 +3,7 @@
 
 ghost use Rattle.std.specs.Prelude.{◌≡◌, ◌↔◌, true, None, [], ◌∷◌, ◌++◌, drop, length, IsTrue, IsSome, IfOk, IfErr, OnOk, MatchOption};
 ghost use Rattle.serve_clients.specs.declared.clients.Clients.{Clients};
+ghost use Rattle.serve_links.specs.Lateness.{IsConnectLateAt};
 ghost use Rattle.serve_links.specs.Links.{calls_out};
 ghost use Rattle.serve_links.specs.Story.{line_of, texts_of};
 ghost use Rattle.serve_proxy.specs.Ends.{lines_of, LinksTake, LinksGive, LineStands, LineTakes, IsOpenAt, AsksIn, EndsGo, AddsLines};
@@ -450,6 +451,16 @@ impl Links {
         match self.all.get_mut(at) {
             Some(link) => write_to(link, call),
             None => Err(call),
+        }
+    }
+
+    /// Whether the link's connection was begun longer ago than one may take to stand, and doesn't.
+    pub fn is_connect_late(&self, at: usize, now: u64) -> bool
+        ensures { result ≡ true → IsConnectLateAt at self.now.settings.connect_ms now self.now.all.items }
+    {
+        match self.all.get(at) {
+            Some(link) => link.is_connect_late(now, &self.settings),
+            None => false,
         }
     }
 
