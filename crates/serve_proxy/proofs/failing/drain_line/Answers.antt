@@ -1,4 +1,4 @@
-use Rattle.serve_proxy.proofs.Draining.{drains_so, ends_so}
+use Rattle.serve_proxy.proofs.Drained.{drains_so, ends_so}
 use Rattle.serve_proxy.proofs.failing.drain_line.Goals as goal
 
 pub returns-in-Some : goal.returns-in-Some

@@ -1,5 +1,5 @@
 use Rattle.std.proofs.Common.{refl, sym, ◌∙◌}
-use Rattle.serve_proxy.proofs.Draining.{stops_so}
+use Rattle.serve_proxy.proofs.Drained.{stops_so}
 use Rattle.serve_proxy.proofs.Staying.{line_stands, not_some}
 use Rattle.serve_proxy.proofs.failing.stop_line.Goals as goal
 
