@@ -21,3 +21,4 @@ pub mod plans;
 pub mod refusal_details;
 pub mod serve_arguments;
 pub mod slots;
+pub mod tell_arguments;
