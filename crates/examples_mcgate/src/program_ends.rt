@@ -87,6 +87,9 @@ mcgate serve --listen a:1 --config c --control d --drain-ms 5 => serve - fail-li
 mcgate serve --listen a:1 --config c --drain-ms 0 => refused, told
 mcgate serve --listen unix:a --unix-mode 660 --config c => serve - at unix:a 660 fail-limit 3 auto
 mcgate serve --listen unix:a --unix-mode 777 --config c => refused, told
+mcgate serve --listen a:1 --config c --log-level warn => serve - fail-limit 3 log warn auto
+mcgate serve --listen a:1 --config c --log-json => serve - fail-limit 3 log info json auto
+mcgate serve --listen a:1 --config c --log-level all => refused, told
 mcgate tell d drain => tell d drain
 mcgate tell d where k => tell d where k
 mcgate serve --listen a:1 --config c --server-dialect auto => serve - fail-limit 3 auto
@@ -219,6 +222,10 @@ fn push_serve(out: &mut String, job: &ServeJob<'_>) -> Result<(), AllocError> {
     }
     if let Some(metrics) = job.metrics {
         write!(out, " metrics {metrics}")?;
+    }
+    if let Some(log) = job.log {
+        write!(out, " log {}", log.level.word())?;
+        out.push_str(if log.json { " json" } else { "" })?;
     }
     if let Some(control) = job.control {
         write!(out, " control {control} drain-ms {}", job.drain_ms)?;

@@ -7,3 +7,5 @@ mod control;
 mod numbers;
 #[cfg(test)]
 mod requests;
+#[cfg(test)]
+mod times;

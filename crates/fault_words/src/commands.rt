@@ -48,7 +48,7 @@ const CHECK_FLAGS: [&str; 8] = [
     "new-servers",
 ];
 
-const SERVE_FLAGS: [&str; 27] = [
+const SERVE_FLAGS: [&str; 29] = [
     "help",
     "check",
     "config",
@@ -70,6 +70,8 @@ const SERVE_FLAGS: [&str; 27] = [
     "metrics",
     "control",
     "drain-ms",
+    "log-level",
+    "log-json",
     "server-dialect",
     "opened",
     "new-servers",
@@ -86,11 +88,13 @@ pub const TOP_FLAGS: [&str; 2] = ["help", "version"];
 /// What follows the flag of this name.
 pub fn takes_of(flag: &str) -> Takes {
     match flag {
-        "help" | "version" | "any" | "check" | "explain" | "dot" | "fleet" => Takes::Nothing,
+        "help" | "version" | "any" | "check" | "explain" | "dot" | "fleet" | "log-json" => {
+            Takes::Nothing
+        }
         "config" | "certificate" | "with" | "history" | "after" | "control" => Takes::File,
         "listen" | "metrics" | "add" | "remove" => Takes::Address,
         "pool" => Takes::Pool,
-        "server-dialect" | "opened" | "new-servers" | "unix-mode" => Takes::Word,
+        "server-dialect" | "opened" | "new-servers" | "unix-mode" | "log-level" => { Takes::Word }
         _ => Takes::Count,
     }
 }
@@ -106,6 +110,7 @@ pub fn words_after(flag: &str) -> &'static [&'static str] {
         "server-dialect" => &["auto", "classic", "meta"],
         "opened" => &["any", "own"],
         "new-servers" => &["any", "empty"],
+        "log-level" => &["error", "warn", "info", "debug"],
         "unix-mode" => &["600", "660", "666"],
         _ => &[],
     }

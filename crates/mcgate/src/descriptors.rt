@@ -59,7 +59,7 @@ pub fn within_descriptors<'a, R: Eprint>(
         let line = format_args!(
             "mcgate: WARNING: {most} descriptors may be open (ulimit -n): {clients} clients are served at once, not {wanted}; {servers} are kept for servers, {rest} for the rest"
         );
-        lines.tell(rt, line);
+        lines.warn(rt, line);
     }
     ServeJob { settings, ..job }
 }

@@ -9,6 +9,7 @@ mod draining;
 mod histories;
 mod lines;
 mod listening;
+mod outages;
 mod over_tcp;
 mod remembering;
 mod serve;
@@ -506,7 +507,8 @@ fn run_serve<R: Files + Input + AllocGlobal + Net + Clock + Print + Eprint + Giv
             Ok(status)
         }
         Judged::Servable(servable) => {
-            let mut lines = Lines::new();
+            let mut lines = Lines::new(rt.alloc(), job.log);
+            lines.look(rt);
             say_warnings(rt, &mut lines, job.file, text.as_str());
             let job = within_descriptors(rt, &mut lines, job, servable.len());
             if job.check {

@@ -11,6 +11,7 @@ ghost use Rattle.mcgate.specs.Remembers.{StandsIn, StandsIfLoaded};
 use crate::controlling::Controlling;
 use crate::draining::Draining;
 use crate::lines::Lines;
+use crate::outages::Outages;
 use crate::remembering::{Kept, Remembering, forget, remember};
 use crate::special::is_special;
 use crate::started::Started;
@@ -60,7 +61,7 @@ pub fn tell_if_unknown<R: Eprint>(
         Err(error) if error.kind() == ErrorKind::OutOfMemory => Err(error),
         Err(_) => {
             let line = format_args!("mcgate: server {text}: no such host, its calls fail");
-            lines.tell(rt, line);
+            lines.warn(rt, line);
             Ok(false)
         }
     }
@@ -90,6 +91,7 @@ pub struct Serving {
     /// How many turns ago.
     turns: u32,
     lines: Lines,
+    outages: Outages,
     seen: Seen,
     /// Who asks for numbers, where it listens for them.
     watching: Option<Watching>,
@@ -192,7 +194,7 @@ fn before_of(memory: &Option<Kept>) -> u32 {
 
 impl Serving {
     /// Of this end, by a configuration of these servers, which starts so.
-    pub fn new<R: Clock>(
+    pub fn new<R: Clock + AllocGlobal>(
         rt: &R,
         end: Proxy,
         servers: Servers,
@@ -216,6 +218,7 @@ impl Serving {
             since: Instant::now(rt)?,
             turns: 0,
             lines,
+            outages: Outages::new(rt.alloc()),
             seen: Seen::new(before.saturating_add(1)),
             watching,
             controlling,
@@ -248,7 +251,7 @@ impl Serving {
         ensures { self.new.end ≡ self.old.end }
     {
         if job.any {
-            self.lines.tell(
+            self.lines.warn(
                 rt,
                 "mcgate: WARNING: --any: no gate was asked, nothing is promised: replies may show deleted data",
             );
@@ -362,6 +365,7 @@ impl Serving {
     ) -> Result<bool, Stop>
         ensures ends { Serves self.old.end self.new.end }
     {
+        self.lines.look(rt);
         self.tell_news(rt);
         self.look_if_due(rt, job)?;
         self.turn_watching(rt);
@@ -438,7 +442,7 @@ impl Serving {
         if let Some(count) = self.end.next_stalled() {
             self.seen.closed_slow = self.seen.closed_slow.saturating_add(count);
             let line = format_args!("mcgate: clients closed that took too little: {count}");
-            self.lines.tell(rt, line);
+            self.lines.warn(rt, line);
         }
     }
 
@@ -462,9 +466,49 @@ impl Serving {
         let Ok(number) = u32::try_from(at) else {
             return;
         };
+        if !self.may_tell(at, news) {
+            return;
+        }
         if let Some(text) = self.servers.get(ServerId::new(number)) {
             let line = format_args!("mcgate: server {text}: {news}");
-            self.lines.tell(rt, line);
+            match news {
+                LinkNews::Opened | LinkNews::Back => self.lines.tell(rt, line),
+                LinkNews::Failed(_, _) | LinkNews::Late => self.lines.warn(rt, line),
+            }
+        }
+    }
+
+    // Whether this of a server is to be told: where lines have a time, that it is still down is once a minute.
+    fn may_tell(&mut self, at: usize, news: LinkNews) -> bool
+        ensures { self.new.end ≡ self.old.end }
+    {
+        match news {
+            LinkNews::Opened | LinkNews::Back => {
+                self.outages.note_up(at);
+                true
+            }
+            LinkNews::Failed(_, _) | LinkNews::Late => {
+                self.lines.tells_all() || self.outages.note_down(at, self.lines.now())
+            }
+        }
+    }
+
+    // Tells what came of a text on standard error too, where lines have a time.
+    fn tell_verdict<R: Eprint>(&mut self, rt: &R, is_used: bool, said: &[u8])
+        ensures end { self.new.end ≡ self.old.end }
+        ensures memory { self.new.memory ≡ self.old.memory }
+    {
+        if !self.lines.have_time() {
+            return;
+        }
+        let Ok(said) = std::str::from_utf8(said) else {
+            return;
+        };
+        let said = said.trim_end();
+        if is_used {
+            self.lines.tell(rt, said);
+        } else {
+            self.lines.warn(rt, said);
         }
     }
 
@@ -573,6 +617,7 @@ impl Serving {
         let is_used = self.judge_text(rt, any, text.as_str(), said)?;
         self.note_text(text, is_used);
         self.lines.print(rt, said.as_slice());
+        self.tell_verdict(rt, is_used, said.as_slice());
         Ok(is_used)
     }
 

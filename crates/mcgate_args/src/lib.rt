@@ -15,6 +15,7 @@ pub mod histories;
 pub mod history_arguments;
 pub mod input;
 pub mod input_text;
+pub mod log_arguments;
 pub mod loopback_arguments;
 pub mod plan_arguments;
 pub mod plans;

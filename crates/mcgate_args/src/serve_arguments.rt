@@ -2,6 +2,7 @@
 
 use crate::arguments::{ArgumentsFault, Job, count_of, help_flag, option, switch};
 use crate::beginning_arguments::begun_of;
+use crate::log_arguments::{Log, log_of};
 use clap::{ArgMatches, Command};
 use core_accepted::Beginnings;
 use serve_links::{ServerDialect, Settings};
@@ -20,6 +21,8 @@ pub struct ServeJob<'a> {
     pub metrics: Option<&'a str>,
     /// The path of the socket at which it is told things.
     pub control: Option<&'a str>,
+    /// How lines on standard error are written, if not as they are.
+    pub log: Option<Log>,
     /// When it drains, it ends after so many milliseconds at most.
     pub drain_ms: u64,
     pub settings: Settings,
@@ -77,6 +80,9 @@ opens, fails or comes back.
   --metrics HOST:PORT    answers there over HTTP what it counts: /metrics in Prometheus' text format, /stats.json in JSON
   --control PATH         it is told things there by mcgate tell: to drain, to reload, and what it counts
   --drain-ms N           when it is told to drain it ends after so many milliseconds at most, 10000
+  --log-level WORD       each line on standard error begins with a time and a level, and those of WORD and more urgent ones are told:
+                         error, warn, info or debug; without it and the next one, all, as they are
+  --log-json             each is an object in JSON with that
   --server-dialect WORD  how servers are asked for classic gets: classic, meta, or auto, by what each answers to an mn; auto
   --opened WORD          what the servers of the first configuration held before: any, or own: of each key nothing but what its tree
                          may put on them; any
@@ -119,6 +125,8 @@ pub fn serve_command<'a>(alloc: Global) -> Result<Command<'a>, AllocError> {
         .arg(option(alloc, "metrics"))?
         .arg(option(alloc, "control"))?
         .arg(option(alloc, "drain-ms"))?
+        .arg(option(alloc, "log-level"))?
+        .arg(switch(alloc, "log-json"))?
         .arg(option(alloc, "server-dialect"))?
         .arg(option(alloc, "opened"))?
         .arg(option(alloc, "new-servers"))?
@@ -210,6 +218,7 @@ pub fn serve_job<'a>(given: &ArgMatches<'a>) -> Result<Job<'a>, ArgumentsFault> 
         unix_mode: mode_of(given)?,
         metrics: given.get_str("metrics"),
         control: given.get_str("control"),
+        log: log_of(given)?,
         drain_ms: millis_of(given, "drain-ms", DRAIN_MS)?,
         settings: settings_of(given)?,
         begun: begun_of(given)?,
