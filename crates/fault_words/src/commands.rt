@@ -48,7 +48,7 @@ const CHECK_FLAGS: [&str; 8] = [
     "new-servers",
 ];
 
-const SERVE_FLAGS: [&str; 29] = [
+const SERVE_FLAGS: [&str; 30] = [
     "help",
     "check",
     "config",
@@ -64,6 +64,7 @@ const SERVE_FLAGS: [&str; 29] = [
     "connect-ms",
     "fail-limit",
     "retry-ms",
+    "give-up-ms",
     "polls",
     "stall-ms",
     "memory-mb",

@@ -258,6 +258,7 @@ impl Serving {
         }
         self.tell_place(rt, job);
         self.tell_if_new(rt, job);
+        self.tell_if_giving_up(rt, job);
         self.begin_watching(rt)?;
         self.begin_controlling(rt)
     }
@@ -283,6 +284,18 @@ impl Serving {
                     job.file, job.listen
                 ),
             ),
+        }
+    }
+
+    // Tells what the promise rests on where connections are given up while late answers are to come.
+    fn tell_if_giving_up<R: Eprint>(&mut self, rt: &R, job: &ServeJob<'_>)
+        ensures { self.new.end ≡ self.old.end }
+    {
+        if job.settings.give_up_ms.is_some() {
+            self.lines.tell(
+                rt,
+                "mcgate: with --give-up-ms what is promised rests on servers that apply no call once its connection was given up",
+            );
         }
     }
 

@@ -1,6 +1,7 @@
 pub mod CallOrder
 pub mod StoreLines
 pub mod Walked
+pub mod Called
 pub mod Failing
 pub mod Feeding
 pub mod Leaving
@@ -15,3 +16,4 @@ pub mod Answering
 pub mod LinkGoes
 pub mod LateGoes
 pub mod Taking
+pub mod Away

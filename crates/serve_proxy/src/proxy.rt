@@ -17,7 +17,7 @@ use crate::answers::read_links;
 use crate::beginning::{fresh_core, unchecked_core};
 use crate::clock::at_most;
 use crate::draining::end_quiet;
-use crate::failing::{fail_late, fail_link};
+use crate::failing::{fail_late, shut_link};
 use crate::links::Links;
 use crate::sending::{send_clients, send_links};
 use crate::serving::{serve_all, serve_asks};
@@ -255,7 +255,7 @@ impl<W: Wire> ProxyEnd<W> {
         ensures down { OnOk result (IsDownAt server self.new.sockets.links.all.items) }
         ensures closed { IsClosedAt server self.new.sockets.links.all.items }
     {
-        fail_link(self.core.as_mut(), &mut self.sockets, server, Cause::Broken)
+        shut_link(self.core.as_mut(), &mut self.sockets, server, Cause::Broken)
     }
 
     /// One turn: a wait until something is ready or late, and then all that is ready is done.
