@@ -104,7 +104,12 @@ impl Lines {
     }
 
     // A line with its time and level.
-    fn timed<D: Display>(&self, log: Log, level: Level, line: D) -> Result<String, AllocError> {
+    fn timed<D: Display + Drop>(
+        &self,
+        log: Log,
+        level: Level,
+        line: D,
+    ) -> Result<String, AllocError> {
         let told = format!(in self.alloc; "{line}")?;
         let told = told.strip_prefix("mcgate: ").unwrap_or(told.as_str());
         let (time, word) = (Moment(self.now), level.word());
