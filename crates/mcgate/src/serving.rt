@@ -628,10 +628,18 @@ impl Serving {
         ensures remembered { StandsIfLoaded self.old.end.core.value self.new.end.core.value self.new.memory (string_bytes text) }
     {
         let is_used = self.judge_text(rt, any, text.as_str(), said)?;
-        self.note_text(text, is_used);
-        self.lines.print(rt, said.as_slice());
-        self.tell_verdict(rt, is_used, said.as_slice());
+        self.note_said(rt, text, is_used, said.as_slice());
         Ok(is_used)
+    }
+
+    // The same, and what was said of it is printed.
+    fn note_said<R: Print + Eprint>(&mut self, rt: &R, text: String, is_used: bool, said: &[u8])
+        ensures ends { self.new.end ≡ self.old.end }
+        ensures memory { self.new.memory ≡ self.old.memory }
+    {
+        self.note_text(text, is_used);
+        self.lines.print(rt, said);
+        self.tell_verdict(rt, is_used, said);
     }
 
     // Who tells it things is answered, if there is somebody.
@@ -732,13 +740,29 @@ impl Serving {
     ) -> Result<(), Stop>
         ensures ends { Serves self.old.end self.new.end }
     {
+        self.keep(place);
+        self.begin_draining(rt, job)
+    }
+
+    // The one at this place is answered when it ends.
+    fn keep(&mut self, place: usize)
+        ensures { self.new.end ≡ self.old.end }
+    {
         if let Some(controlling) = &mut self.controlling {
             controlling.keep(place);
         }
+    }
+
+    // Nobody is accepted from now on, if that wasn't so before.
+    #[tactic(auto, using(crate::proofs::Loads::serves_still))]
+    fn begin_draining<R: Clock + Eprint>(&mut self, rt: &R, job: &ServeJob<'_>) -> Result<(), Stop>
+        ensures ends { Serves self.old.end self.new.end }
+    {
         if self.draining.is_some() {
             return Ok(());
         }
-        self.draining = Some(Draining::new(rt, job.drain_ms)?);
+        let draining = Draining::new(rt, job.drain_ms)?;
+        self.draining = Some(draining);
         self.stop_accepting(rt);
         Ok(())
     }
@@ -761,7 +785,8 @@ impl Serving {
         let Some(draining) = self.draining else {
             return Ok(false);
         };
-        if self.end.clients() == 0 || draining.rest(rt)? == 0 {
+        let rest = draining.rest(rt)?;
+        if rest == 0 || self.end.clients() == 0 {
             return Ok(true);
         }
         self.end.end_quiet()?;
@@ -773,17 +798,23 @@ impl Serving {
         ensures { self.new.end ≡ self.old.end }
     {
         let clients = self.end.clients();
+        self.tell_drained(rt, clients);
+        if let Some(controlling) = &mut self.controlling {
+            if clients == 0 {
+                controlling.end(rt, Verdict::Done, b"drained\n");
+            } else {
+                controlling.end(rt, Verdict::Refused, b"drained, clients were left\n");
+            }
+        }
+    }
+
+    // Tells that it has drained, if it has.
+    fn tell_drained<R: Eprint>(&mut self, rt: &R, clients: usize)
+        ensures { self.new.end ≡ self.old.end }
+    {
         if self.draining.is_some() {
             let line = format_args!("mcgate: drained, {clients} clients were left");
             self.lines.tell(rt, line);
-        }
-        let (verdict, text) = if clients == 0 {
-            (Verdict::Done, b"drained\n".as_slice())
-        } else {
-            (Verdict::Refused, b"drained, clients were left\n".as_slice())
-        };
-        if let Some(controlling) = &mut self.controlling {
-            controlling.end(rt, verdict, text);
         }
     }
 

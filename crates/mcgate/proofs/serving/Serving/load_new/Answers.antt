@@ -7,5 +7,5 @@ use Rattle.mcgate.proofs.serving.Serving.load_new.Goals as goal
 
 pub returns-clause-remembered : goal.returns-clause-remembered
 returns-clause-remembered g c =
-    stands_as c.args.self.now.end.core.value c.judge_text.new.self.end.core.value c.note_text.new.self.end.core.value c.judge_text.new.self.memory c.note_text.new.self.memory c.as_str.result.now (string_bytes c.args.text)
-    (ap (λ (e : ProxyEnd Sockets). e.core.value) c.note_text.ensures.ends) c.note_text.ensures.memory c.as_str.ensures.value c.judge_text.ensures.remembered
+    stands_as c.args.self.now.end.core.value c.judge_text.new.self.end.core.value c.note_said.new.self.end.core.value c.judge_text.new.self.memory c.note_said.new.self.memory c.as_str.result.now (string_bytes c.args.text)
+    (ap (λ (e : ProxyEnd Sockets). e.core.value) c.note_said.ensures.ends) c.note_said.ensures.memory c.as_str.ensures.value c.judge_text.ensures.remembered
