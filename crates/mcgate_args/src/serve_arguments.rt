@@ -192,6 +192,7 @@ fn settings_of(given: &ArgMatches<'_>) -> Result<Settings, ArgumentsFault> {
         give_up_ms: count_of(given, "give-up-ms")?.map(u64::from),
         polls: count_of(given, "polls")?,
         server_dialect: dialect_of(given, usual.server_dialect)?,
+        flushes_new: usual.flushes_new,
     })
 }
 

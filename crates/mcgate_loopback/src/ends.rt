@@ -82,6 +82,7 @@ fn settings() -> Settings {
         give_up_ms: None,
         polls: None,
         server_dialect: ServerDialect::Classic,
+        flushes_new: false,
     }
 }
 

@@ -269,7 +269,7 @@ fn stop_line<W: Wire>(link: &mut Link, wire: &mut W)
 
 // Whether the link's connection stands, nothing is out on it or waits for it, and no late answer is awaited.
 fn is_idle(link: &Link) -> bool {
-    let is_awaited = link.awaits_dialect || link.awaits_late();
+    let is_awaited = link.awaits_greeting() || link.awaits_late();
     link.is_connected && !is_awaited && link.calls.is_empty() && link.waiting() == 0
 }
 

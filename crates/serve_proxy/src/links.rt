@@ -9,7 +9,7 @@ ghost use Rattle.serve_links.specs.Story.{line_of, texts_of};
 ghost use Rattle.serve_proxy.specs.Ends.{lines_of, LinksTake, LinksGive, LineStands, LineTakes, IsOpenAt, AsksIn, AwaitsLateAt, EndsGo, AddsLines};
 
 use crate::clock::earlier;
-use crate::texts::text_at;
+use crate::texts::{is_over, share_address, text_at};
 use mc_types::{Ask, Dialect};
 use route_json::addresses::Servers;
 use serve_links::calls::SentCall;
@@ -65,12 +65,15 @@ fn begin<W: Wire, N: Net>(
     }
 }
 
-// The call is written to the link, or given back, as it is where late answers are awaited.
+// The call is written to the link, or given back, as it is where late answers are awaited, or the server is still to empty itself.
 fn write_to(link: &mut Link, call: SentCall) -> Result<(), SentCall>
     ensures ok { OnOk result (LineTakes call link.old link.new) }
     ensures err { IfErr result (λ given. (given ≡ call) × (line_of link.new ≡ line_of link.old)) }
 {
     if link.awaits_late() {
+        return Err(call);
+    }
+    if link.awaits_flush() {
         return Err(call);
     }
     match link.conn.as_mut() {
@@ -120,19 +123,22 @@ pub struct Links {
     pub late_from: Option<u64>,
     /// Whether there may be something to tell of a link.
     pub has_news: bool,
+    // Whether servers that get a link from now on are emptied before their first call.
+    flushes_new: bool,
     // What the clock showed when calls that wait were looked at last, and their own clock, which goes on by little where much time has passed since: then the process stood still.
     looked: u64,
     pace: u64,
 }
 
 impl Links {
-    /// One link to each server, without a connection.
+    /// One link to each server, without a connection. None of these servers is emptied.
     pub fn to(alloc: Global, servers: &Servers, settings: Settings) -> Result<Links, AllocError>
         ensures texts { IfOk result (λ links. texts_of links.all.items ≡ servers.now) }
         ensures down { IfOk result (λ links. AddsLines [] links.all.items) }
     {
         let mut links = Links::none(alloc, settings);
         links.add(servers)?;
+        links.flushes_new = settings.flushes_new;
         Ok(links)
     }
 
@@ -148,6 +154,7 @@ impl Links {
             is_short: false,
             late_from: None,
             has_news: false,
+            flushes_new: false,
             looked: 0,
             pace: 0,
         }
@@ -168,7 +175,7 @@ impl Links {
         self.pace
     }
 
-    /// Servers that have no link yet get one, without a connection.
+    /// Servers that have no link yet get one, without a connection. They are emptied before their first call, where that is set.
     pub fn add(&mut self, servers: &Servers) -> Result<(), AllocError>
         ensures texts { OnOk result (texts_of self.new.all.items ≡ texts_of self.old.all.items ++ drop (length self.old.all.items) servers.now) }
         ensures adds { AddsLines self.old.all.items self.new.all.items }
@@ -187,9 +194,72 @@ impl Links {
         ensures texts { OnOk result (texts_of self.new.all.items ≡ texts_of self.old.all.items ++ text.now ∷ []) }
         ensures adds { AddsLines self.old.all.items self.new.all.items }
     {
-        let link = Link::new(self.alloc, text.as_bytes())?;
+        let link = Link::new(self.alloc, text.as_bytes(), self.flushes_new)?;
         self.all.push(link)?;
         Ok(())
+    }
+
+    /// The server of this number is emptied before its first call.
+    pub fn empty_first(&mut self, at: usize)
+        ensures lines { lines_of self.new.all.items ≡ lines_of self.old.all.items }
+    {
+        if let Some(link) = self.all.get_mut(at) {
+            link.empty_first();
+        }
+    }
+
+    // Calls of this server fail at once from now on, or they do no longer.
+    fn retire(&mut self, at: usize, is_retired: bool)
+        ensures lines { lines_of self.new.all.items ≡ lines_of self.old.all.items }
+    {
+        if let Some(link) = self.all.get_mut(at) {
+            link.retire(is_retired);
+        }
+    }
+
+    // Whether no call is out at this server or waits for it, and none is late there.
+    fn is_quiet(&self, at: usize) -> bool {
+        match self.all.get(at) {
+            Some(link) => link.is_quiet(),
+            None => true,
+        }
+    }
+
+    // Whether earlier servers at the address of this one have no calls any more.
+    fn have_ended(&self, servers: &Servers, at: usize) -> bool {
+        for earlier in 0..at {
+            if share_address(servers, earlier, at) && !self.is_quiet(earlier) {
+                return false;
+            }
+        }
+        true
+    }
+
+    // Calls of this server go out where no later one has its address, and earlier ones there have no calls any more; others' fail at once. Whether that is so, or a later one
+    // has it.
+    fn keep_epoch(&mut self, servers: &Servers, at: usize) -> bool
+        ensures lines { lines_of self.new.all.items ≡ lines_of self.old.all.items }
+    {
+        let is_over = is_over(servers, at);
+        let has_begun = self.have_ended(servers, at);
+        self.retire(at, is_over || !has_begun);
+        is_over || has_begun
+    }
+
+    /// Where servers have epochs: calls go to each while no later one has its address, once earlier ones there have no calls any more; all others fail at once. Whether none is
+    /// waited for.
+    pub fn keep_epochs(&mut self, servers: &Servers) -> bool
+        ensures lines { lines_of self.new.all.items ≡ lines_of self.old.all.items }
+    {
+        if !servers.have_epochs() {
+            return true;
+        }
+        let mut have_begun = true;
+        for at in 0..servers.len() {
+            let is_kept = self.keep_epoch(servers, at);
+            have_begun = is_kept && have_begun;
+        }
+        have_begun
     }
 
     /// Whether so many calls are out: sent, or waiting to be sent.

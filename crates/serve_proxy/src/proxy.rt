@@ -165,6 +165,23 @@ impl<W: Wire> ProxyEnd<W> {
         Ok(generation)
     }
 
+    /// The server of this number is emptied, by `flush_all`, before its first call.
+    pub fn empty_first(&mut self, server: usize)
+        ensures core { self.new.core ≡ self.old.core }
+        ensures ends { Stay W.history self.old.sockets self.new.sockets }
+    {
+        self.sockets.links.empty_first(server);
+    }
+
+    /// Where servers have epochs: calls go to a server while no later one has its address, and once the earlier ones there have no calls any more; all others fail at once.
+    /// Whether none is waited for. It is asked after a load, and after each turn until it says so.
+    pub fn keep_epochs(&mut self, servers: &Servers) -> bool
+        ensures core { self.new.core ≡ self.old.core }
+        ensures ends { Stay W.history self.old.sockets self.new.sockets }
+    {
+        self.sockets.links.keep_epochs(servers)
+    }
+
     /// What happened to a server's link, and the server's number; of each server once a second at most, and of several things the
     /// last. It is asked after each turn until there is none.
     pub fn next_news(&mut self) -> Option<(usize, LinkNews)>
