@@ -505,10 +505,17 @@ impl Serving {
                 self.outages.note_up(at);
                 true
             }
-            LinkNews::Failed(_, _) | LinkNews::Late => {
-                self.lines.tells_all() || self.outages.note_down(at, self.lines.now())
-            }
+            LinkNews::Failed(_, _) | LinkNews::Late => self.may_tell_down(at),
         }
+    }
+
+    fn may_tell_down(&mut self, at: usize) -> bool
+        ensures { self.new.end ≡ self.old.end }
+    {
+        if self.lines.tells_all() {
+            return true;
+        }
+        self.outages.note_down(at, self.lines.now())
     }
 
     // Tells what came of a text on standard error too, where lines have a time.
