@@ -74,7 +74,14 @@ const SERVE_FLAGS: [&str; 24] = [
     "turns",
 ];
 
-const CACHE_FLAGS: [&str; 5] = ["help", "listen", "capacity", "memory-mb", "turns"];
+const CACHE_FLAGS: [&str; 6] = [
+    "help",
+    "listen",
+    "capacity",
+    "memory-mb",
+    "flush-all",
+    "turns",
+];
 
 /// The flags that may stand before any command.
 pub const TOP_FLAGS: [&str; 2] = ["help", "version"];
@@ -82,7 +89,9 @@ pub const TOP_FLAGS: [&str; 2] = ["help", "version"];
 /// What follows the flag of this name.
 pub fn takes_of(flag: &str) -> Takes {
     match flag {
-        "help" | "version" | "any" | "check" | "explain" | "dot" | "fleet" => Takes::Nothing,
+        "help" | "version" | "any" | "check" | "explain" | "dot" | "fleet" | "flush-all" => {
+            Takes::Nothing
+        }
         "config" | "certificate" | "with" | "history" | "after" => Takes::File,
         "listen" | "metrics" | "add" | "remove" => Takes::Address,
         "pool" => Takes::Pool,
@@ -101,7 +110,7 @@ pub fn words_after(flag: &str) -> &'static [&'static str] {
     match flag {
         "server-dialect" => &["auto", "classic", "meta"],
         "opened" => &["any", "own"],
-        "new-servers" => &["any", "empty"],
+        "new-servers" => &["any", "empty", "flush"],
         _ => &[],
     }
 }
@@ -171,7 +180,7 @@ impl Command {
                 "mcgate serve --config FILE --listen HOST:PORT [--any] [--check] [FLAG N ..]"
             }
             Command::Cache =>
-                "mcgate cache --listen HOST:PORT --capacity C [--memory-mb N] [--turns N]",
+                "mcgate cache --listen HOST:PORT --capacity C [--memory-mb N] [--flush-all] [--turns N]",
             Command::Loopback => "mcgate loopback [SCRIPT]",
             Command::History => "mcgate history FILE",
             Command::Slots => {

@@ -81,6 +81,7 @@ fn settings() -> Settings {
         retry_ms: 0,
         polls: None,
         server_dialect: ServerDialect::Classic,
+        flushes_new: false,
     }
 }
 

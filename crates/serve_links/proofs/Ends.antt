@@ -1,13 +1,17 @@
 -- What a server tells over its link's connection.
-use Rattle.std.proofs.Common.{◌≡◌, ℕ, ◌+◌, true, false, List, [], ◌∷◌, ◌++◌, length, take, drop, Some, refl, sym, ap, ◌∙◌, subst, inr, arith}
+use Rattle.std.proofs.Common.{◌≡◌, ℕ, suc, ◌+◌, ◌≤◌, true, false, codes, None, List, [], ◌∷◌, ◌++◌, length, take, drop, Some, refl, sym, ap, ◌∙◌, subst, inr, arith}
 use Rattle.std.proofs.lemmas.List.{take-append-drop}
 use Rattle.std.proofs.Math.Seq.{take-append-add}
 use Rattle.text_words.specs.Line.{LF}
 use Rattle.mc_types.specs.declared.ask.Dialect.{Dialect}
-use Rattle.wire_meta_gets.specs.Learning.{IsDialectLine}
+use Rattle.wire_meta_gets.specs.Learning.{IsDialectLine, TellsDialect}
+use Rattle.wire_meta_gets.specs.declared.dialect.DialectRead.{DialectRead}
+use Rattle.wire_meta_gets.specs.declared.dialect.DialectRead.TheVariants as reads
 use Rattle.serve_wire.specs.declared.conn.conn.Conn.{Conn}
 use Rattle.serve_links.specs.declared.link.Link.{Link}
-use Rattle.serve_links.specs.Dialects.{IsGreeting}
+use Rattle.serve_links.specs.Dialects.{IsGreeting, flushed_of, Greets, ReadsDialect, ReadsGreeting, four_more}
+use Rattle.serve_links.specs.declared.settings.Greeting.{Greeting}
+use Rattle.serve_links.specs.declared.settings.ServerDialect.TheVariants as asks
 use Rattle.serve_links.specs.Lines.{TakesGreeting, HasLearnt, Learns}
 
 first_line : (text rest : List ℕ) → take (length text + 1) (text ++ LF ∷ rest) ≡ text ++ LF ∷ []
@@ -30,18 +34,53 @@ front_greets bytes dialect used is = record {
     front : take used bytes ≡ is.text ++ LF ∷ []
     front = ap (λ n. take n bytes) is.used_is ∙ ap (take (length is.text + 1)) is.line.whole ∙ first_line is.text is.rest
 
+-- and they are no more than there are
+used_within : (bytes : List ℕ) (dialect : Dialect) (used : ℕ) → IsDialectLine bytes dialect used → used ≤ length bytes
+used_within bytes dialect used is =
+    let whole : length bytes ≡ length is.text + suc (length is.rest) = ap length is.line.whole ∙ length-append is.text (LF ∷ is.rest) in
+    let e : used ≡ length is.text + 1 = is.used_is in
+    omega (arith, whole, e)
+
+-- so it is with what is read of them
+pub reads_dialect : (bytes : List ℕ) (read : DialectRead) → TellsDialect bytes read → ReadsDialect asks.Auto bytes read
+reads_dialect bytes (reads.Told dialect used) is = (used_within bytes dialect used is, front_greets bytes dialect used is)
+reads_dialect bytes reads.More is = tt
+reads_dialect bytes reads.Foreign is = tt
+
+-- where nothing is to be said before
+pub reads_alone : (greeting : Greeting) (bytes : List ℕ) (read : DialectRead) → greeting.flushes ≡ false → ReadsDialect greeting.dialect bytes read → ReadsGreeting greeting bytes read
+reads_alone greeting bytes (reads.Told dialect used) off is = (is.0, take used bytes, ap (λ b. flushed_of b ++ take used bytes) (sym off), is.1)
+reads_alone greeting bytes reads.More off is = tt
+reads_alone greeting bytes reads.Foreign off is = tt
+
+-- where it is said that the server has emptied itself, what stands behind that
+pub reads_behind : (greeting : Greeting) (rest : List ℕ) (read : DialectRead) → greeting.flushes ≡ true → ReadsDialect greeting.dialect rest read → ReadsGreeting greeting (codes "OK\r\n" ++ rest) (four_more read)
+reads_behind greeting rest (reads.Told dialect used) on is =
+    let front : take (used + 4) (codes "OK\r\n" ++ rest) ≡ codes "OK\r\n" ++ take used rest = ap (λ n. take n (codes "OK\r\n" ++ rest)) (plus_four used) in
+    (within used rest is.0, take used rest, front ∙ ap (λ b. flushed_of b ++ take used rest) (sym on), is.1)
+  where
+    plus_four : (n : ℕ) → n + 4 ≡ suc (suc (suc (suc n)))
+    plus_four n = omega arith
+
+    within : (n : ℕ) (l : List ℕ) → n ≤ length l → n + 4 ≤ length (codes "OK\r\n" ++ l)
+    within n l le = omega (arith, le)
+reads_behind greeting rest reads.More on is = tt
+reads_behind greeting rest reads.Foreign on is = tt
+
 -- they are held no more
 pub learns_told :
-    (x y : Link) (c d : Conn) (used : ℕ) → x.conn ≡ Some c → y.conn ≡ Some d → IsDialectLine c.held.items y.dialect used → d.held.items ≡ drop used c.held.items → d ≡ record c { held = d.held }
-    → y ≡ record x { conn = y.conn; dialect = y.dialect; awaits_dialect = y.awaits_dialect } → y.awaits_dialect ≡ false → Learns true x y
-learns_told x y c d used was is tells left same rest learnt = record {
+    (x y : Link) (c d : Conn) (greeting : Greeting) (used : ℕ) → x.conn ≡ Some c → y.conn ≡ Some d → x.awaits_dialect ≡ Some greeting → Greets greeting y.dialect (take used c.held.items) → d.held.items ≡ drop used c.held.items → d ≡ record c { held = d.held }
+    → y ≡ record x { conn = y.conn; dialect = y.dialect; awaits_dialect = y.awaits_dialect; flushes = y.flushes } → y.awaits_dialect ≡ None → y.flushes ≡ false → Learns true x y
+learns_told x y c d greeting used was is awaited tells left same rest learnt emptied = record {
   none = λ off. absurd cc;
   told = inr
       (record {
-        takes = subst (λ o. TakesGreeting y.dialect o y.conn) (sym was)
-            (subst (λ o. TakesGreeting y.dialect (Some c) o) (sym is)
-            (take used c.held.items, sym (take-append-drop used c.held.items) ∙ ap (λ l. take used c.held.items ++ l) (sym left), front_greets c.held.items y.dialect used tells, same));
+        takes = subst (λ o. TakesGreeting x.awaits_dialect y.dialect o y.conn) (sym was)
+            (subst (λ o. TakesGreeting x.awaits_dialect y.dialect (Some c) o) (sym is)
+            (subst (λ o. TakesGreeting o y.dialect (Some c) (Some d)) (sym awaited)
+            (take used c.held.items, sym (take-append-drop used c.held.items) ∙ ap (λ l. take used c.held.items ++ l) (sym left), tells, same)));
         told = learnt;
+        emptied = emptied;
         rest = rest;
       });
 }

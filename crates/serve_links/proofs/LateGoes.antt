@@ -16,6 +16,7 @@ use Rattle.serve_links.specs.declared.calls.calls.SentCall.{SentCall}
 use Rattle.serve_links.specs.declared.calls.calls.LateCall.{LateCall}
 use Rattle.serve_links.specs.declared.calls.calls.LateRead.{LateRead}
 use Rattle.serve_links.specs.declared.calls.calls.LateRead.TheVariants as lates
+use Rattle.serve_links.specs.declared.settings.Greeting.{Greeting}
 use Rattle.serve_links.specs.declared.link.Link.{Link}
 use Rattle.serve_links.specs.Calls.{as_late, IsFirstLate, PassesOver, SettlesFirst}
 use Rattle.serve_links.specs.CoreSteps.{Step, Settled, Late, CameLate, IsOfTurn, IsSending}
@@ -62,7 +63,7 @@ one_late (first ∷ calls) call = ap (λ (l : List SaidAsk). (first.number, firs
 -- ---- a call that is late
 
 talk_turns :
-    (h : List Event) (at : ℕ) (text : List ℕ) (t : Talk) (c : ℕ) (held unsent : List ℕ) (first : SaidAsk) (rest late : List SaidAsk) (awaits : Bool) (dialect : Dialect)
+    (h : List Event) (at : ℕ) (text : List ℕ) (t : Talk) (c : ℕ) (held unsent : List ℕ) (first : SaidAsk) (rest late : List SaidAsk) (awaits : Option Greeting) (dialect : Dialect)
     → TalkAgrees h at text t c held unsent (first ∷ rest) awaits dialect late → TalkAgrees h at text (turned_late t) c held unsent rest awaits dialect (late ++ first ∷ [])
 talk_turns h at text t c held unsent first rest late awaits dialect was = record {
   is_to = was.is_to;
@@ -128,7 +129,7 @@ line_turns {at} {core} {core'} {h} x y c call client was same text waiting await
 -- ---- its answer
 
 talk_throws :
-    (h : List Event) (at : ℕ) (text : List ℕ) (t : Talk) (c : ℕ) (spelled held unsent : List ℕ) (out : List SaidAsk) (first : SaidAsk) (rest : List SaidAsk) (awaits : Bool) (dialect : Dialect)
+    (h : List Event) (at : ℕ) (text : List ℕ) (t : Talk) (c : ℕ) (spelled held unsent : List ℕ) (out : List SaidAsk) (first : SaidAsk) (rest : List SaidAsk) (awaits : Option Greeting) (dialect : Dialect)
     → TalkAgrees h at text t c (spelled ++ held) unsent out awaits dialect (first ∷ rest) → TalkAgrees h at text (with_late spelled t) c held unsent out awaits dialect rest
 talk_throws h at text t c spelled held unsent out first rest awaits dialect was = record {
   is_to = was.is_to;
@@ -143,7 +144,7 @@ talk_throws h at text t c spelled held unsent out first rest awaits dialect was 
 
 -- what is held begins with the answer to the first of those that were late: it is held no more
 pub line_throws :
-    {at : ℕ} {core : ServedCore} {h : List Event} (x y : Link) (c d : Conn) (call : LateCall) (rest : List LateCall) (answer : Answer) (used : ℕ) → x.conn ≡ Some c → y.conn ≡ Some d → x.awaits_dialect ≡ false
+    {at : ℕ} {core : ServedCore} {h : List Event} (x y : Link) (c d : Conn) (call : LateCall) (rest : List LateCall) (answer : Answer) (used : ℕ) → x.conn ≡ Some c → y.conn ≡ Some d → x.awaits_dialect ≡ None
     → y.text.items ≡ x.text.items → y.waiting.items ≡ x.waiting.items → y.awaits_dialect ≡ x.awaits_dialect → y.dialect ≡ x.dialect → y.calls.sent.items ≡ x.calls.sent.items → x.late.items ≡ call ∷ rest → y.late.items ≡ rest
     → SpellsIn call.dialect call.ask c.held.items answer used → d.held.items ≡ drop used c.held.items → d.number ≡ c.number → bytes_of d.unsent ≡ bytes_of c.unsent → LineGoes IsOfTurn at core h x core h y
 line_throws {at} {core} {h} x y c d call rest answer used was is off text waiting awaits speaks sent late left spells held number unsent = record {
@@ -198,7 +199,7 @@ passes_none {h = h} x y c d was is text waiting awaits speaks sent same kept = l
         ∙ ap (λ (l : List ℕ). let e : ℕ × List ℕ × List ℕ = (c.number, l, bytes_of c.unsent) in Some e) kept.1 ∙ sym (ap (option_map {U = ℕ × List ℕ × List ℕ} conn_state) was)
 
 pub line_passes :
-    {at : ℕ} {core : ServedCore} {h : List Event} (x y : Link) (c d : Conn) (read : LateRead) → x.conn ≡ Some c → y.conn ≡ Some d → x.awaits_dialect ≡ false → y.text.items ≡ x.text.items → y.waiting.items ≡ x.waiting.items
+    {at : ℕ} {core : ServedCore} {h : List Event} (x y : Link) (c d : Conn) (read : LateRead) → x.conn ≡ Some c → y.conn ≡ Some d → x.awaits_dialect ≡ None → y.text.items ≡ x.text.items → y.waiting.items ≡ x.waiting.items
     → y.awaits_dialect ≡ x.awaits_dialect → y.dialect ≡ x.dialect → y.calls.sent.items ≡ x.calls.sent.items → d ≡ record c { held = d.held } → PassesOver x.late.items c.held.items read y.late.items d.held.items
     → LineGoes IsOfTurn at core h x core h y
 line_passes x y c d (lates.Whole used) was is off text waiting awaits speaks sent same passes =

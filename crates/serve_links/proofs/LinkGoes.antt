@@ -17,13 +17,14 @@ use Rattle.serve_wire.proofs.Touching.{only_closed}
 use Rattle.core_accepted.specs.declared.served.ServedCore.{ServedCore}
 use Rattle.serve_links.specs.declared.calls.calls.SentCall.{SentCall}
 use Rattle.serve_links.specs.declared.settings.ServerDialect.{ServerDialect}
+use Rattle.serve_links.specs.declared.settings.Greeting.{Greeting}
 use Rattle.serve_links.specs.declared.link.Opening.{Opening}
 use Rattle.serve_links.specs.declared.link.Opening.TheVariants as opening
 use Rattle.serve_links.specs.declared.link.Link.{Link}
 use Rattle.serve_links.specs.declared.news.Cause.{Cause}
 use Rattle.serve_links.specs.CoreSteps.{Step, Opened, NotOpened, Fed, Polled, Stopped, Settled, Gave, Closed, LeftLine, Broke, Loaded, Linked, Asked, Greeted, Spelled, Late, CameLate, Lost, AreOf, IsOfTurn, IsFailure, IsGivingUp, IsSending, Fails}
-use Rattle.serve_links.specs.Dialects.{asked_in}
-use Rattle.serve_links.specs.Lines.{first_asked_of, awaits_first, first_dialect, SameLine, KeepsLines, IsNewEnd, HasNewEnd, OpensBy, TakesGreeting, HasLearnt, Learns}
+use Rattle.serve_links.specs.Dialects.{asked_in, AnswersFirst, awaits_flush}
+use Rattle.serve_links.specs.Lines.{first_asked_of, awaits_first, first_dialect, greeting_of, SameLine, KeepsLines, IsNewEnd, HasNewEnd, OpensBy, TakesGreeting, HasLearnt, Learns}
 use Rattle.serve_links.specs.Links.{FailsTo}
 use Rattle.serve_links.specs.Settled.{SettlesSome}
 use Rattle.serve_links.specs.Talks.{SaidAsk, Talk, first_talk, with_ask, greeted, given_up, talk_in, AreDue, IsOrderly, IsOfServer}
@@ -64,7 +65,7 @@ quiet h d = untouched d h
 -- ---- what agrees, in equal words
 
 pub talk_as :
-    {h : List Event} {at : ℕ} {text text' : List ℕ} {t t' : Talk} {c c' : ℕ} {held held' unsent unsent' : List ℕ} {out out' : List SaidAsk} {awaits awaits' : Bool} {dialect dialect' : Dialect} {late late' : List SaidAsk}
+    {h : List Event} {at : ℕ} {text text' : List ℕ} {t t' : Talk} {c c' : ℕ} {held held' unsent unsent' : List ℕ} {out out' : List SaidAsk} {awaits awaits' : Option Greeting} {dialect dialect' : Dialect} {late late' : List SaidAsk}
     → text' ≡ text → t' ≡ t → c' ≡ c → held' ≡ held → unsent' ≡ unsent → out' ≡ out → awaits' ≡ awaits → dialect' ≡ dialect → late' ≡ late
     → TalkAgrees h at text t c held unsent out awaits dialect late → TalkAgrees h at text' t' c' held' unsent' out' awaits' dialect' late'
 talk_as {h} {at} {text} {text'} {t} {t'} {c} {c'} {held} {held'} {unsent} {unsent'} {out} {out'} {awaits} {awaits'} {dialect} {dialect'} {late} {late'} text_is t_is c_is held_same unsent_same out_same awaits_same dialect_same late_same was = record {
@@ -160,7 +161,7 @@ line_then {P} {Q} {R} {Is} {at} {a} {b} {c} {h} {h'} {h''} {x} {y} {z} g k = rec
 
 -- ---- a link that has the same
 
-abbrev OfConn : ℕ → List Step → List Event → List ℕ → List SaidAsk → Bool → Dialect → List SaidAsk → Option (ℕ × List ℕ × List ℕ) → Type 0
+abbrev OfConn : ℕ → List Step → List Event → List ℕ → List SaidAsk → Option Greeting → Dialect → List SaidAsk → Option (ℕ × List ℕ × List ℕ) → Type 0
 OfConn at past h text out awaits dialect late None = (talk_in past at).out ≡ []
 OfConn at past h text out awaits dialect late (Some e) = TalkAgrees h at text (talk_in past at) e.0 e.1 e.2 out awaits dialect late × (is_over e.0 h ≡ false)
 
@@ -228,7 +229,7 @@ keeps_line x y k = of_seven (ap (λ t. t.items) k.text) (conns x.conn y.conn k.c
 -- ---- reads and writes
 
 talk_reads :
-    (h h' : List Event) (at : ℕ) (text : List ℕ) (t : Talk) (c : ℕ) (held held' unsent : List ℕ) (out : List SaidAsk) (awaits : Bool) (dialect : Dialect) {late : List SaidAsk} → ReadsOn c held held' h h' → TalkAgrees h at text t c held unsent out awaits dialect late
+    (h h' : List Event) (at : ℕ) (text : List ℕ) (t : Talk) (c : ℕ) (held held' unsent : List ℕ) (out : List SaidAsk) (awaits : Option Greeting) (dialect : Dialect) {late : List SaidAsk} → ReadsOn c held held' h h' → TalkAgrees h at text t c held unsent out awaits dialect late
     → TalkAgrees h' at text t c held' unsent out awaits dialect late
 talk_reads h h' at text t c held held' unsent out awaits dialect r was = record {
   is_to = r.same_role ∙ was.is_to;
@@ -283,7 +284,7 @@ line_reads_over {at = at} {h' = h'} why x y c d was is number unsent r shows =
     (λ past a agrees waiting due called. over_so why at past h' y d (ap (λ (z : Link). z.conn) is) agrees (subst (λ n. ShowsWhy why (talk_in past at) n h') (sym number) (shows (talk_in past at))) waiting due called)
 
 talk_sends :
-    (h h' : List Event) (at : ℕ) (text : List ℕ) (t : Talk) (c : ℕ) (held unsent unsent' : List ℕ) (out : List SaidAsk) (awaits : Bool) (dialect : Dialect) {late : List SaidAsk} → SendsOn c unsent unsent' h h' → TalkAgrees h at text t c held unsent out awaits dialect late
+    (h h' : List Event) (at : ℕ) (text : List ℕ) (t : Talk) (c : ℕ) (held unsent unsent' : List ℕ) (out : List SaidAsk) (awaits : Option Greeting) (dialect : Dialect) {late : List SaidAsk} → SendsOn c unsent unsent' h h' → TalkAgrees h at text t c held unsent out awaits dialect late
     → TalkAgrees h' at text t c held unsent' out awaits dialect late
 talk_sends h h' at text t c held unsent unsent' out awaits dialect s was = record {
   is_to = s.same_role ∙ was.is_to;
@@ -331,8 +332,8 @@ line_sends_over {at = at} {h' = h'} why x y c d was is number held s shows =
 -- ---- a new connection
 
 first_agrees :
-    (h : List Event) (at number : ℕ) (text : List ℕ) (dialect : ServerDialect) (t : Talk) → IsNew number h
-    → TalkAgrees (connects number at text ∷ h) at text (first_talk dialect t) number [] (first_asked_of dialect) [] (awaits_first dialect) (first_dialect dialect) []
+    (h : List Event) (at number : ℕ) (text : List ℕ) (dialect : Greeting) (t : Talk) → IsNew number h
+    → TalkAgrees (connects number at text ∷ h) at text (first_talk dialect t) number [] (first_asked_of dialect) [] (awaits_first dialect) (first_dialect dialect.dialect) []
 first_agrees h at number text dialect t new = record {
   is_to = ap (λ b. if b then Some (1, at) else role number h) (equal number);
   address = address_begins h text at number;
@@ -353,7 +354,7 @@ closed_role c h h' (inl closed) = ap (role c) closed
 closed_role c h h' (inr same) = ap (role c) same.0
 
 begins :
-    (at : ℕ) (core : ServedCore) (h h' : List Event) (x y : Link) (dialect : ServerDialect) (number : ℕ) → IsNew number h → h' ≡ connects number at x.text.items ∷ h → HasNewEnd number dialect x y
+    (at : ℕ) (core : ServedCore) (h h' : List Event) (x y : Link) (dialect : Greeting) (number : ℕ) → IsNew number h → h' ≡ connects number at x.text.items ∷ h → HasNewEnd number dialect x y
     → LineGoes IsSending at core h x core h' y
 begins at core h h' x y dialect number new noted has = record {
   steps = Linked at dialect ∷ [];
@@ -378,7 +379,7 @@ begins at core h h' x y dialect number new noted has = record {
     by past a (Some d) e end =
         let talk = ap (λ b. if b then first_talk dialect (talk_in past at) else talk_in past at) (equal at) in
         let none : said_asks y.calls.sent.items ≡ [] = ap (λ c. said_asks c.sent.items) has.calls ∙ ap said_asks has.none_out in
-        let first = subst (λ k. TalkAgrees k at x.text.items (first_talk dialect (talk_in past at)) number [] (first_asked_of dialect) [] (awaits_first dialect) (first_dialect dialect) []) (sym noted) (first_agrees h at number x.text.items dialect (talk_in past at) new) in
+        let first = subst (λ k. TalkAgrees k at x.text.items (first_talk dialect (talk_in past at)) number [] (first_asked_of dialect) [] (awaits_first dialect) (first_dialect dialect.dialect) []) (sym noted) (first_agrees h at number x.text.items dialect (talk_in past at) new) in
         has_conn at (Linked at dialect ∷ past) h' y d e (talk_as (ap (λ t. t.items) has.text) talk end.0 end.1 end.2 none has.awaits has.speaks (ap said_late has.none_late) first)
         (ap (λ n. is_over n h') end.0 ∙ ap (is_over number) noted ∙ new.goes_on)
         (calls_later (Linked at dialect ∷ []) past at y.waiting.items (subst (λ w. MayAllGo past at w) (sym (ap (λ w. w.items) has.waiting)) a.waiting))
@@ -402,7 +403,7 @@ at_same at core h h' x y same keeps = line_keeps (λ d. subst (IsUntouched d h) 
 -- a connection was begun, or not
 pub line_opens :
     {at : ℕ} {core : ServedCore} {h h' : List Event} (x y : Link) (dialect : ServerDialect) (o : Opening) → OpensBy at dialect o x y h h' → LineGoes IsSending at core h x core h' y
-line_opens {at} {core} {h} {h'} x y dialect opening.Begun opens = begins at core h h' x y dialect opens.0 opens.1 opens.2 opens.3
+line_opens {at} {core} {h} {h'} x y dialect opening.Begun opens = begins at core h h' x y (greeting_of x dialect) opens.0 opens.1 opens.2 opens.3
 line_opens {at} {core} {h} {h'} x y dialect opening.NoAddress opens = at_same at core h h' x y opens.0 opens.1
 line_opens {at} {core} {h} {h'} x y dialect opening.Failed opens = at_same at core h h' x y opens.0 opens.1
 line_opens {at} {core} {h} {h'} x y dialect opening.NoMemory opens = begins_in_vain at core h h' x y opens.0 opens.1 opens.2 opens.3
@@ -410,8 +411,8 @@ line_opens {at} {core} {h} {h'} x y dialect opening.NoMemory opens = begins_in_v
 -- ---- what the server tells of its dialects
 
 talk_greets :
-    (h : List Event) (at : ℕ) (text : List ℕ) (t : Talk) (c : ℕ) (bytes held unsent : List ℕ) (out : List SaidAsk) (awaits : Bool) (old dialect : Dialect) {late : List SaidAsk} → TalkAgrees h at text t c (bytes ++ held) unsent out awaits old late
-    → TalkAgrees h at text (greeted dialect bytes t) c held unsent out false dialect late
+    (h : List Event) (at : ℕ) (text : List ℕ) (t : Talk) (c : ℕ) (bytes held unsent : List ℕ) (out : List SaidAsk) (awaits : Option Greeting) (old dialect : Dialect) {late : List SaidAsk} → TalkAgrees h at text t c (bytes ++ held) unsent out awaits old late
+    → TalkAgrees h at text (greeted dialect bytes t) c held unsent out None dialect late
 talk_greets h at text t c bytes held unsent out awaits old dialect was = record {
   is_to = was.is_to;
   address = was.address;
@@ -424,16 +425,16 @@ talk_greets h at text t c bytes held unsent out awaits old dialect was = record 
 }
 
 -- it is taken from the front of what is held, where it is awaited
-pub line_learns : {at : ℕ} {core : ServedCore} {h : List Event} (x y : Link) (can : Bool) → x.awaits_dialect ≡ true → Learns can x y → LineGoes IsOfTurn at core h x core h y
-line_learns {at} {core} {h} x y can on l = by l.told
+pub line_learns : {at : ℕ} {core : ServedCore} {h : List Event} (x y : Link) (can : Bool) → Learns can x y → LineGoes IsOfTurn at core h x core h y
+line_learns {at} {core} {h} x y can l = by l.told
   where
-    learned : (c d : Conn) → x.conn ≡ Some c → y.conn ≡ Some d → TakesGreeting y.dialect (Some c) (Some d) → HasLearnt x y → LineGoes IsOfTurn at core h x core h y
+    learned : (c d : Conn) → x.conn ≡ Some c → y.conn ≡ Some d → TakesGreeting x.awaits_dialect y.dialect (Some c) (Some d) → HasLearnt x y → LineGoes IsOfTurn at core h x core h y
     learned c d was is takes learnt = record {
       steps = step ∷ [];
       kinds = (tt, tt);
       own = (refl, tt);
       walks = (core, refl, refl);
-      agrees = λ past o a. ((((a.conn c was).awaits_is ∙ on, takes.2), o), agreed past a, all_kept (1, at) h h (quiet h));
+      agrees = λ past o a. ((subst (λ o. AnswersFirst o y.dialect takes.0) (sym (a.conn c was).awaits_is) takes.2, o), agreed past a, all_kept (1, at) h h (quiet h));
       shown = λ past o a shown. shown_later (step ∷ []) past h h (tt, tt) (none_since h) shown;
       shut = shut_still (quiet h) (ap (option_map (λ (z : Conn). z.number)) is ∙ ap (λ (z : Conn). Some z.number) takes.3 ∙ sym (ap (option_map (λ (z : Conn). z.number)) was));
       text = ap (λ (z : Link). z.text.items) learnt.rest;
@@ -454,7 +455,7 @@ line_learns {at} {core} {h} x y can on l = by l.told
             (due_later (step ∷ []) past at (numbers_of y.waiting.items) (ap (λ (t : Talk). t.asked) talk) (subst (λ w. AreDue past at (numbers_of w)) (sym (ap (λ (z : Link). z.waiting.items) learnt.rest)) a.due))
             (called_all_later (step ∷ []) past at (said_asks y.calls.sent.items) (subst (λ l. AreCalled past at l) (sym (ap (λ (z : Link). said_asks z.calls.sent.items) learnt.rest)) a.called))
 
-    by_conns : (o p : Option Conn) → x.conn ≡ o → y.conn ≡ p → TakesGreeting y.dialect o p → HasLearnt x y → LineGoes IsOfTurn at core h x core h y
+    by_conns : (o p : Option Conn) → x.conn ≡ o → y.conn ≡ p → TakesGreeting x.awaits_dialect y.dialect o p → HasLearnt x y → LineGoes IsOfTurn at core h x core h y
     by_conns None p was is takes learnt = absurd takes
     by_conns (Some c) None was is takes learnt = absurd takes
     by_conns (Some c) (Some d) was is takes learnt = learned c d was is takes learnt
@@ -470,7 +471,7 @@ one_said [] call = refl
 one_said (first ∷ calls) call = ap (λ (l : List SaidAsk). (first.ticket.number, first.dialect, first.ticket.ask) ∷ l) (one_said calls call)
 
 talk_asks :
-    (h : List Event) (at : ℕ) (text : List ℕ) (t : Talk) (c : ℕ) (held unsent : List ℕ) (out : List SaidAsk) (awaits : Bool) (speaks : Dialect) (number : ℕ) (dialect : Dialect) (ask : Ask) {late : List SaidAsk}
+    (h : List Event) (at : ℕ) (text : List ℕ) (t : Talk) (c : ℕ) (held unsent : List ℕ) (out : List SaidAsk) (awaits : Option Greeting) (speaks : Dialect) (number : ℕ) (dialect : Dialect) (ask : Ask) {late : List SaidAsk}
     → TalkAgrees h at text t c held unsent out awaits speaks late
     → TalkAgrees h at text (with_ask number dialect ask t) c held (unsent ++ spelling_of (asked_in dialect ask)) (out ++ (number, dialect, ask) ∷ []) awaits speaks late
 talk_asks h at text t c held unsent out awaits speaks number dialect ask was = record {
@@ -487,14 +488,14 @@ talk_asks h at text t c held unsent out awaits speaks number dialect ask was = r
 -- a call that the core gave out for its server is asked
 pub line_asks :
     {at : ℕ} {core : ServedCore} {h : List Event} (x y : Link) (c d : Conn) (call : SentCall) → x.conn ≡ Some c → y ≡ record x { calls = y.calls; conn = Some d } → d ≡ record c { unsent = d.unsent }
-    → x.late.items ≡ [] → y.calls.sent.items ≡ x.calls.sent.items ++ call ∷ [] → bytes_of d.unsent ≡ bytes_of c.unsent ++ spelling_of (asked_in call.dialect call.ticket.ask)
+    → x.late.items ≡ [] → awaits_flush x.awaits_dialect ≡ None → y.calls.sent.items ≡ x.calls.sent.items ++ call ∷ [] → bytes_of d.unsent ≡ bytes_of c.unsent ++ spelling_of (asked_in call.dialect call.ticket.ask)
     → LineGoesFrom (LineCalled call) LineAgrees IsSending at core h x core h y
-line_asks {at} {core} {h} x y c d call was is same alone more unsent = record {
+line_asks {at} {core} {h} x y c d call was is same alone ready more unsent = record {
   steps = step ∷ [];
   kinds = (tt, tt);
   own = (refl, tt);
   walks = (core, refl, refl);
-  agrees = λ past o a. (((a.1, due_first past at call.ticket.number (numbers_of x.waiting.items) a.2, (a.0.conn c was).late_is ∙ ap said_late alone), o), agreed past a.0 a.1 a.2, all_kept (1, at) h h (quiet h));
+  agrees = λ past o a. (((a.1, due_first past at call.ticket.number (numbers_of x.waiting.items) a.2, (a.0.conn c was).late_is ∙ ap said_late alone, ap awaits_flush (a.0.conn c was).awaits_is ∙ ready), o), agreed past a.0 a.1 a.2, all_kept (1, at) h h (quiet h));
   shown = λ past o a shown. shown_later (step ∷ []) past h h (tt, tt) (none_since h) shown;
   shut = shut_still (quiet h) (ap conn_of is ∙ ap (λ (z : Conn). Some z.number) same ∙ sym (ap (option_map (λ (z : Conn). z.number)) was));
   text = ap (λ (z : Link). z.text.items) is;
@@ -563,7 +564,7 @@ line_takes {at = at} {h = h} x y call before after is was now =
 -- ---- answers
 
 talk_answers :
-    (h : List Event) (at : ℕ) (text : List ℕ) (t : Talk) (c : ℕ) (spelled held unsent : List ℕ) (out out' : List SaidAsk) (awaits : Bool) (dialect : Dialect) {late : List SaidAsk} → TalkAgrees h at text t c (spelled ++ held) unsent out awaits dialect late
+    (h : List Event) (at : ℕ) (text : List ℕ) (t : Talk) (c : ℕ) (spelled held unsent : List ℕ) (out out' : List SaidAsk) (awaits : Option Greeting) (dialect : Dialect) {late : List SaidAsk} → TalkAgrees h at text t c (spelled ++ held) unsent out awaits dialect late
     → TalkAgrees h at text (record t { told = t.told ++ spelled; out = out' }) c held unsent out' awaits dialect late
 talk_answers h at text t c spelled held unsent out out' awaits dialect was = record {
   is_to = was.is_to;
@@ -578,7 +579,7 @@ talk_answers h at text t c spelled held unsent out out' awaits dialect was = rec
 
 -- the answers in front of what is held settle calls, and this is left of it
 settles_to :
-    {After : ℕ → List Step → List Event → Link → Type 0} {at : ℕ} {core core' : ServedCore} {h : List Event} (x y : Link) (c d : Conn) (rest : List ℕ) → x.conn ≡ Some c → y.conn ≡ Some d → x.awaits_dialect ≡ false → x.late.items ≡ []
+    {After : ℕ → List Step → List Event → Link → Type 0} {at : ℕ} {core core' : ServedCore} {h : List Event} (x y : Link) (c d : Conn) (rest : List ℕ) → x.conn ≡ Some c → y.conn ≡ Some d → x.awaits_dialect ≡ None → x.late.items ≡ []
     → y.text.items ≡ x.text.items → y.waiting.items ≡ x.waiting.items → y.awaits_dialect ≡ x.awaits_dialect → y.dialect ≡ x.dialect → y.late.items ≡ x.late.items → d.number ≡ c.number → bytes_of d.unsent ≡ bytes_of c.unsent
     → ((past : List Step) → ConnAgrees at past h y d rest → is_over d.number h ≡ false → MayAllGo past at y.waiting.items → AreDue past at (numbers_of y.waiting.items) → AreCalled past at (said_asks y.calls.sent.items) → After at past h y)
     → SettlesSome x.calls.sent.items c.held.items core y.calls.sent.items rest core' → LineGoesFrom LineAgrees After IsOfTurn at core h x core' h y
@@ -606,7 +607,7 @@ settles_to {After} {at} {core} {core'} {h} x y c d rest was is off alone text wa
 
 -- what is left of it is held
 pub line_settles :
-    {at : ℕ} {core core' : ServedCore} {h : List Event} (x y : Link) (c d : Conn) → x.conn ≡ Some c → y.conn ≡ Some d → x.awaits_dialect ≡ false → x.late.items ≡ [] → y.text.items ≡ x.text.items → y.waiting.items ≡ x.waiting.items
+    {at : ℕ} {core core' : ServedCore} {h : List Event} (x y : Link) (c d : Conn) → x.conn ≡ Some c → y.conn ≡ Some d → x.awaits_dialect ≡ None → x.late.items ≡ [] → y.text.items ≡ x.text.items → y.waiting.items ≡ x.waiting.items
     → y.awaits_dialect ≡ x.awaits_dialect → y.dialect ≡ x.dialect → y.late.items ≡ x.late.items → d.number ≡ c.number → bytes_of d.unsent ≡ bytes_of c.unsent → SettlesSome x.calls.sent.items c.held.items core y.calls.sent.items d.held.items core'
     → LineGoes IsOfTurn at core h x core' h y
 line_settles {at} {core} {core'} {h} x y c d was is off alone text waiting awaits speaks late number unsent s =
@@ -614,7 +615,7 @@ line_settles {at} {core} {core'} {h} x y c d was is off alone text waiting await
 
 -- or it is lost
 pub line_loses :
-    {at : ℕ} {core core' : ServedCore} {h : List Event} (x y : Link) (c d : Conn) (rest : List ℕ) → x.conn ≡ Some c → y.conn ≡ Some d → x.awaits_dialect ≡ false → x.late.items ≡ [] → y.text.items ≡ x.text.items
+    {at : ℕ} {core core' : ServedCore} {h : List Event} (x y : Link) (c d : Conn) (rest : List ℕ) → x.conn ≡ Some c → y.conn ≡ Some d → x.awaits_dialect ≡ None → x.late.items ≡ [] → y.text.items ≡ x.text.items
     → y.waiting.items ≡ x.waiting.items → y.awaits_dialect ≡ x.awaits_dialect → y.dialect ≡ x.dialect → y.late.items ≡ x.late.items → d.number ≡ c.number → bytes_of d.unsent ≡ bytes_of c.unsent → SettlesSome x.calls.sent.items c.held.items core y.calls.sent.items rest core'
     → LineGoesFrom LineAgrees LineLost IsOfTurn at core h x core' h y
 line_loses {at} {core} {core'} {h} x y c d rest was is off alone text waiting awaits speaks late number unsent s =

@@ -16,6 +16,7 @@ use Rattle.serve_clients.specs.declared.clients.Clients.{Clients}
 use Rattle.serve_clients.specs.Agrees.{EndAgrees, AllAgree}
 use Rattle.serve_clients.proofs.Agreeing.{its, state_stays, client_lost}
 use Rattle.serve_clients.specs.Marks.{client_of}
+use Rattle.serve_links.specs.declared.settings.Greeting.{Greeting}
 use Rattle.serve_links.specs.declared.link.Link.{Link}
 use Rattle.serve_links.specs.CoreSteps.{Step, Closed, Opened, Polled, AreOf}
 use Rattle.serve_links.specs.Talks.{SaidAsk, Talk, talk_in}
@@ -75,7 +76,7 @@ all_told past steps clients none was = each_told (steps ++ past) clients (λ j z
 
 -- a connection that nothing touched, and of which nothing more was told
 pub talk_stays :
-    (h h' : List Event) (at : ℕ) (text : List ℕ) (t t' : Talk) (c : ℕ) (held unsent : List ℕ) (out : List SaidAsk) (awaits : Bool) (dialect : Dialect) {late : List SaidAsk} → IsUntouched c h h' → t' ≡ t
+    (h h' : List Event) (at : ℕ) (text : List ℕ) (t t' : Talk) (c : ℕ) (held unsent : List ℕ) (out : List SaidAsk) (awaits : Option Greeting) (dialect : Dialect) {late : List SaidAsk} → IsUntouched c h h' → t' ≡ t
     → TalkAgrees h at text t c held unsent out awaits dialect late → TalkAgrees h' at text t' c held unsent out awaits dialect late
 talk_stays h h' at text t t' c held unsent out awaits dialect same e was = record {
   is_to = same.same_role ∙ was.is_to;

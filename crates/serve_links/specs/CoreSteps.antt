@@ -19,7 +19,7 @@ use Rattle.core_accepted.specs.Results.{PollStops}
 use Rattle.core_accepted.specs.declared.served.ServedCore.{ServedCore}
 use Rattle.core_accepted.specs.Results.{IsSettled}
 use Rattle.core_accepted.specs.Loading.{IsLoaded}
-use Rattle.serve_links.specs.declared.settings.ServerDialect.{ServerDialect}
+use Rattle.serve_links.specs.declared.settings.Greeting.{Greeting}
 use Rattle.serve_links.specs.declared.news.Cause.{Cause}
 
 -- one call of a core that changes it, and what came of it; or what was done at a connection, which changes no core: a client was broken off, as its connection failed or memory was refused for its bytes; or at a
@@ -36,7 +36,7 @@ pub data Step : Type 0 where
   LeftLine : (client : ℕ) → Step
   Broke : (client : ℕ) → Step
   Loaded : (configuration : Configuration) (generation : ℕ) → Step
-  Linked : (at : ℕ) (dialect : ServerDialect) → Step
+  Linked : (at : ℕ) (dialect : Greeting) → Step
   Asked : (at number : ℕ) (dialect : Dialect) (ask : Ask) → Step
   Greeted : (at : ℕ) (dialect : Dialect) (bytes : List ℕ) → Step
   Spelled : (at number : ℕ) (ask : Ask) (answer : Answer) (bytes : List ℕ) → Step

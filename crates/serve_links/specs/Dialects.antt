@@ -1,5 +1,5 @@
 -- What a server is asked in each dialect, and what its answers say. Source: mcgate's own; that a server is asked for classic gets in the meta dialect is the form of `wire_meta_gets`.
-use Rattle.std.specs.Prelude.{ℕ, List, length}
+use Rattle.std.specs.Prelude.{◌≡◌, ℕ, ◌+◌, ◌<◌, ◌≤◌, Bool, true, false, List, [], ◌++◌, Option, None, Some, codes, length, take}
 use Rattle.mc_types.specs.declared.ask.Ask.{Ask}
 use Rattle.mc_types.specs.declared.ask.Dialect.{Dialect}
 use Rattle.mc_types.specs.declared.ask.Dialect.TheVariants.{Classic, Meta}
@@ -8,6 +8,11 @@ use Rattle.wire_answers.specs.Reading.{Spells, IsCut}
 use Rattle.wire_meta_gets.specs.Form.{in_meta}
 use Rattle.wire_meta_gets.specs.Learning.{IsDialectLine}
 use Rattle.wire_meta_gets.specs.Reading.{SpellsInMeta}
+use Rattle.wire_meta_gets.specs.declared.dialect.DialectRead.{DialectRead}
+use Rattle.wire_meta_gets.specs.declared.dialect.DialectRead.TheVariants as reads
+use Rattle.serve_links.specs.declared.settings.Greeting.{Greeting}
+use Rattle.serve_links.specs.declared.settings.ServerDialect.{ServerDialect}
+use Rattle.serve_links.specs.declared.settings.ServerDialect.TheVariants as asks
 
 -- what a server is asked: in the classic dialect each ask as it is, in the meta dialect a classic get in its meta form
 abbrev pub asked_in : Dialect → Ask → Ask
@@ -26,3 +31,51 @@ IsCutIn dialect ask bytes = IsCut (asked_in dialect ask) bytes
 -- the bytes are the line by which a server tells this dialect, and nothing else
 abbrev pub IsGreeting : Dialect → List ℕ → Type 0
 IsGreeting dialect bytes = IsDialectLine bytes dialect (length bytes)
+
+-- how a server tells the dialect in which it is asked from now on: by that line where it is asked for it, else by nothing
+abbrev pub TellsIn : ServerDialect → Dialect → List ℕ → Type 0
+TellsIn asks.Auto dialect bytes = IsGreeting dialect bytes
+TellsIn asks.Classic dialect bytes = (bytes ≡ []) × (dialect ≡ Classic)
+TellsIn asks.Meta dialect bytes = (bytes ≡ []) × (dialect ≡ Meta)
+
+-- what it says once it has emptied itself, where it is asked to
+abbrev pub flushed_of : Bool → List ℕ
+flushed_of true = codes "OK\r\n"
+flushed_of false = []
+
+-- the bytes are all that it says to what it is asked first
+abbrev pub Greets : Greeting → Dialect → List ℕ → Type 0
+Greets greeting dialect bytes = (told : List ℕ) × (bytes ≡ flushed_of greeting.flushes ++ told) × TellsIn greeting.dialect dialect told
+
+-- the same where that is still to come
+abbrev pub AnswersFirst : Option Greeting → Dialect → List ℕ → Type 0
+AnswersFirst None dialect bytes = ⊥
+AnswersFirst (Some greeting) dialect bytes = Greets greeting dialect bytes
+
+-- whether it is still to say that it has emptied itself
+abbrev pub awaits_flush : Option Greeting → Bool
+awaits_flush None = false
+awaits_flush (Some greeting) = greeting.flushes
+
+-- where something is told, the first so many bytes tell it
+abbrev pub ReadsDialect : ServerDialect → List ℕ → DialectRead → Type 0
+ReadsDialect asked bytes (reads.Told dialect used) = (used ≤ length bytes) × TellsIn asked dialect (take used bytes)
+ReadsDialect asked bytes reads.More = Unit {0}
+ReadsDialect asked bytes reads.Foreign = Unit {0}
+
+abbrev pub ReadsGreeting : Greeting → List ℕ → DialectRead → Type 0
+ReadsGreeting greeting bytes (reads.Told dialect used) = (used ≤ length bytes) × Greets greeting dialect (take used bytes)
+ReadsGreeting greeting bytes reads.More = Unit {0}
+ReadsGreeting greeting bytes reads.Foreign = Unit {0}
+
+-- it was told in fewer bytes than these
+abbrev pub IsUsedBelow : ℕ → DialectRead → Type 0
+IsUsedBelow most (reads.Told dialect used) = used < most
+IsUsedBelow most reads.More = Unit {0}
+IsUsedBelow most reads.Foreign = Unit {0}
+
+-- in four more
+abbrev pub four_more : DialectRead → DialectRead
+four_more (reads.Told dialect used) = reads.Told dialect (used + 4)
+four_more reads.More = reads.More
+four_more reads.Foreign = reads.Foreign

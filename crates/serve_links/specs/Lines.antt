@@ -1,5 +1,5 @@
 -- What a link's connection has to do with the wire. Source: mcgate's own; what a server is asked for its dialects is of memcached's protocol.txt, "Meta No-Op".
-use Rattle.std.specs.Prelude.{◌≡◌, ◌⊎◌, ℕ, Bool, true, false, List, [], ◌∷◌, ◌++◌, codes, Option, Some, None}
+use Rattle.std.specs.Prelude.{◌≡◌, ◌⊎◌, ◌||◌, ℕ, Bool, true, false, List, [], ◌∷◌, ◌++◌, codes, Option, Some, None, if◌then◌else◌}
 use Rattle.mc_types.specs.declared.ask.Dialect.{Dialect}
 use Rattle.mc_types.specs.declared.ask.Dialect.TheVariants.{Classic, Meta}
 use Rattle.wire_parts.specs.Sending.{bytes_of}
@@ -8,22 +8,36 @@ use Rattle.serve_wire.specs.Calls.{Closes}
 use Rattle.serve_wire.specs.declared.conn.conn.Conn.{Conn}
 use Rattle.serve_links.specs.declared.settings.ServerDialect.{ServerDialect}
 use Rattle.serve_links.specs.declared.settings.ServerDialect.TheVariants as asks
-use Rattle.serve_links.specs.Dialects.{IsGreeting}
+use Rattle.serve_links.specs.declared.settings.Greeting.{Greeting}
+use Rattle.serve_links.specs.Dialects.{AnswersFirst}
 use Rattle.serve_links.specs.declared.link.Opening.{Opening}
 use Rattle.serve_links.specs.declared.link.Opening.TheVariants as opening
 use Rattle.serve_links.specs.declared.link.Link.{Link}
 
--- what is asked first over a connection
-abbrev pub first_asked_of : ServerDialect → List ℕ
-first_asked_of asks.Auto = codes "mn\r\n"
-first_asked_of asks.Classic = []
-first_asked_of asks.Meta = []
+-- what a server is asked for its dialects
+abbrev pub dialect_asked : ServerDialect → List ℕ
+dialect_asked asks.Auto = codes "mn\r\n"
+dialect_asked asks.Classic = []
+dialect_asked asks.Meta = []
 
--- whether its answer comes before all answers to calls
-abbrev pub awaits_first : ServerDialect → Bool
-awaits_first asks.Auto = true
-awaits_first asks.Classic = false
-awaits_first asks.Meta = false
+-- and before that, so that it empties itself
+abbrev pub flush_asked : Bool → List ℕ
+flush_asked true = codes "flush_all\r\n"
+flush_asked false = []
+
+-- what is asked first over a connection
+abbrev pub first_asked_of : Greeting → List ℕ
+first_asked_of greeting = flush_asked greeting.flushes ++ dialect_asked greeting.dialect
+
+-- whether it is asked for its dialects
+abbrev pub asks_dialect : ServerDialect → Bool
+asks_dialect asks.Auto = true
+asks_dialect asks.Classic = false
+asks_dialect asks.Meta = false
+
+-- what it was asked of which answers come before all answers to calls
+abbrev pub awaits_first : Greeting → Option Greeting
+awaits_first greeting = if greeting.flushes || asks_dialect greeting.dialect then Some greeting else None
 
 -- in which dialect calls are asked over it until that answer has come
 abbrev pub first_dialect : ServerDialect → Dialect
@@ -54,40 +68,45 @@ pub record KeepsLines (old new : Link) : Type 0 where
   pub dialect : new.dialect ≡ old.dialect
 
 -- it has this end: nothing came over it, and what is asked first is to be sent
-abbrev pub IsNewEnd : ℕ → ServerDialect → Option Conn → Type 0
-IsNewEnd number dialect None = ⊥
-IsNewEnd number dialect (Some x) = (x.number ≡ number) × (x.held.items ≡ []) × (bytes_of x.unsent ≡ first_asked_of dialect)
+abbrev pub IsNewEnd : ℕ → Greeting → Option Conn → Type 0
+IsNewEnd number greeting None = ⊥
+IsNewEnd number greeting (Some x) = (x.number ≡ number) × (x.held.items ≡ []) × (bytes_of x.unsent ≡ first_asked_of greeting)
 
--- no call is out over it yet, none is late, calls are asked in the first dialect, and what the server tells of its dialects is awaited where it is asked for that
-pub record HasNewEnd (number : ℕ) (dialect : ServerDialect) (old new : Link) : Type 0 where
+-- no call is out over it yet, none is late, calls are asked in the first dialect, and what the server says to what it is asked first is awaited
+pub record HasNewEnd (number : ℕ) (greeting : Greeting) (old new : Link) : Type 0 where
   pub none_there : old.conn ≡ None
   pub text : new.text ≡ old.text
-  pub conn : IsNewEnd number dialect new.conn
+  pub conn : IsNewEnd number greeting new.conn
   pub none_out : old.calls.sent.items ≡ []
   pub calls : new.calls ≡ old.calls
   pub none_late : new.late.items ≡ []
   pub waiting : new.waiting ≡ old.waiting
-  pub awaits : new.awaits_dialect ≡ awaits_first dialect
-  pub speaks : new.dialect ≡ first_dialect dialect
+  pub awaits : new.awaits_dialect ≡ awaits_first greeting
+  pub speaks : new.dialect ≡ first_dialect greeting.dialect
+
+-- what is asked first over a new connection of the link
+abbrev pub greeting_of : Link → ServerDialect → Greeting
+greeting_of link dialect = record { flushes = link.flushes; dialect = dialect }
 
 -- a new connection to this server was begun, at the address that the link's text names; and where memory was refused for its end it was closed
 abbrev pub OpensBy : ℕ → ServerDialect → Opening → Link → Link → List Event → List Event → Type 0
-OpensBy server dialect opening.Begun old new h h' = (number : ℕ) × IsNew number h × (h' ≡ connects number server old.text.items ∷ h) × HasNewEnd number dialect old new
+OpensBy server dialect opening.Begun old new h h' = (number : ℕ) × IsNew number h × (h' ≡ connects number server old.text.items ∷ h) × HasNewEnd number (greeting_of old dialect) old new
 OpensBy server dialect opening.NoAddress old new h h' = (h' ≡ h) × KeepsLines old new
 OpensBy server dialect opening.Failed old new h h' = (h' ≡ h) × KeepsLines old new
 OpensBy server dialect opening.NoMemory old new h h' = (number : ℕ) × IsNew number h × Closes number (connects number server old.text.items ∷ h) h' × KeepsLines old new
 
--- of a link's end the first bytes are held no more, by which a server tells this dialect, and nothing else has changed
-abbrev pub TakesGreeting : Dialect → Option Conn → Option Conn → Type 0
-TakesGreeting dialect None y = ⊥
-TakesGreeting dialect (Some x) None = ⊥
-TakesGreeting dialect (Some x) (Some y) = (bytes : List ℕ) × (x.held.items ≡ bytes ++ y.held.items) × IsGreeting dialect bytes × (y ≡ record x { held = y.held })
+-- of a link's end the first bytes are held no more, by which a server tells this dialect and all that is awaited before, and nothing else has changed
+abbrev pub TakesGreeting : Option Greeting → Dialect → Option Conn → Option Conn → Type 0
+TakesGreeting awaited dialect None y = ⊥
+TakesGreeting awaited dialect (Some x) None = ⊥
+TakesGreeting awaited dialect (Some x) (Some y) = (bytes : List ℕ) × (x.held.items ≡ bytes ++ y.held.items) × AnswersFirst awaited dialect bytes × (y ≡ record x { held = y.held })
 
 -- calls are asked in the dialect that the server told, and what told it is held no more
 pub record HasLearnt (old new : Link) : Type 0 where
-  pub takes : TakesGreeting new.dialect old.conn new.conn
-  pub told : new.awaits_dialect ≡ false
-  pub rest : new ≡ record old { conn = new.conn; dialect = new.dialect; awaits_dialect = new.awaits_dialect }
+  pub takes : TakesGreeting old.awaits_dialect new.dialect old.conn new.conn
+  pub told : new.awaits_dialect ≡ None
+  pub emptied : new.flushes ≡ false
+  pub rest : new ≡ record old { conn = new.conn; dialect = new.dialect; awaits_dialect = new.awaits_dialect; flushes = new.flushes }
 
 -- what a server tells of its dialects is taken from the front of what is held, and nothing else; where it isn't whole, or can't be that, all stays
 pub record Learns (can : Bool) (old new : Link) : Type 0 where

@@ -11,6 +11,7 @@ use Rattle.serve_clients.specs.declared.clients.Client.{Client}
 use Rattle.serve_clients.specs.declared.clients.Clients.{Clients}
 use Rattle.serve_clients.specs.Agrees.{EndAgrees, AllAgree}
 use Rattle.serve_clients.specs.Marks.{client_of}
+use Rattle.serve_links.specs.declared.settings.Greeting.{Greeting}
 use Rattle.serve_links.specs.declared.calls.calls.SentCall.{SentCall}
 use Rattle.serve_links.specs.declared.calls.calls.LateCall.{LateCall}
 use Rattle.serve_links.specs.declared.link.Link.{Link}
@@ -187,8 +188,8 @@ abbrev pub numbers_of : List SentCall → List ℕ
 numbers_of calls = each (λ call. call.ticket.number) calls
 
 -- a connection agrees with what was said over it: it is to this server, and was begun at the address that this text names; what was to be sent is what it took, and then what is unsent; what it delivered told all
--- that was told, and is else held; these calls are out, what the server tells of its dialects is awaited or not, calls are asked in this dialect, and these were late
-pub record TalkAgrees (h : List Event) (at : ℕ) (text : List ℕ) (talk : Talk) (c : ℕ) (held unsent : List ℕ) (out : List SaidAsk) (awaits : Bool) (dialect : Dialect) (late : List SaidAsk) : Type 0 where
+-- that was told, and is else held; these calls are out, what the server says to what it was asked first is awaited or not, calls are asked in this dialect, and these were late
+pub record TalkAgrees (h : List Event) (at : ℕ) (text : List ℕ) (talk : Talk) (c : ℕ) (held unsent : List ℕ) (out : List SaidAsk) (awaits : Option Greeting) (dialect : Dialect) (late : List SaidAsk) : Type 0 where
   pub is_to : role c h ≡ Some (1, at)
   pub address : AddressAgrees h text c
   pub sent_is : talk.sent ≡ taken c h ++ unsent
@@ -288,9 +289,9 @@ abbrev pub LinesAgree : List Step → List Event → List Link → Type 0
 LinesAgree past h links = (at : ℕ) (link : Link) → slice_get links at ≡ Some link → LineAgrees at past h link
 
 -- all that a link has to do with its connection and its calls: what names its server's address, the connection's number, what is held of it and what is to be sent, the calls that are out, those that wait,
--- whether its server is to tell of its dialects, in which dialect calls are asked, and those that were late
+-- what its server was asked first and is still to answer, in which dialect calls are asked, and those that were late
 abbrev pub LineState : Type 0
-LineState = List ℕ × Option (ℕ × List ℕ × List ℕ) × List SaidAsk × List SentCall × Bool × Dialect × List SaidAsk
+LineState = List ℕ × Option (ℕ × List ℕ × List ℕ) × List SaidAsk × List SentCall × Option Greeting × Dialect × List SaidAsk
 
 abbrev pub line_of : Link → LineState
 line_of link = (link.text.items, option_map (λ (x : Conn). (x.number, x.held.items, bytes_of x.unsent)) link.conn, said_asks link.calls.sent.items, link.waiting.items, link.awaits_dialect, link.dialect, said_late link.late.items)

@@ -1,5 +1,5 @@
 -- What a walk tells of what was said over each server's connection. Source: mcgate's own.
-use Rattle.std.specs.Prelude.{◌≡◌, ◌⊎◌, ℕ, Bool, true, false, List, [], ◌∷◌, ◌++◌, ◌+◌, ◌≤◌, nat_eq, length, if◌then◌else◌}
+use Rattle.std.specs.Prelude.{◌≡◌, ◌⊎◌, ℕ, false, List, [], ◌∷◌, ◌++◌, ◌+◌, ◌≤◌, Option, None, nat_eq, length, if◌then◌else◌}
 use Rattle.mc_types.specs.declared.ask.Ask.{Ask}
 use Rattle.mc_types.specs.declared.ask.Dialect.{Dialect}
 use Rattle.mc_types.specs.declared.ask.Dialect.TheVariants.{Classic}
@@ -10,8 +10,8 @@ use Rattle.wire_stream.specs.Spelling.{spelling_of}
 use Rattle.core_commands.specs.declared.ticket.Ticket.{Ticket}
 use Rattle.core_proxy.specs.declared.note.Poll.{Poll}
 use Rattle.core_proxy.specs.declared.note.Poll.TheVariants as polls
-use Rattle.serve_links.specs.Dialects.{asked_in, SpellsIn, IsGreeting}
-use Rattle.serve_links.specs.declared.settings.ServerDialect.{ServerDialect}
+use Rattle.serve_links.specs.Dialects.{asked_in, SpellsIn, AnswersFirst, awaits_flush}
+use Rattle.serve_links.specs.declared.settings.Greeting.{Greeting}
 use Rattle.serve_links.specs.Lines.{first_asked_of, awaits_first, first_dialect}
 use Rattle.serve_links.specs.CoreSteps.{Step, Opened, NotOpened, Fed, Polled, Stopped, Settled, Gave, Closed, LeftLine, Broke, Loaded, Linked, Asked, Greeted, Spelled, Late, CameLate, Lost}
 
@@ -20,14 +20,14 @@ abbrev pub SaidAsk : Type 0
 SaidAsk = ℕ × Dialect × Ask
 
 -- of a server's connection: what was to be sent over it, which bytes that came over it told something, the calls that are out there, the one that was asked first in front, before them those that were late, which have
--- failed, and whose answers are still to come first; whether the server is still to tell of its dialects, before it answers any call, in which dialect calls are asked there from now on; and the numbers of all calls that
+-- failed, and whose answers are still to come first; what the server was asked first, if it is still to say all that it says to that, before it answers any call, in which dialect calls are asked there from now on; and the numbers of all calls that
 -- the server was ever asked, the last in front
 pub record Talk : Type 0 where
   pub sent : List ℕ
   pub told : List ℕ
   pub out : List SaidAsk
   pub late : List SaidAsk
-  pub awaits : Bool
+  pub awaits : Option Greeting
   pub dialect : Dialect
   pub asked : List ℕ
 
@@ -43,11 +43,11 @@ first_of (ask ∷ asks) = ask ∷ []
 
 -- where there was no connection yet
 abbrev pub no_talk : Talk
-no_talk = record { sent = []; told = []; out = []; late = []; awaits = false; dialect = Classic; asked = [] }
+no_talk = record { sent = []; told = []; out = []; late = []; awaits = None; dialect = Classic; asked = [] }
 
--- a new connection, to a server that is asked so
-abbrev pub first_talk : ServerDialect → Talk → Talk
-first_talk dialect talk = record { sent = first_asked_of dialect; told = []; out = []; late = []; awaits = awaits_first dialect; dialect = first_dialect dialect; asked = talk.asked }
+-- a new connection, to a server that is asked this first
+abbrev pub first_talk : Greeting → Talk → Talk
+first_talk greeting talk = record { sent = first_asked_of greeting; told = []; out = []; late = []; awaits = awaits_first greeting; dialect = first_dialect greeting.dialect; asked = talk.asked }
 
 -- one more call is asked in its dialect
 abbrev pub with_ask : ℕ → Dialect → Ask → Talk → Talk
@@ -55,7 +55,7 @@ with_ask number dialect ask talk = record talk { sent = talk.sent ++ spelling_of
 
 -- the server told this dialect
 abbrev pub greeted : Dialect → List ℕ → Talk → Talk
-greeted dialect bytes talk = record talk { told = talk.told ++ bytes; awaits = false; dialect = dialect }
+greeted dialect bytes talk = record talk { told = talk.told ++ bytes; awaits = None; dialect = dialect }
 
 -- the first call is out no more
 abbrev pub with_answer : List ℕ → Talk → Talk
@@ -71,7 +71,7 @@ with_late bytes talk = record talk { told = talk.told ++ bytes; late = behind ta
 
 -- it was given up: no call is out there any more, and nothing is awaited
 abbrev pub given_up : Talk → Talk
-given_up talk = record talk { out = []; late = []; awaits = false }
+given_up talk = record talk { out = []; late = []; awaits = None }
 
 -- what a step adds to what was said over the connection of the server of this number
 abbrev pub talk_after : Step → ℕ → Talk → Talk
@@ -169,7 +169,7 @@ pub record IsNextAnswer (number : ℕ) (ask : Ask) (answer : Answer) (bytes : Li
   pub said : Ask
   pub others : List SaidAsk
   pub is_first : talk.out ≡ (number, dialect, said) ∷ others
-  pub none_before : talk.awaits ≡ false
+  pub none_before : talk.awaits ≡ None
   pub none_late : talk.late ≡ []
   pub more : List ℕ
   pub spells : SpellsIn dialect ask (bytes ++ more) answer (length bytes)
@@ -186,7 +186,7 @@ pub record IsNextLate (number : ℕ) (ask : Ask) (answer : Answer) (bytes : List
   pub dialect : Dialect
   pub others : List SaidAsk
   pub is_first : talk.late ≡ (number, dialect, ask) ∷ others
-  pub none_before : talk.awaits ≡ false
+  pub none_before : talk.awaits ≡ None
   pub more : List ℕ
   pub spells : SpellsIn dialect ask (bytes ++ more) answer (length bytes)
 
@@ -221,11 +221,11 @@ abbrev pub ComesBy : ℕ → Outcome → List Step → Type 0
 ComesBy number (Answered answer) past = IsJustSpelled number answer past
 ComesBy number Failed past = IsOutNowhere number past ⊎ IsUnasked number past ⊎ IsJustLate number past
 
--- after these steps this one may come: a server is asked what the core gave out for it, once, in a dialect that it speaks, and not while late answers are still to come; tells of its dialects where it is asked for that, and then answers its calls in
+-- after these steps this one may come: a server is asked what the core gave out for it, once, in a dialect that it speaks, and neither while late answers are still to come nor before it said that it emptied itself where it is to do that first; tells of its dialects where it is asked for that, and then answers its calls in
 -- their order, those that are late too, whose answers settle nothing; and a call is settled by its answer
 abbrev pub MayFollow : Step → List Step → Type 0
-MayFollow (Asked at number dialect ask) past = MayBeAsked past number at dialect ask × AreDue past at (number ∷ []) × ((talk_in past at).late ≡ [])
-MayFollow (Greeted at dialect bytes) past = ((talk_in past at).awaits ≡ true) × IsGreeting dialect bytes
+MayFollow (Asked at number dialect ask) past = MayBeAsked past number at dialect ask × AreDue past at (number ∷ []) × ((talk_in past at).late ≡ []) × (awaits_flush (talk_in past at).awaits ≡ false)
+MayFollow (Greeted at dialect bytes) past = AnswersFirst (talk_in past at).awaits dialect bytes
 MayFollow (Late at number) past = IsFirstOut number (talk_in past at)
 MayFollow (CameLate at number ask answer bytes) past = IsNextLate number ask answer bytes (talk_in past at)
 MayFollow (Spelled at number ask answer bytes) past = IsNextAnswer number ask answer bytes (talk_in past at)

@@ -1,7 +1,7 @@
 //! Calls that are late: they have failed, and keep their places on their link's connection. Their answers come before all others, and nobody gets them;
 //! they are the sign that the server is back.
 
-ghost use Rattle.std.specs.Prelude.{◌≡◌, ℕ, List, false, []};
+ghost use Rattle.std.specs.Prelude.{◌≡◌, ℕ, List, None, []};
 ghost use Rattle.serve_wire.specs.Events.{Event};
 ghost use Rattle.core_accepted.specs.declared.served.ServedCore.{ServedCore};
 ghost use Rattle.serve_links.specs.Calls.{PassesOver};
@@ -64,9 +64,9 @@ impl Link {
 
     // The answer to the first call that is late is thrown away, where what is held begins with it.
     fn throw_first(&mut self) -> LateRead
-        requires { self.old.awaits_dialect ≡ false }
+        requires { self.old.awaits_dialect ≡ None }
         ensures goes { (at : ℕ) (core : ServedCore) (h : List Event) → LineGoes IsOfTurn at core h self.old core h self.new }
-        ensures told { self.new.awaits_dialect ≡ false }
+        ensures told { self.new.awaits_dialect ≡ None }
     {
         let Some(conn) = self.conn.as_mut() else {
             return LateRead::More;
@@ -76,10 +76,10 @@ impl Link {
 
     /// Late answers that are held whole are thrown away, one after another.
     pub fn throw_late(&mut self) -> LateEnd
-        requires { self.old.awaits_dialect ≡ false }
+        requires { self.old.awaits_dialect ≡ None }
         ensures goes { (at : ℕ) (core : ServedCore) (h : List Event) → LineGoes IsOfTurn at core h self.old core h self.new }
         ensures over { result ≡ LateEnd.Over → self.new.late.items ≡ [] }
-        ensures told { self.new.awaits_dialect ≡ false }
+        ensures told { self.new.awaits_dialect ≡ None }
     {
         for _ in 0..self.late.len() {
             match self.throw_first() {

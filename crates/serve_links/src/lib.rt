@@ -4,6 +4,7 @@
 
 pub mod calls;
 mod client_bytes;
+mod greeting;
 mod late;
 pub mod laws;
 mod link;
@@ -19,5 +20,5 @@ pub use link::{Lateness, Link, Opening, vain};
 pub use news::{CAUSES, Cause, LinkNews};
 pub use outcomes::{HeldAnswers, fail_all, fail_late, settle_held};
 pub use room::{IDLE_ROOM, KEPT_ROOM, OWN_ROOM, give_back, has_spare};
-pub use settings::{ServerDialect, Settings};
+pub use settings::{Greeting, ServerDialect, Settings};
 pub use tally::{LinkTally, OpTally, Tally};

@@ -4,11 +4,14 @@ ghost use Rattle.std.specs.Prelude.{◌≡◌, ◌≢◌, true, IfSome, ◌+◌,
 ghost use Rattle.mc_types.specs.declared.ask.Dialect.TheVariants.{Classic};
 ghost use Rattle.serve_links.specs.Links.{IsDown, IsTaken, vain_cause};
 ghost use Rattle.wire_parts.specs.Sending.{bytes_of};
-ghost use Rattle.serve_links.specs.Lines.{first_asked_of, awaits_first, first_dialect, KeepsLines, HasNewEnd, OpensBy, Learns};
+ghost use Rattle.serve_links.specs.Dialects.{awaits_flush};
+ghost use Rattle.serve_links.specs.Lines.{dialect_asked, flush_asked, first_asked_of, asks_dialect, awaits_first, first_dialect, greeting_of, KeepsLines, HasNewEnd, OpensBy, Learns};
+ghost use Rattle.serve_links.specs.Story.{line_of};
 
 use crate::calls::{LateCall, LinkCalls, SentCall};
+use crate::greeting::{read_greeting, write_flush};
 use crate::news::{Cause, LinkNews};
-use crate::settings::{ServerDialect, Settings};
+use crate::settings::{Greeting, ServerDialect, Settings};
 use crate::tally::LinkTally;
 use mc_types::Dialect;
 use serve_wire::conn::{Conn, Limits};
@@ -16,7 +19,7 @@ use serve_wire::{Connected, Wire};
 use std::alloc::{AllocError, AllocFailed, Global};
 use std::collections::VecDeque;
 use std::net::Net;
-use wire_meta_gets::{DialectRead, read_dialect, write_noop};
+use wire_meta_gets::{DialectRead, write_noop};
 
 // An answer is shorter than what is held at most. No further call goes out while so much is to be sent.
 const LIMITS: Limits = Limits {
@@ -63,13 +66,24 @@ pub fn vain(has_failed: bool) -> Option<Cause>
     }
 }
 
-// Whether its server is to tell of its dialects before it answers calls.
-fn awaits_first(dialect: ServerDialect) -> bool
-    ensures { result ≡ awaits_first dialect }
+// Whether its server is asked for its dialects.
+fn asks_dialect(dialect: ServerDialect) -> bool
+    ensures { result ≡ asks_dialect dialect }
 {
     match dialect {
         ServerDialect::Auto => true,
         ServerDialect::Classic | ServerDialect::Meta => false,
+    }
+}
+
+// What its server was asked first, where it answers that before calls.
+fn awaits_first(greeting: Greeting) -> Option<Greeting>
+    ensures { result ≡ awaits_first greeting }
+{
+    if greeting.flushes || asks_dialect(greeting.dialect) {
+        Some(greeting)
+    } else {
+        None
     }
 }
 
@@ -83,15 +97,35 @@ fn number_of(conn: &Option<Conn>) -> Option<usize>
     }
 }
 
-// What a server is asked first is to be sent.
-fn ask_first(dialect: ServerDialect, conn: &mut Conn) -> Result<(), AllocError>
-    ensures ok { OnOk result (bytes_of conn.new.unsent ≡ bytes_of conn.old.unsent ++ first_asked_of dialect) }
+// That its server empties itself is to be sent, where it is to do that.
+fn ask_flush(flushes: bool, conn: &mut Conn) -> Result<(), AllocError>
+    ensures ok { OnOk result (bytes_of conn.new.unsent ≡ bytes_of conn.old.unsent ++ flush_asked flushes) }
+    ensures rest { conn.new ≡ record conn.old { unsent = conn.new.unsent } }
+{
+    if !flushes {
+        return Ok(());
+    }
+    write_flush(&mut conn.unsent.text)
+}
+
+// What it speaks is to be asked, where it is asked for that.
+fn ask_dialect(dialect: ServerDialect, conn: &mut Conn) -> Result<(), AllocError>
+    ensures ok { OnOk result (bytes_of conn.new.unsent ≡ bytes_of conn.old.unsent ++ dialect_asked dialect) }
     ensures rest { conn.new ≡ record conn.old { unsent = conn.new.unsent } }
 {
     match dialect {
         ServerDialect::Auto => write_noop(&mut conn.unsent.text),
         ServerDialect::Classic | ServerDialect::Meta => Ok(()),
     }
+}
+
+// What a server is asked first is to be sent.
+fn ask_first(greeting: Greeting, conn: &mut Conn) -> Result<(), AllocError>
+    ensures ok { OnOk result (bytes_of conn.new.unsent ≡ bytes_of conn.old.unsent ++ first_asked_of greeting) }
+    ensures rest { conn.new ≡ record conn.old { unsent = conn.new.unsent } }
+{
+    ask_flush(greeting.flushes, conn)?;
+    ask_dialect(greeting.dialect, conn)
 }
 
 /// What became of the attempt to connect to a server.
@@ -130,8 +164,12 @@ pub struct Link {
     waiting: VecDeque<SentCall>,
     /// In which dialect calls go out from now on.
     pub dialect: Dialect,
-    /// Whether the answer to `mn` is still to come, before those to all calls.
-    pub awaits_dialect: bool,
+    /// What its server was asked first, where the answer to that is still to come, before those to all calls.
+    pub awaits_dialect: Option<Greeting>,
+    /// Whether its server is to be emptied before its first call: a connection begins with that until it was answered.
+    pub flushes: bool,
+    // Whether no call goes out to its server any more.
+    is_retired: bool,
     /// When the connection was begun, in milliseconds.
     pub opened: u64,
     /// Whether it has stood since.
@@ -159,24 +197,26 @@ pub struct Link {
 }
 
 impl Link {
-    /// A link without a connection, to the server whose address this text names.
-    pub fn new(alloc: Global, text: &[u8]) -> Result<Link, AllocError>
+    /// A link without a connection, to the server whose address this text names, which is emptied before its first call or isn't.
+    pub fn new(alloc: Global, text: &[u8], flushes: bool) -> Result<Link, AllocError>
         ensures down { IfOk result IsDown }
-        ensures awaits { IfOk result (λ link. link.awaits_dialect ≡ false) }
+        ensures awaits { IfOk result (λ link. link.awaits_dialect ≡ None) }
         ensures dialect { IfOk result (λ link. link.dialect ≡ Classic) }
         ensures late { IfOk result (λ link. link.late.items ≡ []) }
         ensures text { IfOk result (λ link. link.text.items ≡ text.now) }
+        ensures flushes { IfOk result (λ link. link.flushes ≡ flushes) }
     {
         let text = text.to_vec(alloc)?;
-        Ok(Link::of(alloc, text))
+        Ok(Link::of(alloc, text, flushes))
     }
 
-    fn of(alloc: Global, text: Vec<u8>) -> Link
+    fn of(alloc: Global, text: Vec<u8>, flushes: bool) -> Link
         ensures down { IsDown result }
-        ensures awaits { result.awaits_dialect ≡ false }
+        ensures awaits { result.awaits_dialect ≡ None }
         ensures dialect { result.dialect ≡ Classic }
         ensures late { result.late.items ≡ [] }
         ensures text { result.text ≡ text }
+        ensures flushes { result.flushes ≡ flushes }
     {
         Link {
             text,
@@ -185,7 +225,9 @@ impl Link {
             late: VecDeque::new(alloc),
             waiting: VecDeque::new(alloc),
             dialect: Dialect::Classic,
-            awaits_dialect: false,
+            awaits_dialect: None,
+            flushes,
+            is_retired: false,
             opened: 0,
             is_connected: false,
             failures: 0,
@@ -209,6 +251,38 @@ impl Link {
         !self.late.is_empty()
     }
 
+    /// Whether its server is still to say that it has emptied itself. Until then no call goes out.
+    pub fn awaits_flush(&self) -> bool
+        ensures { result ≡ awaits_flush self.now.awaits_dialect }
+    {
+        match self.awaits_dialect {
+            Some(greeting) => greeting.flushes,
+            None => false,
+        }
+    }
+
+    /// Its server is to be emptied before its first call.
+    pub fn empty_first(&mut self)
+        ensures flushes { self.new.flushes ≡ true }
+        ensures line { line_of self.new ≡ line_of self.old }
+    {
+        self.flushes = true;
+    }
+
+    /// From now on its calls fail at once, or they do no longer.
+    pub fn retire(&mut self, is_retired: bool)
+        ensures { line_of self.new ≡ line_of self.old }
+    {
+        self.is_retired = is_retired;
+    }
+
+    /// Whether no call is out or waits, and none is late.
+    pub fn is_quiet(&self) -> bool
+        ensures { result ≡ true → (self.now.calls.sent.items ≡ []) × (self.now.waiting.items ≡ []) × (self.now.late.items ≡ []) }
+    {
+        self.calls.is_empty() && self.waiting.is_empty() && self.late.is_empty()
+    }
+
     // Whether what is to be sent is a backlog.
     fn has_backlog(&self) -> bool
         ensures { self.now.conn ≡ None → result ≡ false }
@@ -219,9 +293,9 @@ impl Link {
         }
     }
 
-    // Whether it takes calls: it has places, and no backlog.
+    // Whether it takes calls: its server needn't empty itself first, it has places, and no backlog.
     fn takes_calls(&self, places: usize) -> bool {
-        self.calls.len() < places && !self.has_backlog()
+        !self.awaits_flush() && self.calls.len() < places && !self.has_backlog()
     }
 
     // Whether the call that has waited longest is bulk, and has no room.
@@ -397,10 +471,10 @@ impl Link {
         self.stand()
     }
 
-    /// Whether a call fails at once: late answers are awaited; or the server failed too many times in a row, and either it isn't to be tried
+    /// Whether a call fails at once: late answers are awaited, or no call goes out any more; or the server failed too many times in a row, and either it isn't to be tried
     /// yet, or a call tries.
     pub fn is_held_back(&self, now: u64, settings: &Settings) -> bool {
-        if self.awaits_late() {
+        if self.awaits_late() || self.is_retired {
             return true;
         }
         settings.fail_limit <= self.failures && (now < self.held_until || !self.calls.is_empty())
@@ -446,7 +520,10 @@ impl Link {
         }
         match wire.connect(net, server, &self.text) {
             Connected::Begun(number) => {
-                if self.open(alloc, number, now, dialect).is_ok() {
+                if self
+                    .open(alloc, number, now, self.greeting(dialect))
+                    .is_ok()
+                {
                     return Opening::Begun;
                 }
                 wire.close(number);
@@ -457,26 +534,36 @@ impl Link {
         }
     }
 
+    // What its server is asked first over a new connection.
+    fn greeting(&self, dialect: ServerDialect) -> Greeting
+        ensures { result ≡ greeting_of self.now dialect }
+    {
+        Greeting {
+            flushes: self.flushes,
+            dialect,
+        }
+    }
+
     // The connection of this number was begun.
     fn open(
         &mut self,
         alloc: Global,
         number: usize,
         now: u64,
-        dialect: ServerDialect,
+        greeting: Greeting,
     ) -> Result<(), AllocError>
         requires unlinked { self.old.conn ≡ None }
         requires none_out { self.old.calls.sent.items ≡ [] }
         requires none_late { self.old.late.items ≡ [] }
-        ensures ok { OnOk result (HasNewEnd number dialect self.old self.new) }
+        ensures ok { OnOk result (HasNewEnd number greeting self.old self.new) }
         ensures err { OnErr result (KeepsLines self.old self.new) }
     {
         let mut conn = Conn::new(alloc, number, LIMITS);
         conn.readable = false;
         conn.writable = false;
-        ask_first(dialect, &mut conn)?;
-        self.awaits_dialect = awaits_first(dialect);
-        self.dialect = first_dialect(dialect);
+        ask_first(greeting, &mut conn)?;
+        self.awaits_dialect = awaits_first(greeting);
+        self.dialect = first_dialect(greeting.dialect);
         self.conn = Some(conn);
         self.opened = now;
         self.vain_reads = 0;
@@ -508,20 +595,24 @@ impl Link {
         }
     }
 
-    /// What its server tells of its dialects is taken from its bytes, where that is still to come and whole. Whether it can be that.
+    /// What its server says to what it was asked first is taken from its bytes, where that is still to come and whole. Whether it can be that.
     pub fn learn(&mut self) -> bool
         ensures { Learns result self.old self.new }
     {
+        let Some(greeting) = self.awaits_dialect else {
+            return true;
+        };
         let Some(conn) = self.conn.as_mut() else {
             return true;
         };
-        match read_dialect(conn.held.as_slice()) {
+        match read_greeting(greeting, conn.held.as_slice()) {
             DialectRead::More => true,
             DialectRead::Foreign => false,
             DialectRead::Told(dialect, used) => {
                 conn.use_up(used);
                 self.dialect = dialect;
-                self.awaits_dialect = false;
+                self.awaits_dialect = None;
+                self.flushes = false;
                 true
             }
         }

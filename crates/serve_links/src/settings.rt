@@ -12,6 +12,15 @@ pub enum ServerDialect {
     Meta,
 }
 
+/// What a server is asked first over a connection, before all calls.
+#[derive(Clone, Copy, PartialEq, Eq)]
+pub struct Greeting {
+    /// Whether it is to empty itself, by `flush_all`: no call is asked before its `OK`.
+    pub flushes: bool,
+    /// And then for its dialects, in this way.
+    pub dialect: ServerDialect,
+}
+
 /// How many clients there may be, how many calls may be out, how long is waited, and how servers are asked.
 #[derive(Clone, Copy)]
 pub struct Settings {
@@ -36,6 +45,8 @@ pub struct Settings {
     /// After so many reads of a server in a row that brought no whole answer its calls have failed; without a number they may be any.
     pub polls: Option<u32>,
     pub server_dialect: ServerDialect,
+    /// Whether a server that comes with a later configuration is emptied before its first call.
+    pub flushes_new: bool,
 }
 
 impl Settings {
@@ -54,6 +65,7 @@ impl Settings {
             retry_ms: 1_000,
             polls: None,
             server_dialect: ServerDialect::Auto,
+            flushes_new: false,
         }
     }
 }

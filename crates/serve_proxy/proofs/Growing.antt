@@ -20,6 +20,7 @@ use Rattle.serve_links.specs.declared.calls.calls.LateCall.{LateCall}
 use Rattle.serve_links.specs.declared.link.Link.{Link}
 use Rattle.serve_links.specs.Links.{IsDown}
 use Rattle.serve_links.specs.CoreSteps.{Step, Loaded}
+use Rattle.serve_links.specs.declared.settings.Greeting.{Greeting}
 use Rattle.serve_links.specs.Story.{fed_in, gave_in, IsTold, said_asks, said_late, numbers_of, AreCalled, LineState, line_of, LineAgrees, LinesAgree, AnEnd, Agrees, AllGoFrom, texts_of, MayAllGo}
 use Rattle.serve_links.specs.Talks.{talk_in, AreDue, IsOrderly}
 use Rattle.serve_links.proofs.Due.{none_more}
@@ -36,20 +37,20 @@ pub adds_none : (old new : List Link) → new ≡ old → AddsLines old new
 adds_none old new same = ([], ap lines_of same ∙ sym (append-nil (lines_of old)))
 
 -- the line of a link that is down
-down_of : (link : Link) → IsDown link → link.late.items ≡ [] → link.awaits_dialect ≡ false → link.dialect ≡ Classic → line_of link ≡ down_line link.text.items
+down_of : (link : Link) → IsDown link → link.late.items ≡ [] → link.awaits_dialect ≡ None → link.dialect ≡ Classic → line_of link ≡ down_line link.text.items
 down_of link down alone off classic =
     ap (λ (o : Option Conn). let s : LineState = (link.text.items, option_map (λ (x : Conn). (x.number, x.held.items, bytes_of x.unsent)) o, said_asks link.calls.sent.items, link.waiting.items, link.awaits_dialect, link.dialect, said_late link.late.items) in s) down.closed
     ∙ ap (λ (l : List SentCall). let s : LineState = (link.text.items, None, said_asks l, link.waiting.items, link.awaits_dialect, link.dialect, said_late link.late.items) in s) down.sent
     ∙ ap (λ (l : List SentCall). let s : LineState = (link.text.items, None, [], l, link.awaits_dialect, link.dialect, said_late link.late.items) in s) down.waiting
-    ∙ ap (λ (b : Bool). let s : LineState = (link.text.items, None, [], [], b, link.dialect, said_late link.late.items) in s) off
-    ∙ ap (λ (d : Dialect). let s : LineState = (link.text.items, None, [], [], false, d, said_late link.late.items) in s) classic ∙ ap (λ (l : List LateCall). let s : LineState = (link.text.items, None, [], [], false, Classic, said_late l) in s) alone
+    ∙ ap (λ (b : Option Greeting). let s : LineState = (link.text.items, None, [], [], b, link.dialect, said_late link.late.items) in s) off
+    ∙ ap (λ (d : Dialect). let s : LineState = (link.text.items, None, [], [], None, d, said_late link.late.items) in s) classic ∙ ap (λ (l : List LateCall). let s : LineState = (link.text.items, None, [], [], None, Classic, said_late l) in s) alone
 
 lines_more : (links : List Link) (link : Link) → lines_of (links ++ link ∷ []) ≡ lines_of links ++ line_of link ∷ []
 lines_more [] link = refl
 lines_more (x ∷ links) link = ap (λ l. line_of x ∷ l) (lines_more links link)
 
 -- one without a connection
-pub adds_one : (old new : List Link) (link : Link) → new ≡ old ++ link ∷ [] → IsDown link → link.late.items ≡ [] → link.awaits_dialect ≡ false → link.dialect ≡ Classic → AddsLines old new
+pub adds_one : (old new : List Link) (link : Link) → new ≡ old ++ link ∷ [] → IsDown link → link.late.items ≡ [] → link.awaits_dialect ≡ None → link.dialect ≡ Classic → AddsLines old new
 adds_one old new link more down alone off classic = (link.text.items ∷ [], ap lines_of more ∙ lines_more old link ∙ ap (λ (s : LineState). lines_of old ++ s ∷ []) (down_of link down alone off classic))
 
 down_both : (xs ys : List (List ℕ)) → each down_line (xs ++ ys) ≡ each down_line xs ++ each down_line ys

@@ -30,10 +30,10 @@ use Rattle.serve_links.specs.declared.link.Opening.{Opening}
 use Rattle.serve_links.specs.declared.link.Opening.TheVariants as opening
 use Rattle.serve_links.specs.declared.link.Link.{Link}
 use Rattle.serve_links.specs.CoreSteps.{Step, Polled, Does, IsOfTurn, GoesOn}
-use Rattle.serve_links.specs.Dialects.{asked_in}
+use Rattle.serve_links.specs.Dialects.{asked_in, awaits_flush}
 use Rattle.serve_links.specs.Settled.{SettlesSome, SettlesFront}
 use Rattle.serve_links.specs.Links.{IsTaken}
-use Rattle.serve_links.specs.Lines.{IsNewEnd, OpensBy}
+use Rattle.serve_links.specs.Lines.{IsNewEnd, OpensBy, greeting_of}
 use Rattle.serve_links.specs.Talks.{SaidAsk, talk_in, IsCalledIn}
 use Rattle.serve_links.specs.Story.{LineState, line_of, said_asks, said_late, numbers_of, MayGo, LineAgrees, LineLost, LineGoesFrom, LineGoes, AnEnd, Agrees, AgreesBut, AgreesCalled, AgreesSent, AllGoFrom, fed_in, gave_in}
 use Rattle.serve_links.proofs.LinkGoes.{as_lost, line_between, line_settles, line_loses, line_asks, line_waits, line_takes}
@@ -82,9 +82,9 @@ line_waiting x y is waiting =
 
 -- it is asked
 pub asked :
-    (x y : Link) (c d : Conn) (call : SentCall) → x.conn ≡ Some c → x.late.items ≡ [] → y ≡ record x { calls = y.calls; conn = Some d } → d ≡ record c { unsent = d.unsent }
+    (x y : Link) (c d : Conn) (call : SentCall) → x.conn ≡ Some c → x.late.items ≡ [] → awaits_flush x.awaits_dialect ≡ false → y ≡ record x { calls = y.calls; conn = Some d } → d ≡ record c { unsent = d.unsent }
     → (y.calls.sent.items ≡ x.calls.sent.items ++ call ∷ []) × (bytes_of d.unsent ≡ bytes_of c.unsent ++ spelling_of (asked_in call.dialect call.ticket.ask)) → LineTakes call x y
-asked x y c d call was alone is same did = λ at h core. line_asks x y c d call was is same alone did.0 did.1
+asked x y c d call was alone ready is same did = λ at h core. line_asks x y c d call was is same alone ready did.0 did.1
 
 -- it is given back
 pub not_asked :
@@ -137,7 +137,7 @@ open_set links at y within some = (y, set_here links at y within, some)
 pub begun_open : (at : ℕ) (dialect : ServerDialect) (x y : Link) (h h' : List Event) (what : Opening) → OpensBy at dialect what x y h h' → what ≡ opening.Begun → IsSome y.conn
 begun_open at dialect x y h h' opening.Begun opens is = has y.conn opens.3.conn
   where
-    has : (o : Option Conn) → IsNewEnd opens.0 dialect o → IsSome o
+    has : (o : Option Conn) → IsNewEnd opens.0 (greeting_of x dialect) o → IsSome o
     has None end = absurd end
     has (Some c) end = refl
 begun_open at dialect x y h h' opening.NoAddress opens is = absurd cc
@@ -175,7 +175,7 @@ line_may_lose {at = at} {h' = h'} {y = y} g = line_between (λ past was. was) (�
 
 -- answers settled calls, and what is left is held
 pub settled :
-    {at : ℕ} {core core' : ServedCore} {h : List Event} (x y : Link) (c d : Conn) (sent : List SentCall) → x.conn ≡ Some c → x.awaits_dialect ≡ false → x.late.items ≡ [] → y.conn ≡ Some d → y.text.items ≡ x.text.items → y.waiting.items ≡ x.waiting.items
+    {at : ℕ} {core core' : ServedCore} {h : List Event} (x y : Link) (c d : Conn) (sent : List SentCall) → x.conn ≡ Some c → x.awaits_dialect ≡ None → x.late.items ≡ [] → y.conn ≡ Some d → y.text.items ≡ x.text.items → y.waiting.items ≡ x.waiting.items
     → y.awaits_dialect ≡ x.awaits_dialect → y.dialect ≡ x.dialect → y.late.items ≡ x.late.items → y.calls.sent.items ≡ sent → HoldsAnew c d → SettlesSome x.calls.sent.items c.held.items core sent d.held.items core' → LineGoes IsOfTurn at core h x core' h y
 settled {core = core} {core' = core'} x y c d sent was off alone is text waiting awaits speaks late same holds s =
     line_settles x y c d was is off alone text waiting awaits speaks late (ap (λ (z : Conn). z.number) holds) (ap (λ (z : Conn). bytes_of z.unsent) holds)
@@ -183,7 +183,7 @@ settled {core = core} {core' = core'} x y c d sent was off alone is text waiting
 
 -- or may be lost
 pub settled_some :
-    {at : ℕ} {core core' : ServedCore} {h : List Event} (x y : Link) (c d : Conn) (sent : List SentCall) → x.conn ≡ Some c → x.awaits_dialect ≡ false → x.late.items ≡ [] → y.conn ≡ Some d → y.text.items ≡ x.text.items → y.waiting.items ≡ x.waiting.items
+    {at : ℕ} {core core' : ServedCore} {h : List Event} (x y : Link) (c d : Conn) (sent : List SentCall) → x.conn ≡ Some c → x.awaits_dialect ≡ None → x.late.items ≡ [] → y.conn ≡ Some d → y.text.items ≡ x.text.items → y.waiting.items ≡ x.waiting.items
     → y.awaits_dialect ≡ x.awaits_dialect → y.dialect ≡ x.dialect → y.late.items ≡ x.late.items → y.calls.sent.items ≡ sent → HoldsAnew c d → SettlesFront x.calls.sent.items c.held.items core sent core' → LineGoesFrom LineAgrees LineLost IsOfTurn at core h x core' h y
 settled_some {core = core} {core' = core'} x y c d sent was off alone is text waiting awaits speaks late same holds s =
     line_loses x y c d s.0 was is off alone text waiting awaits speaks late (ap (λ (z : Conn). z.number) holds) (ap (λ (z : Conn). bytes_of z.unsent) holds)

@@ -224,7 +224,7 @@ HasNoConns h = (conn : ℕ) → (role conn h ≡ None) × (is_open conn h ≡ fa
 
 -- the line of a link to the server whose address this text names, without a connection, and without calls
 abbrev pub down_line : List ℕ → LineState
-down_line text = (text, None, [], [], false, Classic, [])
+down_line text = (text, None, [], [], None, Classic, [])
 
 -- behind the links that were there, which have the lines that they had, come links to these texts, without a connection
 abbrev pub AddsLines : List Link → List Link → Type 0

@@ -1,6 +1,6 @@
 //! Links are read, and whole answers settle the calls that are out.
 
-ghost use Rattle.std.specs.Prelude.{◌≡◌, ℕ, [], false, IfOk};
+ghost use Rattle.std.specs.Prelude.{◌≡◌, ℕ, [], None, IfOk};
 ghost use Rattle.serve_clients.specs.Agrees.{KeepsEnds};
 ghost use Rattle.serve_links.specs.Story.{line_of};
 ghost use Rattle.serve_proxy.specs.Ends.{LineStandsUnless, LineGoesUnless, LineGoesLosing, over_by, over_of, AgreesUnless, Stay, GoAloneUnless, AllFailOn, AllGoOr, AllGoUnless, AllGoFromUnless};
@@ -90,7 +90,7 @@ fn settle_read<W: Wire>(
     }
 }
 
-// What the server tells of its dialects comes before all answers to calls. Why the link fails by that, if it does.
+// What the server says to what it was asked first comes before all answers to calls. Why the link fails by that, if it does.
 fn learn_and_settle<W: Wire>(
     core: &mut ServedCore,
     sockets: &mut Sockets<W>,
@@ -123,13 +123,13 @@ fn settle_line(
     ensures lost { LineGoesLosing core.old link.old core.new link.new }
     ensures ends { KeepsEnds clients.old clients.new }
 {
-    if !link.awaits_dialect {
+    if link.awaits_dialect.is_none() {
         return settle_after_late(link, core, clients, is_freed, false, polls);
     }
     if !link.learn() {
         return Ok(Some(Cause::Foreign));
     }
-    if link.awaits_dialect {
+    if link.awaits_dialect.is_some() {
         return Ok(vain(link.has_read(false, polls)));
     }
     settle_after_late(link, core, clients, is_freed, true, polls)
@@ -144,7 +144,7 @@ fn settle_after_late(
     has_answered: bool,
     polls: Option<u32>,
 ) -> Result<Option<Cause>, AllocError>
-    requires { link.old.awaits_dialect ≡ false }
+    requires { link.old.awaits_dialect ≡ None }
     ensures goes { IfOk result (λ cause. LineGoesUnless cause core.old link.old core.new link.new) }
     ensures lost { LineGoesLosing core.old link.old core.new link.new }
     ensures ends { KeepsEnds clients.old clients.new }
@@ -168,7 +168,7 @@ fn settle_all(
     has_answered: bool,
     polls: Option<u32>,
 ) -> Result<Option<Cause>, AllocError>
-    requires told { link.old.awaits_dialect ≡ false }
+    requires told { link.old.awaits_dialect ≡ None }
     requires alone { link.old.late.items ≡ [] }
     ensures goes { IfOk result (λ cause. LineGoesUnless cause core.old link.old core.new link.new) }
     ensures lost { LineGoesLosing core.old link.old core.new link.new }

@@ -58,12 +58,15 @@ fn begin<W: Wire, N: Net>(
     }
 }
 
-// The call is written to the link, or given back, as it is where late answers are awaited.
+// The call is written to the link, or given back, as it is where late answers are awaited, or the server is still to empty itself.
 fn write_to(link: &mut Link, call: SentCall) -> Result<(), SentCall>
     ensures ok { OnOk result (LineTakes call link.old link.new) }
     ensures err { IfErr result (λ given. (given ≡ call) × (line_of link.new ≡ line_of link.old)) }
 {
     if link.awaits_late() {
+        return Err(call);
+    }
+    if link.awaits_flush() {
         return Err(call);
     }
     match link.conn.as_mut() {
@@ -104,19 +107,22 @@ pub struct Links {
     pub late_from: Option<u64>,
     /// Whether there may be something to tell of a link.
     pub has_news: bool,
+    // Whether servers that get a link from now on are emptied before their first call.
+    flushes_new: bool,
     // What the clock showed when calls that wait were looked at last, and their own clock, which goes on by little where much time has passed since: then the process stood still.
     looked: u64,
     pace: u64,
 }
 
 impl Links {
-    /// One link to each server, without a connection.
+    /// One link to each server, without a connection. None of these servers is emptied.
     pub fn to(alloc: Global, servers: &Servers, settings: Settings) -> Result<Links, AllocError>
         ensures texts { IfOk result (λ links. texts_of links.all.items ≡ servers.now) }
         ensures down { IfOk result (λ links. AddsLines [] links.all.items) }
     {
         let mut links = Links::none(alloc, settings);
         links.add(servers)?;
+        links.flushes_new = settings.flushes_new;
         Ok(links)
     }
 
@@ -131,6 +137,7 @@ impl Links {
             with_output: Vec::new(alloc),
             late_from: None,
             has_news: false,
+            flushes_new: false,
             looked: 0,
             pace: 0,
         }
@@ -151,7 +158,7 @@ impl Links {
         self.pace
     }
 
-    /// Servers that have no link yet get one, without a connection.
+    /// Servers that have no link yet get one, without a connection. They are emptied before their first call, where that is set.
     pub fn add(&mut self, servers: &Servers) -> Result<(), AllocError>
         ensures texts { OnOk result (texts_of self.new.all.items ≡ texts_of self.old.all.items ++ drop (length self.old.all.items) servers.now) }
         ensures adds { AddsLines self.old.all.items self.new.all.items }
@@ -170,9 +177,27 @@ impl Links {
         ensures texts { OnOk result (texts_of self.new.all.items ≡ texts_of self.old.all.items ++ text.now ∷ []) }
         ensures adds { AddsLines self.old.all.items self.new.all.items }
     {
-        let link = Link::new(self.alloc, text.as_bytes())?;
+        let link = Link::new(self.alloc, text.as_bytes(), self.flushes_new)?;
         self.all.push(link)?;
         Ok(())
+    }
+
+    /// The server of this number is emptied before its first call.
+    pub fn empty_first(&mut self, at: usize)
+        ensures lines { lines_of self.new.all.items ≡ lines_of self.old.all.items }
+    {
+        if let Some(link) = self.all.get_mut(at) {
+            link.empty_first();
+        }
+    }
+
+    /// Calls of this server fail at once from now on, or they do no longer.
+    pub fn retire(&mut self, at: usize, is_retired: bool)
+        ensures lines { lines_of self.new.all.items ≡ lines_of self.old.all.items }
+    {
+        if let Some(link) = self.all.get_mut(at) {
+            link.retire(is_retired);
+        }
     }
 
     /// Whether so many calls are out: sent, or waiting to be sent.

@@ -160,6 +160,22 @@ impl<W: Wire> ProxyEnd<W> {
         Ok(generation)
     }
 
+    /// The server of this number is emptied, by `flush_all`, before its first call.
+    pub fn empty_first(&mut self, server: usize)
+        ensures core { self.new.core ≡ self.old.core }
+        ensures ends { Stay W.history self.old.sockets self.new.sockets }
+    {
+        self.sockets.links.empty_first(server);
+    }
+
+    /// Whether calls of this server fail at once: from now on they do, or they do no longer. Those that are out are still awaited.
+    pub fn retire(&mut self, server: usize, is_retired: bool)
+        ensures core { self.new.core ≡ self.old.core }
+        ensures ends { Stay W.history self.old.sockets self.new.sockets }
+    {
+        self.sockets.links.retire(server, is_retired);
+    }
+
     /// What happened to a server's link, and the server's number; of each server once a second at most, and of several things the
     /// last. It is asked after each turn until there is none.
     pub fn next_news(&mut self) -> Option<(usize, LinkNews)>

@@ -7,28 +7,28 @@ use Rattle.serve_proxy.proofs.Linking.{line_may_lose}
 use Rattle.serve_proxy.proofs.GivenUp.{foreign_goes, vain_goes}
 use Rattle.serve_proxy.proofs.answers.settle_line.Goals as goal
 
-pub returns-then-not-link : goal.returns-then-not-link
-returns-then-not-link c = record { goes = c.settle_after_late.ensures.goes; lost = c.settle_after_late.ensures.lost; ends = c.settle_after_late.ensures.ends }
+pub returns-then-is_none : goal.returns-then-is_none
+returns-then-is_none c = record { goes = c.settle_after_late.ensures.goes; lost = c.settle_after_late.ensures.lost; ends = c.settle_after_late.ensures.ends }
 
 pub returns-then-not-learn : goal.returns-then-not-learn
 returns-then-not-learn c = record {
-  goes = λ at h. foreign_goes (line_may_lose (line_learns c.args.link.now c.learn.new.self c.learn.result c.if-not-link.false c.learn.ensures));
-  lost = λ at h. line_may_lose (line_learns c.args.link.now c.learn.new.self c.learn.result c.if-not-link.false c.learn.ensures);
+  goes = λ at h. foreign_goes (line_may_lose (line_learns c.args.link.now c.learn.new.self c.learn.result c.learn.ensures));
+  lost = λ at h. line_may_lose (line_learns c.args.link.now c.learn.new.self c.learn.result c.learn.ensures);
   ends = λ j. refl;
 }
 
-pub returns-then-link : goal.returns-then-link
-returns-then-link c = record {
+pub returns-then-is_some : goal.returns-then-is_some
+returns-then-is_some c = record {
   goes = λ at h.
       vain_goes c.has_read.result c.vain.result c.vain.ensures c.has_read.ensures.failed
-      (line_then (line_learns c.args.link.now c.learn.new.self c.learn.result c.if-not-link.false c.learn.ensures) (line_keeps (λ d. untouched d h) (ap line_of c.has_read.ensures.rest)));
-  lost = λ at h. line_may_lose (line_then (line_learns c.args.link.now c.learn.new.self c.learn.result c.if-not-link.false c.learn.ensures) (line_keeps (λ d. untouched d h) (ap line_of c.has_read.ensures.rest)));
+      (line_then (line_learns c.args.link.now c.learn.new.self c.learn.result c.learn.ensures) (line_keeps (λ d. untouched d h) (ap line_of c.has_read.ensures.rest)));
+  lost = λ at h. line_may_lose (line_then (line_learns c.args.link.now c.learn.new.self c.learn.result c.learn.ensures) (line_keeps (λ d. untouched d h) (ap line_of c.has_read.ensures.rest)));
   ends = λ j. refl;
 }
 
 pub returns : goal.returns
 returns c = record {
-  goes = IfOk-weaker c.settle_after_late-2.result _ _ (λ cause goes at h. line_then (line_learns c.args.link.now c.learn.new.self c.learn.result c.if-not-link.false c.learn.ensures) (goes at h)) c.settle_after_late-2.ensures.goes;
-  lost = λ at h. line_then (line_learns c.args.link.now c.learn.new.self c.learn.result c.if-not-link.false c.learn.ensures) (c.settle_after_late-2.ensures.lost at h);
+  goes = IfOk-weaker c.settle_after_late-2.result _ _ (λ cause goes at h. line_then (line_learns c.args.link.now c.learn.new.self c.learn.result c.learn.ensures) (goes at h)) c.settle_after_late-2.ensures.goes;
+  lost = λ at h. line_then (line_learns c.args.link.now c.learn.new.self c.learn.result c.learn.ensures) (c.settle_after_late-2.ensures.lost at h);
   ends = c.settle_after_late-2.ensures.ends;
 }
