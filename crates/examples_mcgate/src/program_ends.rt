@@ -1,5 +1,6 @@
 //! The program from its arguments to its exit status. In tables `⏎` is a line end.
 
+use core_accepted::{Beginning, Beginnings};
 use examples_tables::tables::unfolded;
 use examples_tables::tellers::{Teller, halves, wrong};
 use fault_words::fault_in_words;
@@ -15,7 +16,7 @@ use mcgate_args::slots::SlotsChange;
 use mcgate_check::{Form, RunFault};
 use mcgate_replay::Judging;
 use route_json::Config;
-use serve_proxy::{Beginning, Beginnings, ServerDialect};
+use serve_links::ServerDialect;
 use std::alloc::{AllocError, Global};
 use std::io;
 use std::io::ErrorKind;

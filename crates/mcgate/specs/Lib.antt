@@ -3,3 +3,4 @@ pub mod Serves
 pub mod Judging
 pub mod Certified
 pub mod Remembers
+pub mod OverTcp

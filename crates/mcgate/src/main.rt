@@ -6,6 +6,7 @@ mod certified;
 mod descriptors;
 mod histories;
 mod lines;
+mod over_tcp;
 mod remembering;
 mod serve;
 mod serving;
@@ -28,7 +29,7 @@ use mcgate_args::bad_lines::{bad_line_of_events, bad_line_of_task};
 use mcgate_args::certifying::certify_input;
 use mcgate_args::details::{Details, name_of};
 use mcgate_args::ends::{
-    Stop, decline, end_of, read_configuration, run_events, run_input, run_keys, run_over_tcp,
+    Stop, decline, end_of, read_configuration, run_events, run_input, run_keys,
 };
 use mcgate_args::fleets::{FleetFile, FleetJob, run_fleet};
 use mcgate_args::input::text_noting;
@@ -39,6 +40,7 @@ use mcgate_args::serve_arguments::ServeJob;
 use mcgate_check::Form;
 use mcgate_check::status::{BAD_INPUT, DONE, REFUSED};
 use mcgate_replay::Judging;
+use over_tcp::run_over_tcp;
 use route_json::Config;
 use serve::{Judged, Servable, judge_text, look_up_only, serve_to_end};
 use serve_proxy::Beginnings;

@@ -9,8 +9,6 @@ use Rattle.mcgate_check.specs.Checking.{PrintsFault}
 use Rattle.mcgate_check.specs.Reporting.{Checks}
 use Rattle.script_text.specs.Script.{told}
 use Rattle.mcgate_replay.specs.Replay.{Replays, Overran, IsBrokenOff as IsCutShort}
-use Rattle.mcgate_loopback.specs.Running.{BreaksOff as LoopBreaksOff}
-use Rattle.mcgate_check.specs.declared.status.RunFault.TheVariants as runs
 use Rattle.mcgate_args.specs.declared.arguments.Task.{Task}
 use Rattle.mcgate_args.specs.declared.arguments.Task.TheVariants as tasks
 use Rattle.mcgate_args.specs.declared.input_text.reading.InputFault.{InputFault}
@@ -69,10 +67,6 @@ WritesNothing text old new = new ≡ old
 -- of where keys live some of the lines may have been written where memory was refused, and nothing is said of them
 abbrev pub SaysNothing : List ℕ → Option (List ℕ) → Option (List ℕ) → Type 0
 SaysNothing text old new = Unit {0}
-
--- a run over TCP that memory was refused for: nothing was written, or lines of what clients got
-abbrev pub LoopMemoryRefused : List ℕ → Option (List ℕ) → Option (List ℕ) → Type 0
-LoopMemoryRefused text old new = LoopBreaksOff old new runs.NoMemory
 
 -- what its call answers: a status, or that memory or the writer failed, or that there were too many calls
 pub record Answers (task : Task) (text : List ℕ) (old new : Option (List ℕ)) (answer : ℕ) : Type 0 where

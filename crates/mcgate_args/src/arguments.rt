@@ -15,10 +15,10 @@ use crate::serve_arguments::{SERVE_HELP, ServeJob, serve_command, serve_job};
 use crate::slots::arguments::{SLOTS_HELP, SlotsJob, slots_command, slots_job};
 use clap::error::ErrorKind;
 use clap::{Arg, ArgAction, ArgMatches, Command, Error};
+use core_accepted::Beginnings;
 use mc_types::{Key, KeyFault};
 use mcgate_check::Form;
 use mcgate_replay::Judging;
-use serve_proxy::Beginnings;
 use std::alloc::{AllocError, Global};
 use text_words::number::u32_number;
 

@@ -2,8 +2,8 @@
 
 use crate::arguments::ArgumentsFault;
 use clap::ArgMatches;
+use core_accepted::{Beginning, Beginnings};
 use mcgate_replay::Judging;
-use serve_proxy::{Beginning, Beginnings};
 
 // What the first servers held: anything where the word is `any` or left out.
 fn opened_of(word: Option<&str>) -> Result<Beginning, ArgumentsFault> {

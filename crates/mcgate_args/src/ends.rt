@@ -3,10 +3,9 @@
 ghost use Rattle.std.specs.Prelude.{◌≡◌, ◌≤◌, Ok, option_map};
 ghost use Rattle.script_text.specs.Script.{told_over};
 ghost use Rattle.std.specs.IoError.{error_kind};
-ghost use Rattle.mcgate_args.specs.Program.{Answers, Runs, AnswersInput, RunsBy, AnswersBy, NeverOverruns, SaysNothing, LoopMemoryRefused, Declines, GivesConfig, ReadsConfig};
+ghost use Rattle.mcgate_args.specs.Program.{Answers, Runs, AnswersInput, RunsBy, AnswersBy, NeverOverruns, SaysNothing, Declines, GivesConfig, ReadsConfig};
 ghost use Rattle.mcgate_replay.specs.Replay.{ReplaysOver, Overran, IsBrokenOff as IsCutShort};
 ghost use Rattle.mcgate_check.specs.Finding.{FindsKeys};
-ghost use Rattle.mcgate_loopback.specs.Running.{Runs as RunsOverTcp};
 ghost use Rattle.mcgate_args.specs.Stops.{stop_at, stop_by, stop_of, key_line, calls_line, Ends, end_of};
 
 use crate::arguments::{ArgumentsFault, Task};
@@ -16,14 +15,11 @@ use mcgate_check::checking::print_fault;
 use mcgate_check::key_places::run_where;
 use mcgate_check::status::{BAD_INPUT, NO_MEMORY, TOO_MANY_CALLS, WRITER};
 use mcgate_check::{RunFault, run_check};
-use mcgate_loopback::run_loopback;
 use mcgate_replay::{Judging, run_replay, run_replay_over};
 use route_json::{Config, read_config};
 use std::alloc::Global;
 use std::io;
 use std::io::{ErrorKind, Write};
-use std::net::Net;
-use std::rt::Clock;
 
 /// Why the program ends with a line on standard error.
 #[derive(Clone, Copy)]
@@ -135,7 +131,7 @@ pub fn end_of(ended: Result<u8, Stop>) -> End
 }
 
 /// What the answer of a run means for the program.
-pub(crate) fn ended(answer: u8) -> Result<u8, Stop>
+pub fn ended(answer: u8) -> Result<u8, Stop>
     requires { answer ≤ 5 }
     ensures { Ends answer result }
 {
@@ -279,31 +275,6 @@ pub fn run_events<W: Write>(
 {
     match input {
         Ok(text) => replay_events(alloc, judging, config, text.as_str(), out),
-        Err(fault) => decline(*fault, out),
-    }
-}
-
-fn loop_text<R: Net + Clock + AllocGlobal, W: Write>(
-    rt: &R,
-    text: &str,
-    out: &mut W,
-) -> Result<u8, Stop>
-    ensures { RunsBy RunsOverTcp LoopMemoryRefused NeverOverruns text.now (W.contents out.old) (W.contents out.new) result }
-{
-    ended(run_loopback(rt, text, out))
-}
-
-/// Runs the script of an input over TCP, or prints why it is no input. The answer and the faults are as those of [`run_input`]; a
-/// socket is a device.
-pub fn run_over_tcp<R: Net + Clock + AllocGlobal, W: Write>(
-    rt: &R,
-    input: &Result<String, InputFault>,
-    out: &mut W,
-) -> Result<u8, Stop>
-    ensures { AnswersBy RunsOverTcp LoopMemoryRefused NeverOverruns input.now (W.contents out.old) (W.contents out.new) result }
-{
-    match input {
-        Ok(text) => loop_text(rt, text.as_str(), out),
         Err(fault) => decline(*fault, out),
     }
 }

@@ -4,6 +4,7 @@ use crate::concern_lines::lines_of_concerns;
 use crate::details::Details;
 use crate::ends::{Stop, decline};
 use crate::input_text::InputFault;
+use core_accepted::Beginnings;
 use gate_check::ReloadFault;
 use gate_growth::ledger::{Beginning, Unsound};
 use gate_history::{
@@ -13,7 +14,6 @@ use mcgate_check::Form;
 use mcgate_check::reload_lines::write_kept;
 use mcgate_check::status::{BAD_INPUT, DONE, REFUSED};
 use route_json::{ConfigFault, Servers};
-use serve_proxy::Beginnings;
 use std::alloc::{AllocError, Global};
 use std::io;
 use std::io::Write;

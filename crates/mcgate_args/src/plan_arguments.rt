@@ -3,7 +3,7 @@
 use crate::arguments::{ArgumentsFault, Job, help_flag, option};
 use crate::beginning_arguments::begun_of;
 use clap::{Arg, ArgMatches, Command};
-use serve_proxy::Beginnings;
+use core_accepted::Beginnings;
 use std::alloc::{AllocError, Global};
 
 /// A change from one configuration to another.

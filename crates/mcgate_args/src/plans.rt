@@ -4,9 +4,9 @@ ghost use Rattle.std.specs.Prelude.{◌≡◌};
 ghost use Rattle.mcgate_args.specs.Planning.{Plans, status_of};
 
 use crate::ends::Stop;
+use core_accepted::Beginnings;
 use gate_plan::{Planned, write_plan_from};
 use mcgate_check::status::{BAD_INPUT, DONE, REFUSED};
-use serve_proxy::Beginnings;
 use std::alloc::Global;
 use std::io::Write;
 

@@ -3,7 +3,8 @@
 use crate::arguments::{ArgumentsFault, Job, count_of, help_flag, option, switch};
 use crate::beginning_arguments::{begun_of, flushes_new};
 use clap::{ArgMatches, Command};
-use serve_proxy::{Beginnings, ServerDialect, Settings};
+use core_accepted::Beginnings;
+use serve_links::{ServerDialect, Settings};
 use std::alloc::{AllocError, Global};
 
 /// What `mcgate serve` is to do.

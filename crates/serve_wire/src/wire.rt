@@ -42,6 +42,10 @@ pub trait Wire {
         ensures ok { OnOk result (history self.new ≡ admits conn client ∷ history self.old) }
         ensures err { OnErr result (history self.new ≡ history self.old) };
 
+    /// Nobody is accepted from now on, and who would connect is refused.
+    fn stop_accepting(&mut self)
+        ensures { history self.new ≡ history self.old };
+
     /// Looks up an address, which is where this text names a server from now on, so that connections to it can be begun without a wait.
     fn resolve<N: Net>(&mut self, net: &N, text: &[u8], address: &[u8]) -> io::Result<()>
         ensures { history self.new ≡ history self.old };

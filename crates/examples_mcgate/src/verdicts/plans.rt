@@ -1,11 +1,11 @@
 //! By which steps one configuration may follow another. In examples `⏎` is a line end.
 
+use core_accepted::{Beginning, Beginnings};
 use examples_tables::tables::{same, told, unfolded};
 use gate_history::History;
 use mcgate_args::concern_lines::lines_of_concerns;
 use mcgate_args::plans::run_plan;
 use route_json::read_config;
-use serve_proxy::{Beginning, Beginnings};
 use std::alloc::Global;
 use std::test::Fail;
 

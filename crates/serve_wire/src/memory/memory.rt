@@ -401,6 +401,10 @@ impl Wire for Memory {
         Ok(())
     }
 
+    fn stop_accepting(&mut self) {
+        self.callers.clear();
+    }
+
     fn resolve<N: Net>(&mut self, _net: &N, text: &[u8], _address: &[u8]) -> io::Result<()> {
         match host_at(&mut self.hosts, text) {
             Some(host) => {

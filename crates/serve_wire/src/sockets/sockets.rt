@@ -3,6 +3,7 @@
 ghost use Rattle.std.specs.Prelude.{◌≡◌, ◌≤◌, ◌<◌, ◌+◌, ◌*◌, ℕ, [], false, IfSome, IfOk, OnSome};
 ghost use Rattle.serve_wire.specs.Events.{IsNew, is_open};
 
+use crate::sockets::listener::{Listener, accept_at};
 use crate::sockets::open::{Address, Open, Owner};
 use crate::{Accepted, Connected, ReadOutcome, Ready, Record, Report, Wire, WriteOutcome};
 use bytes::BytesMut;
@@ -51,7 +52,8 @@ pub struct Sockets {
     poll: Poll,
     events: Events,
     reports: Vec<Report>,
-    listener: TcpListener,
+    // None once nobody is accepted any more.
+    listeners: Vec<Listener>,
     open: Slab<Open>,
     count: usize,
     addresses: Vec<Address>,
@@ -68,6 +70,13 @@ fn watch(poll: &Poll, socket: RawFd, token: usize) -> io::Result<()> {
         Token(token),
         Interest::READABLE | Interest::WRITABLE,
     )
+}
+
+fn watch_all(poll: &Poll, listeners: &[Listener]) -> io::Result<()> {
+    for listener in listeners {
+        watch(poll, listener.descriptor(), LISTENER)?;
+    }
+    Ok(())
 }
 
 fn watch_stream(poll: &Poll, stream: &TcpStream, token: usize) -> io::Result<()> {
@@ -211,17 +220,28 @@ impl Sockets {
     pub fn listen<R: Net + Clock + AllocGlobal>(rt: &R, listen: SocketAddr) -> io::Result<Sockets>
         ensures none { IfOk result (λ sockets. sockets.log.events ≡ []) }
     {
+        let mut listeners = Vec::new(rt.alloc());
+        listeners.push(Listener::Tcp(TcpListener::bind(rt, listen)?))?;
+        Sockets::listen_by(rt, listeners)
+    }
+
+    /// These listen, and nothing has happened. Peers of the earlier ones are accepted first.
+    pub fn listen_by<R: Net + Clock + AllocGlobal>(
+        rt: &R,
+        listeners: Vec<Listener>,
+    ) -> io::Result<Sockets>
+        ensures none { IfOk result (λ sockets. sockets.log.events ≡ []) }
+    {
         let alloc = rt.alloc();
         let start = Instant::now(rt)?;
         let poll = Poll::new(rt)?;
-        let listener = TcpListener::bind(rt, listen)?;
-        watch(&poll, listener.as_raw_fd(), LISTENER)?;
+        watch_all(&poll, listeners.as_slice())?;
         Ok(Sockets {
             alloc,
             poll,
             events: Events::with_capacity(alloc, EVENTS)?,
             reports: Vec::with_capacity(alloc, EVENTS)?,
-            listener,
+            listeners,
             open: Slab::new(alloc),
             count: 0,
             addresses: Vec::new(alloc),
@@ -231,9 +251,12 @@ impl Sockets {
         })
     }
 
-    /// Where it listens.
+    /// Where the first of what listens does. An error comes where that is a path, or nobody is accepted any more.
     pub fn local_addr(&self) -> io::Result<SocketAddr> {
-        self.listener.local_addr()
+        match self.listeners.first() {
+            Some(listener) => listener.local_addr(),
+            None => Err(io::Error::from(ErrorKind::NotConnected)),
+        }
     }
 
     /// From now on a wait also ends once this descriptor is readable, which only [`was_woken`](Sockets::was_woken) tells. An error comes where the
@@ -270,8 +293,8 @@ impl Wire for Sockets {
     }
 
     fn accept(&mut self) -> Accepted {
-        let stream = match self.listener.accept() {
-            Ok((stream, _)) => stream,
+        let stream = match accept_at(self.listeners.as_slice()) {
+            Ok(stream) => stream,
             Err(error) => {
                 return match error.kind() {
                     ErrorKind::Interrupted | ErrorKind::ConnectionAborted => Accepted::Gone,
@@ -304,10 +327,14 @@ impl Wire for Sockets {
         let Some(open) = open_at_mut(&mut self.open, self.count, conn) else {
             return Err(io::Error::from(ErrorKind::NotConnected));
         };
-        watch_stream(&self.poll, &open.stream, conn)?;
+        watch(&self.poll, open.stream.as_raw_fd(), conn)?;
         open.owner = Owner::Client(client);
         self.log.note(&[ADMITS, conn as u64, client as u64], &[]);
         Ok(())
+    }
+
+    fn stop_accepting(&mut self) {
+        self.listeners.clear();
     }
 
     fn resolve<N: Net>(&mut self, net: &N, text: &[u8], address: &[u8]) -> io::Result<()> {

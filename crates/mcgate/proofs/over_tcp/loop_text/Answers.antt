@@ -1,7 +1,8 @@
 use Rattle.mcgate_loopback.specs.Running.{Runs}
-use Rattle.mcgate_args.specs.Program.{NeverOverruns, LoopMemoryRefused}
+use Rattle.mcgate_args.specs.Program.{NeverOverruns}
+use Rattle.mcgate.specs.OverTcp.{LoopMemoryRefused}
 use Rattle.mcgate_args.proofs.StopLemmas.{ran, never}
-use Rattle.mcgate_args.proofs.ends.loop_text.Goals as goal
+use Rattle.mcgate.proofs.over_tcp.loop_text.Goals as goal
 
 pub returns : goal.returns
 returns g c =

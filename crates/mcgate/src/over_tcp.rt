@@ -1,0 +1,37 @@
+//! A script over TCP.
+
+ghost use Rattle.mcgate_args.specs.Program.{AnswersBy, NeverOverruns, RunsBy};
+ghost use Rattle.mcgate_loopback.specs.Running.{Runs as RunsOverTcp};
+ghost use Rattle.mcgate.specs.OverTcp.{LoopMemoryRefused};
+
+use mcgate_args::ends::{Stop, decline, ended};
+use mcgate_args::input_text::InputFault;
+use mcgate_loopback::run_loopback;
+use std::io::Write;
+use std::net::Net;
+use std::rt::Clock;
+
+fn loop_text<R: Net + Clock + AllocGlobal, W: Write>(
+    rt: &R,
+    text: &str,
+    out: &mut W,
+) -> Result<u8, Stop>
+    ensures { RunsBy RunsOverTcp LoopMemoryRefused NeverOverruns text.now (W.contents out.old) (W.contents out.new) result }
+{
+    ended(run_loopback(rt, text, out))
+}
+
+/// Runs the script of an input over TCP, or prints why it is no input. The answer and the faults are as those of
+/// [`mcgate_args::ends::run_input`]; a socket is a device.
+pub fn run_over_tcp<R: Net + Clock + AllocGlobal, W: Write>(
+    rt: &R,
+    input: &Result<String, InputFault>,
+    out: &mut W,
+) -> Result<u8, Stop>
+    ensures { AnswersBy RunsOverTcp LoopMemoryRefused NeverOverruns input.now (W.contents out.old) (W.contents out.new) result }
+{
+    match input {
+        Ok(text) => loop_text(rt, text.as_str(), out),
+        Err(fault) => decline(*fault, out),
+    }
+}
