@@ -4,6 +4,7 @@
 mod cache;
 mod certified;
 mod descriptors;
+mod emptying;
 mod histories;
 mod lines;
 mod over_tcp;

@@ -8,6 +8,7 @@ ghost use Rattle.serve_proxy.specs.LogsGoOn.{LogsAreFresh};
 ghost use Rattle.mcgate.specs.Serves.{SaysAfter, history_of, proxy_of, Serves, ServesTo, MayLoad, MayLoadText};
 ghost use Rattle.mcgate.specs.Remembers.{StandsIn, StandsIfLoaded};
 
+use crate::emptying::Emptying;
 use crate::lines::Lines;
 use crate::remembering::{Kept, Remembering, forget, remember};
 use crate::special::is_special;
@@ -88,6 +89,12 @@ pub struct Serving {
     seen: Seen,
     /// Who asks for numbers, where it listens for them.
     watching: Option<Watching>,
+    /// Servers that are to be emptied before their first call.
+    emptying: Option<Emptying>,
+    /// Whether those are that a reload brings.
+    flushes_new: bool,
+    /// Whether no server waits until those of earlier epochs at its address have no calls any more.
+    have_begun: bool,
 }
 
 // The text of a regular file. Of what is none the program doesn't wait for a text.
@@ -208,6 +215,9 @@ impl Serving {
             lines,
             seen: Seen::new(before.saturating_add(1)),
             watching,
+            emptying: None,
+            flushes_new: false,
+            have_begun: false,
         })
     }
 
@@ -301,14 +311,102 @@ impl Serving {
         ensures ends { ServesTo result self.old.end self.new.end }
     {
         self.end.bound_clients(job.stall_ms, job.memory);
+        self.begin_emptying(rt, job)?;
         for _ in 0..job.turns.map_or(u64::MAX, u64::from) {
+            self.keep_epochs();
             self.turn(rt, job)?;
             self.tell_news(rt);
+            self.settle_emptying(rt);
             self.look_if_due(rt, job)?;
             self.turn_watching(rt);
         }
         self.end.end_turns()?;
         Ok(DONE)
+    }
+
+    // Those of whom the run before didn't know it are emptied before their first call.
+    fn begin_emptying<R: Files + Input + AllocGlobal>(
+        &mut self,
+        rt: &R,
+        job: &ServeJob<'_>,
+    ) -> Result<(), Stop>
+        ensures core { self.new.end.core ≡ self.old.end.core }
+        ensures ends { Stay history_of self.old.end.sockets self.new.end.sockets }
+    {
+        let emptying = Emptying::read(rt, job.history)?;
+        let mut from = 0usize;
+        for _ in 0..self.servers.len() {
+            let Some(at) = emptying.next(&self.servers, from) else {
+                break;
+            };
+            self.end.empty_first(at);
+            from = at.saturating_add(1);
+        }
+        self.emptying = Some(emptying);
+        self.flushes_new = job.settings.flushes_new;
+        Ok(())
+    }
+
+    // What was emptied is noted. Where that can't be written, it may be emptied once more by the next run.
+    fn settle_emptying<R: Files + AllocGlobal>(&mut self, rt: &R)
+        ensures { self.new.end ≡ self.old.end }
+    {
+        if let Some(emptying) = &mut self.emptying {
+            let _ = emptying.settle(rt, &self.end, &self.servers);
+        }
+    }
+
+    // The new servers of a text are to be emptied, if it says a configuration, where that is so of all that a reload brings: it is written before they are used.
+    fn note_new<R: Files + AllocGlobal>(&mut self, rt: &R, text: &str) -> io::Result<()>
+        ensures end { self.new.end ≡ self.old.end }
+        ensures memory { self.new.memory ≡ self.old.memory }
+        ensures servers { self.new.servers ≡ self.old.servers }
+    {
+        if !self.flushes_new {
+            return Ok(());
+        }
+        let Some(emptying) = &mut self.emptying else {
+            return Ok(());
+        };
+        match read_after(rt.alloc(), &self.servers, text) {
+            Ok((_, servers)) => emptying.add(rt, &servers, self.servers.len()),
+            Err(_) => Ok(()),
+        }
+    }
+
+    // The same. Where it can't be written that is told and printed: whether it was.
+    fn has_noted_new<R: Files + AllocGlobal + Eprint, W: Write>(
+        &mut self,
+        rt: &R,
+        text: &str,
+        out: &mut W,
+    ) -> Result<bool, Stop>
+        ensures end { self.new.end ≡ self.old.end }
+        ensures memory { self.new.memory ≡ self.old.memory }
+        ensures servers { self.new.servers ≡ self.old.servers }
+    {
+        match self.note_new(rt, text) {
+            Ok(()) => Ok(true),
+            Err(error) if error.kind() == ErrorKind::OutOfMemory => Err(Stop::Memory),
+            Err(error) => {
+                let line = format_args!(
+                    "mcgate: cannot write which servers are to be emptied: {error}"
+                );
+                self.lines.tell(rt, line);
+                writeln!(out, "reload refused: history not written")?;
+                Ok(false)
+            }
+        }
+    }
+
+    // Calls go to each server while its epoch lasts.
+    fn keep_epochs(&mut self)
+        ensures core { self.new.end.core ≡ self.old.end.core }
+        ensures ends { Stay history_of self.old.end.sockets self.new.end.sockets }
+    {
+        if !self.have_begun {
+            self.have_begun = self.end.keep_epochs(&self.servers);
+        }
     }
 
     fn millis<R: Clock>(&self, rt: &R) -> io::Result<u64> {
@@ -513,6 +611,9 @@ impl Serving {
         ensures ends { Serves self.old.end self.new.end }
         ensures remembered { StandsIfLoaded self.old.end.core.value self.new.end.core.value self.new.memory text.now }
     {
+        if !self.has_noted_new(rt, text, out)? {
+            return Ok(false);
+        }
         match remember(rt, &mut self.lines, &mut self.memory, text, out)? {
             Remembering::Refused => Ok(false),
             Remembering::Stands(old) => self.load_remembered(rt, any, text, old, out),
@@ -622,6 +723,7 @@ impl Serving {
         match self.end.load(config, &servers) {
             Ok(generation) => {
                 self.servers = servers;
+                self.have_begun = false;
                 self.generation = generation;
                 print_loaded(any, generation.saturating_add(self.before), out)?;
                 Ok(true)

@@ -1,6 +1,6 @@
 -- Reading a configuration after servers that are known: these stand first in its own.
 use Rattle.std.proofs.Common.{◌≡◌, ℕ, ◌+◌, ◌≤◌, ◌==◌, nat_lt, List, [], ◌∷◌, ◌++◌, length, Option, Some, None, Result, Ok, Err, refl, sym, ap, ◌∙◌, arith, inl, inr, append_assoc, length-append, codes}
-use Rattle.std.specs.Prelude.{position}
+use Rattle.std.specs.Prelude.{position, if◌then◌else◌}
 use Rattle.std.specs.Str.{bytes_eq}
 use Rattle.std.proofs.lemmas.Bool.{cases_Bool}
 use Rattle.std.proofs.lemmas.List.{append-nil}
@@ -8,10 +8,11 @@ use Rattle.serde_json.specs.Data.{Data, null, boolean, number, string, array, ob
 use Rattle.serde_json.specs.Find.{get}
 use Rattle.route_json.specs.declared.names.holders.Holder.TheVariants as holders
 use Rattle.route_json.specs.ServerTexts.{server_in}
+use Rattle.route_json.specs.ServerNames.{have_epochs}
 use Rattle.route_json.specs.Fault.{Fault}
 use Rattle.route_json.specs.Fields.{only, value_or, list_or, object_or}
 use Rattle.route_json.specs.Servers.{Addresses, numbered_at, numbered, server_or}
-use Rattle.route_json.specs.Pools.{server_of, few_slots, servers_in, pool_list, slots_or, pool_object, pool_of, pools_in}
+use Rattle.route_json.specs.Pools.{server_of, few_slots, servers_in, pool_list, slots_or, pool_object, pool_of, pools_in, Pools, in_epochs, none_over, first_over_in}
 use Rattle.route_json.specs.Reading.{Reading, then_read, ◌>>=◌, pure, each, named, members, values}
 use Rattle.route_json.specs.Configs.{tree_of, object_after, config_after, read_after}
 
@@ -105,12 +106,16 @@ pool_adds name (array ds) = λ known. tt
 pools_add : (ms : Members) → Adds (pools_in ms)
 pools_add ms = each_adds (named Ok pool_of) (λ m. λ known. then_adds (pool_of m.0 m.1) _ (pool_adds m.0 m.1) (λ a. same) known) (members ms)
 
+epochs_add : (pools : Pools) → Adds (in_epochs pools)
+epochs_add pools = λ known. pure_adds (if have_epochs known then none_over (first_over_in known pools) else Ok tt) known
+
 object_adds : (d : Data) → Adds (object_after d)
 object_adds d = then_adds (pure (only holders.Config d)) _ (pure_adds _) (λ u.
     then_adds (pure (value_or (codes "pools") (get (codes "pools") d))) _ (pure_adds _) (λ p.
     then_adds (pure (value_or (codes "route") (get (codes "route") d))) _ (pure_adds _) (λ root.
     then_adds (pure (object_or (codes "pools") (get (codes "pools") d))) _ (pure_adds _) (λ ms.
-    then_adds (pools_in ms) _ (pools_add ms) (λ pools. pure_adds (tree_of pools root))))))
+    then_adds (pools_in ms) _ (pools_add ms) (λ pools.
+    then_adds (in_epochs pools) _ (epochs_add pools) (λ v. pure_adds (tree_of pools root)))))))
 
 config_adds : (d : Data) → Adds (config_after d)
 config_adds (object ms) = object_adds (object ms)

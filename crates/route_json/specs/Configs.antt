@@ -8,7 +8,7 @@ use Rattle.route_tree.specs.Route.{Route}
 use Rattle.route_json.specs.declared.names.holders.Holder.TheVariants as holders
 use Rattle.route_json.specs.Fault.{Fault, NotJson}
 use Rattle.route_json.specs.Fields.{only, value_or, object_or}
-use Rattle.route_json.specs.Pools.{Pools, pools_in}
+use Rattle.route_json.specs.Pools.{Pools, in_epochs, pools_in}
 use Rattle.route_json.specs.Reading.{Reading, ◌>>=◌, fail, pure, result_of}
 use Rattle.route_json.specs.Routes.{route}
 use Rattle.route_json.specs.Servers.{Addresses}
@@ -25,6 +25,7 @@ object_after d = do
   root ← pure (value_or (codes "route") (get (codes "route") d))
   ms ← pure (object_or (codes "pools") (get (codes "pools") d))
   pools ← pools_in ms
+  _ ← in_epochs pools
   pure (tree_of pools root)
 
 -- the tree of a value, and the servers after these

@@ -10,10 +10,11 @@ use Rattle.route_json.specs.declared.names.holders.Holder.TheVariants as holders
 use Rattle.route_json.specs.declared.pools.NamedPool.{NamedPool}
 use Rattle.route_json.specs.declared.pools.Pool.{Pool}
 use Rattle.route_json.specs.declared.pools.WeightedServer.{WeightedServer}
-use Rattle.route_json.specs.Fault.{Fault, BadField, EmptyPool, TooManyServers, TooManySlots}
+use Rattle.route_json.specs.Fault.{Fault, BadAddress, BadField, EmptyPool, TooManyServers, TooManySlots}
 use Rattle.route_json.specs.Fields.{only, list_or}
 use Rattle.route_json.specs.Reading.{Reading, ◌>>=◌, give, fail, pure, result_of, each, values, members, named}
 use Rattle.route_json.specs.Servers.{Addresses, server_of_text}
+use Rattle.route_json.specs.ServerNames.{have_epochs, is_over}
 
 -- a pool's servers, one for each text, and the server of each of its slots
 pub record Slotted : Type 0 where
@@ -137,3 +138,27 @@ pool_of name _ = fail (BadField name)
 -- all pools, in byte order of their names
 abbrev pub pools_in : Members → Reading Addresses Pools
 pools_in ms = each (named Ok pool_of) (members ms)
+
+-- the name of the first of these servers whose epoch is over
+abbrev pub first_over : Addresses → List WeightedServer → Option (List ℕ)
+first_over names [] = None
+first_over names (s ∷ servers) = if is_over names s.server then slice_get names s.server else first_over names servers
+
+-- the first, or the first of other pools
+abbrev pub or_over : Option (List ℕ) → Option (List ℕ) → Option (List ℕ)
+or_over (Some name) others = Some name
+or_over None others = others
+
+-- the same of all pools
+abbrev pub first_over_in : Addresses → Pools → Option (List ℕ)
+first_over_in names [] = None
+first_over_in names (p ∷ pools) = or_over (first_over names p.1.servers) (first_over_in names pools)
+
+-- an epoch that is over doesn't come back
+abbrev pub none_over : Option (List ℕ) → Result (Unit {0}) Fault
+none_over None = Ok tt
+none_over (Some name) = Err (BadAddress name)
+
+-- where servers have epochs, none of those that pools name is over
+abbrev pub in_epochs : Pools → Reading Addresses (Unit {0})
+in_epochs pools known = pure (if have_epochs known then none_over (first_over_in known pools) else Ok tt) known

@@ -35,3 +35,16 @@ is_over_at (Some name) later = is_named (address_in name) later
 -- the epoch of the server of this number is over: one of a later number has its address
 abbrev pub is_over : Addresses → ℕ → Bool
 is_over names n = is_over_at (slice_get names n) (drop (n + 1) names)
+
+-- an epoch stands behind the last `#`, where there is one
+abbrev pub has_epoch_in : Option (List ℕ × List ℕ) → Bool
+has_epoch_in None = false
+has_epoch_in (Some p) = is_epoch p.1
+
+-- the name has an epoch
+abbrev pub has_epoch : List ℕ → Bool
+has_epoch name = has_epoch_in (around 35 name)
+
+-- one of these names has an epoch
+abbrev pub have_epochs : Addresses → Bool
+have_epochs names = list_any has_epoch names

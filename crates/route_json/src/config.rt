@@ -78,7 +78,8 @@ impl Config {
 
 /// The configuration that a JSON text means, or its first fault.
 ///
-/// Unknown fields are met before missing ones, pools in byte order of their names, and routes from the root down.
+/// Unknown fields are met before missing ones, pools in byte order of their names, and routes from the root down. An epoch of a
+/// server that is over is met after all pools.
 /// `NoMemory` is running out of memory, and nothing else is said then.
 pub fn read_config(alloc: Global, text: &str) -> Result<Config, ConfigFault>
     ensures { Gives (λ config. (config.tree, config.servers)) result (read_or (read text.now)) }
@@ -124,6 +125,7 @@ fn object_after(alloc: Global, servers: Servers, value: &Value) -> Result<Config
     let root = value_field(alloc, "route", value)?;
     let map = object_field(alloc, "pools", value)?;
     let pools = Pools::read(alloc, servers, map)?;
+    pools.keep_epochs(alloc)?;
     let mut count = RouteCount { routes: 0 };
     let place = RoutePlace {
         levels: DEPTH_LIMIT,

@@ -18,7 +18,7 @@ pub enum ConfigFault {
     NotJson,
     /// A field that is missing, of the wrong kind, out of range or not known, or the name of no operation.
     BadField(String),
-    /// A server's text is no address.
+    /// A server's text says no server, or one whose epoch is over.
     BadAddress(String),
     /// The pool has no servers.
     EmptyPool(String),

@@ -3,7 +3,7 @@
 ghost use Rattle.std.specs.Prelude.{◌≡◌, ◌++◌, ℕ, ◌<◌, ◌≤◌, IfOk, IfSome, length, option_map, replicate};
 ghost use Rattle.serde_json.specs.View.{view, items_view, members_view};
 ghost use Rattle.route_json.specs.Fault.{Gives};
-ghost use Rattle.route_json.specs.Pools.{pools_of, slotted, slots_of, AreWeighted, IsServerList, IsPool, ArePools, pool_named, server_of, few_slots, servers_in, pool_list, pool_object, pool_of, pools_in};
+ghost use Rattle.route_json.specs.Pools.{pools_of, slotted, slots_of, AreWeighted, IsServerList, IsPool, ArePools, pool_named, server_of, few_slots, first_over, first_over_in, in_epochs, servers_in, pool_list, pool_object, pool_of, pools_in};
 ghost use Rattle.route_json.specs.Reading.{each, values};
 
 use crate::addresses::Servers;
@@ -88,6 +88,19 @@ impl Pools {
         find(&self.list, name)
     }
 
+    /// `BadAddress`, with its name, where a pool names a server whose epoch is over: a later one has its address.
+    pub fn keep_epochs(&self, alloc: Global) -> Result<(), ConfigFault>
+        ensures { Gives (λ u. (u, self.now.1)) result (in_epochs self.now.0 self.now.1) }
+    {
+        if !self.servers.have_epochs() {
+            return Ok(());
+        }
+        match first_over_in(&self.servers, &self.list) {
+            None => Ok(()),
+            Some(name) => Err(ConfigFault::BadAddress(String::from_str(alloc, name)?)),
+        }
+    }
+
     /// The servers of all pools.
     pub fn into_servers(self) -> Servers
         ensures { result ≡ self.1 }
@@ -141,6 +154,30 @@ fn find<'a>(list: &'a [NamedPool], name: &str) -> Option<&'a Pool>
                 find(rest, name)
             }
         }
+    }
+}
+
+// The name of the first of these servers whose epoch is over.
+fn first_over<'a>(names: &'a Servers, servers: &[WeightedServer]) -> Option<&'a str>
+    ensures { option_map (λ name. name.now) result ≡ first_over names.now servers.now }
+{
+    for server in servers {
+        if names.is_over(server.server) {
+            return names.get(server.server);
+        }
+    }
+    None
+}
+
+fn first_over_in<'a>(names: &'a Servers, list: &[NamedPool]) -> Option<&'a str>
+    ensures { option_map (λ name. name.now) result ≡ first_over_in names.now (pools_of list.now) }
+{
+    match list {
+        [] => None,
+        [named, rest @ ..] => match first_over(names, &named.pool.servers) {
+            Some(name) => Some(name),
+            None => first_over_in(names, rest),
+        },
     }
 }
 

@@ -8,7 +8,7 @@ ghost use Rattle.serve_links.specs.Story.{line_of, texts_of};
 ghost use Rattle.serve_proxy.specs.Ends.{lines_of, LinksTake, LinksGive, LineStands, LineTakes, IsOpenAt, AsksIn, EndsGo, AddsLines};
 
 use crate::clock::earlier;
-use crate::texts::text_at;
+use crate::texts::{is_over, share_address, text_at};
 use mc_types::{Ask, Dialect};
 use route_json::addresses::Servers;
 use serve_links::calls::SentCall;
@@ -191,13 +191,57 @@ impl Links {
         }
     }
 
-    /// Calls of this server fail at once from now on, or they do no longer.
-    pub fn retire(&mut self, at: usize, is_retired: bool)
+    // Calls of this server fail at once from now on, or they do no longer.
+    fn retire(&mut self, at: usize, is_retired: bool)
         ensures lines { lines_of self.new.all.items ≡ lines_of self.old.all.items }
     {
         if let Some(link) = self.all.get_mut(at) {
             link.retire(is_retired);
         }
+    }
+
+    // Whether no call is out at this server or waits for it, and none is late there.
+    fn is_quiet(&self, at: usize) -> bool {
+        match self.all.get(at) {
+            Some(link) => link.is_quiet(),
+            None => true,
+        }
+    }
+
+    // Whether earlier servers at the address of this one have no calls any more.
+    fn have_ended(&self, servers: &Servers, at: usize) -> bool {
+        for earlier in 0..at {
+            if share_address(servers, earlier, at) && !self.is_quiet(earlier) {
+                return false;
+            }
+        }
+        true
+    }
+
+    // Calls of this server go out where no later one has its address, and earlier ones there have no calls any more; others' fail at once. Whether that is so, or a later one
+    // has it.
+    fn keep_epoch(&mut self, servers: &Servers, at: usize) -> bool
+        ensures lines { lines_of self.new.all.items ≡ lines_of self.old.all.items }
+    {
+        let is_over = is_over(servers, at);
+        let has_begun = self.have_ended(servers, at);
+        self.retire(at, is_over || !has_begun);
+        is_over || has_begun
+    }
+
+    /// Where servers have epochs: calls go to each while no later one has its address, once earlier ones there have no calls any more; all others fail at once. Whether none is
+    /// waited for.
+    pub fn keep_epochs(&mut self, servers: &Servers) -> bool
+        ensures lines { lines_of self.new.all.items ≡ lines_of self.old.all.items }
+    {
+        if !servers.have_epochs() {
+            return true;
+        }
+        let mut have_begun = true;
+        for at in 0..servers.len() {
+            have_begun = self.keep_epoch(servers, at) && have_begun;
+        }
+        have_begun
     }
 
     /// Whether so many calls are out: sent, or waiting to be sent.

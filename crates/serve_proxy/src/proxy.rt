@@ -168,12 +168,13 @@ impl<W: Wire> ProxyEnd<W> {
         self.sockets.links.empty_first(server);
     }
 
-    /// Whether calls of this server fail at once: from now on they do, or they do no longer. Those that are out are still awaited.
-    pub fn retire(&mut self, server: usize, is_retired: bool)
+    /// Where servers have epochs: calls go to a server while no later one has its address, and once the earlier ones there have no calls any more; all others fail at once.
+    /// Whether none is waited for. It is asked after a load, and after each turn until it says so.
+    pub fn keep_epochs(&mut self, servers: &Servers) -> bool
         ensures core { self.new.core ≡ self.old.core }
         ensures ends { Stay W.history self.old.sockets self.new.sockets }
     {
-        self.sockets.links.retire(server, is_retired);
+        self.sockets.links.keep_epochs(servers)
     }
 
     /// What happened to a server's link, and the server's number; of each server once a second at most, and of several things the

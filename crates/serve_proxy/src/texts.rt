@@ -3,7 +3,7 @@
 ghost use Rattle.std.specs.Prelude.{◌≡◌, Some, None, IfSome, slice_get};
 
 use mc_types::ServerId;
-use route_json::addresses::Servers;
+use route_json::addresses::{Servers, address_in};
 
 /// The text of the server of this number, if there is one.
 pub fn text_at(servers: &Servers, at: usize) -> Option<&str>
@@ -14,4 +14,20 @@ pub fn text_at(servers: &Servers, at: usize) -> Option<&str>
         return None;
     }
     servers.get(ServerId::new(at as u32))
+}
+
+/// Whether the epoch of the server of this number is over.
+pub fn is_over(servers: &Servers, at: usize) -> bool {
+    if at >= servers.len() {
+        return false;
+    }
+    servers.is_over(ServerId::new(at as u32))
+}
+
+/// Whether two servers have one address.
+pub fn share_address(servers: &Servers, one: usize, other: usize) -> bool {
+    match (text_at(servers, one), text_at(servers, other)) {
+        (Some(one), Some(other)) => address_in(one) == address_in(other),
+        _ => false,
+    }
 }

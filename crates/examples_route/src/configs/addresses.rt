@@ -2,7 +2,7 @@
 
 use examples_tables::tellers::{Teller, halves, wrong};
 use mc_types::ServerId;
-use route_json::addresses::{Servers, is_address, read_server};
+use route_json::addresses::{Servers, address_in, is_address, read_server};
 use std::alloc::{AllocError, Global};
 use std::test::Fail;
 
@@ -53,7 +53,19 @@ a::1 => None
 [a:1]:5 => None
 ::1 => Some(("::1", 1))
 :1:2 => Some((":1:2", 1))
-1:2:3:4 => Some(("1:2:3:4", 1))"#
+1:2:3:4 => Some(("1:2:3:4", 1))
+h:1#2 => Some(("h:1#2", 1))
+h:1#2:3 => Some(("h:1#2", 3))
+[::1]:5001#7 => Some(("[::1]:5001#7", 1))
+h#2:1 => Some(("h#2:1", 1))
+h:1#999999999 => Some(("h:1#999999999", 1))
+h:1#1000000000 => None
+h:1:3#2 => None
+h:1#0 => None
+h:1#02 => None
+h:1# => None
+h:1#2#3 => None
+h#2 => None"#
 }
 
 struct OfWeights;
@@ -61,6 +73,23 @@ struct OfWeights;
 impl Teller for OfWeights {
     fn told(alloc: Global, text: &str) -> Result<String, AllocError> {
         format!(in alloc; "{:?}", read_server(text))
+    }
+}
+
+// Names, and the address in each.
+fn names() -> &'static str {
+    "h:1 => h:1
+h:1#2 => h:1
+h:1#02 => h:1#02
+h#2:1 => h#2:1
+h:1#2#3 => h:1#2"
+}
+
+struct OfNames;
+
+impl Teller for OfNames {
+    fn told(alloc: Global, text: &str) -> Result<String, AllocError> {
+        String::from_str(alloc, address_in(text))
     }
 }
 
@@ -78,7 +107,7 @@ impl Teller for OfLongWeights {
     }
 }
 
-// A new set, and one of two addresses, in this order: `b:1` and `a:1`.
+// A new set, and one of two addresses, in this order: `b:1` and `a:1`; of epochs: `b:1#2`, `a:1` and `b:1#3`.
 fn numbers() -> &'static str {
     r#"new => empty
 length => 2
@@ -86,7 +115,20 @@ get 0 => Some("b:1")
 get 1 => Some("a:1")
 get 2 => None
 find a:1 => Some(1)
-find c:1 => None"#
+find c:1 => None
+epochs => true
+over 0 => true
+over 1 => false
+over 2 => false
+over 3 => false"#
+}
+
+fn of_epochs(alloc: Global) -> Result<Servers, AllocError> {
+    let mut servers = Servers::new(alloc);
+    servers.push(alloc, "b:1#2")?;
+    servers.push(alloc, "a:1")?;
+    servers.push(alloc, "b:1#3")?;
+    Ok(servers)
 }
 
 fn two(alloc: Global) -> Result<Servers, AllocError> {
@@ -114,6 +156,13 @@ fn told_of(alloc: Global, servers: &Servers, example: &str) -> Result<String, Al
     match question {
         "new" => emptiness(&Servers::new(alloc)).to_string(alloc),
         "length" => servers.len().to_string(alloc),
+        "epochs" => of_epochs(alloc)?.have_epochs().to_string(alloc),
+        "over" => {
+            let number = text.parse::<u32>().unwrap_or(9);
+            of_epochs(alloc)?
+                .is_over(ServerId::new(number))
+                .to_string(alloc)
+        }
         "get" => {
             let number = text.parse::<u32>().unwrap_or(9);
             format!(in alloc; "{:?}", servers.get(ServerId::new(number)))
@@ -138,6 +187,7 @@ fn weight_texts(rt: HostRuntime) -> Result<(), Fail> {
         wrong::<OfLongWeights>(rt.alloc(), long_weights())?.as_str(),
         ""
     );
+    assert_eq!(rt; wrong::<OfNames>(rt.alloc(), names())?.as_str(), "");
     Ok(())
 }
 

@@ -3,7 +3,7 @@
 ghost use Rattle.std.specs.Prelude.{◌≡◌, option_map};
 ghost use Rattle.route_json.specs.NumberedServers.{texts};
 ghost use Rattle.route_json.specs.Addresses.{around};
-ghost use Rattle.route_json.specs.ServerNames.{address_in, is_epoch, is_named, is_server_name};
+ghost use Rattle.route_json.specs.ServerNames.{address_in, has_epoch, have_epochs, is_epoch, is_named, is_server_name};
 
 use crate::addresses::address::is_address;
 use text_words::number::u32_number;
@@ -49,6 +49,28 @@ pub(crate) fn is_named(address: &str, names: &[String]) -> bool
 {
     for name in names {
         if address == address_in(name.as_str()) {
+            return true;
+        }
+    }
+    false
+}
+
+// Whether the name has an epoch.
+fn has_epoch(name: &str) -> bool
+    ensures { result ≡ has_epoch name.now }
+{
+    match around_epoch(name) {
+        Some((_, epoch)) => is_epoch(epoch),
+        None => false,
+    }
+}
+
+/// Whether one of these names has one.
+pub(crate) fn are_some_in_epochs(names: &[String]) -> bool
+    ensures { result ≡ have_epochs (texts names.now) }
+{
+    for name in names {
+        if has_epoch(name.as_str()) {
             return true;
         }
     }

@@ -4,9 +4,9 @@ ghost use Rattle.std.specs.Prelude.{◌≡◌, ◌<◌, [], ◌∷◌, ◌++◌,
 ghost use Rattle.std.specs.List.{list_any};
 ghost use Rattle.std.specs.Str.{bytes_eq};
 ghost use Rattle.route_json.specs.NumberedServers.{AreServers};
-ghost use Rattle.route_json.specs.ServerNames.{is_over};
+ghost use Rattle.route_json.specs.ServerNames.{have_epochs, is_over};
 
-use crate::addresses::name::{address_in, is_named};
+use crate::addresses::name::{address_in, are_some_in_epochs, is_named};
 use indexmap::IndexSet;
 use mc_types::ServerId;
 use std::alloc::{AllocError, Global};
@@ -64,6 +64,13 @@ impl Servers {
         self.set
             .get_index(server.number() as usize)
             .map(|text| text.as_str())
+    }
+
+    /// Whether one of them has an epoch.
+    pub fn have_epochs(&self) -> bool
+        ensures { result ≡ have_epochs self.now }
+    {
+        are_some_in_epochs(self.set.as_slice())
     }
 
     /// Whether the epoch of a server is over: a server of a later number has its address.
