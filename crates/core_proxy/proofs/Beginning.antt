@@ -293,4 +293,5 @@ module _ (old new : Core) (client : ℕ) (x y : Client) (part : Part dialect) (p
           };
         }),
         r.limits,
+        λ s. refl,
       )

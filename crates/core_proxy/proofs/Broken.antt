@@ -3,9 +3,9 @@ use Rattle.std.proofs.Common.{◌≡◌, ℕ, ◌<◌, Bool, true, false, cond, 
 use Rattle.std.proofs.lemmas.Bool.{eqb-true, eq-eqb}
 use Rattle.mc_types.specs.declared.answer.Answer.{Answer}
 use Rattle.mc_types.specs.declared.call.Outcome.{Outcome}
-use Rattle.fresh_runs.specs.Run.{Call, End}
+use Rattle.fresh_runs.specs.Run.{Call, End, Never}
 use Rattle.fresh_runs.specs.Overlap as log
-use Rattle.fresh_runs.specs.Overlap.{Entry, Slot, Happens, ticket_in, out_after}
+use Rattle.fresh_runs.specs.Overlap.{Entry, Slot, Ticket, Happens, ticket_in, out_after}
 use Rattle.fresh_runs.specs.OverlapState.{Leads, Either}
 use Rattle.fresh_runs.proofs.OverlapSteps.{walks_lead, leads_on}
 use Rattle.route_tree.specs.At.{tree_at}
@@ -17,14 +17,15 @@ use Rattle.core_client.specs.ClientState.{dialect, front_by, output_by, dropped_
 use Rattle.core_proxy.specs.CoreState.{bars_of, client_at, command_at, Beside, owner_by, MayComeOf, state_of, AreSlots, IsWaitedFor, IsQueue, IsHeld, IsOnItsWay, ticket_by, Fits, GoesBy}
 use Rattle.core_proxy.specs.Steps.{event_of, settled, Resolves}
 use Rattle.core_proxy.specs.Ending.{Drops}
-use Rattle.core_proxy.specs.Settles.{SettlesBy, DropsBy, TakesOut}
+use Rattle.core_proxy.specs.OutSince.{out_since}
+use Rattle.core_proxy.specs.Settles.{SettlesBy, StandsWithout, freed, DropsBy, TakesOut}
 use Rattle.core_proxy.proofs.Came.{Came, none_then, other_then, single_then, below, unseen_then, has_result}
 use Rattle.core_proxy.proofs.Chains.{Then, beside_on, leads_there}
 use Rattle.core_proxy.proofs.Clients.{on_its_way_kept, by_client}
 use Rattle.core_commands.proofs.Commands.{no_command}
 use Rattle.core_proxy.proofs.Commands.{by_number}
 use Rattle.core_proxy.proofs.Ending.{front_same, none_owned}
-use Rattle.core_proxy.proofs.Settling.{settles}
+use Rattle.core_proxy.proofs.Settling.{settles, still_stands}
 use Rattle.core_proxy.proofs.Slots.{held_then}
 use Rattle.core_proxy.proofs.Tickets.{contrary}
 
@@ -33,6 +34,24 @@ pub settles_alone : (old new : Core) (number : ℕ) (a b : Command) (outcome : O
 settles_alone old new number a b outcome r = λ beside end fits is ends.
     let s = settles old new number a b outcome r beside end fits is ends in
     (settled (event_of number a end) beside, [], s.0, record { at = refl; holds = refl; found = refl; turn = refl }, refl, s.1, r.limits)
+
+-- and what could stand beside the core can without that call
+pub stands_alone : (old new : Core) (number : ℕ) (a b : Command) (outcome : Outcome) → Resolves old new number a b outcome → StandsWithout old number a new
+stands_alone old new number a b outcome r = λ beside fits. (settled (event_of number a Never) beside, still_stands old new number a b outcome r beside Never fits, λ s. refl)
+
+-- and then more comes that tells of no call
+pub stands_then :
+    (old mid new : Core) (number : ℕ) (a : Command) (IsMore : List (Entry dialect) → Type 0) → StandsWithout old number a mid → GoesBy mid IsMore new
+    → ((entries : List (Entry dialect)) → IsMore entries → (out : ℕ → List Ticket) (s : ℕ) → out_since entries out s ≡ out s) → StandsWithout old number a new
+stands_then old mid new number a IsMore w g none = λ beside fits.
+    let x = w beside fits in
+    let y = g x.0 x.1 in
+    (y.0, y.2, λ s. y.7 s ∙ none y.1 y.4 x.0.out s ∙ x.2 s)
+
+-- commands that are broken off have no call out
+pub none_freed : (numbers : List ℕ) (out : ℕ → List Ticket) (s : ℕ) → out_since (freed numbers) out s ≡ out s
+none_freed [] out s = refl
+none_freed (n ∷ numbers) out s = none_freed numbers out s
 
 -- a call is settled, and then more comes
 pub settles_then : (old mid new : Core) (number : ℕ) (a : Command) (outcome : Outcome) (IsFirst IsSecond : List (Entry dialect) → Type 0) → SettlesBy old number a outcome IsFirst mid → GoesBy mid IsSecond new → SettlesBy old number a outcome (Then IsFirst IsSecond) new
@@ -85,24 +104,27 @@ module _ (old new : Core) (number : ℕ) (a : Command) (outcome : Outcome) (came
           | false ↦ λ l. l
         ]) (subst (λ o. MayComeOf o calls reply from) (r.commands n) l)
 
+    stands_there : (beside : Beside) (end : End) → Fits old beside → Fits new (settled (event_of number a end) beside)
+    stands_there beside end fits = record {
+      queues = queues_then beside fits;
+      held = held_still beside fits;
+      numbered = λ c n lt. fits.numbered c n (subst (λ m. m < n) r.number_is lt);
+      to_come = by_number old new number None r.commands (λ n command. IsOnItsWay new.limits.sharing (beside.at n command.ask.key) command) (λ command e. no_command e) (λ n command _ e. on_its_way_kept old new (beside.at n command.ask.key) command r.limits (fits.to_come n command e));
+      tickets = tickets_then beside fits end;
+      single = single_then old number a outcome came beside fits end;
+      numbers = λ n lt.
+          let l = subst (λ m. m < n) r.number_is lt in
+          r.commands n ∙ ap (λ z. cond z None (command_at old n)) (below old number a outcome came beside fits n l) ∙ fits.numbers n l;
+      unseen = λ n lt. unseen_then old number a outcome came beside fits end n (subst (λ m. m < n) r.number_is lt);
+      trees = λ n key lt. fits.trees n key (subst (λ m. m < n) r.number_is lt) ∙ ap (λ t. tree_at t key) (sym r.tree);
+    }
+
     breaks_there : SettlesBy old number a outcome (λ more. more ≡ log.Frees number ∷ log.Drops a.client ∷ []) new
     breaks_there = λ beside end fits is ends.
         let beside' : Beside = settled (event_of number a end) beside in (
           beside',
           log.Frees number ∷ log.Drops a.client ∷ [],
-          record {
-            queues = queues_then beside fits;
-            held = held_still beside fits;
-            numbered = λ c n lt. fits.numbered c n (subst (λ m. m < n) r.number_is lt);
-            to_come = by_number old new number None r.commands (λ n command. IsOnItsWay new.limits.sharing (beside.at n command.ask.key) command) (λ command e. no_command e) (λ n command _ e. on_its_way_kept old new (beside.at n command.ask.key) command r.limits (fits.to_come n command e));
-            tickets = tickets_then beside fits end;
-            single = single_then old number a outcome came beside fits end;
-            numbers = λ n lt.
-                let l = subst (λ m. m < n) r.number_is lt in
-                r.commands n ∙ ap (λ z. cond z None (command_at old n)) (below old number a outcome came beside fits n l) ∙ fits.numbers n l;
-            unseen = λ n lt. unseen_then old number a outcome came beside fits end n (subst (λ m. m < n) r.number_is lt);
-            trees = λ n key lt. fits.trees n key (subst (λ m. m < n) r.number_is lt) ∙ ap (λ t. tree_at t key) (sym r.tree);
-          },
+          stands_there beside end fits,
           record { at = refl; holds = refl; found = refl; turn = refl },
           refl,
           walks_lead (tree_words beside.at) (bars_of old beside) (state_of old beside) (state_of new beside') (log.Frees number ∷ log.Drops a.client ∷ Happens (event_of number a end) ∷ []) (record {
@@ -135,6 +157,14 @@ module _ (old new : Core) (number : ℕ) (a : Command) (outcome : Outcome) (came
       where
         dropped_now : (b : Bool) → cond (nat_eq a.client a.client) true b ≡ true
         dropped_now b = ap (λ z. cond z true b) (eq-eqb a.client a.client refl)
+
+  -- without its call
+  pub stands_broken : StandsWithout old number a new
+  stands_broken = λ beside fits. by (client_at old a.client) refl (beside.queue a.client) (fits.held number a came.was) r.client_is beside fits
+    where
+      by : (o : Option Client) → client_at old a.client ≡ o → (slots : List (Slot dialect)) → IsHeld number a o slots → DropsBy o (client_at new a.client) → StandsWithout old number a new
+      by None was slots held drops = absurd held
+      by (Some x) was slots held drops = λ beside fits. (settled (event_of number a Never) beside, stands_there x drops.0 was drops.1 drops.2 beside Never fits, λ s. refl)
 
   -- the command is broken off, and its client is dropped
   pub breaks : SettlesBy old number a outcome (λ more. more ≡ log.Frees number ∷ log.Drops a.client ∷ []) new

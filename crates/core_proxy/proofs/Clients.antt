@@ -113,6 +113,7 @@ feeds old new client x y bytes t served p = λ beside fits. (
     };
   }),
   t.limits,
+  λ s. refl,
 )
 
 same_at_front : (x y : Client) (slots : List (Slot dialect)) → LosesOutput x y → IsAtFront x slots → IsAtFront y slots
@@ -147,6 +148,7 @@ gives old new client x y bytes t taken p = (
       };
     }),
     t.limits,
+    λ s. refl,
   ),
 )
 
@@ -187,6 +189,7 @@ opens old new client x t n =
           };
         }),
         t.limits,
+        λ s. refl,
       );
     }
 
@@ -269,6 +272,7 @@ closes old new client x t none left = (
           };
         }),
         t.limits,
+        λ s. refl,
       ),
   left,
 )

@@ -348,6 +348,7 @@ module _ (old new : Core) (number : ℕ) (a : Command) (x y : Client) (pending :
           };
         }),
         r.limits,
+        λ s. refl,
       )
     where
       same_of : {A : Type 0} (f : Option Client → A) → f (Some y) ≡ f (Some x) → (c : ℕ) → f (client_at new c) ≡ f (client_at old c)
@@ -386,6 +387,7 @@ module _ (old new : Core) (client : ℕ) (x y : Client) (t : Turns old new clien
       };
     }),
     t.limits,
+    λ s. refl,
   )
 
 -- ---- a command of a dropped client is freed
@@ -430,6 +432,7 @@ module _ (old new : Core) (number : ℕ) (a : Command) (x : Client) (r : Frees o
       };
     }),
     r.limits,
+    λ s. refl,
   )
     where
       none_out : (beside : Beside) → Fits old beside → (s : ℕ) → ticket_in (beside.out s) number ≡ None

@@ -20,3 +20,4 @@ pub mod Outcomes
 pub mod Resting
 pub mod Stalled
 pub mod AtOnce
+pub mod CallsStay

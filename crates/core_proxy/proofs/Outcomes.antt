@@ -11,8 +11,9 @@ use Rattle.core_client.specs.ClientState.{dialect, output_by, dropped_by}
 use Rattle.core_proxy.specs.CoreState.{client_at, command_at, is_call, has_call_out, IsHeld}
 use Rattle.core_proxy.specs.Steps.{Resolves}
 use Rattle.core_commands.specs.Lines as line
-use Rattle.core_proxy.specs.Settles.{TakesOutcome, asked_by, FitsCall, SettlesBy, Settles, AreIdle, freed, FreesSome, FreesIdle, DropsBy, TakesOut, Breaks}
-use Rattle.core_proxy.proofs.Broken.{settles_alone, settles_then, settles_as, breaks}
+use Rattle.core_proxy.specs.Settles.{TakesOutcome, asked_by, FitsCall, SettlesBy, StandsWithout, Settles, AreIdle, freed, FreesSome, FreesIdle, DropsBy, TakesOut, Breaks}
+use Rattle.core_proxy.specs.OutSince.{out_since}
+use Rattle.core_proxy.proofs.Broken.{settles_alone, settles_then, settles_as, stands_alone, stands_then, none_freed, stands_broken, breaks}
 use Rattle.core_proxy.proofs.Came.{Came}
 use Rattle.core_proxy.proofs.Chains.{Then}
 use Rattle.core_commands.proofs.Commands.{some_command, no_command, call_is_true}
@@ -50,6 +51,7 @@ module _ (old mid : Core) (number : ℕ) (a b : Command) (outcome : Outcome) (wa
         was = was;
         out = out;
         goes = settles_as old mid number a outcome (λ more. more ≡ []) (λ more. more ≡ cond (dropped_by (client_at old a.client)) (log.Frees number ∷ []) []) (λ more e. e ∙ sym (ap (λ z. cond z (log.Frees number ∷ []) []) served)) (settles_alone old mid number a b outcome resolves);
+        stands = stands_alone old mid number a b outcome resolves;
         idle = λ c e. subst (λ (d : Command). has_call_out d ≡ false) (some_command (sym own ∙ e)) (ap (λ z. cond z (is_call b.job.pending) false) took.idle);
         others = others;
         clients = clients;
@@ -61,23 +63,25 @@ module _ (old mid : Core) (number : ℕ) (a b : Command) (outcome : Outcome) (wa
   is_freed dropped new gone stay same limited last stand =
       let x = dropped_is (client_at old a.client) dropped in
       let owner : b.client ≡ a.client = ap (λ (o : Owner). o.client) took.owner in
+      let freed_then = frees mid new number b x.0 (record {
+        was = own;
+        idle = took.idle;
+        client_was = ap (client_at mid) owner ∙ clients a.client ∙ x.1;
+        dropped = x.2;
+        clients = stay;
+        commands = gone;
+        tree = same;
+        limits = limited;
+        number_is = last;
+      }) in
       record {
         command = a;
         was = was;
         out = out;
         goes = settles_as old new number a outcome (Then (λ more. more ≡ []) (λ more. more ≡ log.Frees number ∷ [])) (λ more. more ≡ cond (dropped_by (client_at old a.client)) (log.Frees number ∷ []) [])
             (λ more t. t.4 ∙ (λ i. t.3 i ++ t.2 i) ∙ sym (ap (λ z. cond z (log.Frees number ∷ []) []) dropped))
-            (settles_then old mid new number a outcome (λ more. more ≡ []) (λ more. more ≡ log.Frees number ∷ []) (settles_alone old mid number a b outcome resolves) (frees mid new number b x.0 (record {
-              was = own;
-              idle = took.idle;
-              client_was = ap (client_at mid) owner ∙ clients a.client ∙ x.1;
-              dropped = x.2;
-              clients = stay;
-              commands = gone;
-              tree = same;
-              limits = limited;
-              number_is = last;
-            })));
+            (settles_then old mid new number a outcome (λ more. more ≡ []) (λ more. more ≡ log.Frees number ∷ []) (settles_alone old mid number a b outcome resolves) freed_then);
+        stands = stands_then old mid new number a (λ more. more ≡ log.Frees number ∷ []) (stands_alone old mid number a b outcome resolves) freed_then (λ entries e out s. subst (λ l. out_since l out s ≡ out s) (sym e) refl);
         idle = λ c e. no_command (sym (gone number ∙ ap (λ z. cond z None (command_at mid number)) (eq-eqb number number refl)) ∙ e);
         others = λ n differs. gone n ∙ ap (λ z. cond z None (command_at mid n)) differs ∙ others n differs;
         clients = λ c. stay c ∙ clients c;
@@ -125,6 +129,15 @@ module _ (old mid out new : Core) (number : ℕ) (a : Command) (outcome : Outcom
           (λ more t. t.4 ∙ (λ i. t.3 i ++ t.2 i))
           (settles_then old out new number a outcome (λ more. more ≡ log.Frees number ∷ log.Drops a.client ∷ []) (λ more. more ≡ freed some.numbers) (breaks old out number a outcome (came_of old number a outcome was is_out fits) taken) (some.goes (ap dropped_by drops.1 ∙ drops.2.dropped)))
 
+  stands_all : StandsWithout old number a new
+  stands_all = λ beside beside_fits. by (client_at old a.client) (beside.queue a.client) (beside_fits.held number a was) taken.client_is beside beside_fits
+    where
+      by : (o : Option Client) (slots : List (Slot dialect)) → IsHeld number a o slots → DropsBy o (client_at out a.client) → StandsWithout old number a new
+      by None slots held drops = absurd held
+      by (Some x) slots held drops =
+          stands_then old out new number a (λ more. more ≡ freed some.numbers) (stands_broken old out number a outcome (came_of old number a outcome was is_out fits) taken) (some.goes (ap dropped_by drops.1 ∙ drops.2.dropped))
+          (λ entries e later s. subst (λ l. out_since l later s ≡ later s) (sym e) (none_freed some.numbers later s))
+
   outputs : (o : Option Client) (now : Option Client) → DropsBy o now → output_by now ≡ output_by o
   outputs None now d = ap output_by d
   outputs (Some x) now d = ap output_by d.1 ∙ d.2.output
@@ -138,6 +151,7 @@ module _ (old mid out new : Core) (number : ℕ) (a : Command) (outcome : Outcom
         numbers = some.numbers;
         are = were_idle some.numbers some.idle;
         goes = all;
+        stands = stands_all;
         gone = frees_idle.1;
         others = λ n differs. some.calls n ∙ ap asked_by (taken.commands n ∙ ap (λ z. cond z None (command_at old n)) differs);
         lines = some.lines ∙ taken.lines;

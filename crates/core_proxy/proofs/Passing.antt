@@ -59,4 +59,5 @@ passes old new client x y message next t p = λ beside fits. (
     };
   }),
   t.limits,
+  λ s. refl,
 )

@@ -89,6 +89,7 @@ still_goes old new client x y t p = λ beside fits. (
     };
   }),
   t.limits,
+  λ s. refl,
 )
 
 -- what holds of a client that is there
@@ -135,6 +136,7 @@ same_goes old new clients commands tree limits number = λ beside fits. (
     };
   }),
   limits,
+  λ s. refl,
 )
 
 some_more : (before : List Pending) (pending : Pending) (now : List Pending) → now ≡ before ++ pending ∷ [] → 0 < length now

@@ -120,6 +120,7 @@ module _ (old new : Core) (number : ℕ) (a : Command) (r : SendsOut old new num
           };
         }),
         r.limits,
+        λ s. refl,
       )
     where
       owner_like : (n : ℕ) → option_map owner_by (command_at new n) ≡ option_map owner_by (command_at old n)

@@ -98,22 +98,26 @@ module _ (old new : Core) (number : ℕ) (a b : Command) (outcome : Outcome) (r 
       (λ command e. subst (λ (c : Command). IsOnItsWay old.limits.sharing (beside.at number c.ask.key) c) (some_command e) (subst (λ (k : Ask). IsOnItsWay old.limits.sharing (beside.at number k.key) b) (sym same) (to_come_after old.limits.sharing (beside.at number a.ask.key) a (fits.to_come number a r.was) r.calling b outcome r.fits same r.claim r.rest)))
       (λ n command _ e. fits.to_come n command e)
 
+  -- what stands beside the core without that call
+  pub still_stands : (beside : Beside) (end : End) → Fits old beside → Fits new (settled end beside)
+  still_stands beside end fits = record {
+    queues = λ c. subst (λ o. IsQueue o (beside.queue c)) (sym (r.clients c)) (fits.queues c);
+    held = λ n command e. subst (λ o. IsHeld n command o (beside.queue command.client)) (sym (r.clients command.client)) (held_still beside fits n command e);
+    numbered = λ c n lt. fits.numbered c n (subst (λ m. m < n) r.number_is lt);
+    to_come = λ n command e. on_its_way_kept old new (beside.at n command.ask.key) command r.limits (on_its_way_still beside fits n command e);
+    tickets = tickets_then beside fits end;
+    single = single_then old number a outcome out_came beside fits end;
+    numbers = numbers_then beside fits;
+    unseen = λ n lt. unseen_then old number a outcome out_came beside fits end n (subst (λ m. m < n) r.number_is lt);
+    trees = λ n key lt. fits.trees n key (subst (λ m. m < n) r.number_is lt) ∙ ap (λ t. tree_at t key) (sym r.tree);
+  }
+
   -- the call has its result, where what the server held agrees with that
   pub settles :
       (beside : Beside) (end : End) → Fits old beside → outcome ≡ outcome_of end → EndsIn (beside.holds server ask.key) (beside.found number) number ask origin end
       → Fits new (settled end beside) × Leads (tree_words beside.at) (bars_of old beside) (state_of old beside) (Happens (event end) ∷ []) (state_of new (settled end beside))
   settles beside end fits is ends = (
-    record {
-      queues = λ c. subst (λ o. IsQueue o (beside.queue c)) (sym (r.clients c)) (fits.queues c);
-      held = λ n command e. subst (λ o. IsHeld n command o (beside.queue command.client)) (sym (r.clients command.client)) (held_still beside fits n command e);
-      numbered = λ c n lt. fits.numbered c n (subst (λ m. m < n) r.number_is lt);
-      to_come = λ n command e. on_its_way_kept old new (beside.at n command.ask.key) command r.limits (on_its_way_still beside fits n command e);
-      tickets = tickets_then beside fits end;
-      single = single_then old number a outcome out_came beside fits end;
-      numbers = numbers_then beside fits;
-      unseen = λ n lt. unseen_then old number a outcome out_came beside fits end n (subst (λ m. m < n) r.number_is lt);
-      trees = λ n key lt. fits.trees n key (subst (λ m. m < n) r.number_is lt) ∙ ap (λ t. tree_at t key) (sym r.tree);
-    },
+    still_stands beside end fits,
     walks_lead (tree_words beside.at) (bars_of old beside) (state_of old beside) (state_of new (settled end beside)) (Happens (event end) ∷ []) (record {
       may = (
         has_result old number a outcome out_came beside end fits is ends,

@@ -120,4 +120,5 @@ module _ (old new : Core) (client : ℕ) (x y : Client) (pending : Pending) (rep
           };
         }),
         t.limits,
+        λ s. refl,
       )

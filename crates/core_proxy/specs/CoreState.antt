@@ -27,6 +27,7 @@ use Rattle.core_proxy.specs.Claims.{claim_by, bars_by}
 use Rattle.core_commands.specs.Lines.{others}
 use Rattle.core_proxy.specs.declared.proxy.Core.{Core}
 use Rattle.core_client.specs.ClientState.{IsSlot}
+use Rattle.core_proxy.specs.OutSince.{out_since}
 pub use Rattle.core_client.specs.ClientState.{dialect, Message, front_by, held_by, output_by, dropped_by}
 pub use Rattle.core_commands.specs.Begun.{owner_by}
 pub use Rattle.core_commands.specs.Out.{is_call, has_call_out}
@@ -154,12 +155,13 @@ pub record IsBeside (old new : Beside) : Type 0 where
   pub found : new.found ≡ old.found
   pub turn : new.turn ≡ old.turn
 
--- by entries of this kind, the latest first, each log that led to the core before, with whatever stood beside it, leads to the core after. Servers and limits stay
+-- by entries of this kind, the latest first, each log that led to the core before, with whatever stood beside it, leads to the core after. Servers and limits stay, and so do the calls that are out but for what the entries tell of them
 abbrev pub GoesBy : Core → (List (Entry dialect) → Type 0) → Core → Type 0
 GoesBy old IsKind new =
     (beside : Beside) → Fits old beside
     → (beside' : Beside) × (entries : List (Entry dialect)) × Fits new beside' × IsBeside beside beside' × IsKind entries
     × Leads (tree_words beside.at) (bars_of old beside) (state_of old beside) entries (state_of new beside') × (new.limits ≡ old.limits)
+    × ((s : ℕ) → beside'.out s ≡ out_since entries beside.out s)
 
 -- this entry comes
 abbrev pub GoesByOne : Core → Entry dialect → Core → Type 0

@@ -1,5 +1,6 @@
 pub mod Claims
 pub mod Feeding
+pub mod OutSince
 pub mod CoreState
 pub mod Faults
 pub mod Steps
@@ -9,3 +10,4 @@ pub mod Finishing
 pub mod Settles
 pub mod Resting
 pub mod Serving
+pub mod CallsStay

@@ -8,7 +8,7 @@ use Rattle.fresh_runs.specs.Run.{End, outcome_of}
 use Rattle.fresh_runs.specs.Fleet.{EndsIn}
 use Rattle.fresh_runs.specs.Single.{FitsOutcome}
 use Rattle.fresh_runs.specs.Overlap as log
-use Rattle.fresh_runs.specs.Overlap.{Entry, Happens}
+use Rattle.fresh_runs.specs.Overlap.{Entry, Happens, without}
 use Rattle.fresh_runs.specs.OverlapState.{Leads}
 use Rattle.route_tree.specs.Word.{tree_words}
 use Rattle.route_job.specs.Rest.{ask_under, origin_under}
@@ -52,12 +52,19 @@ SettlesBy old number a outcome IsMore new =
     → (beside' : Beside) × (more : List (Entry dialect)) × Fits new beside' × IsBeside (settled (event_of number a end) beside) beside' × IsMore more
     × Leads (tree_words beside.at) (bars_of old beside) (state_of old beside) (more ++ Happens (event_of number a end) ∷ []) (state_of new beside') × (new.limits ≡ old.limits)
 
+-- the call of this number that was out is out no more, and all others stay: whatever could stand beside the core, the same without that call can
+abbrev pub StandsWithout : Core → ℕ → Command → Core → Type 0
+StandsWithout old number a new =
+    (beside : Beside) → Fits old beside
+    → (beside' : Beside) × Fits new beside' × ((s : ℕ) → beside'.out s ≡ (if nat_eq (server_in a.job.pending) s then without number (beside.out s) else beside.out s))
+
 -- the command of this number has the result of its call; where nothing is done for its client any more, it is broken off
 pub record Settles (old : Core) (number : ℕ) (outcome : Outcome) (new : Core) : Type 0 where
   pub command : Command
   pub was : command_at old number ≡ Some command
   pub out : has_call_out command ≡ true
   pub goes : SettlesBy old number command outcome (λ more. more ≡ (if dropped_by (client_at old command.client) then log.Frees number ∷ [] else [])) new
+  pub stands : StandsWithout old number command new
   pub idle : HasNoCall new number
   pub others : (n : ℕ) → nat_eq number n ≡ false → command_at new n ≡ command_at old n
   pub clients : (c : ℕ) → client_at new c ≡ client_at old c
@@ -115,6 +122,7 @@ pub record Breaks (old : Core) (number : ℕ) (outcome : Outcome) (new : Core) :
   pub numbers : List ℕ
   pub are : AreIdle old command.client numbers
   pub goes : SettlesBy old number command outcome (λ more. more ≡ freed numbers ++ log.Frees number ∷ log.Drops command.client ∷ []) new
+  pub stands : StandsWithout old number command new
   pub gone : HasNoIdle new command.client
   pub others : (n : ℕ) → nat_eq number n ≡ false → asked new n ≡ asked old n
   pub output : (c : ℕ) → output_by (client_at new c) ≡ output_by (client_at old c)

@@ -1,6 +1,7 @@
 //! Laws of the core's steps: what a change of the core has to keep so that each log that led to it goes on. Each is a function without
 //! a body, whose contract is the law.
 
+ghost use Rattle.core_proxy.specs.CallsStay.{CallsStay};
 ghost use Rattle.core_proxy.specs.Ending.{EndingIsAStep, DroppingIsAStep, FreeingIsAStep};
 ghost use Rattle.core_proxy.specs.Steps.{PassingIsAStep, BeginningIsAStep, SendingIsAStep, SettlingIsAStep, ShowingIsAStep};
 
@@ -42,4 +43,10 @@ pub fn dropping_is_a_step()
 /// A command of a client for whom nothing is done any more is broken off where no call of it is out.
 pub fn freeing_is_a_step()
     ensures { FreeingIsAStep }
+{}
+
+/// A call that is out stays until it is settled, and asks what it asked: until then no other of its number is given out, whatever else is
+/// done.
+pub fn calls_stay()
+    ensures { CallsStay }
 {}

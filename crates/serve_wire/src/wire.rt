@@ -72,6 +72,10 @@ pub trait Wire {
         requires { 0 < length (io_slices_bytes parts.now) }
         ensures { Writes conn result (io_slices_bytes parts.now) (history self.old) (history self.new) };
 
+    /// Says to the peer that nothing more is sent over a connection. What comes is still read.
+    fn shut_writes(&mut self, conn: usize)
+        ensures { history self.new ≡ history self.old };
+
     /// Closes a connection. What is reported of it later is ignored.
     fn close(&mut self, conn: usize)
         ensures { Closes conn (history self.old) (history self.new) };

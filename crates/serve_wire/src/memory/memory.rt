@@ -348,6 +348,12 @@ fn close_line(lines: &mut Vec<Line>, conn: usize) {
     }
 }
 
+fn shut_line(lines: &mut Vec<Line>, conn: usize) {
+    if let Some(line) = line_at(lines, conn) {
+        line.peer.shut();
+    }
+}
+
 // The next who waits to be accepted.
 fn next_caller(callers: &mut VecDeque<Caller>, now: u64) -> Option<Peer> {
     match callers.front() {
@@ -474,6 +480,10 @@ impl Wire for Memory {
             return WriteOutcome::NotReady;
         };
         self.write(conn, bytes.as_slice())
+    }
+
+    fn shut_writes(&mut self, conn: usize) {
+        shut_line(&mut self.lines, conn);
     }
 
     fn close(&mut self, conn: usize) {

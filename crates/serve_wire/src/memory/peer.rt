@@ -17,6 +17,8 @@ pub enum Act {
     Awaits(usize),
     /// It does nothing before this time, in milliseconds.
     Until(u64),
+    /// It does nothing until it was told that no more is sent to it.
+    AwaitsEnd,
     /// It sends no more.
     Ends,
     /// The connection fails.
@@ -42,6 +44,8 @@ pub struct Peer {
     taken: Vec<u8>,
     // How many bytes were taken since the last wait.
     went: usize,
+    // Whether no more is sent to it.
+    is_shut: bool,
     // Whether it was reported that it may be read, and that it takes bytes, and nothing has changed since.
     is_read_told: bool,
     is_write_told: bool,
@@ -60,6 +64,7 @@ impl Peer {
             fails_at: None,
             taken: Vec::new(alloc),
             went: 0,
+            is_shut: false,
             is_read_told: false,
             is_write_told: false,
         }
@@ -68,6 +73,11 @@ impl Peer {
     /// After all else it does this.
     pub fn then(&mut self, act: Act) -> Result<(), AllocError> {
         Ok(self.acts.push_back(act)?)
+    }
+
+    /// No more is sent to it.
+    pub fn shut(&mut self) {
+        self.is_shut = true;
     }
 
     /// All that was sent to it.
@@ -80,6 +90,7 @@ impl Peer {
         match self.acts.front() {
             Some(Act::Awaits(count)) => *count <= self.taken.len(),
             Some(Act::Until(time)) => *time <= now,
+            Some(Act::AwaitsEnd) => self.is_shut,
             Some(Act::Sends(bytes)) => bytes.len() <= self.came,
             Some(Act::Ends) | Some(Act::Fails) | None => false,
         }

@@ -15,7 +15,7 @@ use slab::Slab;
 use std::alloc::{AllocError, Global};
 use std::io;
 use std::io::{ErrorKind, IoSlice};
-use std::net::{Net, SocketAddr, ToSocketAddrs};
+use std::net::{Net, Shutdown, SocketAddr, ToSocketAddrs};
 use std::os::fd::{AsRawFd, RawFd};
 use std::rt::Clock;
 use std::time::{Duration, Instant};
@@ -398,6 +398,13 @@ impl Wire for Sockets {
         match open_at(&self.open, self.count, conn) {
             Some(open) => open.write_parts(&mut self.log, parts),
             None => WriteOutcome::NotReady,
+        }
+    }
+
+    fn shut_writes(&mut self, conn: usize) {
+        if let Some(open) = open_at(&self.open, self.count, conn) {
+            // (where that fails, reads tell)
+            let _ = open.stream.shutdown(Shutdown::Write);
         }
     }
 

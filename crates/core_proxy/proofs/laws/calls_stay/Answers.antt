@@ -1,0 +1,5 @@
+use Rattle.core_proxy.proofs.CallsStay.{calls_stay}
+use Rattle.core_proxy.proofs.laws.calls_stay.Goals as goal
+
+pub returns : goal.returns
+returns c = calls_stay
