@@ -1,6 +1,8 @@
 -- What a server tells over its link's connection.
-use Rattle.std.proofs.Common.{◌≡◌, ℕ, suc, ◌+◌, ◌≤◌, true, false, codes, None, List, [], ◌∷◌, ◌++◌, length, take, drop, Some, refl, sym, ap, ◌∙◌, subst, inr, arith}
+use Rattle.std.proofs.Common.{◌≡◌, ℕ, suc, ◌+◌, ◌≤◌, true, false, codes, None, List, [], ◌∷◌, ◌++◌, length, take, drop, length-append, Some, refl, sym, ap, ◌∙◌, subst, inr, arith}
+use Rattle.std.specs.Str.{bytes_eq}
 use Rattle.std.proofs.lemmas.List.{take-append-drop}
+use Rattle.std.proofs.lemmas.Slice.Eq.{bytes_eq-Decides}
 use Rattle.std.proofs.Math.Seq.{take-append-add}
 use Rattle.text_words.specs.Line.{LF}
 use Rattle.mc_types.specs.declared.ask.Dialect.{Dialect}
@@ -49,7 +51,7 @@ reads_dialect bytes reads.Foreign is = tt
 
 -- where nothing is to be said before
 pub reads_alone : (greeting : Greeting) (bytes : List ℕ) (read : DialectRead) → greeting.flushes ≡ false → ReadsDialect greeting.dialect bytes read → ReadsGreeting greeting bytes read
-reads_alone greeting bytes (reads.Told dialect used) off is = (is.0, take used bytes, ap (λ b. flushed_of b ++ take used bytes) (sym off), is.1)
+reads_alone greeting bytes (reads.Told dialect used) off is = (is.0, (take used bytes, ap (λ b. flushed_of b ++ take used bytes) (sym off), is.1))
 reads_alone greeting bytes reads.More off is = tt
 reads_alone greeting bytes reads.Foreign off is = tt
 
@@ -57,7 +59,7 @@ reads_alone greeting bytes reads.Foreign off is = tt
 pub reads_behind : (greeting : Greeting) (rest : List ℕ) (read : DialectRead) → greeting.flushes ≡ true → ReadsDialect greeting.dialect rest read → ReadsGreeting greeting (codes "OK\r\n" ++ rest) (four_more read)
 reads_behind greeting rest (reads.Told dialect used) on is =
     let front : take (used + 4) (codes "OK\r\n" ++ rest) ≡ codes "OK\r\n" ++ take used rest = ap (λ n. take n (codes "OK\r\n" ++ rest)) (plus_four used) in
-    (within used rest is.0, take used rest, front ∙ ap (λ b. flushed_of b ++ take used rest) (sym on), is.1)
+    (within used rest is.0, (take used rest, front ∙ ap (λ b. flushed_of b ++ take used rest) (sym on), is.1))
   where
     plus_four : (n : ℕ) → n + 4 ≡ suc (suc (suc (suc n)))
     plus_four n = omega arith
@@ -66,6 +68,13 @@ reads_behind greeting rest (reads.Told dialect used) on is =
     within n l le = omega (arith, le)
 reads_behind greeting rest reads.More on is = tt
 reads_behind greeting rest reads.Foreign on is = tt
+
+-- where the first four bytes say it, what stands behind them
+pub reads_flushed : (greeting : Greeting) (bytes : List ℕ) (read : DialectRead) → greeting.flushes ≡ true → bytes_eq (take 4 bytes) (codes "OK\r\n") ≡ true → ReadsDialect greeting.dialect (drop 4 bytes) read → ReadsGreeting greeting bytes (four_more read)
+reads_flushed greeting bytes read on says is =
+    let front : take 4 bytes ≡ codes "OK\r\n" = (bytes_eq-Decides (take 4 bytes) (codes "OK\r\n")).0 says in
+    let whole : bytes ≡ codes "OK\r\n" ++ drop 4 bytes = sym (take-append-drop 4 bytes) ∙ ap (λ l. l ++ drop 4 bytes) front in
+    subst (λ b. ReadsGreeting greeting b (four_more read)) (sym whole) (reads_behind greeting (drop 4 bytes) read on is)
 
 -- they are held no more
 pub learns_told :

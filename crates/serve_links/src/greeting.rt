@@ -1,6 +1,7 @@
 //! What a server says to what it was asked first over a connection.
 
 ghost use Rattle.std.specs.Prelude.{◌≡◌, ◌<◌, ◌^◌, ◌++◌, OnOk, OnErr, codes};
+ghost use Rattle.std.specs.Str.{bytes_eq};
 ghost use Rattle.serve_links.specs.Dialects.{IsUsedBelow, ReadsDialect, ReadsGreeting, four_more};
 
 use crate::settings::{Greeting, ServerDialect};
@@ -39,16 +40,26 @@ pub fn write_flush(out: &mut BytesMut) -> Result<(), AllocError>
     out.extend_from_slice(b"flush_all\r\n")
 }
 
+// Whether this is what a server says once it has emptied itself.
+fn is_flushed(front: &[u8]) -> bool
+    ensures { result ≡ bytes_eq front.now (codes "OK\r\n") }
+{
+    front == b"OK\r\n".as_slice()
+}
+
 /// What it said: nothing is told before all of it has come.
+#[tactic(auto, using(crate::proofs::Ends::reads_alone, crate::proofs::Ends::reads_flushed))]
 pub fn read_greeting(greeting: Greeting, bytes: &[u8]) -> DialectRead
     ensures { ReadsGreeting greeting bytes.now result }
 {
     if !greeting.flushes {
         return read_told(greeting.dialect, bytes);
     }
-    match bytes {
-        [b'O', b'K', b'\r', b'\n', rest @ ..] => four_more(read_told(greeting.dialect, rest)),
-        [] | [b'O'] | [b'O', b'K'] | [b'O', b'K', b'\r'] => DialectRead::More,
-        _ => DialectRead::Foreign,
+    if bytes.len() < 4 {
+        return DialectRead::More;
     }
+    if !is_flushed(&bytes[..4]) {
+        return DialectRead::Foreign;
+    }
+    four_more(read_told(greeting.dialect, &bytes[4..]))
 }

@@ -1,8 +1,11 @@
-use Rattle.std.proofs.Common.{ℕ, List, refl, sym, subst}
+use Rattle.std.proofs.Common.{ℕ, List, refl, sym, ap, ◌∙◌, subst}
 use Rattle.serve_links.specs.Dialects.{ReadsGreeting}
 use Rattle.wire_meta_gets.specs.declared.dialect.DialectRead.TheVariants as reads
 use Rattle.serve_links.proofs.Ends.{learns_told}
 use Rattle.serve_links.proofs.link.Link.learn.Goals as goal
 
 pub returns-in-Told : goal.returns-in-Told
-returns-in-Told c = ?
+returns-in-Told c =
+    let whole : ReadsGreeting c.in-Some.greeting c.as_slice.result.now (reads.Told c.in-Told.dialect c.in-Told.used) = subst (λ r. ReadsGreeting c.in-Some.greeting c.as_slice.result.now r) c.in-Told.is c.read_greeting.ensures in
+    let tells : ReadsGreeting c.in-Some.greeting c.in-Some-as_mut.conn.now.held.items (reads.Told c.in-Told.dialect c.in-Told.used) = subst (λ (l : List ℕ). ReadsGreeting c.in-Some.greeting l (reads.Told c.in-Told.dialect c.in-Told.used)) c.as_slice.ensures whole in
+    learns_told c.args.self.now _ c.in-Some-as_mut.conn.now c.use_up.new.self c.in-Some.greeting c.in-Told.used (sym c.in-Some-as_mut.ensures.value) refl c.in-Some.is tells.1 c.use_up.ensures.held c.use_up.ensures.rest refl refl refl
