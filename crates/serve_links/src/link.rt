@@ -251,6 +251,16 @@ impl Link {
         !self.late.is_empty()
     }
 
+    /// Whether its server is still to answer what it was asked first.
+    pub fn awaits_greeting(&self) -> bool
+        ensures { result ≡ false → self.now.awaits_dialect ≡ None }
+    {
+        match self.awaits_dialect {
+            Some(_) => true,
+            None => false,
+        }
+    }
+
     /// Whether its server is still to say that it has emptied itself. Until then no call goes out.
     pub fn awaits_flush(&self) -> bool
         ensures { result ≡ awaits_flush self.now.awaits_dialect }

@@ -123,13 +123,13 @@ fn settle_line(
     ensures lost { LineGoesLosing core.old link.old core.new link.new }
     ensures ends { KeepsEnds clients.old clients.new }
 {
-    if link.awaits_dialect.is_none() {
+    if !link.awaits_greeting() {
         return settle_after_late(link, core, clients, is_freed, false, polls);
     }
     if !link.learn() {
         return Ok(Some(Cause::Foreign));
     }
-    if link.awaits_dialect.is_some() {
+    if link.awaits_greeting() {
         return Ok(vain(link.has_read(false, polls)));
     }
     settle_after_late(link, core, clients, is_freed, true, polls)

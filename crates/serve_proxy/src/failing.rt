@@ -159,7 +159,7 @@ fn look_again<W: Wire>(core: &mut ServedCore, sockets: &mut Sockets<W>, at: usiz
 
 // Whether the link's connection stands, nothing is out on it or waits for it, and no late answer is awaited.
 fn is_idle(link: &Link) -> bool {
-    let is_awaited = link.awaits_dialect.is_some() || link.awaits_late();
+    let is_awaited = link.awaits_greeting() || link.awaits_late();
     link.is_connected && !is_awaited && link.calls.is_empty() && link.waiting() == 0
 }
 

@@ -7,8 +7,8 @@ use Rattle.serve_proxy.proofs.Linking.{line_may_lose}
 use Rattle.serve_proxy.proofs.GivenUp.{foreign_goes, vain_goes}
 use Rattle.serve_proxy.proofs.answers.settle_line.Goals as goal
 
-pub returns-then-is_none : goal.returns-then-is_none
-returns-then-is_none c = record { goes = c.settle_after_late.ensures.goes; lost = c.settle_after_late.ensures.lost; ends = c.settle_after_late.ensures.ends }
+pub returns-then-not-awaits_greeting : goal.returns-then-not-awaits_greeting
+returns-then-not-awaits_greeting c = record { goes = c.settle_after_late.ensures.goes; lost = c.settle_after_late.ensures.lost; ends = c.settle_after_late.ensures.ends }
 
 pub returns-then-not-learn : goal.returns-then-not-learn
 returns-then-not-learn c = record {
@@ -17,8 +17,8 @@ returns-then-not-learn c = record {
   ends = λ j. refl;
 }
 
-pub returns-then-is_some : goal.returns-then-is_some
-returns-then-is_some c = record {
+pub returns-then-awaits_greeting : goal.returns-then-awaits_greeting
+returns-then-awaits_greeting c = record {
   goes = λ at h.
       vain_goes c.has_read.result c.vain.result c.vain.ensures c.has_read.ensures.failed
       (line_then (line_learns c.args.link.now c.learn.new.self c.learn.result c.learn.ensures) (line_keeps (λ d. untouched d h) (ap line_of c.has_read.ensures.rest)));
