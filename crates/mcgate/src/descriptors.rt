@@ -1,12 +1,9 @@
 //! How many clients can be served with the descriptors that the process may have.
 
-ghost use Rattle.std.specs.Prelude.{◌≡◌, ◌≤◌, ◌+◌, ◌⊎◌, IfSome};
-
 use crate::lines::Lines;
 use libc::types::rlimit;
 use libc::{RLIMIT_NOFILE, getrlimit};
 use mcgate_args::serve_arguments::ServeJob;
-use serve_proxy::Settings;
 use watch_http::visitors::PLACES;
 
 // So many descriptors are kept for what is neither a client nor a server of the configuration: the standard ones, the listener, what it
@@ -28,16 +25,6 @@ fn most_descriptors() -> Option<usize> {
     usize::try_from(limit.rlim_cur).ok()
 }
 
-// How many clients can be served at once where so many descriptors may be open: as many as are wanted, or what the servers and the
-// rest leave, and one at least.
-fn clients_within(most: usize, servers: usize, rest: usize, wanted: usize) -> usize
-    ensures wanted { result ≤ wanted ⊎ result ≡ 1 }
-    ensures within { result + (servers + rest) ≤ most ⊎ result ≡ 1 }
-{
-    let left = most.saturating_sub(servers).saturating_sub(rest);
-    wanted.min(left).max(1)
-}
-
 /// The job, with as many clients at once as there are descriptors for beside its servers'. Where those are fewer than wanted, a line on
 /// standard error tells so.
 pub fn within_descriptors<'a, R: Eprint>(
@@ -54,18 +41,13 @@ pub fn within_descriptors<'a, R: Eprint>(
         Some(_) => RESERVE + WATCHING,
         None => RESERVE,
     };
-    let clients = clients_within(most, servers, rest, wanted);
+    let settings = job.settings.within_descriptors(most, servers, rest);
+    let clients = settings.clients;
     if clients < wanted {
         let line = format_args!(
             "mcgate: WARNING: {most} descriptors may be open (ulimit -n): {clients} clients are served at once, not {wanted}; {servers} are kept for servers, {rest} for the rest"
         );
         lines.tell(rt, line);
     }
-    ServeJob {
-        settings: Settings {
-            clients,
-            ..job.settings
-        },
-        ..job
-    }
+    ServeJob { settings, ..job }
 }

@@ -177,37 +177,31 @@ keeps_by change at old new same is id = by_place (cases_eq id at)
     by_place (inl here) = subst (λ k. option_map said_of (client_of new k) ≡ option_map said_of (client_of old k)) (sym here) (ap (option_map said_of) (changed change old.all.items new.all.items at is) ∙ of_one (client_of old at))
     by_place (inr other) = ap (option_map said_of) (kept old.all.items new.all.items at id _ other is)
 
-pub settled_keeps : {E : Type 0} (r : Result (Unit {0}) E) (at : ℕ) (old new : Clients) → OnOk r (Changes (λ x. with_ready true (one_settled x)) at old new) → OnErr r (Changes one_settled at old new) → KeepsEnds old new
-settled_keeps (Ok done) at old new ok err = keeps_by (λ x. with_ready true (one_settled x)) at old new (λ x. refl) ok
-settled_keeps (Err refused) at old new ok err = keeps_by one_settled at old new (λ x. refl) err
+pub settled_keeps : (at : ℕ) (old new : Clients) → Changes (λ x. with_ready true (one_settled x)) at old new → KeepsEnds old new
+settled_keeps at old new is = keeps_by (λ x. with_ready true (one_settled x)) at old new (λ x. refl) is
 
 answered_said : (is_get : Bool) (len : ℕ) (x : Client) → said_of (one_answered is_get len x) ≡ said_of x
 answered_said true len x = refl
 answered_said false len x = refl
 
-pub answered_keeps : {E : Type 0} (r : Result (Unit {0}) E) (is_get : Bool) (at len : ℕ) (old new : Clients) → OnOk r (Changes (λ x. with_ready true (one_answered is_get len x)) at old new) → OnErr r (Changes (one_answered is_get len) at old new) → KeepsEnds old new
-answered_keeps (Ok done) is_get at len old new ok err = keeps_by (λ x. with_ready true (one_answered is_get len x)) at old new (λ x. answered_said is_get len x) ok
-answered_keeps (Err refused) is_get at len old new ok err = keeps_by (one_answered is_get len) at old new (answered_said is_get len) err
+pub answered_keeps : (is_get : Bool) (at len : ℕ) (old new : Clients) → Changes (λ x. with_ready true (one_answered is_get len x)) at old new → KeepsEnds old new
+answered_keeps is_get at len old new is = keeps_by (λ x. with_ready true (one_answered is_get len x)) at old new (λ x. answered_said is_get len x) is
 
-pub waited_keeps : {E : Type 0} (r : Result (Unit {0}) E) (at : ℕ) (old new : Clients) → OnOk r (Changes (λ x. with_ready true (one_waited x)) at old new) → OnErr r (Changes one_waited at old new) → KeepsEnds old new
-waited_keeps (Ok done) at old new ok err = keeps_by (λ x. with_ready true (one_waited x)) at old new (λ x. refl) ok
-waited_keeps (Err refused) at old new ok err = keeps_by one_waited at old new (λ x. refl) err
+pub waited_keeps : (at : ℕ) (old new : Clients) → Changes (λ x. with_ready true (one_waited x)) at old new → KeepsEnds old new
+waited_keeps at old new is = keeps_by (λ x. with_ready true (one_waited x)) at old new (λ x. refl) is
 
-pub ready_keeps : {E : Type 0} (r : Result (Unit {0}) E) (at : ℕ) (old new : Clients) → OnOk r (Changes (with_ready true) at old new) → OnErr r (AreAlike old new) → KeepsEnds old new
-ready_keeps (Ok done) at old new ok err = keeps_by (with_ready true) at old new (λ x. refl) ok
-ready_keeps (Err refused) at old new ok err = keeps_alike old new err
+pub ready_keeps : (at : ℕ) (old new : Clients) → Changes (with_ready true) at old new → KeepsEnds old new
+ready_keeps at old new is = keeps_by (with_ready true) at old new (λ x. refl) is
 
-pub output_keeps : {E : Type 0} (r : Result (Unit {0}) E) (at : ℕ) (old new : Clients) → OnOk r (Changes (with_unsent true) at old new) → OnErr r (AreAlike old new) → KeepsEnds old new
-output_keeps (Ok done) at old new ok err = keeps_by (with_unsent true) at old new (λ x. refl) ok
-output_keeps (Err refused) at old new ok err = keeps_alike old new err
+pub output_keeps : (at : ℕ) (old new : Clients) → Changes (with_unsent true) at old new → KeepsEnds old new
+output_keeps at old new is = keeps_by (with_unsent true) at old new (λ x. refl) is
 
-pub busy_keeps : {E : Type 0} (r : Result (Unit {0}) E) (at : ℕ) (old new : Clients) → OnOk r (Changes (with_busy true) at old new) → OnErr r (AreAlike old new) → KeepsEnds old new
-busy_keeps (Ok done) at old new ok err = keeps_by (with_busy true) at old new (λ x. refl) ok
-busy_keeps (Err refused) at old new ok err = keeps_alike old new err
+pub busy_keeps : (at : ℕ) (old new : Clients) → Changes (with_busy true) at old new → KeepsEnds old new
+busy_keeps at old new is = keeps_by (with_busy true) at old new (λ x. refl) is
 
-pub marked_keeps : {E : Type 0} (r : Result (Unit {0}) E) (change : Client → Client) (at : ℕ) (old new : Clients) → ((x : Client) → said_of (change x) ≡ said_of x) → OnOk r (Changes change at old new) → OnErr r (AreAlike old new) → KeepsEnds old new
-marked_keeps (Ok done) change at old new same ok err = keeps_by change at old new same ok
-marked_keeps (Err refused) change at old new same ok err = keeps_alike old new err
+-- the same clients are there
+pub same_keeps : (old new : Clients) → new.all ≡ old.all → KeepsEnds old new
+same_keeps old new is id = ap (λ all. option_map said_of (option_flatten (slice_get all.items id))) is
 
 pub ready_said : (reads : Bool) (x : Client) → said_of (ready_if reads x) ≡ said_of x
 ready_said true x = refl
@@ -222,6 +216,10 @@ told_keeps told at old new is = keeps_by (told_of told) at old new (λ x. refl) 
 
 pub idle_keeps : (at : ℕ) (old new : Clients) → Changes (with_ready false) at old new → KeepsEnds old new
 idle_keeps at old new is = keeps_by (with_ready false) at old new (λ x. refl) is
+
+pub moved_keeps : {E : Type 0} (r : Result (Unit {0}) E) (at : ℕ) (old new : Clients) → OnOk r (Changes (with_busy false) at old new) → OnErr r (new ≡ old) → KeepsEnds old new
+moved_keeps (Ok done) at old new ok err = keeps_by (with_busy false) at old new (λ x. refl) ok
+moved_keeps (Err refused) at old new ok err = subst (λ n. KeepsEnds old n) (sym err) (λ id. refl)
 
 pub free_keeps : (at : ℕ) (old new : Clients) → Changes (with_busy false) at old new → KeepsEnds old new
 free_keeps at old new is = keeps_by (with_busy false) at old new (λ x. refl) is

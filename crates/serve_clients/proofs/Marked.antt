@@ -1,14 +1,15 @@
 -- Who stands at which place.
-use Rattle.std.proofs.Common.{◌≡◌, ◌≢◌, ◌⊎◌, inl, inr, ℕ, zero, suc, ◌+◌, ◌<◌, Bool, true, false, cond, List, [], ◌∷◌, ◌++◌, length, get_or, take, Option, Some, None, Result, Ok, Err, refl, ap, subst, sym, ◌∙◌, arith, length-set, append_assoc}
-use Rattle.std.proofs.lemmas.Bool.{cases_eq}
+use Rattle.std.proofs.Common.{◌≡◌, ◌≢◌, ◌⊎◌, inl, inr, ℕ, zero, suc, ◌+◌, ◌<◌, ◌≤◌, Bool, true, false, cond, List, [], ◌∷◌, ◌++◌, length, get_or, take, Option, Some, None, Result, Ok, Err, refl, ap, subst, sym, ◌∙◌, arith, length-set, append_assoc}
+use Rattle.std.proofs.lemmas.Bool.{cases_eq, cases_lt}
 use Rattle.std.proofs.lemmas.List.{take_more, append-nil}
 use Rattle.std.proofs.lemmas.List.Elements.{filter_more, Contains-append_left, Contains-append_right, Contains-append_cases}
 use Rattle.std.specs.Prelude.{slice_get, slice_set, slice_index_or, filter, Contains, OnOk, OnErr, OnSome}
 use Rattle.std.specs.Option.{option_map, option_flatten}
 use Rattle.serve_clients.specs.declared.clients.Client.{Client}
 use Rattle.serve_clients.specs.declared.clients.Clients.{Clients}
+use Rattle.serve_clients.specs.declared.clients.Marking.{Marking}
 use Rattle.serve_wire.specs.declared.outcomes.Ready.{Ready}
-use Rattle.serve_clients.specs.Marks.{client_of, Changes, AreAlike, EndsBusy, is_idle, with_busy, ids_if, ready_if, unsent_if, told_of, noted, will_send}
+use Rattle.serve_clients.specs.Marks.{client_of, Changes, AreAlike, EndsBusy, is_idle, is_marked, HasMarked, with_busy, ids_if, ready_if, unsent_if, told_of, noted, will_send}
 
 -- what was put at a place is there
 at_place : {A : Type 0} (xs : List A) (i : ℕ) (x : A) → i < length xs → slice_get (slice_set xs i x) i ≡ Some x
@@ -44,17 +45,11 @@ pub kept : {A : Type 0} (xs ys : List (Option A)) (i k : ℕ) (o : Option A) →
 kept xs ys i k o other e = ap (λ zs. option_flatten (slice_get zs k)) e ∙ ap option_flatten (at_others xs i k o other)
 
 -- who was put at a place and changed then stands there changed
-pub put_changed : {A E : Type 0} (r : Result (Unit {0}) E) (change : A → A) (xs ys zs : List (Option A)) (i : ℕ) (x : A) → i < length xs → ys ≡ slice_set xs i (Some x)
-    → OnOk r (zs ≡ slice_set ys i (option_map change (option_flatten (slice_get ys i)))) → OnOk r (option_flatten (slice_get zs i) ≡ Some (change x))
-put_changed (Ok done) change xs ys zs i x within e d =
+pub put_changed : {A : Type 0} (change : A → A) (xs ys zs : List (Option A)) (i : ℕ) (x : A) → i < length xs → ys ≡ slice_set xs i (Some x)
+    → zs ≡ slice_set ys i (option_map change (option_flatten (slice_get ys i))) → option_flatten (slice_get zs i) ≡ Some (change x)
+put_changed change xs ys zs i x within e d =
     let same : length ys ≡ length xs = ap length e ∙ length-set xs i (Some x) in
     put ys zs i (option_map change (option_flatten (slice_get ys i))) (omega arith) d ∙ ap (option_map change) (put xs ys i (Some x) within e)
-put_changed (Err refused) change xs ys zs i x within e d = tt
-
--- and the others stand where they stood
-pub kept_by : {E : Type 0} (r : Result (Unit {0}) E) (old new : Clients) (i k : ℕ) (o : Option Client) → k ≢ i → OnOk r (new.all.items ≡ slice_set old.all.items i o) → OnErr r (AreAlike old new) → client_of new k ≡ client_of old k
-kept_by (Ok done) old new i k o other ok err = kept old.all.items new.all.items i k o other ok
-kept_by (Err refused) old new i k o other ok err = ap (λ zs. option_flatten (slice_get zs k)) err.clients
 
 -- ---- clients that are busy no longer
 
@@ -162,15 +157,14 @@ noted_by told sends None e = refl
 noted_by told sends (Some x) e = ap (λ b. Some (unsent_if b (ready_if told.reads (told_of told x)))) e
 
 -- what was told was noted, and then marked
-pub noted_so : {E : Type 0} (r : Result (Unit {0}) E) (told : Ready) (sends : Bool) (xs ys zs ws : List (Option Client)) (i : ℕ) → sends ≡ will_send told (option_flatten (slice_get xs i))
+pub noted_so : (told : Ready) (sends : Bool) (xs ys zs ws : List (Option Client)) (i : ℕ) → sends ≡ will_send told (option_flatten (slice_get xs i))
     → ys ≡ slice_set xs i (option_map (told_of told) (option_flatten (slice_get xs i)))
     → zs ≡ slice_set ys i (option_map (ready_if told.reads) (option_flatten (slice_get ys i)))
-    → OnOk r (ws ≡ slice_set zs i (option_map (unsent_if sends) (option_flatten (slice_get zs i))))
-    → OnOk r (ws ≡ slice_set xs i (option_map (noted told) (option_flatten (slice_get xs i))))
-noted_so (Ok done) told sends xs ys zs ws i e a b d =
+    → ws ≡ slice_set zs i (option_map (unsent_if sends) (option_flatten (slice_get zs i)))
+    → ws ≡ slice_set xs i (option_map (noted told) (option_flatten (slice_get xs i)))
+noted_so told sends xs ys zs ws i e a b d =
     changed_twice (λ x. ready_if told.reads (told_of told x)) (unsent_if sends) xs zs ws i (changed_twice (told_of told) (ready_if told.reads) xs ys zs i a b) d
     ∙ ap (slice_set xs i) (noted_by told sends (option_flatten (slice_get xs i)) e)
-noted_so (Err refused) told sends xs ys zs ws i e a b d = tt
 
 -- a client that was told of stands in the lists as before
 told_ready : (told : Ready) (b : Bool) (o : Option Client) (id : ℕ) (ids : List ℕ) → ids_if b (λ x. x.is_ready) (option_map (told_of told) o) id ids ≡ ids_if b (λ x. x.is_ready) o id ids
@@ -182,24 +176,60 @@ told_unsent told reads b None id ids = refl
 told_unsent told true b (Some x) id ids = refl
 told_unsent told false b (Some x) id ids = refl
 
-pub served_so : {E : Type 0} (r : Result (Unit {0}) E) (told : Ready) (xs ys : List (Option Client)) (i : ℕ) (old between ready new : List ℕ)
+pub served_so : (told : Ready) (xs ys : List (Option Client)) (i : ℕ) (old between ready new : List ℕ)
     → ys ≡ slice_set xs i (option_map (told_of told) (option_flatten (slice_get xs i))) → between ≡ old
     → ready ≡ ids_if told.reads (λ x. x.is_ready) (option_flatten (slice_get ys i)) i between → new ≡ ready
-    → OnOk r (new ≡ ids_if told.reads (λ x. x.is_ready) (option_flatten (slice_get xs i)) i old)
-served_so (Ok done) told xs ys i old between ready new a same b last =
+    → new ≡ ids_if told.reads (λ x. x.is_ready) (option_flatten (slice_get xs i)) i old
+served_so told xs ys i old between ready new a same b last =
     last ∙ b ∙ ap (λ l. ids_if told.reads (λ x. x.is_ready) (option_flatten (slice_get ys i)) i l) same
     ∙ ap (λ o. ids_if told.reads (λ x. x.is_ready) o i old) (changed (told_of told) xs ys i a) ∙ told_ready told told.reads (option_flatten (slice_get xs i)) i old
-served_so (Err refused) told xs ys i old between ready new a same b last = tt
 
-pub unsent_so : {E : Type 0} (r : Result (Unit {0}) E) (told : Ready) (sends : Bool) (xs ys zs : List (Option Client)) (i : ℕ) (old between new : List ℕ) → sends ≡ will_send told (option_flatten (slice_get xs i))
+pub unsent_so : (told : Ready) (sends : Bool) (xs ys zs : List (Option Client)) (i : ℕ) (old between new : List ℕ) → sends ≡ will_send told (option_flatten (slice_get xs i))
     → ys ≡ slice_set xs i (option_map (told_of told) (option_flatten (slice_get xs i)))
     → zs ≡ slice_set ys i (option_map (ready_if told.reads) (option_flatten (slice_get ys i))) → between ≡ old
-    → OnOk r (new ≡ ids_if sends (λ x. x.has_output) (option_flatten (slice_get zs i)) i between)
-    → OnOk r (new ≡ ids_if (will_send told (option_flatten (slice_get xs i))) (λ x. x.has_output) (option_flatten (slice_get xs i)) i old)
-unsent_so (Ok done) told sends xs ys zs i old between new e a b same d =
+    → new ≡ ids_if sends (λ x. x.has_output) (option_flatten (slice_get zs i)) i between
+    → new ≡ ids_if (will_send told (option_flatten (slice_get xs i))) (λ x. x.has_output) (option_flatten (slice_get xs i)) i old
+unsent_so told sends xs ys zs i old between new e a b same d =
     let flat : List (Option Client) → Option Client = λ l. option_flatten (slice_get l i) in
     d ∙ ap (λ l. ids_if sends (λ x. x.has_output) (flat zs) i l) same
     ∙ ap (λ o. ids_if sends (λ x. x.has_output) o i old) (changed (ready_if told.reads) ys zs i b ∙ ap (option_map (ready_if told.reads)) (changed (told_of told) xs ys i a))
     ∙ told_unsent told told.reads sends (flat xs) i old
     ∙ ap (λ s. ids_if s (λ x. x.has_output) (flat xs) i old) e
-unsent_so (Err refused) told sends xs ys zs i old between new e a b same d = tt
+
+-- ---- who is listed
+
+-- of the first of these places whoever is marked stands among these ids
+abbrev pub HasMarkedTo : ℕ → Marking → List (Option Client) → List ℕ → Type 0
+HasMarkedTo count mark all ids = (id : ℕ) → id < count → is_marked mark (option_flatten (slice_get all id)) ≡ true → Contains ids id
+
+nobody_there : (mark : Marking) (all : List (Option Client)) (id : ℕ) → length all ≤ id → is_marked mark (option_flatten (slice_get all id)) ≡ true → ⊥
+nobody_there mark [] id past is = cc
+nobody_there mark (x ∷ xs) zero past is = omega arith
+nobody_there mark (x ∷ xs) (suc id) past is = nobody_there mark xs id (omega arith) is
+
+pub none_marked : (mark : Marking) (all : List (Option Client)) (ids : List ℕ) → HasMarkedTo 0 mark all ids
+none_marked mark all ids id within is = absurd (omega (arith, within))
+
+pub all_marked : (mark : Marking) (all : List (Option Client)) (ids : List ℕ) (count : ℕ) → length all ≤ count → HasMarkedTo count mark all ids → HasMarked mark all ids
+all_marked mark all ids count many has id is = by (cases_lt id count)
+  where
+    by : (id < count) ⊎ (count ≤ id) → Contains ids id
+    by (inl within) = has id within is
+    by (inr past) = absurd (nobody_there mark all id (omega (arith, many, past)) is)
+
+not_both : false ≡ true → ⊥
+not_both e = cc
+
+-- one place more was looked at
+pub one_marked : (mark : Marking) (all : List (Option Client)) (place : Option Client) (ids ids' : List ℕ) (at : ℕ) → option_flatten (slice_get all at) ≡ place
+    → ids' ≡ cond (is_marked mark place) (ids ++ at ∷ []) ids → HasMarkedTo at mark all ids → HasMarkedTo (at + 1) mark all ids'
+one_marked mark all place ids ids' at there after has id within is = subst (λ l. Contains l id) (sym after) (by (cases_eq id at) (is_marked mark place) refl)
+  where
+    more : (b : Bool) → Contains ids id → Contains (cond b (ids ++ at ∷ []) ids) id
+    more true front = Contains-append_left ids (at ∷ []) id front
+    more false front = front
+
+    by : (id ≡ at) ⊎ (id ≢ at) → (b : Bool) → is_marked mark place ≡ b → Contains (cond b (ids ++ at ∷ []) ids) id
+    by (inl same) true e = Contains-append_right ids (at ∷ []) id (0, omega arith, sym same)
+    by (inl same) false e = absurd (not_both (sym e ∙ ap (is_marked mark) (sym there) ∙ ap (λ k. is_marked mark (option_flatten (slice_get all k))) (sym same) ∙ is))
+    by (inr other) b e = more b (has id (omega (arith, within, other)) is)

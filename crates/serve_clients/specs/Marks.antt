@@ -5,6 +5,7 @@ use Rattle.wire_parts.specs.Sending.{bytes_of}
 use Rattle.serve_wire.specs.declared.outcomes.Ready.{Ready}
 use Rattle.serve_clients.specs.declared.clients.Client.{Client}
 use Rattle.serve_clients.specs.declared.clients.Clients.{Clients}
+use Rattle.serve_clients.specs.declared.clients.Marking.TheVariants as marks
 
 -- the client of this id, if there is one
 abbrev pub client_of : Clients → ℕ → Option Client
@@ -20,6 +21,7 @@ pub record AreAlike (old new : Clients) : Type 0 where
   pub ready : new.ready.items ≡ old.ready.items
   pub with_output : new.with_output.items ≡ old.with_output.items
   pub busy : new.busy.items ≡ old.busy.items
+  pub short : new.is_short ≡ old.is_short
 
 -- these ids, and at their end this one, where its client is there and its flag isn't set
 abbrev pub ids_with : (Client → Bool) → Option Client → ℕ → List ℕ → List ℕ
@@ -97,3 +99,20 @@ noted told x = unsent_if (told.writes && has_unsent x) (ready_if told.reads (tol
 pub record EndsBusy (ids : List ℕ) (old new : Clients) : Type 0 where
   pub these : (id : ℕ) → Contains ids id → client_of new id ≡ option_map (with_busy false) (client_of old id)
   pub others : (id : ℕ) → ¬ Contains ids id → client_of new id ≡ client_of old id
+
+-- a client stands there that is marked so
+abbrev pub is_marked : marks.the_data → Option Client → Bool
+is_marked mark None = false
+is_marked marks.Ready (Some x) = x.is_ready
+is_marked marks.Unsent (Some x) = x.has_output
+is_marked marks.Busy (Some x) = x.is_busy
+
+-- whoever is marked so stands among these ids
+abbrev pub HasMarked : marks.the_data → List (Option Client) → List ℕ → Type 0
+HasMarked mark all ids = (id : ℕ) → is_marked mark (option_flatten (slice_get all id)) ≡ true → Contains ids id
+
+-- each list has all that are marked for it
+pub record AreListed (clients : Clients) : Type 0 where
+  pub ready : HasMarked marks.Ready clients.all.items clients.ready.items
+  pub with_output : HasMarked marks.Unsent clients.all.items clients.with_output.items
+  pub busy : HasMarked marks.Busy clients.all.items clients.busy.items

@@ -4,7 +4,7 @@ ghost use Rattle.std.specs.Prelude.{◌≡◌, ◌≢◌, ◌↔◌, IsTrue, ℕ
 ghost use Rattle.std.specs.Option.{option_map, option_flatten, option_copied_mut};
 ghost use Rattle.std.specs.Borrow.{sem};
 ghost use Rattle.wire_parts.specs.Sending.{bytes_of};
-ghost use Rattle.serve_clients.specs.Marks.{client_of, Changes, AreAlike, EndsBusy, ids_with, ids_if, is_idle, with_ready, with_unsent, with_busy, ready_if, unsent_if, told_of, noted, will_send, one_settled, one_got, one_answered, one_waits, one_waited};
+ghost use Rattle.serve_clients.specs.Marks.{client_of, Changes, AreAlike, EndsBusy, ids_with, ids_if, is_idle, is_marked, HasMarked, AreListed, with_ready, with_unsent, with_busy, ready_if, unsent_if, told_of, noted, will_send, one_settled, one_got, one_answered, one_waits, one_waited};
 ghost use Rattle.serve_clients.specs.Agrees.{Breaks, KeepsEnds};
 ghost use Rattle.serve_clients.specs.Lending.{LendsClient};
 ghost use Rattle.serve_clients.specs.Waits.{waits_a_turn};
@@ -304,89 +304,69 @@ impl Client {
     }
 }
 
-// A flag is set, and where it wasn't, the id comes to the end of these. Where memory is refused for that, nothing changes.
-fn mark(flag: &mut bool, ids: &mut Vec<usize>, id: usize) -> Result<(), AllocError>
-    ensures flag { OnOk result (flag.new ≡ true) }
-    ensures listed { OnOk result (ids.new.items ≡ (if flag.old then ids.old.items else ids.old.items ++ id ∷ [])) }
-    ensures refused { OnErr result (flag.new ≡ flag.old) }
-    ensures unlisted { OnErr result (ids.new.items ≡ ids.old.items) }
+// A flag is set, and where it wasn't, the id comes to the end of these. Where memory is refused for that, one is missing there.
+fn mark(flag: &mut bool, ids: &mut Vec<usize>, id: usize, is_short: &mut bool)
+    ensures flag { flag.new ≡ true }
+    ensures listed { is_short.new ≡ false → ids.new.items ≡ (if flag.old then ids.old.items else ids.old.items ++ id ∷ []) }
+    ensures short { is_short.new ≡ false → is_short.old ≡ false }
 {
     if *flag {
-        return Ok(());
+        return;
     }
-    ids.push(id)?;
     *flag = true;
-    Ok(())
+    if ids.push(id).is_err() {
+        *is_short = true;
+    }
 }
 
 // The client of this place, if there is one, is to be served.
-fn mark_ready_at(
-    place: &mut Option<Client>,
-    ids: &mut Vec<usize>,
-    id: usize,
-) -> Result<(), AllocError>
-    ensures client { OnOk result (place.new ≡ option_map (with_ready true) place.old) }
-    ensures listed { OnOk result (ids.new.items ≡ ids_with (λ x. x.is_ready) place.old id ids.old.items) }
-    ensures refused { OnErr result (place.new ≡ place.old) }
-    ensures unlisted { OnErr result (ids.new.items ≡ ids.old.items) }
+fn mark_ready_at(place: &mut Option<Client>, ids: &mut Vec<usize>, id: usize, is_short: &mut bool)
+    ensures client { place.new ≡ option_map (with_ready true) place.old }
+    ensures listed { is_short.new ≡ false → ids.new.items ≡ ids_with (λ x. x.is_ready) place.old id ids.old.items }
+    ensures short { is_short.new ≡ false → is_short.old ≡ false }
 {
     match place {
-        Some(client) => mark(&mut client.is_ready, ids, id),
-        None => Ok(()),
+        Some(client) => mark(&mut client.is_ready, ids, id, is_short),
+        None => {}
     }
 }
 
 // It has something to send.
-fn mark_output_at(
-    place: &mut Option<Client>,
-    ids: &mut Vec<usize>,
-    id: usize,
-) -> Result<(), AllocError>
-    ensures client { OnOk result (place.new ≡ option_map (with_unsent true) place.old) }
-    ensures listed { OnOk result (ids.new.items ≡ ids_with (λ x. x.has_output) place.old id ids.old.items) }
-    ensures refused { OnErr result (place.new ≡ place.old) }
-    ensures unlisted { OnErr result (ids.new.items ≡ ids.old.items) }
+fn mark_output_at(place: &mut Option<Client>, ids: &mut Vec<usize>, id: usize, is_short: &mut bool)
+    ensures client { place.new ≡ option_map (with_unsent true) place.old }
+    ensures listed { is_short.new ≡ false → ids.new.items ≡ ids_with (λ x. x.has_output) place.old id ids.old.items }
+    ensures short { is_short.new ≡ false → is_short.old ≡ false }
 {
     match place {
-        Some(client) => mark(&mut client.has_output, ids, id),
-        None => Ok(()),
+        Some(client) => mark(&mut client.has_output, ids, id, is_short),
+        None => {}
     }
 }
 
 // A command of it waits.
-fn mark_busy_at(
-    place: &mut Option<Client>,
-    ids: &mut Vec<usize>,
-    id: usize,
-) -> Result<(), AllocError>
-    ensures client { OnOk result (place.new ≡ option_map (with_busy true) place.old) }
-    ensures listed { OnOk result (ids.new.items ≡ ids_with (λ x. x.is_busy) place.old id ids.old.items) }
-    ensures refused { OnErr result (place.new ≡ place.old) }
-    ensures unlisted { OnErr result (ids.new.items ≡ ids.old.items) }
+fn mark_busy_at(place: &mut Option<Client>, ids: &mut Vec<usize>, id: usize, is_short: &mut bool)
+    ensures client { place.new ≡ option_map (with_busy true) place.old }
+    ensures listed { is_short.new ≡ false → ids.new.items ≡ ids_with (λ x. x.is_busy) place.old id ids.old.items }
+    ensures short { is_short.new ≡ false → is_short.old ≡ false }
 {
     match place {
-        Some(client) => mark(&mut client.is_busy, ids, id),
-        None => Ok(()),
+        Some(client) => mark(&mut client.is_busy, ids, id, is_short),
+        None => {}
     }
 }
 
 // A call of it was settled, or has failed.
-fn mark_settled_at(
-    place: &mut Option<Client>,
-    ids: &mut Vec<usize>,
-    id: usize,
-) -> Result<(), AllocError>
-    ensures client { OnOk result (place.new ≡ option_map (λ x. with_ready true (one_settled x)) place.old) }
-    ensures listed { OnOk result (ids.new.items ≡ ids_with (λ x. x.is_ready) place.old id ids.old.items) }
-    ensures refused { OnErr result (place.new ≡ option_map one_settled place.old) }
-    ensures unlisted { OnErr result (ids.new.items ≡ ids.old.items) }
+fn mark_settled_at(place: &mut Option<Client>, ids: &mut Vec<usize>, id: usize, is_short: &mut bool)
+    ensures client { place.new ≡ option_map (λ x. with_ready true (one_settled x)) place.old }
+    ensures listed { is_short.new ≡ false → ids.new.items ≡ ids_with (λ x. x.is_ready) place.old id ids.old.items }
+    ensures short { is_short.new ≡ false → is_short.old ≡ false }
 {
     match place {
         Some(client) => {
             client.has_settled();
-            mark(&mut client.is_ready, ids, id)
+            mark(&mut client.is_ready, ids, id, is_short);
         }
-        None => Ok(()),
+        None => {}
     }
 }
 
@@ -396,39 +376,34 @@ fn mark_got_at(
     ids: &mut Vec<usize>,
     id: usize,
     len: usize,
-) -> Result<(), AllocError>
-    ensures client { OnOk result (place.new ≡ option_map (λ x. with_ready true (one_settled (one_got len x))) place.old) }
-    ensures listed { OnOk result (ids.new.items ≡ ids_with (λ x. x.is_ready) place.old id ids.old.items) }
-    ensures refused { OnErr result (place.new ≡ option_map (λ x. one_settled (one_got len x)) place.old) }
-    ensures unlisted { OnErr result (ids.new.items ≡ ids.old.items) }
+    is_short: &mut bool,
+)
+    ensures client { place.new ≡ option_map (λ x. with_ready true (one_settled (one_got len x))) place.old }
+    ensures listed { is_short.new ≡ false → ids.new.items ≡ ids_with (λ x. x.is_ready) place.old id ids.old.items }
+    ensures short { is_short.new ≡ false → is_short.old ≡ false }
 {
     match place {
         Some(client) => {
             client.has_got(len);
             client.has_settled();
-            mark(&mut client.is_ready, ids, id)
+            mark(&mut client.is_ready, ids, id, is_short);
         }
-        None => Ok(()),
+        None => {}
     }
 }
 
 // A call of it waits no longer.
-fn end_waiting_at(
-    place: &mut Option<Client>,
-    ids: &mut Vec<usize>,
-    id: usize,
-) -> Result<(), AllocError>
-    ensures client { OnOk result (place.new ≡ option_map (λ x. with_ready true (one_waited x)) place.old) }
-    ensures listed { OnOk result (ids.new.items ≡ ids_with (λ x. x.is_ready) place.old id ids.old.items) }
-    ensures refused { OnErr result (place.new ≡ option_map one_waited place.old) }
-    ensures unlisted { OnErr result (ids.new.items ≡ ids.old.items) }
+fn end_waiting_at(place: &mut Option<Client>, ids: &mut Vec<usize>, id: usize, is_short: &mut bool)
+    ensures client { place.new ≡ option_map (λ x. with_ready true (one_waited x)) place.old }
+    ensures listed { is_short.new ≡ false → ids.new.items ≡ ids_with (λ x. x.is_ready) place.old id ids.old.items }
+    ensures short { is_short.new ≡ false → is_short.old ≡ false }
 {
     match place {
         Some(client) => {
             client.has_waited();
-            mark(&mut client.is_ready, ids, id)
+            mark(&mut client.is_ready, ids, id, is_short);
         }
-        None => Ok(()),
+        None => {}
     }
 }
 
@@ -510,6 +485,54 @@ fn empty(place: &mut Option<Client>) -> Option<usize>
     number
 }
 
+// How a client is marked.
+#[derive(Clone, Copy)]
+enum Marking {
+    // It is to be served.
+    Ready,
+    // It has something to send.
+    Unsent,
+    // A command of it waits for a key or a server.
+    Busy,
+}
+
+// Whether a client stands there that is marked so.
+fn is_marked(place: &Option<Client>, mark: Marking) -> bool
+    ensures { result ≡ is_marked mark place.now }
+{
+    let Some(client) = place else {
+        return false;
+    };
+    match mark {
+        Marking::Ready => client.is_ready,
+        Marking::Unsent => client.has_output,
+        Marking::Busy => client.is_busy,
+    }
+}
+
+// The id comes to the end of these where its client is marked so. Whether memory was there for that.
+fn list_if_marked(place: &Option<Client>, mark: Marking, ids: &mut Vec<usize>, id: usize) -> bool
+    ensures { result ≡ true → ids.new.items ≡ (if is_marked mark place.now then ids.old.items ++ id ∷ [] else ids.old.items) }
+{
+    if is_marked(place, mark) {
+        return ids.push(id).is_ok();
+    }
+    true
+}
+
+// These are all that are marked so from now on, or some of them where memory is refused: whether they are all.
+fn list_marked(all: &Vec<Option<Client>>, mark: Marking, ids: &mut Vec<usize>) -> bool
+    ensures { result ≡ true → HasMarked mark all.now.items ids.new.items }
+{
+    ids.clear();
+    for id in 0..all.len() {
+        if !list_if_marked(&all[id], mark, ids, id) {
+            return false;
+        }
+    }
+    true
+}
+
 /// All clients. Each stands once at most in each list.
 #[derive(Drop)]
 pub struct Clients {
@@ -517,6 +540,8 @@ pub struct Clients {
     pub ready: Vec<usize>,
     pub with_output: Vec<usize>,
     pub busy: Vec<usize>,
+    /// Whether one may be missing in a list, as memory was refused for that.
+    pub is_short: bool,
 }
 
 impl Clients {
@@ -529,6 +554,7 @@ impl Clients {
             ready: Vec::new(alloc),
             with_output: Vec::new(alloc),
             busy: Vec::new(alloc),
+            is_short: false,
         }
     }
 
@@ -555,14 +581,15 @@ impl Clients {
     /// There is one more, of this id, and it is to be served.
     pub fn insert(&mut self, id: usize, client: Client) -> Result<(), AllocError>
         ensures there { OnOk result (client_of self.new id ≡ Some (with_ready true client)) }
-        ensures listed { OnOk result (self.new.ready.items ≡ ids_with (λ x. x.is_ready) (Some client) id self.old.ready.items) }
+        ensures listed { OnOk result (self.new.is_short ≡ false → self.new.ready.items ≡ ids_with (λ x. x.is_ready) (Some client) id self.old.ready.items) }
         ensures unlisted { OnErr result (self.new.ready.items ≡ self.old.ready.items) }
         ensures others { (other : ℕ) → other ≢ id → client_of self.new other ≡ client_of self.old other }
-        ensures rest { self.new ≡ record self.old { all = self.new.all; ready = self.new.ready } }
+        ensures rest { self.new ≡ record self.old { all = self.new.all; ready = self.new.ready; is_short = self.new.is_short } }
     {
         make_place(&mut self.all, id)?;
         put_at(&mut self.all, id, client);
-        self.mark_ready(id)
+        self.mark_ready(id);
+        Ok(())
     }
 
     /// It is gone: the number of its connection, which is to be closed.
@@ -577,42 +604,42 @@ impl Clients {
         }
     }
 
-    /// It is to be served. Where memory is refused for that, nothing changes.
-    pub fn mark_ready(&mut self, id: usize) -> Result<(), AllocError>
-        ensures client { OnOk result (Changes (with_ready true) id self.old self.new) }
-        ensures listed { OnOk result (self.new.ready.items ≡ ids_with (λ x. x.is_ready) (client_of self.old id) id self.old.ready.items) }
-        ensures refused { OnErr result (AreAlike self.old self.new) }
-        ensures rest { self.new ≡ record self.old { all = self.new.all; ready = self.new.ready } }
+    /// It is to be served.
+    pub fn mark_ready(&mut self, id: usize)
+        ensures client { Changes (with_ready true) id self.old self.new }
+        ensures listed { self.new.is_short ≡ false → self.new.ready.items ≡ ids_with (λ x. x.is_ready) (client_of self.old id) id self.old.ready.items }
+        ensures short { self.new.is_short ≡ false → self.old.is_short ≡ false }
+        ensures rest { self.new ≡ record self.old { all = self.new.all; ready = self.new.ready; is_short = self.new.is_short } }
     {
         match self.all.get_mut(id) {
-            Some(place) => mark_ready_at(place, &mut self.ready, id),
-            None => Ok(()),
+            Some(place) => mark_ready_at(place, &mut self.ready, id, &mut self.is_short),
+            None => {}
         }
     }
 
-    /// It has something to send. Where memory is refused for that, nothing changes.
-    pub fn mark_output(&mut self, id: usize) -> Result<(), AllocError>
-        ensures client { OnOk result (Changes (with_unsent true) id self.old self.new) }
-        ensures listed { OnOk result (self.new.with_output.items ≡ ids_with (λ x. x.has_output) (client_of self.old id) id self.old.with_output.items) }
-        ensures refused { OnErr result (AreAlike self.old self.new) }
-        ensures rest { self.new ≡ record self.old { all = self.new.all; with_output = self.new.with_output } }
+    /// It has something to send.
+    pub fn mark_output(&mut self, id: usize)
+        ensures client { Changes (with_unsent true) id self.old self.new }
+        ensures listed { self.new.is_short ≡ false → self.new.with_output.items ≡ ids_with (λ x. x.has_output) (client_of self.old id) id self.old.with_output.items }
+        ensures short { self.new.is_short ≡ false → self.old.is_short ≡ false }
+        ensures rest { self.new ≡ record self.old { all = self.new.all; with_output = self.new.with_output; is_short = self.new.is_short } }
     {
         match self.all.get_mut(id) {
-            Some(place) => mark_output_at(place, &mut self.with_output, id),
-            None => Ok(()),
+            Some(place) => mark_output_at(place, &mut self.with_output, id, &mut self.is_short),
+            None => {}
         }
     }
 
-    /// A command of it waits for a key or a server. Where memory is refused for that, nothing changes.
-    pub fn mark_busy(&mut self, id: usize) -> Result<(), AllocError>
-        ensures client { OnOk result (Changes (with_busy true) id self.old self.new) }
-        ensures listed { OnOk result (self.new.busy.items ≡ ids_with (λ x. x.is_busy) (client_of self.old id) id self.old.busy.items) }
-        ensures refused { OnErr result (AreAlike self.old self.new) }
-        ensures rest { self.new ≡ record self.old { all = self.new.all; busy = self.new.busy } }
+    /// A command of it waits for a key or a server.
+    pub fn mark_busy(&mut self, id: usize)
+        ensures client { Changes (with_busy true) id self.old self.new }
+        ensures listed { self.new.is_short ≡ false → self.new.busy.items ≡ ids_with (λ x. x.is_busy) (client_of self.old id) id self.old.busy.items }
+        ensures short { self.new.is_short ≡ false → self.old.is_short ≡ false }
+        ensures rest { self.new ≡ record self.old { all = self.new.all; busy = self.new.busy; is_short = self.new.is_short } }
     {
         match self.all.get_mut(id) {
-            Some(place) => mark_busy_at(place, &mut self.busy, id),
-            None => Ok(()),
+            Some(place) => mark_busy_at(place, &mut self.busy, id, &mut self.is_short),
+            None => {}
         }
     }
 
@@ -633,18 +660,55 @@ impl Clients {
         Ok(())
     }
 
-    // One that waits for a key or a server does so no longer, and goes after these if it isn't ready.
-    #[tactic(auto, using(crate::proofs::Agreeing::free_keeps))]
+    // One that waits for a key or a server does so no longer, and goes after these if it isn't ready. Where memory is refused for that, nothing changes.
+    #[tactic(auto, using(crate::proofs::Agreeing::moved_keeps))]
     fn move_one(&mut self, id: usize, to: &mut Vec<usize>) -> Result<(), AllocError>
         ensures ends { KeepsEnds self.old self.new }
-        ensures client { Changes (with_busy false) id self.old self.new }
+        ensures client { OnOk result (Changes (with_busy false) id self.old self.new) }
         ensures moved { OnOk result (to.new.items ≡ (if is_idle (client_of self.old id) then to.old.items ++ id ∷ [] else to.old.items)) }
         ensures rest { self.new ≡ record self.old { all = self.new.all } }
     {
-        if self.end_busy(id) {
+        if self.is_idle(id) {
             to.push(id)?;
         }
+        let _ = self.end_busy(id);
         Ok(())
+    }
+
+    // Whether it is there, and isn't ready.
+    fn is_idle(&self, id: usize) -> bool
+        ensures { result ≡ is_idle (client_of self.now id) }
+    {
+        match self.all.get(id) {
+            Some(Some(client)) => !client.is_ready,
+            _ => false,
+        }
+    }
+
+    /// What was to be sent to it was held back: it has something to send in the next turn too.
+    pub fn hold_back(&mut self, id: usize)
+        ensures listed { self.new.is_short ≡ false → self.new.with_output.items ≡ self.old.with_output.items ++ id ∷ [] }
+        ensures short { self.new.is_short ≡ false → self.old.is_short ≡ false }
+        ensures rest { self.new ≡ record self.old { with_output = self.new.with_output; is_short = self.new.is_short } }
+    {
+        if self.with_output.push(id).is_err() {
+            self.is_short = true;
+        }
+    }
+
+    /// Where one may be missing in a list, all that are marked are listed anew, as far as memory is there for that.
+    pub fn list_again(&mut self)
+        ensures listed { self.old.is_short ≡ true → self.new.is_short ≡ false → AreListed self.new }
+        ensures same { self.old.is_short ≡ false → self.new ≡ self.old }
+        ensures clients { self.new.all ≡ self.old.all }
+    {
+        if !self.is_short {
+            return;
+        }
+        let are_ready = list_marked(&self.all, Marking::Ready, &mut self.ready);
+        let are_unsent = list_marked(&self.all, Marking::Unsent, &mut self.with_output);
+        let are_busy = list_marked(&self.all, Marking::Busy, &mut self.busy);
+        self.is_short = !(are_ready && are_unsent && are_busy);
     }
 
     /// It stands no longer among those that are ready.
@@ -671,44 +735,41 @@ impl Clients {
 
     /// A call of it was settled, or has failed.
     #[tactic(auto, using(crate::proofs::Agreeing::settled_keeps))]
-    pub fn mark_settled(&mut self, id: usize) -> Result<(), AllocError>
+    pub fn mark_settled(&mut self, id: usize)
         ensures ends { KeepsEnds self.old self.new }
-        ensures client { OnOk result (Changes (λ x. with_ready true (one_settled x)) id self.old self.new) }
-        ensures listed { OnOk result (self.new.ready.items ≡ ids_with (λ x. x.is_ready) (client_of self.old id) id self.old.ready.items) }
-        ensures refused { OnErr result (Changes one_settled id self.old self.new) }
-        ensures unlisted { OnErr result (self.new.ready.items ≡ self.old.ready.items) }
-        ensures rest { self.new ≡ record self.old { all = self.new.all; ready = self.new.ready } }
+        ensures client { Changes (λ x. with_ready true (one_settled x)) id self.old self.new }
+        ensures listed { self.new.is_short ≡ false → self.new.ready.items ≡ ids_with (λ x. x.is_ready) (client_of self.old id) id self.old.ready.items }
+        ensures short { self.new.is_short ≡ false → self.old.is_short ≡ false }
+        ensures rest { self.new ≡ record self.old { all = self.new.all; ready = self.new.ready; is_short = self.new.is_short } }
     {
         match self.all.get_mut(id) {
-            Some(place) => mark_settled_at(place, &mut self.ready, id),
-            None => Ok(()),
+            Some(place) => mark_settled_at(place, &mut self.ready, id, &mut self.is_short),
+            None => {}
         }
     }
 
     // A get of it was answered by so many bytes.
-    fn mark_got(&mut self, id: usize, len: usize) -> Result<(), AllocError>
-        ensures client { OnOk result (Changes (λ x. with_ready true (one_settled (one_got len x))) id self.old self.new) }
-        ensures listed { OnOk result (self.new.ready.items ≡ ids_with (λ x. x.is_ready) (client_of self.old id) id self.old.ready.items) }
-        ensures refused { OnErr result (Changes (λ x. one_settled (one_got len x)) id self.old self.new) }
-        ensures unlisted { OnErr result (self.new.ready.items ≡ self.old.ready.items) }
-        ensures rest { self.new ≡ record self.old { all = self.new.all; ready = self.new.ready } }
+    fn mark_got(&mut self, id: usize, len: usize)
+        ensures client { Changes (λ x. with_ready true (one_settled (one_got len x))) id self.old self.new }
+        ensures listed { self.new.is_short ≡ false → self.new.ready.items ≡ ids_with (λ x. x.is_ready) (client_of self.old id) id self.old.ready.items }
+        ensures short { self.new.is_short ≡ false → self.old.is_short ≡ false }
+        ensures rest { self.new ≡ record self.old { all = self.new.all; ready = self.new.ready; is_short = self.new.is_short } }
     {
         match self.all.get_mut(id) {
-            Some(place) => mark_got_at(place, &mut self.ready, id, len),
-            None => Ok(()),
+            Some(place) => mark_got_at(place, &mut self.ready, id, len, &mut self.is_short),
+            None => {}
         }
     }
 
     /// A call of it was settled by an answer of so many bytes. They are held for it until they are shown, if it is to a get; and then the answer to its
     /// next get is expected to take as many, or a quarter of what was expected of this one where that is more.
     #[tactic(auto, using(crate::proofs::Agreeing::answered_keeps))]
-    pub fn mark_answered(&mut self, id: usize, is_get: bool, len: usize) -> Result<(), AllocError>
+    pub fn mark_answered(&mut self, id: usize, is_get: bool, len: usize)
         ensures ends { KeepsEnds self.old self.new }
-        ensures client { OnOk result (Changes (λ x. with_ready true (one_answered is_get len x)) id self.old self.new) }
-        ensures listed { OnOk result (self.new.ready.items ≡ ids_with (λ x. x.is_ready) (client_of self.old id) id self.old.ready.items) }
-        ensures refused { OnErr result (Changes (one_answered is_get len) id self.old self.new) }
-        ensures unlisted { OnErr result (self.new.ready.items ≡ self.old.ready.items) }
-        ensures rest { self.new ≡ record self.old { all = self.new.all; ready = self.new.ready } }
+        ensures client { Changes (λ x. with_ready true (one_answered is_get len x)) id self.old self.new }
+        ensures listed { self.new.is_short ≡ false → self.new.ready.items ≡ ids_with (λ x. x.is_ready) (client_of self.old id) id self.old.ready.items }
+        ensures short { self.new.is_short ≡ false → self.old.is_short ≡ false }
+        ensures rest { self.new ≡ record self.old { all = self.new.all; ready = self.new.ready; is_short = self.new.is_short } }
     {
         if is_get {
             self.mark_got(id, len)
@@ -748,33 +809,32 @@ impl Clients {
 
     /// A call of it waits no longer.
     #[tactic(auto, using(crate::proofs::Agreeing::waited_keeps))]
-    pub fn end_waiting(&mut self, id: usize) -> Result<(), AllocError>
+    pub fn end_waiting(&mut self, id: usize)
         ensures ends { KeepsEnds self.old self.new }
-        ensures client { OnOk result (Changes (λ x. with_ready true (one_waited x)) id self.old self.new) }
-        ensures listed { OnOk result (self.new.ready.items ≡ ids_with (λ x. x.is_ready) (client_of self.old id) id self.old.ready.items) }
-        ensures refused { OnErr result (Changes one_waited id self.old self.new) }
-        ensures unlisted { OnErr result (self.new.ready.items ≡ self.old.ready.items) }
-        ensures rest { self.new ≡ record self.old { all = self.new.all; ready = self.new.ready } }
+        ensures client { Changes (λ x. with_ready true (one_waited x)) id self.old self.new }
+        ensures listed { self.new.is_short ≡ false → self.new.ready.items ≡ ids_with (λ x. x.is_ready) (client_of self.old id) id self.old.ready.items }
+        ensures short { self.new.is_short ≡ false → self.old.is_short ≡ false }
+        ensures rest { self.new ≡ record self.old { all = self.new.all; ready = self.new.ready; is_short = self.new.is_short } }
     {
         match self.all.get_mut(id) {
-            Some(place) => end_waiting_at(place, &mut self.ready, id),
-            None => Ok(()),
+            Some(place) => end_waiting_at(place, &mut self.ready, id, &mut self.is_short),
+            None => {}
         }
     }
 
     /// What the system told of its socket is noted beside what it told before, and the client is to be served where something can be read, and has something
     /// to send where something can be sent and is there.
-    pub fn note(&mut self, id: usize, told: Ready) -> Result<(), AllocError>
+    pub fn note(&mut self, id: usize, told: Ready)
         ensures ends { KeepsEnds self.old self.new }
-        ensures client { OnOk result (Changes (noted told) id self.old self.new) }
-        ensures served { OnOk result (self.new.ready.items ≡ ids_if told.reads (λ x. x.is_ready) (client_of self.old id) id self.old.ready.items) }
-        ensures unsent { OnOk result (self.new.with_output.items ≡ ids_if (will_send told (client_of self.old id)) (λ x. x.has_output) (client_of self.old id) id self.old.with_output.items) }
+        ensures client { Changes (noted told) id self.old self.new }
+        ensures served { self.new.is_short ≡ false → self.new.ready.items ≡ ids_if told.reads (λ x. x.is_ready) (client_of self.old id) id self.old.ready.items }
+        ensures unsent { self.new.is_short ≡ false → self.new.with_output.items ≡ ids_if (will_send told (client_of self.old id)) (λ x. x.has_output) (client_of self.old id) id self.old.with_output.items }
         ensures others { (other : ℕ) → other ≢ id → client_of self.new other ≡ client_of self.old other }
-        ensures rest { self.new ≡ record self.old { all = self.new.all; ready = self.new.ready; with_output = self.new.with_output } }
+        ensures rest { self.new ≡ record self.old { all = self.new.all; ready = self.new.ready; with_output = self.new.with_output; is_short = self.new.is_short } }
     {
         let sends = self.note_told(id, told);
-        self.mark_ready_if(id, told.reads)?;
-        self.mark_output_if(id, sends)
+        self.mark_ready_if(id, told.reads);
+        self.mark_output_if(id, sends);
     }
 
     // What the system told: whether something can be sent to it, and is there.
@@ -790,28 +850,26 @@ impl Clients {
     }
 
     // It is to be served, if it is so.
-    fn mark_ready_if(&mut self, id: usize, reads: bool) -> Result<(), AllocError>
-        ensures client { OnOk result (Changes (ready_if reads) id self.old self.new) }
-        ensures listed { OnOk result (self.new.ready.items ≡ ids_if reads (λ x. x.is_ready) (client_of self.old id) id self.old.ready.items) }
-        ensures refused { OnErr result (AreAlike self.old self.new) }
-        ensures rest { self.new ≡ record self.old { all = self.new.all; ready = self.new.ready } }
+    fn mark_ready_if(&mut self, id: usize, reads: bool)
+        ensures client { Changes (ready_if reads) id self.old self.new }
+        ensures listed { self.new.is_short ≡ false → self.new.ready.items ≡ ids_if reads (λ x. x.is_ready) (client_of self.old id) id self.old.ready.items }
+        ensures short { self.new.is_short ≡ false → self.old.is_short ≡ false }
+        ensures rest { self.new ≡ record self.old { all = self.new.all; ready = self.new.ready; is_short = self.new.is_short } }
     {
         if reads {
-            return self.mark_ready(id);
+            self.mark_ready(id);
         }
-        Ok(())
     }
 
     // It has something to send, if it is so.
-    fn mark_output_if(&mut self, id: usize, writes: bool) -> Result<(), AllocError>
-        ensures client { OnOk result (Changes (unsent_if writes) id self.old self.new) }
-        ensures listed { OnOk result (self.new.with_output.items ≡ ids_if writes (λ x. x.has_output) (client_of self.old id) id self.old.with_output.items) }
-        ensures refused { OnErr result (AreAlike self.old self.new) }
-        ensures rest { self.new ≡ record self.old { all = self.new.all; with_output = self.new.with_output } }
+    fn mark_output_if(&mut self, id: usize, writes: bool)
+        ensures client { Changes (unsent_if writes) id self.old self.new }
+        ensures listed { self.new.is_short ≡ false → self.new.with_output.items ≡ ids_if writes (λ x. x.has_output) (client_of self.old id) id self.old.with_output.items }
+        ensures short { self.new.is_short ≡ false → self.old.is_short ≡ false }
+        ensures rest { self.new ≡ record self.old { all = self.new.all; with_output = self.new.with_output; is_short = self.new.is_short } }
     {
         if writes {
-            return self.mark_output(id);
+            self.mark_output(id);
         }
-        Ok(())
     }
 }

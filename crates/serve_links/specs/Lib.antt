@@ -4,6 +4,7 @@ pub mod Sending
 pub mod CoreSteps
 pub mod Counting
 pub mod Lines
+pub mod Lateness
 pub mod Links
 pub mod Pieces
 pub mod Settled

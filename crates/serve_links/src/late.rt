@@ -49,7 +49,7 @@ fn pass_over(late: &mut VecDeque<LateCall>, calls: &mut LinkCalls, conn: &mut Co
 
 impl Link {
     /// The first of the calls that are out is late: it has failed, and keeps its place. Whose it was. Without a connection none is.
-    pub fn fail_late(&mut self, core: &mut ServedCore) -> Result<Option<usize>, AllocError>
+    pub(crate) fn fail_late(&mut self, core: &mut ServedCore) -> Result<Option<usize>, AllocError>
         ensures goes { (at : ℕ) (h : List Event) → LineGoes IsSending at core.old h self.old core.new h self.new }
     {
         if self.conn.is_none() {

@@ -3,6 +3,7 @@
 ghost use Rattle.std.specs.Prelude.{◌≡◌, ◌≢◌, true, IfSome, ◌+◌, ◌<◌, ◌++◌, false, ◌∷◌, [], None, length, MatchOption, IfOk, IfErr, OnOk, OnErr, option_map};
 ghost use Rattle.mc_types.specs.declared.ask.Dialect.TheVariants.{Classic};
 ghost use Rattle.serve_links.specs.Links.{IsDown, IsTaken, vain_cause};
+ghost use Rattle.serve_links.specs.Lateness.{HasLate, IsConnectLate};
 ghost use Rattle.wire_parts.specs.Sending.{bytes_of};
 ghost use Rattle.serve_links.specs.Dialects.{awaits_flush};
 ghost use Rattle.serve_links.specs.Lines.{dialect_asked, flush_asked, first_asked_of, asks_dialect, awaits_first, first_dialect, greeting_of, KeepsLines, HasNewEnd, OpensBy, Learns};
@@ -451,6 +452,20 @@ impl Link {
             }
             _ => None,
         }
+    }
+
+    /// Whether a call that is out began longer ago than a call may take.
+    pub fn has_late(&self, now: u64, settings: &Settings) -> bool
+        ensures { result ≡ true → HasLate settings.now.call_ms now self.now }
+    {
+        self.calls.has_late(settings.call_ms, now)
+    }
+
+    /// Whether its connection was begun longer ago than one may take to stand, and doesn't.
+    pub fn is_connect_late(&self, now: u64, settings: &Settings) -> bool
+        ensures { result ≡ true → IsConnectLate settings.now.connect_ms now self.now }
+    {
+        !self.is_connected && self.opened.saturating_add(settings.connect_ms) < now
     }
 
     /// Whether more may have come over it than was read.

@@ -1,6 +1,6 @@
 //! The outcomes of a link's calls, for the core and the clients: answers settle them, or they fail.
 
-ghost use Rattle.std.specs.Prelude.{◌≡◌, ◌≢◌, ℕ, List, true, ◌++◌, [], drop, None, IfSome, IfOk, OnOk};
+ghost use Rattle.std.specs.Prelude.{◌≡◌, ◌≢◌, ◌⊎◌, ℕ, List, true, ◌++◌, [], drop, None, IfSome, IfOk, OnOk};
 ghost use Rattle.serve_wire.specs.Ends.{HoldsAnew};
 ghost use Rattle.serve_clients.specs.Agrees.{KeepsEnds};
 ghost use Rattle.serve_links.specs.Calls.{SettlesNext};
@@ -8,11 +8,13 @@ ghost use Rattle.serve_wire.specs.Events.{Event};
 ghost use Rattle.serve_links.specs.CoreSteps.{GoesBy, IsSettlement, IsSending, Fails};
 ghost use Rattle.serve_links.specs.Story.{LineGoes};
 ghost use Rattle.core_accepted.specs.declared.served.ServedCore.{ServedCore};
+ghost use Rattle.serve_links.specs.Lateness.{HasLate};
 ghost use Rattle.serve_links.specs.Links.{AllFail, FailsTo, IsDown};
 ghost use Rattle.serve_links.specs.Settled.{HoldsNoAnswer, SettlesSome, SettlesFront, used_by};
 
 use crate::calls::{LinkCalls, Next, fail_call};
 use crate::link::Link;
+use crate::settings::Settings;
 use bytes::Bytes;
 use core_accepted::ServedCore;
 use serve_clients::Clients;
@@ -42,7 +44,7 @@ fn fail_sent(
         let Some(client) = calls.fail_next(core) else {
             return Ok(());
         };
-        clients.mark_settled(client)?;
+        clients.mark_settled(client);
     }
     Ok(())
 }
@@ -67,8 +69,8 @@ fn fail_waiting(
         };
         let client = call.client;
         fail_call(core, call.ticket);
-        clients.end_waiting(client)?;
-        clients.mark_settled(client)?;
+        clients.end_waiting(client);
+        clients.mark_settled(client);
     }
     Ok(())
 }
@@ -92,8 +94,26 @@ pub fn fail_all(
     fail_waiting(link, core, clients)
 }
 
-/// The calls that are out on the link have failed, as one of them is late, and keep their places.
+/// If a call that is out on the link is late by now, all that are have failed, and keep their places. Else nothing is done.
 pub fn fail_late(
+    link: &mut Link,
+    core: &mut ServedCore,
+    clients: &mut Clients,
+    now: u64,
+    settings: &Settings,
+) -> Result<(), AllocError>
+    ensures goes { (at : ℕ) (h : List Event) → LineGoes IsSending at core.old h link.old core.new h link.new }
+    ensures late { HasLate settings.now.call_ms now link.old ⊎ ((link.new ≡ link.old) × (core.new ≡ core.old)) }
+    ensures ends { KeepsEnds clients.old clients.new }
+{
+    if !link.has_late(now, settings) {
+        return Ok(());
+    }
+    fail_all_late(link, core, clients)
+}
+
+// The calls that are out on the link have failed, and keep their places.
+fn fail_all_late(
     link: &mut Link,
     core: &mut ServedCore,
     clients: &mut Clients,
@@ -106,7 +126,7 @@ pub fn fail_late(
         let Some(client) = link.fail_late(core)? else {
             return Ok(());
         };
-        clients.mark_settled(client)?;
+        clients.mark_settled(client);
     }
     Ok(())
 }
@@ -248,7 +268,7 @@ fn settle_in(
             Next::Settled { client, used: len } => {
                 used = used.saturating_add(len);
                 *is_freed = true;
-                clients.mark_answered(client, is_get, len)?;
+                clients.mark_answered(client, is_get, len);
             }
             Next::More => return Ok((used, HeldStop::More)),
             Next::Foreign => return Ok((used, HeldStop::Foreign)),
@@ -330,7 +350,7 @@ fn settle_copied(
         Next::Settled { client, used } => {
             conn.use_up(used);
             *is_freed = true;
-            clients.mark_answered(client, is_get, used)?;
+            clients.mark_answered(client, is_get, used);
             Ok(HeldFront::Settled)
         }
         Next::More => Ok(HeldFront::More),
@@ -436,7 +456,7 @@ fn settle_large(
     match settle_shared(calls, core, &front, conn) {
         (Next::Settled { client, used }, is_kept) => {
             *is_freed = true;
-            clients.mark_answered(client, is_get, used)?;
+            clients.mark_answered(client, is_get, used);
             if is_kept {
                 Ok(HeldFront::Settled)
             } else {

@@ -1,5 +1,7 @@
 //! How a proxy is set: how many clients, commands and calls, how long is waited, and how servers are asked.
 
+ghost use Rattle.std.specs.Prelude.{◌≡◌, ◌≤◌, ◌+◌, ◌⊎◌};
+
 use core_proxy::Sharing;
 
 /// In which dialect a server is asked for classic gets. All else is asked as the client wrote it.
@@ -66,6 +68,20 @@ impl Settings {
             polls: None,
             server_dialect: ServerDialect::Auto,
             flushes_new: false,
+        }
+    }
+
+    /// The same where so many descriptors may be open, of which so many are for servers and so many for the rest: no more clients than
+    /// these leave, and one at least.
+    pub fn within_descriptors(self, most: usize, servers: usize, rest: usize) -> Settings
+        ensures within { (result.clients + (servers + rest) ≤ most) ⊎ (result.clients ≡ 1) }
+        ensures wanted { (result.clients ≤ self.clients) ⊎ (result.clients ≡ 1) }
+        ensures others { result ≡ record self { clients = result.clients } }
+    {
+        let left = most.saturating_sub(servers).saturating_sub(rest);
+        Settings {
+            clients: self.clients.min(left).max(1),
+            ..self
         }
     }
 }

@@ -1,5 +1,5 @@
 -- What is done at one link, by what its own functions say, and how that goes on among all.
-use Rattle.std.proofs.Common.{◌≡◌, ℕ, ◌<◌, zero, suc, Bool, true, false, List, [], ◌∷◌, ◌++◌, length, get_or, Option, Some, None, Result, Ok, Err, refl, sym, ap, ◌∙◌, subst, arith}
+use Rattle.std.proofs.Common.{◌≡◌, ℕ, ◌<◌, zero, suc, Bool, true, false, List, [], ◌∷◌, ◌++◌, length, get_or, Option, Some, None, Result, Ok, Err, ◌⊎◌, inl, inr, refl, sym, ap, ◌∙◌, subst, arith}
 use Rattle.std.proofs.Math.ListN.{set}
 use Rattle.std.specs.Prelude.{MatchOption, IfOk, IsSome, slice_get}
 use Rattle.std.specs.Option.{option_map}
@@ -32,6 +32,7 @@ use Rattle.serve_links.specs.declared.link.Link.{Link}
 use Rattle.serve_links.specs.CoreSteps.{Step, Polled, Does, IsOfTurn, GoesOn}
 use Rattle.serve_links.specs.Dialects.{asked_in, awaits_flush}
 use Rattle.serve_links.specs.Settled.{SettlesSome, SettlesFront}
+use Rattle.serve_links.specs.Lateness.{HasLate, HasLateAt}
 use Rattle.serve_links.specs.Links.{IsTaken}
 use Rattle.serve_links.specs.Lines.{IsNewEnd, OpensBy, greeting_of}
 use Rattle.serve_links.specs.Talks.{SaidAsk, talk_in, IsCalledIn}
@@ -43,6 +44,7 @@ use Rattle.serve_links.proofs.Shutting.{shut_quiet}
 use Rattle.serve_proxy.specs.Ends.{lines_of, LinksTake, LinksGive, LineTakes, IsOpenAt, AsksIn, AllGoOn, AllGoLosing, AllGoOr}
 use Rattle.serve_proxy.specs.declared.sockets.Sockets.{Sockets}
 use Rattle.serve_proxy.proofs.Going.{and_then, core_of, may_lose, line_took, line_gave, had_quiet, numbers_kept, told_kept, set_here}
+use Rattle.std.proofs.lemmas.Option.{slice_get_read}
 use Rattle.serve_proxy.proofs.Staying.{line_lent}
 
 -- ---- lines
@@ -247,3 +249,10 @@ or_core history core s core' s' (Err refused) did = core_of did
 pub or_from :
     {W A E : Type 0} (history : W → List Event) (core x : ServedCore) (s : Sockets W) (core' : ServedCore) (s' : Sockets W) (r : Result A E) → x ≡ core → AllGoOr r history x s core' s' → AllGoOr r history core s core' s'
 or_from history core x s core' s' r same did = subst (λ y. AllGoOr r history y s core' s') same did
+
+-- one of the calls of the link at this place is late, or nothing is done
+pub late_at :
+    {a b : ServedCore} {now t : ℕ} {links : List Link} {x y : Link} (at most : ℕ) → now ≡ t → at < length links → x ≡ get_or links at x → HasLate most now x ⊎ ((y ≡ x) × (b ≡ a))
+    → HasLateAt at most t links ⊎ (b ≡ a)
+late_at {t = t} {links = links} {x = x} at most shown within was (inl late) = inl (x, (slice_get_read links (length links) at x refl within was, subst (λ n. HasLate most n x) shown late))
+late_at at most shown within was (inr same) = inr same.1

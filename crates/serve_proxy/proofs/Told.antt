@@ -5,10 +5,10 @@ use Rattle.std.specs.Prelude.{◌==◌, ◌||◌, nat_eq, IfSome, IfErr, OnOk, s
 use Rattle.std.specs.Option.{option_map, option_flatten}
 use Rattle.fresh_runs.specs.Overlap as log
 use Rattle.wire_parts.specs.Sending.{bytes_of}
-use Rattle.serve_wire.specs.Events.{Event, admits, ticks, accepts, role, delivered, taken, is_open, IsNew}
+use Rattle.serve_wire.specs.Events.{Event, admits, ticks, looks_up, accepts, role, delivered, taken, is_open, IsNew}
 use Rattle.serve_wire.specs.Agreement.{Extends, TouchesOnly, IsUntouched}
 use Rattle.serve_wire.specs.Calls.{Closes}
-use Rattle.serve_wire.proofs.Steps.{equal, unequal, apart, new_apart, untouched, untouched_twice, only_admits, only_accepts, only_after, extends_twice, none_ticks}
+use Rattle.serve_wire.proofs.Steps.{equal, unequal, apart, new_apart, untouched, untouched_twice, only_admits, only_accepts, only_after, extends_twice, none_ticks, none_looks_up}
 use Rattle.serve_wire.proofs.Touching.{only_same, only_closed}
 use Rattle.core_proxy.specs.declared.fault.CoreFault.{CoreFault}
 use Rattle.core_proxy.specs.Faults.{OutputFault}
@@ -42,6 +42,9 @@ stay_same h h' cs ls same = record { quiet = λ d. subst (IsUntouched d h) (sym 
 
 pub stay_ticks : (t : ℕ) (h h' : List Event) (cs : Clients) (ls : List Link) → h' ≡ ticks t ∷ h → EndsStay h h' cs cs ls ls
 stay_ticks t h h' cs ls is = record { quiet = λ d. subst (IsUntouched d h) (sym is) (none_ticks t d h); clients = keeps_none cs; links = refl }
+
+pub stay_looks_up : (text : List ℕ) (h h' : List Event) (cs : Clients) (ls : List Link) → h' ≡ looks_up text ∷ h → EndsStay h h' cs cs ls ls
+stay_looks_up text h h' cs ls is = record { quiet = λ d. subst (IsUntouched d h) (sym is) (none_looks_up text d h); clients = keeps_none cs; links = refl }
 
 -- who was accepted is nobody's client yet
 pub accepted_role : (c : ℕ) (h h' : List Event) → IsNew c h × (h' ≡ accepts c ∷ h) → role c h' ≡ None

@@ -1,5 +1,5 @@
 -- When nothing is left to do for a proxy until something comes. Source: mcgate's own.
-use Rattle.std.specs.Prelude.{◌≡◌, ℕ, ◌≤◌, true, []}
+use Rattle.std.specs.Prelude.{◌≡◌, ℕ, ◌≤◌, true, false, []}
 use Rattle.serve_proxy.specs.declared.accepting.Accepting.TheVariants as accepting
 use Rattle.serve_proxy.specs.declared.sockets.Sockets.{Sockets}
 use Rattle.serve_proxy.specs.declared.proxy.ProxyEnd.{ProxyEnd}
@@ -13,6 +13,7 @@ MayAccept accepting.Idle now = ⊥
 
 -- nothing is ready, and none that waits can go on
 pub record HasNoWork {W : Type 0} (sockets : Sockets W) : Type 0 where
+  pub listed : (sockets.clients.is_short ≡ false) × (sockets.links.is_short ≡ false)
   pub accepting : MayAccept sockets.accepting sockets.time → ⊥
   pub clients : sockets.clients.ready.items ≡ []
   pub links : sockets.links.ready.items ≡ []

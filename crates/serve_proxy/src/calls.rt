@@ -47,7 +47,7 @@ fn send_looked<W: Wire, N: Net>(
     let call = SentCall {
         ticket,
         client: id,
-        since: time,
+        since: sockets.wire.last_millis(),
         paced: sockets.links.pace(),
         bulk,
         dialect: sockets.links.dialect_of(at),
@@ -120,7 +120,8 @@ fn refuse_call<W: Wire>(
     ensures ends { AllSendFrom (AgreesDue ticket.number) W.history core.old sockets.old core.new sockets.new }
 {
     fail_call(core, ticket);
-    sockets.clients.mark_settled(id)
+    sockets.clients.mark_settled(id);
+    Ok(())
 }
 
 /// Calls that waited are written to the link, up to a backlog. Whether one was.
@@ -164,7 +165,7 @@ fn begin_waited<W: Wire>(
 ) -> Result<bool, AllocError>
     ensures ends { AllSendFrom (AgreesSent at call) W.history core.old sockets.old core.new sockets.new }
 {
-    sockets.clients.end_waiting(call.client)?;
+    sockets.clients.end_waiting(call.client);
     let call = renewed(call, sockets.time, sockets.links.settings.call_ms);
     begin_call(core, sockets, at, call)?;
     Ok(true)
@@ -209,7 +210,7 @@ fn refuse_waited<W: Wire>(
 ) -> Result<bool, AllocError>
     ensures ends { AllSendFrom (AgreesSent at call) W.history core.old sockets.old core.new sockets.new }
 {
-    sockets.clients.end_waiting(call.client)?;
+    sockets.clients.end_waiting(call.client);
     refuse_call(core, sockets, call.client, call.ticket)?;
     Ok(true)
 }

@@ -172,7 +172,7 @@ impl<W: Wire> Sockets<W> {
         ensures ends { Stay W.history self.old self.new }
     {
         if is_busy {
-            return self.clients.mark_busy(id);
+            self.clients.mark_busy(id);
         }
         Ok(())
     }
@@ -193,7 +193,7 @@ impl<W: Wire> Sockets<W> {
         ensures ends { Stay W.history self.old self.new }
     {
         if is_more {
-            return self.clients.mark_ready(id);
+            self.clients.mark_ready(id);
         }
         Ok(())
     }

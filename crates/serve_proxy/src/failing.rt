@@ -1,6 +1,8 @@
 //! Links fail: their connections broke, brought what is no answer, or took too long.
 
-ghost use Rattle.std.specs.Prelude.{◌≡◌, OnOk};
+ghost use Rattle.std.specs.Prelude.{◌≡◌, ◌⊎◌, OnOk};
+ghost use Rattle.serve_wire.specs.Events.{time};
+ghost use Rattle.serve_links.specs.Lateness.{HasLateAt, IsConnectLateAt};
 ghost use Rattle.serve_links.specs.Links.{IsDownAt, IsClosedAt};
 ghost use Rattle.serve_proxy.specs.Ends.{idle_cause, GoAloneUnless, AllFailOn, AllGiveUp, AllGoOr};
 
@@ -95,9 +97,25 @@ fn fail_by<W: Wire>(
     ensures ends { AllFailOn W.history core.old sockets.old core.new sockets.new }
 {
     match late {
-        Lateness::Connection => fail_link(core, sockets, at, Cause::ConnectLate),
+        Lateness::Connection => fail_unconnected(core, sockets, at),
         Lateness::Call => fail_calls(core, sockets, at),
     }
+}
+
+// If the link's connection has taken too long to stand, by what the clock showed last, it is given up.
+fn fail_unconnected<W: Wire>(
+    core: &mut ServedCore,
+    sockets: &mut Sockets<W>,
+    at: usize,
+) -> Result<(), AllocError>
+    ensures ends { AllFailOn W.history core.old sockets.old core.new sockets.new }
+    ensures late { IsConnectLateAt at sockets.old.links.settings.connect_ms (time (W.history sockets.old.wire)) sockets.old.links.all.items ⊎ ((sockets.new ≡ sockets.old) × (core.new ≡ core.old)) }
+{
+    let now = sockets.wire.last_millis();
+    if !sockets.links.is_connect_late(at, now) {
+        return Ok(());
+    }
+    fail_link(core, sockets, at, Cause::ConnectLate)
 }
 
 // The link's calls have all failed. Those that are out keep their places, so that their answers meet no other calls; until these have come, further
@@ -113,20 +131,30 @@ fn fail_calls<W: Wire>(
     fail_waited(core, sockets, at)
 }
 
-// Those that are out have.
+// If one of those that are out is late by what the clock showed last, they have.
 fn fail_sent<W: Wire>(
     core: &mut ServedCore,
     sockets: &mut Sockets<W>,
     at: usize,
 ) -> Result<(), AllocError>
     ensures ends { AllFailOn W.history core.old sockets.old core.new sockets.new }
+    ensures late { HasLateAt at sockets.old.links.settings.call_ms (time (W.history sockets.old.wire)) sockets.old.links.all.items ⊎ (core.new ≡ core.old) }
 {
+    let now = sockets.wire.last_millis();
     match sockets.links.all.get_mut(at) {
         None => Ok(()),
         Some(link) => {
             sockets.links.has_news = true;
             sockets.is_freed = true;
-            fail_out(link, core, &mut sockets.clients)
+            // (where memory is refused those that are left fail in the next turn)
+            let _ = fail_out(
+                link,
+                core,
+                &mut sockets.clients,
+                now,
+                &sockets.links.settings,
+            );
+            Ok(())
         }
     }
 }

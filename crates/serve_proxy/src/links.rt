@@ -3,6 +3,7 @@
 
 ghost use Rattle.std.specs.Prelude.{◌≡◌, ◌↔◌, true, None, [], ◌∷◌, ◌++◌, drop, length, IsTrue, IsSome, IfOk, IfErr, OnOk, MatchOption};
 ghost use Rattle.serve_clients.specs.declared.clients.Clients.{Clients};
+ghost use Rattle.serve_links.specs.Lateness.{IsConnectLateAt};
 ghost use Rattle.serve_links.specs.Links.{calls_out};
 ghost use Rattle.serve_links.specs.Story.{line_of, texts_of};
 ghost use Rattle.serve_proxy.specs.Ends.{lines_of, LinksTake, LinksGive, LineStands, LineTakes, IsOpenAt, AsksIn, EndsGo, AddsLines};
@@ -94,6 +95,13 @@ fn give_back_line(link: &mut Link, alloc: Global) -> bool
     }
 }
 
+// It comes to the end of these. Where memory is refused for that, one is missing there.
+fn list(ids: &mut Vec<usize>, at: usize, is_short: &mut bool) {
+    if ids.push(at).is_err() {
+        *is_short = true;
+    }
+}
+
 /// The links, and the lists of those that are marked.
 #[derive(Drop)]
 pub struct Links {
@@ -103,6 +111,8 @@ pub struct Links {
     /// Those that are to be read.
     pub ready: Vec<usize>,
     pub with_output: Vec<usize>,
+    /// Whether one may be missing in a list, as memory was refused for that.
+    pub is_short: bool,
     /// Until then no link is late, so that only those that are touched are looked at; `None` where none can be.
     pub late_from: Option<u64>,
     /// Whether there may be something to tell of a link.
@@ -135,6 +145,7 @@ impl Links {
             all: Vec::new(alloc),
             ready: Vec::new(alloc),
             with_output: Vec::new(alloc),
+            is_short: false,
             late_from: None,
             has_news: false,
             flushes_new: false,
@@ -301,7 +312,7 @@ impl Links {
         if let Some(link) = self.all.get_mut(at) {
             if !link.is_ready {
                 link.is_ready = true;
-                self.ready.push(at)?;
+                list(&mut self.ready, at, &mut self.is_short);
             }
         }
         Ok(())
@@ -323,10 +334,41 @@ impl Links {
         if let Some(link) = self.all.get_mut(at) {
             if !link.has_output {
                 link.has_output = true;
-                self.with_output.push(at)?;
+                list(&mut self.with_output, at, &mut self.is_short);
             }
         }
         Ok(())
+    }
+
+    /// Where one may be missing in a list, all that are marked are listed anew, as far as memory is there for that.
+    pub fn list_again(&mut self)
+        ensures lines { lines_of self.new.all.items ≡ lines_of self.old.all.items }
+    {
+        if !self.is_short {
+            return;
+        }
+        self.is_short = false;
+        self.ready.clear();
+        self.with_output.clear();
+        for at in 0..self.all.len() {
+            self.list_one(at);
+        }
+    }
+
+    // It is listed where it is marked.
+    fn list_one(&mut self, at: usize)
+        ensures { self.new.all ≡ self.old.all }
+    {
+        let Some(link) = self.all.get(at) else {
+            return;
+        };
+        let (is_ready, has_output) = (link.is_ready, link.has_output);
+        if is_ready {
+            list(&mut self.ready, at, &mut self.is_short);
+        }
+        if has_output {
+            list(&mut self.with_output, at, &mut self.is_short);
+        }
     }
 
     /// It stands no longer among those that have something to send.
@@ -478,6 +520,16 @@ impl Links {
         match self.all.get_mut(at) {
             Some(link) => write_to(link, call),
             None => Err(call),
+        }
+    }
+
+    /// Whether the link's connection was begun longer ago than one may take to stand, and doesn't.
+    pub fn is_connect_late(&self, at: usize, now: u64) -> bool
+        ensures { result ≡ true → IsConnectLateAt at self.now.settings.connect_ms now self.now.all.items }
+    {
+        match self.all.get(at) {
+            Some(link) => link.is_connect_late(now, &self.settings),
+            None => false,
         }
     }
 

@@ -1,8 +1,9 @@
 //! The proxy's end, and its turns: what is ready is read, what was asked goes to the links and what was answered to the
 //! clients, and then each end that has something to send is written once.
 
-ghost use Rattle.std.specs.Prelude.{◌≡◌, ◌↔◌, [], ◌++◌, drop, length, true, IsTrue, IfOk, IfErr, OnOk};
+ghost use Rattle.std.specs.Prelude.{◌≡◌, ◌↔◌, [], ◌∷◌, ◌++◌, drop, length, true, IsTrue, IfOk, IfErr, OnOk};
 ghost use Rattle.core_accepted.specs.Loading.{IsLoaded};
+ghost use Rattle.serve_wire.specs.Events.{looks_up};
 ghost use Rattle.serve_links.specs.CoreSteps.{GoesOn, Fails};
 ghost use Rattle.serve_links.specs.Links.{IsDownAt, IsClosedAt};
 ghost use Rattle.serve_links.specs.Story.{Agrees, texts_of};
@@ -55,6 +56,7 @@ fn run_turn<W: Wire, R: Net + Clock>(
 {
     // Something is waited for, and what is ready is noted.
     sockets.wait(rt, limit)?;
+    sockets.list_again();
     // Room that nothing needed for a while goes back.
     give_back_room(core, sockets)?;
     // Clients come.
@@ -136,6 +138,7 @@ impl<W: Wire> ProxyEnd<W> {
     /// Looks up the address in a server's name. Connections to it that are begun from now on go there.
     pub fn resolve<N: Net>(&mut self, net: &N, text: &str) -> io::Result<()>
         ensures core { self.new.core ≡ self.old.core }
+        ensures looked { W.history self.new.sockets.wire ≡ looks_up text.now ∷ W.history self.old.sockets.wire }
         ensures ends { Stay W.history self.old.sockets self.new.sockets }
     {
         self.sockets
@@ -151,6 +154,7 @@ impl<W: Wire> ProxyEnd<W> {
         ensures loaded { IfOk result (λ generation. IsLoaded self.old.core.value config generation self.new.core.value) }
         ensures refused { IfErr result (λ fault. LoadStops self.old.core.value config fault self.new.core.value) }
         ensures ends { AllLoad W.history config self.old.core.value self.old.sockets self.new.core.value self.new.sockets }
+        ensures wire { self.new.sockets.wire ≡ self.old.sockets.wire }
         ensures texts { OnOk result (texts_of self.new.sockets.links.all.items ≡ texts_of self.old.sockets.links.all.items ++ drop (length self.old.sockets.links.all.items) servers.now) }
     {
         let generation = self.core.load(self.sockets.alloc, config)?;

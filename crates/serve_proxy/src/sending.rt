@@ -105,7 +105,8 @@ impl<W: Wire> Sockets<W> {
     fn hold_back(&mut self, id: usize) -> io::Result<()>
         ensures ends { Stay W.history self.old self.new }
     {
-        Ok(self.clients.with_output.push(id)?)
+        self.clients.hold_back(id);
+        Ok(())
     }
 
     // What is to be sent to the server goes out, as far as it is taken. Whether the link stands still.

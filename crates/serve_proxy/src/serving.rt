@@ -100,7 +100,10 @@ fn serve_round<W: Wire, N: Net>(
 {
     sockets.is_freed = false;
     let mut ids = sockets.work.take(&mut sockets.clients.ready);
-    sockets.clients.move_busy(&mut ids)?;
+    if sockets.clients.move_busy(&mut ids).is_err() {
+        // (those that are left are listed again in the next turn)
+        sockets.clients.is_short = true;
+    }
     ids.sort_unstable();
     serve_list(net, core, sockets, ids)
 }

@@ -58,7 +58,8 @@ impl<W: Wire> Sockets<W> {
         }
         self.tally.note_shown(count);
         self.rooms.note(count > KEPT_ROOM, false, self.time);
-        Ok(self.clients.mark_output(id)?)
+        self.clients.mark_output(id);
+        Ok(())
     }
 }
 

@@ -79,6 +79,9 @@ impl<W: Wire> Sockets<W> {
         if self.accepting.is_due(self.time) {
             return true;
         }
+        if self.clients.is_short || self.links.is_short {
+            return true;
+        }
         if !self.clients.ready.is_empty() {
             return true;
         }
@@ -145,6 +148,14 @@ impl<W: Wire> Sockets<W> {
         self.look(clock)
     }
 
+    /// Those that may be missing in a list of what is to be done, as memory was refused for that, are listed again.
+    pub fn list_again(&mut self)
+        ensures ends { Stay W.history self.old self.new }
+    {
+        self.clients.list_again();
+        self.links.list_again();
+    }
+
     // What was told by this report of the last wait.
     fn note_report(&mut self, at: usize) -> Result<(), AllocError>
         ensures ends { Stay W.history self.old self.new }
@@ -164,7 +175,10 @@ impl<W: Wire> Sockets<W> {
                 self.accepting = Accepting::Now;
                 Ok(())
             }
-            Report::Client(id, told) => self.clients.note(id, told),
+            Report::Client(id, told) => {
+                self.clients.note(id, told);
+                Ok(())
+            }
             Report::Server(at, told) => self.links.note(at, told),
         }
     }

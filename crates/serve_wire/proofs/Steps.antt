@@ -2,7 +2,7 @@
 use Rattle.std.proofs.Common.{◌≡◌, ◌≢◌, ℕ, suc, ◌==◌, true, false, if◌then◌else◌, Some, None, List, [], ◌∷◌, ◌++◌, take, drop, refl, sym, ap, ◌∙◌, append_assoc, append-nil, arith}
 use Rattle.std.proofs.lemmas.Bool.{eq-eqb, eqb-true}
 use Rattle.std.proofs.lemmas.List.{take-append-drop}
-use Rattle.serve_wire.specs.Events.{Event, admits, connects, delivers, takes, ends, fails, closes, accepts, ticks, delivered, taken, role, address_of, is_over, is_open, IsNew}
+use Rattle.serve_wire.specs.Events.{Event, admits, connects, delivers, takes, ends, fails, closes, accepts, ticks, looks_up, delivered, taken, role, address_of, is_over, is_open, IsNew}
 use Rattle.serve_wire.specs.Agreement.{ClientAgrees, LinkAgrees, AddressAgrees, Extends, IsUntouched, TouchesOnly}
 
 pub equal : (c : ℕ) → (c == c) ≡ true
@@ -74,6 +74,9 @@ only_accepts c h = λ d other. record { same_role = refl; same_address = refl; s
 -- by a look at the clock no connection is touched
 pub none_ticks : (t d : ℕ) (h : List Event) → IsUntouched d h (ticks t ∷ h)
 none_ticks t d h = record { same_role = refl; same_address = refl; same_came = refl; same_went = refl; same_over = refl; same_open = refl; after = (ticks t ∷ [], refl) }
+
+pub none_looks_up : (text : List ℕ) (d : ℕ) (h : List Event) → IsUntouched d h (looks_up text ∷ h)
+none_looks_up text d h = record { same_role = refl; same_address = refl; same_came = refl; same_went = refl; same_over = refl; same_open = refl; after = (looks_up text ∷ [], refl) }
 
 -- what agrees goes on to agree where nothing touched it
 pub client_stays : (h h' : List Event) (input output : ℕ → List ℕ) (i conn : ℕ) (held unsent : List ℕ) → IsUntouched conn h h' → ClientAgrees h input output i conn held unsent → ClientAgrees h' input output i conn held unsent

@@ -50,6 +50,10 @@ accepts c = (7, c, 0, [])
 abbrev pub ticks : ℕ → Event
 ticks t = (8, 0, t, [])
 
+-- the address that this text names was asked for
+abbrev pub looks_up : List ℕ → Event
+looks_up text = (9, 0, 0, text)
+
 -- all bytes that came over a connection
 abbrev pub delivered : ℕ → List Event → List ℕ
 delivered c [] = []

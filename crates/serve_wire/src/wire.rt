@@ -2,7 +2,7 @@
 
 ghost use Rattle.std.specs.Prelude.{◌≡◌, ◌<◌, None, List, ◌∷◌, length, IfOk, OnOk, OnErr};
 ghost use Rattle.std.specs.Io.Slices.{io_slices_bytes};
-ghost use Rattle.serve_wire.specs.Events.{Event, admits, ticks, role};
+ghost use Rattle.serve_wire.specs.Events.{Event, admits, ticks, looks_up, role, time};
 ghost use Rattle.serve_wire.specs.Calls.{Accepts, Connects, Reads, Writes, Closes};
 
 use crate::outcomes::{Accepted, Connected, ReadOutcome, Report, WriteOutcome};
@@ -24,6 +24,10 @@ pub trait Wire {
     fn millis<C: Clock>(&mut self, clock: &C) -> io::Result<u64>
         ensures ok { IfOk result (λ t. history self.new ≡ ticks t ∷ history self.old) }
         ensures err { OnErr result (history self.new ≡ history self.old) };
+
+    /// What the clock showed last, in milliseconds; 0 where it wasn't looked at yet.
+    fn last_millis(&self) -> u64
+        ensures { result ≡ time (history self.now) };
 
     /// Waits until something is ready, and this long at most: how many reports there are.
     fn wait(&mut self, limit: Option<Duration>) -> io::Result<usize>
@@ -48,7 +52,7 @@ pub trait Wire {
 
     /// Looks up an address, which is where this text names a server from now on, so that connections to it can be begun without a wait.
     fn resolve<N: Net>(&mut self, net: &N, text: &[u8], address: &[u8]) -> io::Result<()>
-        ensures { history self.new ≡ history self.old };
+        ensures { history self.new ≡ looks_up text.now ∷ history self.old };
 
     /// Begins a connection to this server, at the address that its text was found to name. It is reported as this server's.
     fn connect<N: Net>(&mut self, net: &N, server: usize, text: &[u8]) -> Connected

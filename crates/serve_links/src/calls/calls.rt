@@ -10,6 +10,8 @@ ghost use Rattle.serve_links.specs.Dialects.{asked_in};
 ghost use Rattle.core_accepted.specs.Results.{IsSettled};
 ghost use Rattle.serve_links.specs.Calls.{IsReadFor, IsReadNext, IsFirstLate, IsReadLate, first_asked, FitsFirst, SettlesFirst, SettlesNext};
 ghost use Rattle.mc_types.specs.declared.call.Outcome.TheVariants.{Failed};
+ghost use Rattle.std.specs.List.{Any};
+ghost use Rattle.serve_links.specs.Lateness.{IsLate};
 
 use crate::calls::sending::send_ask;
 use core_accepted::ServedCore;
@@ -281,6 +283,18 @@ impl LinkCalls {
             oldest = oldest.min(call.since);
         }
         oldest
+    }
+
+    /// Whether one of those that are out began more than so many milliseconds before now.
+    pub fn has_late(&self, most: u64, now: u64) -> bool
+        ensures { result ≡ true → Any (IsLate most now) self.now.sent.items }
+    {
+        for call in self.sent.iter() {
+            if call.since.saturating_add(most) < now {
+                return true;
+            }
+        }
+        false
     }
 
     /// Whether the call in front is a get.

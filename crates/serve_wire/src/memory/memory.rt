@@ -2,7 +2,7 @@
 
 ghost use Rattle.std.specs.Prelude.{◌≡◌, ◌≤◌, ◌<◌, ℕ, [], false, length, IfSome, IfOk};
 ghost use Rattle.std.specs.Io.Slices.{io_slices_bytes};
-ghost use Rattle.serve_wire.specs.Events.{IsNew, is_open};
+ghost use Rattle.serve_wire.specs.Events.{IsNew, is_open, time};
 ghost use Rattle.serve_wire.specs.Calls.{Adds, Fits};
 
 use crate::memory::peer::Peer;
@@ -33,6 +33,8 @@ const CLOSES: u64 = 6;
 const ACCEPTS: u64 = 7;
 
 const TICKS: u64 = 8;
+
+const LOOKS_UP: u64 = 9;
 
 // Whose a connection is.
 #[derive(Clone, Copy, PartialEq, Eq)]
@@ -77,7 +79,10 @@ pub struct Memory {
     // How many connections were made.
     count: usize,
     reports: Vec<Report>,
+    // What the clock showed last.
+    shown: u64,
     log: Record,
+    ghost clock: { shown ≡ time log.events },
     ghost fresh: { (c : ℕ) → count ≤ c → IsNew c log.events × (is_open c log.events ≡ false) },
 }
 
@@ -184,6 +189,7 @@ impl Memory {
             lines: Vec::new(alloc),
             count: 0,
             reports: Vec::new(alloc),
+            shown: 0,
             log: Record::new(),
         }
     }
@@ -369,7 +375,12 @@ impl Wire for Memory {
 
     fn millis<C: Clock>(&mut self, _clock: &C) -> io::Result<u64> {
         self.log.note(&[TICKS, 0, self.now], &[]);
+        self.shown = self.now;
         Ok(self.now)
+    }
+
+    fn last_millis(&self) -> u64 {
+        self.shown
     }
 
     fn wait(&mut self, limit: Option<Duration>) -> io::Result<usize> {
@@ -412,6 +423,7 @@ impl Wire for Memory {
     }
 
     fn resolve<N: Net>(&mut self, _net: &N, text: &[u8], _address: &[u8]) -> io::Result<()> {
+        self.log.note(&[LOOKS_UP, 0, 0], text);
         match host_at(&mut self.hosts, text) {
             Some(host) => {
                 host.is_known = true;

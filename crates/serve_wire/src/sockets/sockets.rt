@@ -1,7 +1,7 @@
 //! The wire that a program has.
 
 ghost use Rattle.std.specs.Prelude.{◌≡◌, ◌≤◌, ◌<◌, ◌+◌, ◌*◌, ℕ, [], false, IfSome, IfOk, OnSome};
-ghost use Rattle.serve_wire.specs.Events.{IsNew, is_open};
+ghost use Rattle.serve_wire.specs.Events.{IsNew, is_open, time};
 
 use crate::sockets::listener::{Listener, accept_at};
 use crate::sockets::open::{Address, Open, Owner};
@@ -29,6 +29,8 @@ const CLOSES: u64 = 6;
 const ACCEPTS: u64 = 7;
 
 const TICKS: u64 = 8;
+
+const LOOKS_UP: u64 = 9;
 
 // So many connections are open at once at most. A connection's number is this times the count of those before it, and then its place.
 const SLOTS: usize = 16_777_216;
@@ -60,7 +62,10 @@ pub struct Sockets {
     start: Instant,
     // Whether the last wait told of a descriptor for which a wait ends.
     is_woken: bool,
+    // What the clock showed last.
+    shown: u64,
     log: Record,
+    ghost clock: { shown ≡ time log.events },
     ghost fresh: { (c : ℕ) → count * 16777216 ≤ c → IsNew c log.events × (is_open c log.events ≡ false) },
 }
 
@@ -247,6 +252,7 @@ impl Sockets {
             addresses: Vec::new(alloc),
             start,
             is_woken: false,
+            shown: 0,
             log: Record::new(),
         })
     }
@@ -278,7 +284,12 @@ impl Wire for Sockets {
         let millis = self.start.elapsed(clock)?.as_millis();
         let millis = u64::try_from(millis).unwrap_or(u64::MAX);
         self.log.note(&[TICKS, 0, millis], &[]);
+        self.shown = millis;
         Ok(millis)
+    }
+
+    fn last_millis(&self) -> u64 {
+        self.shown
     }
 
     fn wait(&mut self, limit: Option<Duration>) -> io::Result<usize> {
@@ -338,6 +349,7 @@ impl Wire for Sockets {
     }
 
     fn resolve<N: Net>(&mut self, net: &N, text: &[u8], address: &[u8]) -> io::Result<()> {
+        self.log.note(&[LOOKS_UP, 0, 0], text);
         let socket = look_up(net, address)?;
         Ok(put_address(self.alloc, &mut self.addresses, text, socket)?)
     }

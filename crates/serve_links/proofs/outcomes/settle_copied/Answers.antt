@@ -3,8 +3,8 @@ use Rattle.serve_links.specs.declared.calls.calls.Next.TheVariants as nexts
 use Rattle.serve_links.proofs.Leaving.{settles_as, none, one, front_next}
 use Rattle.serve_links.proofs.outcomes.settle_copied.Goals as goal
 
-pub returns-in_ok-mark_answered-in-Settled-clause-settled : goal.returns-in_ok-mark_answered-in-Settled-clause-settled
-returns-in_ok-mark_answered-in-Settled-clause-settled c =
+pub returns-in-Settled-clause-settled : goal.returns-in-Settled-clause-settled
+returns-in-Settled-clause-settled c =
     let sent = c.args.calls.now.sent.items in
     let held = c.args.conn.now.held.items in
     let sent' = c.settle_first.new.calls.sent.items in
@@ -15,16 +15,8 @@ returns-in_ok-mark_answered-in-Settled-clause-settled c =
 pub returns-in-More-clause-settled : goal.returns-in-More-clause-settled
 returns-in-More-clause-settled c = λ came. none c.in-More.ensures.next.1 refl c.in-More.ensures.next.2
 
-pub returns-in_err-mark_answered-in-Settled-clause-front : goal.returns-in_err-mark_answered-in-Settled-clause-front
-returns-in_err-mark_answered-in-Settled-clause-front c =
-    let held = c.args.conn.now.held.items in
-    let same : held ≡ c.copied.result = cc in
-    let sent = c.args.calls.now.sent.items in
-    let sent' = c.settle_first.new.calls.sent.items in
-    front_next sent held c.args.core.now c.settle_first.result sent' c.settle_first.new.core (settles_as sent c.copied.result held c.args.core.now c.settle_first.result sent' c.settle_first.new.core same c.settle_first.ensures.next)
-
-pub returns-in_ok-mark_answered-in-Settled-clause-front : goal.returns-in_ok-mark_answered-in-Settled-clause-front
-returns-in_ok-mark_answered-in-Settled-clause-front c =
+pub returns-in-Settled-clause-front : goal.returns-in-Settled-clause-front
+returns-in-Settled-clause-front c =
     let held = c.args.conn.now.held.items in
     let same : held ≡ c.copied.result = cc in
     let sent = c.args.calls.now.sent.items in

@@ -21,12 +21,6 @@ loop-preserved c =
       ends = keeps_twice c.args.clients.now c.loop.clients c.mark_answered.new.self c.loop.invariant.ends c.mark_answered.ensures.ends;
     }
 
-pub returns-in_err-mark_answered-in-Settled-clause-core : goal.returns-in_err-mark_answered-in-Settled-clause-core
-returns-in_err-mark_answered-in-Settled-clause-core c = then c.loop.invariant.core c.settle_at.ensures.core
-
-pub returns-in_err-mark_answered-in-Settled-clause-ends : goal.returns-in_err-mark_answered-in-Settled-clause-ends
-returns-in_err-mark_answered-in-Settled-clause-ends c = keeps_twice c.args.clients.now c.loop.clients c.mark_answered.new.self c.loop.invariant.ends c.mark_answered.ensures.ends
-
 pub returns-in-More-clause-core : goal.returns-in-More-clause-core
 returns-in-More-clause-core c = then c.loop.invariant.core c.settle_at.ensures.core
 
@@ -35,9 +29,6 @@ returns-in-More-clause-left c = λ same. awaited c.loop.calls.sent.items (drop c
 
 pub returns-in-Foreign-clause-core : goal.returns-in-Foreign-clause-core
 returns-in-Foreign-clause-core c = then c.loop.invariant.core c.settle_at.ensures.core
-
-pub returns-in_err-mark_answered-in-Settled-clause-front : goal.returns-in_err-mark_answered-in-Settled-clause-front
-returns-in_err-mark_answered-in-Settled-clause-front c = front_then c.loop.invariant.settled (front_next c.loop.calls.sent.items (drop c.loop.used c.args.received.now) c.loop.core c.settle_at.result c.settle_at.new.calls.sent.items c.settle_at.new.core c.settle_at.ensures.next)
 
 pub returns-in-More-clause-front : goal.returns-in-More-clause-front
 returns-in-More-clause-front c = front_then c.loop.invariant.settled (front_next c.loop.calls.sent.items (drop c.loop.used c.args.received.now) c.loop.core c.settle_at.result c.settle_at.new.calls.sent.items c.settle_at.new.core c.settle_at.ensures.next)

@@ -1,9 +1,5 @@
-use Rattle.serve_proxy.proofs.Going.{and_then, stays, sent_clients, sent_renewed, without_sent}
-use Rattle.serve_proxy.proofs.Staying.{stay_clients}
+use Rattle.serve_proxy.proofs.Going.{and_then, sent_clients, sent_renewed}
 use Rattle.serve_proxy.proofs.calls.begin_waited.Goals as goal
-
-pub returns-in_err-end_waiting : goal.returns-in_err-end_waiting
-returns-in_err-end_waiting g c = record { ends = without_sent c.args.at c.args.call (stays c.args.core.now (stay_clients _ _ _ _ c.end_waiting.ensures.ends)) }
 
 pub returns-in_err-begin_call : goal.returns-in_err-begin_call
 returns-in_err-begin_call g c = record { ends = and_then (sent_clients c.args.at c.args.call c.args.core.now c.args.sockets.now.clients c.end_waiting.new.self c.end_waiting.ensures.ends) (and_then (sent_renewed c.args.at c.args.call c.renewed-call.result c.renewed-call.ensures) c.begin_call.ensures.ends) }

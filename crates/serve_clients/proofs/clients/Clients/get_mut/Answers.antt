@@ -8,6 +8,6 @@ pub returns : goal.returns
 returns c =
     let all = c.args.self.now.all.items in
     let place = c.in_ok-self.field-0.now in (
-      (refl, (λ w. if_there c.as_mut.result _ refl), record { clients = put_again all c.args.id place c.in_ok-self.ensures.value; ready = refl; with_output = refl; busy = refl }),
+      (refl, (λ w. if_there c.as_mut.result _ refl), record { clients = put_again all c.args.id place c.in_ok-self.ensures.value; ready = refl; with_output = refl; busy = refl; short = refl }),
       record { writes_back = tt; value = c.as_mut.ensures.value ∙ c.in_ok-self.ensures.value ∙ sym (ap option_flatten (slice_get-get_or all c.args.id place c.in_ok-self.ensures.item.3.0)) },
     )

@@ -13,8 +13,8 @@ loop-i-preserved c =
       rest = search rules;
       moved = moved_more (λ id. is_idle (client_of c.args.self.now id)) c.args.self.now.busy.items c.args.to.now.items c.loop-i.to.items c.move_one.new.to.items c.loop-i.i c.index-id.result.now (is_idle (client_of c.loop-i.self c.index-id.result.now))
           within is (idle_still c.args.self.now c.loop-i.self c.index-id.result.now c.loop-i.invariant.erased) c.loop-i.invariant.moved c.in_ok-move_one.ensures.moved;
-      ends = ends_more c.args.self.now.busy.items c.args.self.now c.loop-i.self c.move_one.new.self c.loop-i.i c.index-id.result.now within is c.loop-i.invariant.erased c.loop-i.invariant.ends c.move_one.ensures.client;
-      erased = erased_more c.args.self.now c.loop-i.self c.move_one.new.self c.index-id.result.now c.loop-i.invariant.erased c.move_one.ensures.client;
+      ends = ends_more c.args.self.now.busy.items c.args.self.now c.loop-i.self c.move_one.new.self c.loop-i.i c.index-id.result.now within is c.loop-i.invariant.erased c.loop-i.invariant.ends c.in_ok-move_one.ensures.client;
+      erased = erased_more c.args.self.now c.loop-i.self c.move_one.new.self c.index-id.result.now c.loop-i.invariant.erased c.in_ok-move_one.ensures.client;
       kept = keeps_twice c.args.self.now c.loop-i.self c.move_one.new.self c.loop-i.invariant.kept c.move_one.ensures.ends;
     }
 

@@ -5,5 +5,5 @@ use Rattle.serve_proxy.proofs.links.Links.mark_ready.Goals as goal
 pub returns-in_err-push : goal.returns-in_err-push
 returns-in_err-push c = record { lines = line_lent c.args.self.now.all.items c.args.at c.in-Some.link.now _ c.in-Some.ensures.value refl }
 
-pub returns-in_ok-push : goal.returns-in_ok-push
-returns-in_ok-push c = record { lines = line_lent c.args.self.now.all.items c.args.at c.in-Some.link.now _ c.in-Some.ensures.value refl }
+pub returns-then-not-link : goal.returns-then-not-link
+returns-then-not-link c = record { lines = line_lent c.args.self.now.all.items c.args.at c.in-Some.link.now _ c.in-Some.ensures.value refl }

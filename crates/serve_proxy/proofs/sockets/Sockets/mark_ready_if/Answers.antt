@@ -3,4 +3,4 @@ use Rattle.serve_proxy.proofs.Staying.{stay_clients}
 use Rattle.serve_proxy.proofs.sockets.Sockets.mark_ready_if.Goals as goal
 
 pub returns-then-is_more : goal.returns-then-is_more
-returns-then-is_more g c = record { ends = stay_clients _ _ _ _ (ready_keeps c.mark_ready.result c.args.id c.args.self.now.clients c.mark_ready.new.self c.mark_ready.ensures.client c.mark_ready.ensures.refused) }
+returns-then-is_more g c = record { ends = stay_clients _ _ _ _ (ready_keeps c.args.id c.args.self.now.clients c.mark_ready.new.self c.mark_ready.ensures.client) }

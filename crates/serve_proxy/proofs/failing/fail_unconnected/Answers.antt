@@ -1,0 +1,15 @@
+use Rattle.std.proofs.Common.{Some, refl, subst, inl, inr}
+use Rattle.serve_links.specs.Lateness.{IsConnectLateAt}
+use Rattle.serve_links.specs.declared.news.Cause.TheVariants as causes
+use Rattle.serve_proxy.proofs.Going.{giving_up, still}
+use Rattle.serve_proxy.proofs.GivenUp.{unconnected}
+use Rattle.serve_proxy.proofs.failing.fail_unconnected.Goals as goal
+
+pub returns-then-not-is_connect_late : goal.returns-then-not-is_connect_late
+returns-then-not-is_connect_late g c = record { ends = still; late = inr (refl, refl) }
+
+pub returns : goal.returns
+returns g c = record {
+  ends = giving_up (unconnected c.args.at (c.fail_link.ensures.ends (Some causes.ConnectLate)));
+  late = inl (subst (λ t. IsConnectLateAt c.args.at c.args.sockets.now.links.settings.connect_ms t c.args.sockets.now.links.all.items) c.last_millis-now.ensures (c.is_connect_late.ensures c.if-not-is_connect_late.false));
+}
