@@ -48,7 +48,7 @@ fn is_flushed(front: &[u8]) -> bool
 }
 
 /// What it said: nothing is told before all of it has come.
-#[tactic(auto, using(crate::proofs::Ends::reads_alone, crate::proofs::Ends::reads_flushed))]
+#[tactic(auto, using(crate::proofs::Ends::reads_alone))]
 pub fn read_greeting(greeting: Greeting, bytes: &[u8]) -> DialectRead
     ensures { ReadsGreeting greeting bytes.now result }
 {
