@@ -47,7 +47,7 @@ const CHECK_FLAGS: [&str; 8] = [
     "new-servers",
 ];
 
-const SERVE_FLAGS: [&str; 24] = [
+const SERVE_FLAGS: [&str; 25] = [
     "help",
     "check",
     "config",
@@ -62,6 +62,7 @@ const SERVE_FLAGS: [&str; 24] = [
     "connect-ms",
     "fail-limit",
     "retry-ms",
+    "give-up-ms",
     "polls",
     "stall-ms",
     "memory-mb",

@@ -260,7 +260,20 @@ impl Serving {
         );
         self.lines.tell(rt, line);
         self.tell_if_new(rt, job);
+        self.tell_if_giving_up(rt, job);
         self.begin_watching(rt)
+    }
+
+    // Tells what the promise rests on where connections are given up while late answers are to come.
+    fn tell_if_giving_up<R: Eprint>(&mut self, rt: &R, job: &ServeJob<'_>)
+        ensures { self.new.end ≡ self.old.end }
+    {
+        if job.settings.give_up_ms.is_some() {
+            self.lines.tell(
+                rt,
+                "mcgate: with --give-up-ms what is promised rests on servers that apply no call once its connection was given up",
+            );
+        }
     }
 
     // From now on it wakes up for who asks for numbers, where it listens for them, and tells that.

@@ -31,7 +31,7 @@ pub record Answers (at : ℕ) (sent : List SentCall) (bytes : List ℕ) (a : Ser
   pub spelled : List ℕ
   pub whole : bytes ≡ spelled ++ rest
   pub orderly :
-      (past : List Step) → IsOrderly past → (talk_in past at).out ≡ said_asks sent → (talk_in past at).awaits ≡ false → (talk_in past at).late ≡ []
+      (past : List Step) → IsOrderly past → (talk_in past at).out ≡ said_asks sent → (talk_in past at).awaits ≡ None → (talk_in past at).late ≡ []
       → IsOrderly (steps ++ past) × (talk_in (steps ++ past) at ≡ record (talk_in past at) { told = (talk_in past at).told ++ spelled; out = said_asks sent' })
 
 spells_within : (dialect : Dialect) (ask : Ask) (bytes : List ℕ) (answer : Answer) (used : ℕ) → SpellsIn dialect ask bytes answer used → used ≤ length bytes
@@ -81,7 +81,7 @@ one at (call ∷ calls) bytes a answer sent' rest b s = record {
     asks : of_calls.asked a.core number ≡ Some ask
     asks = ap (λ (p : ℕ × Dialect). of_calls.asked a.core p.0) first ∙ s.answers.asks
 
-    next : (past : List Step) → (talk_in past at).out ≡ said_asks (call ∷ calls) → (talk_in past at).awaits ≡ false → (talk_in past at).late ≡ [] → IsNextAnswer number ask answer spelled (talk_in past at)
+    next : (past : List Step) → (talk_in past at).out ≡ said_asks (call ∷ calls) → (talk_in past at).awaits ≡ None → (talk_in past at).late ≡ [] → IsNextAnswer number ask answer spelled (talk_in past at)
     next past out off alone = record {
       dialect = call.dialect;
       said = call.ticket.ask;
@@ -117,7 +117,7 @@ both at sent bytes a mid left m sent' rest b f g = record {
 }
   where
     orderly :
-        (past : List Step) → IsOrderly past → (talk_in past at).out ≡ said_asks sent → (talk_in past at).awaits ≡ false → (talk_in past at).late ≡ []
+        (past : List Step) → IsOrderly past → (talk_in past at).out ≡ said_asks sent → (talk_in past at).awaits ≡ None → (talk_in past at).late ≡ []
         → IsOrderly ((g.steps ++ f.steps) ++ past) × (talk_in ((g.steps ++ f.steps) ++ past) at ≡ record (talk_in past at) { told = (talk_in past at).told ++ (f.spelled ++ g.spelled); out = said_asks sent' })
     orderly past o out off alone =
         let first = f.orderly past o out off alone in

@@ -129,7 +129,7 @@ none_more (CameLate i number ask answer bytes ∷ past) at o = none_due (CameLat
     by false = refl
 none_more (Lost i why ∷ past) at o = none_due (Lost i why) past at (by (nat_eq i at)) (none_more past at o.1)
   where
-    by : (b : Bool) → (if b then given_up (talk_in past at) else talk_in past at).asked ≡ (talk_in past at).asked
+    by : (b : Bool) → (if b then given_up why (talk_in past at) else talk_in past at).asked ≡ (talk_in past at).asked
     by true = refl
     by false = refl
 none_more (Opened client ∷ past) at o = none_due (Opened client) past at refl (none_more past at o.1)

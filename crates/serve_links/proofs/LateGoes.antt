@@ -26,9 +26,10 @@ use Rattle.serve_links.specs.Story.{said_asks, said_late, numbers_of, AreCalled,
 use Rattle.serve_links.proofs.Talking.{calls_later, called_all_later}
 use Rattle.serve_links.proofs.Due.{due_later}
 use Rattle.serve_links.proofs.Showing.{none_since, shown_later}
-use Rattle.serve_links.proofs.Shutting.{shut_still}
+use Rattle.serve_links.specs.Shut.{drain_of}
+use Rattle.serve_links.proofs.Shutting.{conn_is, conns_same, shut_still}
 use Rattle.serve_links.proofs.Answering.{spells_front}
-use Rattle.serve_links.proofs.LinkGoes.{talk_as, of_seven, has_conn, quiet, all_kept, line_keeps}
+use Rattle.serve_links.proofs.LinkGoes.{talk_as, of_eight, has_conn, quiet, all_kept, line_keeps}
 
 -- nothing was done
 pub line_still : {Is : Step → Type 0} {at : ℕ} {core : ServedCore} {h : List Event} (x : Link) → LineGoes Is at core h x core h x
@@ -41,7 +42,7 @@ conn_state c = (c.number, c.held.items, bytes_of c.unsent)
 pub late_kept : (x y : Link) → y ≡ record x { late = y.late } → y.late.items ≡ x.late.items → line_of y ≡ line_of x
 late_kept x y is late =
     ap line_of is
-    ∙ ap (λ (l : List LateCall). let s : LineState = (x.text.items, option_map {U = ℕ × List ℕ × List ℕ} conn_state x.conn, said_asks x.calls.sent.items, x.waiting.items, x.awaits_dialect, x.dialect, said_late l) in s) late
+    ∙ ap (λ (l : List LateCall). let s : LineState = (x.text.items, option_map {U = ℕ × List ℕ × List ℕ} conn_state x.conn, said_asks x.calls.sent.items, x.waiting.items, x.awaits_dialect, x.dialect, said_late l, drain_of x) in s) late
 
 pub some_conn : (o : Option Conn) → is_some o ≡ true → (c : Conn) × (o ≡ Some c)
 some_conn None is = absurd (false_true is)
@@ -78,17 +79,17 @@ talk_turns h at text t c held unsent first rest late awaits dialect was = record
 
 -- the first call that is out fails, and keeps its place
 turns :
-    {at : ℕ} {core core' : ServedCore} {h : List Event} (x y : Link) (c : Conn) (call : SentCall) (rest : List SentCall) → x.conn ≡ Some c → y.conn ≡ x.conn → y.text.items ≡ x.text.items → y.waiting.items ≡ x.waiting.items
+    {at : ℕ} {core core' : ServedCore} {h : List Event} (x y : Link) (c : Conn) (call : SentCall) (rest : List SentCall) → x.conn ≡ Some c → y.conn ≡ x.conn → y.draining ≡ x.draining → y.text.items ≡ x.text.items → y.waiting.items ≡ x.waiting.items
     → y.awaits_dialect ≡ x.awaits_dialect → y.dialect ≡ x.dialect → x.calls.sent.items ≡ call ∷ rest → y.calls.sent.items ≡ rest → y.late.items ≡ x.late.items ++ as_late call ∷ []
     → IsSettled core call.ticket.number Failed core' → LineGoes IsSending at core h x core' h y
-turns {at} {core} {core'} {h} x y c call rest was same text waiting awaits speaks sent left late settled = record {
+turns {at} {core} {core'} {h} x y c call rest was same draining text waiting awaits speaks sent left late settled = record {
   steps = steps;
   kinds = (refl, (tt, tt));
   own = (tt, (refl, tt));
   walks = (core, (core, refl, refl), settled);
   agrees = λ past o a. ((inr (inr (record { at = at; earlier = past; last = refl })), (first past a, o)), agreed past a, all_kept (1, at) h h (quiet h));
   shown = λ past o a shown. shown_later steps past h h (tt, (tt, tt)) (none_since h) shown;
-  shut = shut_still (quiet h) (ap (option_map (λ (z : Conn). z.number)) same);
+  shut = shut_still (quiet h) (conns_same x y same draining);
   text = text;
 }
   where
@@ -110,10 +111,10 @@ turns {at} {core} {core'} {h} x y c call rest was same text waiting awaits speak
 
 -- the same of the outcome as a link's calls have it
 pub line_turns :
-    {at : ℕ} {core core' : ServedCore} {h : List Event} (x y : Link) (c : Conn) (call : LateCall) (client : Option ℕ) → x.conn ≡ Some c → y.conn ≡ x.conn → y.text.items ≡ x.text.items → y.waiting.items ≡ x.waiting.items
+    {at : ℕ} {core core' : ServedCore} {h : List Event} (x y : Link) (c : Conn) (call : LateCall) (client : Option ℕ) → x.conn ≡ Some c → y.conn ≡ x.conn → y.draining ≡ x.draining → y.text.items ≡ x.text.items → y.waiting.items ≡ x.waiting.items
     → y.awaits_dialect ≡ x.awaits_dialect → y.dialect ≡ x.dialect → IsFirstLate x.calls.sent.items (Some call) → y.late.items ≡ x.late.items ++ call ∷ []
     → SettlesFirst x.calls.sent.items core Failed client y.calls.sent.items core' → LineGoes IsSending at core h x core' h y
-line_turns {at} {core} {core'} {h} x y c call client was same text waiting awaits speaks first late settles = by x.calls.sent.items refl first settles
+line_turns {at} {core} {core'} {h} x y c call client was same draining text waiting awaits speaks first late settles = by x.calls.sent.items refl first settles
   where
     some_none : {z : LateCall} → Some z ≡ None → ⊥
     some_none e = cc
@@ -124,7 +125,7 @@ line_turns {at} {core} {core'} {h} x y c call client was same text waiting await
     by : (sent : List SentCall) → x.calls.sent.items ≡ sent → IsFirstLate sent (Some call) → SettlesFirst sent core Failed client y.calls.sent.items core' → LineGoes IsSending at core h x core' h y
     by [] e is did = absurd (some_none is)
     by (one ∷ rest) e is did =
-        turns x y c one rest was same text waiting awaits speaks e did.1 (late ∙ ap (λ (z : LateCall). x.late.items ++ z ∷ []) (same_call is)) did.2
+        turns x y c one rest was same draining text waiting awaits speaks e did.1 (late ∙ ap (λ (z : LateCall). x.late.items ++ z ∷ []) (same_call is)) did.2
 
 -- ---- its answer
 
@@ -154,7 +155,7 @@ line_throws {at} {core} {h} x y c d call rest answer used was is off text waitin
   walks = (core, refl, refl);
   agrees = λ past o a. ((next past a, o), agreed past a, all_kept (1, at) h h (quiet h));
   shown = λ past o a shown. shown_later (step ∷ []) past h h (tt, tt) (none_since h) shown;
-  shut = shut_still (quiet h) (ap (option_map (λ (z : Conn). z.number)) is ∙ ap (λ n. Some n) number ∙ sym (ap (option_map (λ (z : Conn). z.number)) was));
+  shut = shut_still (quiet h) (conn_is y d is ∙ ap (λ n. Some n) number ∙ sym (conn_is x c was));
   text = text;
 }
   where
@@ -190,8 +191,8 @@ line_throws {at} {core} {h} x y c d call rest answer used was is off text waitin
 -- or it isn't there
 passes_none :
     {at : ℕ} {core : ServedCore} {h : List Event} (x y : Link) (c d : Conn) → x.conn ≡ Some c → y.conn ≡ Some d → y.text.items ≡ x.text.items → y.waiting.items ≡ x.waiting.items → y.awaits_dialect ≡ x.awaits_dialect
-    → y.dialect ≡ x.dialect → y.calls.sent.items ≡ x.calls.sent.items → d ≡ record c { held = d.held } → (y.late.items ≡ x.late.items) × (d.held.items ≡ c.held.items) → LineGoes IsOfTurn at core h x core h y
-passes_none {h = h} x y c d was is text waiting awaits speaks sent same kept = line_keeps (quiet h) (of_seven text ends (ap said_asks sent) waiting awaits speaks (ap said_late kept.0))
+    → y.dialect ≡ x.dialect → y.draining ≡ x.draining → y.calls.sent.items ≡ x.calls.sent.items → d ≡ record c { held = d.held } → (y.late.items ≡ x.late.items) × (d.held.items ≡ c.held.items) → LineGoes IsOfTurn at core h x core h y
+passes_none {h = h} x y c d was is text waiting awaits speaks draining sent same kept = line_keeps (quiet h) (of_eight text ends (ap said_asks sent) waiting awaits speaks (ap said_late kept.0) (ap (option_map (λ (z : Conn). z.number)) draining))
   where
     ends : option_map {U = ℕ × List ℕ × List ℕ} conn_state y.conn ≡ option_map {U = ℕ × List ℕ × List ℕ} conn_state x.conn
     ends =
@@ -200,9 +201,9 @@ passes_none {h = h} x y c d was is text waiting awaits speaks sent same kept = l
 
 pub line_passes :
     {at : ℕ} {core : ServedCore} {h : List Event} (x y : Link) (c d : Conn) (read : LateRead) → x.conn ≡ Some c → y.conn ≡ Some d → x.awaits_dialect ≡ None → y.text.items ≡ x.text.items → y.waiting.items ≡ x.waiting.items
-    → y.awaits_dialect ≡ x.awaits_dialect → y.dialect ≡ x.dialect → y.calls.sent.items ≡ x.calls.sent.items → d ≡ record c { held = d.held } → PassesOver x.late.items c.held.items read y.late.items d.held.items
+    → y.awaits_dialect ≡ x.awaits_dialect → y.dialect ≡ x.dialect → y.draining ≡ x.draining → y.calls.sent.items ≡ x.calls.sent.items → d ≡ record c { held = d.held } → PassesOver x.late.items c.held.items read y.late.items d.held.items
     → LineGoes IsOfTurn at core h x core h y
-line_passes x y c d (lates.Whole used) was is off text waiting awaits speaks sent same passes =
+line_passes x y c d (lates.Whole used) was is off text waiting awaits speaks draining sent same passes =
     line_throws x y c d passes.0 y.late.items passes.3.0 used was is off text waiting awaits speaks sent passes.1 refl passes.3.1 passes.2 (ap (λ (z : Conn). z.number) same) (ap (λ (z : Conn). bytes_of z.unsent) same)
-line_passes x y c d lates.More was is off text waiting awaits speaks sent same passes = passes_none x y c d was is text waiting awaits speaks sent same passes
-line_passes x y c d lates.Foreign was is off text waiting awaits speaks sent same passes = passes_none x y c d was is text waiting awaits speaks sent same passes
+line_passes x y c d lates.More was is off text waiting awaits speaks draining sent same passes = passes_none x y c d was is text waiting awaits speaks draining sent same passes
+line_passes x y c d lates.Foreign was is off text waiting awaits speaks draining sent same passes = passes_none x y c d was is text waiting awaits speaks draining sent same passes

@@ -15,3 +15,4 @@ pub mod Answering
 pub mod LinkGoes
 pub mod LateGoes
 pub mod Taking
+pub mod Away

@@ -1,6 +1,6 @@
 -- What is done at one link, as steps of a walk with which it goes on to agree.
-use Rattle.std.proofs.Common.{◌≡◌, ℕ, Bool, true, false, if◌then◌else◌, List, [], ◌∷◌, ◌++◌, Option, Some, None, ◌⊎◌, inl, inr, refl, sym, ap, ◌∙◌, subst, append_assoc}
-use Rattle.std.specs.Prelude.{IfSome, nat_eq}
+use Rattle.std.proofs.Common.{◌≡◌, ℕ, Bool, true, false, if◌then◌else◌, List, [], ◌∷◌, ◌++◌, Option, Some, None, ◌⊎◌, inl, inr, refl, sym, ap, ◌∙◌, subst, append_assoc, append-nil}
+use Rattle.std.specs.Prelude.{IfSome, MatchOption, nat_eq}
 use Rattle.std.specs.Option.{option_map}
 use Rattle.std.proofs.lemmas.Bool.{cases_Bool, eqb-true}
 use Rattle.mc_types.specs.declared.ask.Ask.{Ask}
@@ -27,15 +27,15 @@ use Rattle.serve_links.specs.Dialects.{asked_in, AnswersFirst, awaits_flush}
 use Rattle.serve_links.specs.Lines.{first_asked_of, awaits_first, first_dialect, greeting_of, SameLine, KeepsLines, IsNewEnd, HasNewEnd, OpensBy, TakesGreeting, HasLearnt, Learns}
 use Rattle.serve_links.specs.Links.{FailsTo}
 use Rattle.serve_links.specs.Settled.{SettlesSome}
-use Rattle.serve_links.specs.Talks.{SaidAsk, Talk, first_talk, with_ask, greeted, given_up, talk_in, AreDue, IsOrderly, IsOfServer}
-use Rattle.serve_links.specs.Story.{said_asks, said_late, numbers_of, AreCalled, MayGo, MayAllGo, TalkAgrees, ConnAgrees, LineAgrees, LineLost, LineFails, ShowsWhy, WasShown, AreShown, LineCalled, LineState, line_of, KeepsOthers, LineGoesFrom, LineGoes, AnEnd, Agrees, AgreesLosing}
+use Rattle.serve_links.specs.Talks.{SaidAsk, Talk, Apart, Ending, left_by, first_talk, with_ask, greeted, given_up, talk_in, AreDue, IsOrderly, IsOfServer}
+use Rattle.serve_links.specs.Story.{said_asks, said_late, numbers_of, AreCalled, MayGo, MayAllGo, TalkAgrees, Unused, ConnAgrees, LineAgrees, LineLost, LineFails, ShowsWhy, WasShown, AreShown, LineCalled, LineState, line_of, KeepsOthers, LineGoesFrom, LineGoes, AnEnd, Agrees, AgreesLosing}
 use Rattle.serve_links.proofs.Talking.{calls_later, one_more, IsPlain, plain_talk, called_all_later, called_more, called_last, called_first, called_of, waiting_called, FailsInOrder, fail_in_order}
 use Rattle.serve_links.proofs.Due.{due_less, due_first, due_last, due_behind, due_between, due_later, due_asked}
 use Rattle.serve_links.proofs.Walked.{walked, of_both}
 use Rattle.serve_links.proofs.Showing.{plain_unlost, none_since, shown_since, shown_later}
 use Rattle.serve_links.proofs.Answering.{Answers, answers_some}
-use Rattle.serve_links.specs.Shut.{conn_of, IsShutBut, StaysShut}
-use Rattle.serve_links.proofs.Shutting.{shut_used, shut_begun, shut_in_vain, shut_closed, shut_still, closed_shut}
+use Rattle.serve_links.specs.Shut.{first_some, drain_of, conn_of, IsShutBut, StaysShut}
+use Rattle.serve_links.proofs.Shutting.{conn_is, conn_drains, conns_same, shut_used, shut_begun, shut_in_vain, shut_closed, shut_still, closed_shut}
 use Rattle.serve_links.proofs.Story.{line_stays}
 
 same_some : {A : Type 0} {x y : A} → Some x ≡ Some y → x ≡ y
@@ -81,14 +81,14 @@ talk_as {h} {at} {text} {text'} {t} {t'} {c} {c'} {held} {held'} {unsent} {unsen
 
 -- a link that has this connection
 pub has_conn : (at : ℕ) (past : List Step) (h : List Event) (y : Link) (d : Conn) → y.conn ≡ Some d → ConnAgrees at past h y d d.held.items → is_over d.number h ≡ false → MayAllGo past at y.waiting.items → AreDue past at (numbers_of y.waiting.items) → AreCalled past at (said_asks y.calls.sent.items) → LineAgrees at past h y
-has_conn at past h y d is agrees goes_on waiting due called = record { conn = λ conn there. subst (λ (z : Conn). ConnAgrees at past h y z z.held.items) (same_some (sym is ∙ there)) agrees; goes_on = λ conn there. subst (λ (z : Conn). is_over z.number h ≡ false) (same_some (sym is ∙ there)) goes_on; waiting = waiting; due = due; none_out = λ none. absurd (none_some (sym none ∙ is)); called = called }
+has_conn at past h y d is agrees goes_on waiting due called = record { conn = λ conn there. subst (λ (z : Conn). ConnAgrees at past h y z z.held.items) (same_some (sym is ∙ there)) agrees; goes_on = λ conn there. subst (λ (z : Conn). is_over z.number h ≡ false) (same_some (sym is ∙ there)) goes_on; waiting = waiting; due = due; none_out = λ none. absurd (none_some (sym none ∙ is)); unused = λ none. absurd (none_some (sym none ∙ is)); called = called }
 
 -- and one that has none
-pub has_none : (at : ℕ) (past : List Step) (h : List Event) (y : Link) → y.conn ≡ None → MayAllGo past at y.waiting.items → AreDue past at (numbers_of y.waiting.items) → (talk_in past at).out ≡ [] → AreCalled past at (said_asks y.calls.sent.items) → LineAgrees at past h y
-has_none at past h y is waiting due out called = record { conn = λ conn there. absurd (none_some (sym is ∙ there)); goes_on = λ conn there. absurd (none_some (sym is ∙ there)); waiting = waiting; due = due; none_out = λ none. out; called = called }
+pub has_none : (at : ℕ) (past : List Step) (h : List Event) (y : Link) → y.conn ≡ None → MayAllGo past at y.waiting.items → AreDue past at (numbers_of y.waiting.items) → (talk_in past at).out ≡ [] → Unused h at y.text.items (talk_in past at) (drain_of y) → AreCalled past at (said_asks y.calls.sent.items) → LineAgrees at past h y
+has_none at past h y is waiting due out unused called = record { conn = λ conn there. absurd (none_some (sym is ∙ there)); goes_on = λ conn there. absurd (none_some (sym is ∙ there)); waiting = waiting; due = due; none_out = λ none. out; unused = λ none. unused; called = called }
 
 pub as_lost : (at : ℕ) (past : List Step) (h : List Event) (x : Link) → LineAgrees at past h x → LineLost at past h x
-as_lost at past h x a = record { conn = λ conn is. (conn.held.items, a.conn conn is); waiting = a.waiting; due = a.due; none_out = a.none_out; called = a.called }
+as_lost at past h x a = record { conn = λ conn is. (conn.held.items, a.conn conn is); waiting = a.waiting; due = a.due; none_out = a.none_out; unused = a.unused; called = a.called }
 
 -- one that agrees, whose connection shows why it is to be given up
 pub as_failing : (why : Option Cause) (at : ℕ) (past : List Step) (h : List Event) (x : Link) → ((conn : Conn) → x.conn ≡ Some conn → ShowsWhy why (talk_in past at) conn.number h) → LineAgrees at past h x → LineFails why at past h x
@@ -161,35 +161,36 @@ line_then {P} {Q} {R} {Is} {at} {a} {b} {c} {h} {h'} {h''} {x} {y} {z} g k = rec
 
 -- ---- a link that has the same
 
-abbrev OfConn : ℕ → List Step → List Event → List ℕ → List SaidAsk → Option Greeting → Dialect → List SaidAsk → Option (ℕ × List ℕ × List ℕ) → Type 0
-OfConn at past h text out awaits dialect late None = (talk_in past at).out ≡ []
-OfConn at past h text out awaits dialect late (Some e) = TalkAgrees h at text (talk_in past at) e.0 e.1 e.2 out awaits dialect late × (is_over e.0 h ≡ false)
+abbrev OfConn : ℕ → List Step → List Event → List ℕ → List SaidAsk → Option Greeting → Dialect → List SaidAsk → Option ℕ → Option (ℕ × List ℕ × List ℕ) → Type 0
+OfConn at past h text out awaits dialect late drain None = ((talk_in past at).out ≡ []) × Unused h at text (talk_in past at) drain
+OfConn at past h text out awaits dialect late drain (Some e) = TalkAgrees h at text (talk_in past at) e.0 e.1 e.2 out awaits dialect late × (is_over e.0 h ≡ false)
 
 abbrev OfLine : ℕ → List Step → List Event → LineState → Type 0
-OfLine at past h s = OfConn at past h s.0 s.2 s.4 s.5 s.6 s.1 × MayAllGo past at s.3 × AreDue past at (numbers_of s.3) × AreCalled past at s.2
+OfLine at past h s = OfConn at past h s.0 s.2 s.4 s.5 s.6 s.7 s.1 × MayAllGo past at s.3 × AreDue past at (numbers_of s.3) × AreCalled past at s.2
 
 to_line : (at : ℕ) (past : List Step) (h : List Event) (x : Link) → LineAgrees at past h x → OfLine at past h (line_of x)
 to_line at past h x a = (by x.conn refl, a.waiting, a.due, a.called)
   where
-    by : (o : Option Conn) → x.conn ≡ o → OfConn at past h x.text.items (said_asks x.calls.sent.items) x.awaits_dialect x.dialect (said_late x.late.items) (option_map (λ (c : Conn). (c.number, c.held.items, bytes_of c.unsent)) o)
-    by None e = a.none_out e
+    by : (o : Option Conn) → x.conn ≡ o → OfConn at past h x.text.items (said_asks x.calls.sent.items) x.awaits_dialect x.dialect (said_late x.late.items) (drain_of x) (option_map (λ (c : Conn). (c.number, c.held.items, bytes_of c.unsent)) o)
+    by None e = (a.none_out e, a.unused e)
     by (Some c) e = (a.conn c e, a.goes_on c e)
 
 from_line : (at : ℕ) (past : List Step) (h : List Event) (y : Link) → OfLine at past h (line_of y) → LineAgrees at past h y
-from_line at past h y o = record { conn = λ conn is. (there conn is).0; goes_on = λ conn is. (there conn is).1; waiting = o.1; due = o.2; none_out = λ none. there_none none; called = o.3 }
+from_line at past h y o = record { conn = λ conn is. (there conn is).0; goes_on = λ conn is. (there conn is).1; waiting = o.1; due = o.2; none_out = λ none. (there_none none).0; unused = λ none. (there_none none).1; called = o.3 }
   where
     there : (conn : Conn) → y.conn ≡ Some conn → ConnAgrees at past h y conn conn.held.items × (is_over conn.number h ≡ false)
-    there conn is = subst (λ (q : Option Conn). OfConn at past h y.text.items (said_asks y.calls.sent.items) y.awaits_dialect y.dialect (said_late y.late.items) (option_map (λ (c : Conn). (c.number, c.held.items, bytes_of c.unsent)) q)) is o.0
+    there conn is = subst (λ (q : Option Conn). OfConn at past h y.text.items (said_asks y.calls.sent.items) y.awaits_dialect y.dialect (said_late y.late.items) (drain_of y) (option_map (λ (c : Conn). (c.number, c.held.items, bytes_of c.unsent)) q)) is o.0
 
-    there_none : y.conn ≡ None → (talk_in past at).out ≡ []
-    there_none none = subst (λ (q : Option Conn). OfConn at past h y.text.items (said_asks y.calls.sent.items) y.awaits_dialect y.dialect (said_late y.late.items) (option_map (λ (c : Conn). (c.number, c.held.items, bytes_of c.unsent)) q)) none o.0
+    there_none : y.conn ≡ None → ((talk_in past at).out ≡ []) × Unused h at y.text.items (talk_in past at) (drain_of y)
+    there_none none = subst (λ (q : Option Conn). OfConn at past h y.text.items (said_asks y.calls.sent.items) y.awaits_dialect y.dialect (said_late y.late.items) (drain_of y) (option_map (λ (c : Conn). (c.number, c.held.items, bytes_of c.unsent)) q)) none o.0
 
 pub same_line : (at : ℕ) (past : List Step) (h : List Event) (x y : Link) → line_of y ≡ line_of x → LineAgrees at past h x → LineAgrees at past h y
 same_line at past h x y same a = from_line at past h y (subst (OfLine at past h) (sym same) (to_line at past h x a))
 
 -- with the same connection
 same_conn : (x y : Link) → line_of y ≡ line_of x → conn_of y ≡ conn_of x
-same_conn x y same = sym (number_in y.conn) ∙ ap (λ (s : LineState). option_map (λ (e : ℕ × List ℕ × List ℕ). e.0) s.1) same ∙ number_in x.conn
+same_conn x y same =
+    sym (ap (λ o. first_some o (drain_of y)) (number_in y.conn)) ∙ ap (λ (s : LineState). first_some (option_map (λ (e : ℕ × List ℕ × List ℕ). e.0) s.1) s.7) same ∙ ap (λ o. first_some o (drain_of x)) (number_in x.conn)
   where
     number_in : (o : Option Conn) → option_map (λ (e : ℕ × List ℕ × List ℕ). e.0) (option_map (λ (c : Conn). let e : ℕ × List ℕ × List ℕ = (c.number, c.held.items, bytes_of c.unsent) in e) o) ≡ option_map (λ (c : Conn). c.number) o
     number_in None = refl
@@ -200,19 +201,20 @@ pub line_keeps :
     {Is : Step → Type 0} {at : ℕ} {core : ServedCore} {h h' : List Event} {x y : Link} → ((d : ℕ) → IsUntouched d h h') → line_of y ≡ line_of x → LineGoes Is at core h x core h' y
 line_keeps {at = at} {h = h} {h' = h'} {x = x} {y = y} still same =
     line_moves refl (still 0).after (shut_still still (same_conn x y same)) (ap (λ (s : LineState). s.0) same)
-    (λ past a. (same_line at past h' x y same (line_stays h h' at [] past x (λ conn is. still conn.number) refl a), all_kept (1, at) h h' still))
+    (λ past a. (same_line at past h' x y same (line_stays h h' at [] past x (λ c of_c. still c) refl a), all_kept (1, at) h h' still))
 
--- of seven parts
-pub of_seven :
-    {A B C D E F G : Type 0} {a a' : A} {b b' : B} {c c' : C} {d d' : D} {e e' : E} {f f' : F} {g g' : G} → a' ≡ a → b' ≡ b → c' ≡ c → d' ≡ d → e' ≡ e → f' ≡ f → g' ≡ g
-    → ◌≡◌ {A = A × B × C × D × E × F × G} (a', b', c', d', e', f', g') (a, b, c, d, e, f, g)
-of_seven {a = a} {a' = a'} {b = b} {b' = b'} {c = c} {c' = c'} {d = d} {d' = d'} {e = e} {e' = e'} {f = f} {f' = f'} {g = g} {g' = g'} p q r s t u v =
-    ap (λ x. (x, b', c', d', e', f', g')) p ∙ ap (λ x. (a, x, c', d', e', f', g')) q ∙ ap (λ x. (a, b, x, d', e', f', g')) r ∙ ap (λ x. (a, b, c, x, e', f', g')) s ∙ ap (λ x. (a, b, c, d, x, f', g')) t
-    ∙ ap (λ x. (a, b, c, d, e, x, g')) u ∙ ap (λ x. (a, b, c, d, e, f, x)) v
+-- of eight parts
+pub of_eight :
+    {A B C D E F G H : Type 0} {a a' : A} {b b' : B} {c c' : C} {d d' : D} {e e' : E} {f f' : F} {g g' : G} {h h' : H} → a' ≡ a → b' ≡ b → c' ≡ c → d' ≡ d → e' ≡ e → f' ≡ f → g' ≡ g → h' ≡ h
+    → ◌≡◌ {A = A × B × C × D × E × F × G × H} (a', b', c', d', e', f', g', h') (a, b, c, d, e, f, g, h)
+of_eight {a = a} {a' = a'} {b = b} {b' = b'} {c = c} {c' = c'} {d = d} {d' = d'} {e = e} {e' = e'} {f = f} {f' = f'} {g = g} {g' = g'} {h = h} {h' = h'} p q r s t u v w =
+    ap (λ x. (x, b', c', d', e', f', g', h')) p ∙ ap (λ x. (a, x, c', d', e', f', g', h')) q ∙ ap (λ x. (a, b, x, d', e', f', g', h')) r ∙ ap (λ x. (a, b, c, x, e', f', g', h')) s
+    ∙ ap (λ x. (a, b, c, d, x, f', g', h')) t ∙ ap (λ x. (a, b, c, d, e, x, g', h')) u ∙ ap (λ x. (a, b, c, d, e, f, x, h')) v ∙ ap (λ x. (a, b, c, d, e, f, g, x)) w
 
 -- what a link's own functions leave as it was
 pub keeps_line : (x y : Link) → KeepsLines x y → line_of y ≡ line_of x
-keeps_line x y k = of_seven (ap (λ t. t.items) k.text) (conns x.conn y.conn k.conn) (ap (λ c. said_asks c.sent.items) k.calls) (ap (λ w. w.items) k.waiting) k.awaits k.dialect (ap (λ w. said_late w.items) k.late)
+keeps_line x y k =
+    of_eight (ap (λ t. t.items) k.text) (conns x.conn y.conn k.conn) (ap (λ c. said_asks c.sent.items) k.calls) (ap (λ w. w.items) k.waiting) k.awaits k.dialect (ap (λ w. said_late w.items) k.late) k.draining
   where
     ends : (c d : Conn) → d.number ≡ c.number → d.held.items ≡ c.held.items → bytes_of d.unsent ≡ bytes_of c.unsent → ◌≡◌ {A = ℕ × List ℕ × List ℕ} (d.number, d.held.items, bytes_of d.unsent) (c.number, c.held.items, bytes_of c.unsent)
     ends c d n l u =
@@ -247,7 +249,7 @@ pub over_so :
     (why : Option Cause) (at : ℕ) (past : List Step) (h : List Event) (y : Link) (d : Conn) → y.conn ≡ Some d → ConnAgrees at past h y d d.held.items → ShowsWhy why (talk_in past at) d.number h → MayAllGo past at y.waiting.items
     → AreDue past at (numbers_of y.waiting.items) → AreCalled past at (said_asks y.calls.sent.items) → LineFails why at past h y
 over_so why at past h y d is agrees shows waiting due called = record {
-  lost = record { conn = λ conn there. (conn.held.items, subst (λ (z : Conn). ConnAgrees at past h y z z.held.items) (same_some (sym is ∙ there)) agrees); waiting = waiting; due = due; none_out = λ none. absurd (none_some (sym none ∙ is)); called = called };
+  lost = record { conn = λ conn there. (conn.held.items, subst (λ (z : Conn). ConnAgrees at past h y z z.held.items) (same_some (sym is ∙ there)) agrees); waiting = waiting; due = due; none_out = λ none. absurd (none_some (sym none ∙ is)); unused = λ none. absurd (none_some (sym none ∙ is)); called = called };
   shows = λ conn there. subst (λ (z : Conn). ShowsWhy why (talk_in past at) z.number h) (same_some (sym is ∙ there)) shows;
 }
 
@@ -258,7 +260,7 @@ line_reads_to :
     → ((past : List Step) → LineAgrees at past h x → ConnAgrees at past h' y d d.held.items → MayAllGo past at y.waiting.items → AreDue past at (numbers_of y.waiting.items) → AreCalled past at (said_asks y.calls.sent.items) → After at past h' y)
     → LineGoesFrom LineAgrees After Is at core h x core h' y
 line_reads_to {After} {at = at} {h = h} {h' = h'} x y c d was is number unsent r after =
-    line_moves refl (only_after c.number h h' r.elsewhere) (shut_used c.number r.elsewhere (ap (option_map (λ (z : Conn). z.number)) was) (ap conn_of is ∙ ap (λ n. Some n) number)) (ap (λ (z : Link). z.text.items) is) (λ past a. (agrees past a, keeps_others c.number (1, at) h h' (a.conn c was).is_to r.same_role r.elsewhere))
+    line_moves refl (only_after c.number h h' r.elsewhere) (shut_used c.number r.elsewhere (conn_is x c was) (ap conn_of is ∙ ap (λ n. Some n) number)) (ap (λ (z : Link). z.text.items) is) (λ past a. (agrees past a, keeps_others c.number (1, at) h h' (a.conn c was).is_to r.same_role r.elsewhere))
   where
     agrees : (past : List Step) → LineAgrees at past h x → After at past h' y
     agrees past a =
@@ -304,7 +306,7 @@ line_sends_to :
     → ((past : List Step) → LineAgrees at past h x → ConnAgrees at past h' y d d.held.items → MayAllGo past at y.waiting.items → AreDue past at (numbers_of y.waiting.items) → AreCalled past at (said_asks y.calls.sent.items) → After at past h' y)
     → LineGoesFrom LineAgrees After Is at core h x core h' y
 line_sends_to {After} {at = at} {h = h} {h' = h'} x y c d was is number held s after =
-    line_moves refl (only_after c.number h h' s.elsewhere) (shut_used c.number s.elsewhere (ap (option_map (λ (z : Conn). z.number)) was) (ap conn_of is ∙ ap (λ n. Some n) number)) (ap (λ (z : Link). z.text.items) is) (λ past a. (agrees past a, keeps_others c.number (1, at) h h' (a.conn c was).is_to s.same_role s.elsewhere))
+    line_moves refl (only_after c.number h h' s.elsewhere) (shut_used c.number s.elsewhere (conn_is x c was) (ap conn_of is ∙ ap (λ n. Some n) number)) (ap (λ (z : Link). z.text.items) is) (λ past a. (agrees past a, keeps_others c.number (1, at) h h' (a.conn c was).is_to s.same_role s.elsewhere))
   where
     agrees : (past : List Step) → LineAgrees at past h x → After at past h' y
     agrees past a =
@@ -361,9 +363,9 @@ begins at core h h' x y dialect number new noted has = record {
   kinds = (tt, tt);
   own = (refl, tt);
   walks = (core, refl, refl);
-  agrees = λ past o a. ((tt, o), by past a y.conn refl has.conn, keeps_by number (1, at) h h' (new_own number (1, at) h new.no_role) (ap (role number) noted ∙ ap (λ b. if b then Some (1, at) else role number h) (equal number)) only);
+  agrees = λ past o a. ((subst (λ (d : Option Conn). Unused h at x.text.items (talk_in past at) (option_map (λ (z : Conn). z.number) d)) has.none_draining (a.unused has.none_there), o), by past a y.conn refl has.conn, keeps_by number (1, at) h h' (new_own number (1, at) h new.no_role) (ap (role number) noted ∙ ap (λ b. if b then Some (1, at) else role number h) (equal number)) only);
   shown = λ past o a shown. shown_later (Linked at dialect ∷ []) past h h' (tt, tt) (connects number at x.text.items ∷ [], noted) shown;
-  shut = shut_begun number only (ap (option_map (λ (z : Conn). z.number)) has.none_there) (has_number y.conn has.conn);
+  shut = shut_begun number only (conn_drains x has.none_there ∙ ap (option_map (λ (z : Conn). z.number)) has.none_draining) (ap (λ o. first_some o (drain_of y)) (has_number y.conn has.conn));
   text = ap (λ t. t.items) has.text;
 }
   where
@@ -393,7 +395,7 @@ begins_in_vain at core h h' x y number new closed keeps =
     let same = keeps_line x y keeps in
     let only = only_twice number h (connects number at x.text.items ∷ h) h' (only_connects number at x.text.items h) (only_closed number (connects number at x.text.items ∷ h) h' closed) in
     line_moves refl (only_after number h h' only) (shut_in_vain number only (closed_shut number (connects number at x.text.items ∷ h) h' closed) (same_conn x y same)) (ap (λ t. t.items) keeps.text) (λ past a. (
-      same_line at past h' x y same (line_stays h h' at [] past x (λ conn is. only conn.number (new_apart number conn.number h (1, at) (a.conn conn is).is_to new.no_role)) refl a),
+      same_line at past h' x y same (line_stays h h' at [] past x (λ c of_c. only c (new_apart number c h (1, at) of_c new.no_role)) refl a),
       keeps_by number (1, at) h h' (new_own number (1, at) h new.no_role) (closed_role number (connects number at x.text.items ∷ h) h' closed ∙ ap (λ b. if b then Some (1, at) else role number h) (equal number)) only,
     ))
 
@@ -436,7 +438,7 @@ line_learns {at} {core} {h} x y can l = by l.told
       walks = (core, refl, refl);
       agrees = λ past o a. ((subst (λ o. AnswersFirst o y.dialect takes.0) (sym (a.conn c was).awaits_is) takes.2, o), agreed past a, all_kept (1, at) h h (quiet h));
       shown = λ past o a shown. shown_later (step ∷ []) past h h (tt, tt) (none_since h) shown;
-      shut = shut_still (quiet h) (ap (option_map (λ (z : Conn). z.number)) is ∙ ap (λ (z : Conn). Some z.number) takes.3 ∙ sym (ap (option_map (λ (z : Conn). z.number)) was));
+      shut = shut_still (quiet h) (conn_is y d is ∙ ap (λ (z : Conn). Some z.number) takes.3 ∙ sym (conn_is x c was));
       text = ap (λ (z : Link). z.text.items) learnt.rest;
     }
       where
@@ -497,7 +499,7 @@ line_asks {at} {core} {h} x y c d call was is same alone ready more unsent = rec
   walks = (core, refl, refl);
   agrees = λ past o a. (((a.1, due_first past at call.ticket.number (numbers_of x.waiting.items) a.2, (a.0.conn c was).late_is ∙ ap said_late alone, ap awaits_flush (a.0.conn c was).awaits_is ∙ ready), o), agreed past a.0 a.1 a.2, all_kept (1, at) h h (quiet h));
   shown = λ past o a shown. shown_later (step ∷ []) past h h (tt, tt) (none_since h) shown;
-  shut = shut_still (quiet h) (ap conn_of is ∙ ap (λ (z : Conn). Some z.number) same ∙ sym (ap (option_map (λ (z : Conn). z.number)) was));
+  shut = shut_still (quiet h) (ap conn_of is ∙ ap (λ (z : Conn). Some z.number) same ∙ sym (conn_is x c was));
   text = ap (λ (z : Link). z.text.items) is;
 }
   where
@@ -526,6 +528,7 @@ waits_with at past h x y is a waiting due = record {
   waiting = waiting;
   due = due;
   none_out = λ none. a.none_out (sym (ap (λ (z : Link). z.conn) is) ∙ none);
+  unused = λ none. subst (λ (z : Link). Unused h at z.text.items (talk_in past at) (drain_of z)) (sym is) (a.unused (sym (ap (λ (z : Link). z.conn) is) ∙ none));
   called = subst (λ l. AreCalled past at l) (sym (ap (λ (z : Link). said_asks z.calls.sent.items) is)) a.called;
 }
 
@@ -590,7 +593,7 @@ settles_to {After} {at} {core} {core'} {h} x y c d rest was is off alone text wa
   walks = g.walks;
   agrees = λ past o a. let t = a.conn c was in let r = g.orderly past o t.out_is (t.awaits_is ∙ off) (t.late_is ∙ ap said_late alone) in (r.0, agreed past a r.1, all_kept (1, at) h h (quiet h));
   shown = λ past o a shown. shown_later g.steps past h h g.unlost (none_since h) shown;
-  shut = shut_still (quiet h) (ap (option_map (λ (z : Conn). z.number)) is ∙ ap (λ n. Some n) number ∙ sym (ap (option_map (λ (z : Conn). z.number)) was));
+  shut = shut_still (quiet h) (conn_is y d is ∙ ap (λ n. Some n) number ∙ sym (conn_is x c was));
   text = text;
 }
   where
@@ -620,36 +623,76 @@ pub line_loses :
     → LineGoesFrom LineAgrees LineLost IsOfTurn at core h x core' h y
 line_loses {at} {core} {core'} {h} x y c d rest was is off alone text waiting awaits speaks late number unsent s =
     settles_to x y c d rest was is off alone text waiting awaits speaks late number unsent
-    (λ past agrees goes_on waits due called. record { conn = λ conn there. subst (λ (z : Conn). (held : List ℕ) × ConnAgrees at past h y z held) (same_some (sym is ∙ there)) (rest, agrees); waiting = waits; due = due; none_out = λ none. absurd (none_some (sym none ∙ is)); called = called }) s
+    (λ past agrees goes_on waits due called. record { conn = λ conn there. subst (λ (z : Conn). (held : List ℕ) × ConnAgrees at past h y z held) (same_some (sym is ∙ there)) (rest, agrees); waiting = waits; due = due; none_out = λ none. absurd (none_some (sym none ∙ is)); unused = λ none. absurd (none_some (sym none ∙ is)); called = called }) s
 
 -- ---- the end of a connection
 
+-- it had no connection in use, and nothing happened
+gives_none :
+    {at : ℕ} {core : ServedCore} {h h' : List Event} (why : Option Cause) (x y : Link) → x.conn ≡ None → h' ≡ h → y.conn ≡ None → y.draining ≡ x.draining → y.text.items ≡ x.text.items → y.waiting.items ≡ x.waiting.items
+    → y.calls.sent.items ≡ x.calls.sent.items → LineGoesFrom (LineFails why) LineAgrees (IsGivingUp why) at core h x core h' y
+gives_none {at} {core} {h} {h'} why x y had same closed draining text waiting sent =
+    line_moves refl ([], same) (shut_still still (conns_same x y (closed ∙ sym had) draining)) text (λ past a. (left past a, all_kept (1, at) h h' still))
+  where
+    still : (d : ℕ) → IsUntouched d h h'
+    still d = subst (IsUntouched d h) (sym same) (untouched d h)
+
+    left : (past : List Step) → LineFails why at past h x → LineAgrees at past h' y
+    left past a =
+        has_none at past h' y closed (subst (λ w. MayAllGo past at w) (sym waiting) a.lost.waiting) (subst (λ w. AreDue past at (numbers_of w)) (sym waiting) a.lost.due) (a.lost.none_out had)
+        (subst (λ k. Unused k at y.text.items (talk_in past at) (drain_of y)) (sym same) (subst (λ t. Unused h at t (talk_in past at) (drain_of y)) (sym text) (subst (λ (o : Option Conn). Unused h at x.text.items (talk_in past at) (option_map (λ (z : Conn). z.number) o)) (sym draining) (a.lost.unused had))))
+        (subst (λ (l : List SentCall). AreCalled past at (said_asks l)) (sym sent) a.lost.called)
+
+-- it was given up, for what its connection showed, whatever that held; and so the connections that it has stand now
+gives_up :
+    {at : ℕ} {core : ServedCore} {h h' : List Event} (why : Option Cause) (x y : Link) (c : Conn) → x.conn ≡ Some c → TouchesOnly c.number h h' → role c.number h' ≡ role c.number h → y.conn ≡ None → y.text.items ≡ x.text.items
+    → y.waiting.items ≡ x.waiting.items → y.calls.sent.items ≡ x.calls.sent.items → StaysShut at h x h' y
+    → ((past : List Step) → LineFails why at past h x → Unused h' at y.text.items (talk_in (Lost at why ∷ past) at) (drain_of y)) → LineGoesFrom (LineFails why) LineAgrees (IsGivingUp why) at core h x core h' y
+gives_up {at} {core} {h} {h'} why x y c e only same_role closed text waiting sent shut unused = record {
+  steps = Lost at why ∷ [];
+  kinds = (refl, tt);
+  own = (refl, tt);
+  walks = (core, refl, refl);
+  agrees = λ past o a. ((tt, o), left past a, keeps_others c.number (1, at) h h' (a.lost.conn c e).1.is_to same_role only);
+  shown = λ past o a shown. (was_shown past a, shown_since past h h' (only_after c.number h h' only) shown);
+  shut = shut;
+  text = text;
+}
+  where
+    talk : (past : List Step) → talk_in (Lost at why ∷ past) at ≡ given_up why (talk_in past at)
+    talk past = ap (λ b. if b then given_up why (talk_in past at) else talk_in past at) (equal at)
+
+    left : (past : List Step) → LineFails why at past h x → LineAgrees at (Lost at why ∷ past) h' y
+    left past a =
+        has_none at (Lost at why ∷ past) h' y closed (calls_later (Lost at why ∷ []) past at y.waiting.items (subst (λ w. MayAllGo past at w) (sym waiting) a.lost.waiting))
+        (due_later (Lost at why ∷ []) past at (numbers_of y.waiting.items) (ap (λ (t : Talk). t.asked) (talk past)) (subst (λ w. AreDue past at (numbers_of w)) (sym waiting) a.lost.due)) (ap (λ (t : Talk). t.out) (talk past)) (unused past a)
+        (called_all_later (Lost at why ∷ []) past at (said_asks y.calls.sent.items) (subst (λ (l : List SentCall). AreCalled past at (said_asks l)) (sym sent) a.lost.called))
+
+    was_shown : (past : List Step) → LineFails why at past h x → WasShown why at past h'
+    was_shown past a = let t = (a.lost.conn c e).1 in record {
+      conn = c.number;
+      before = h;
+      since = only_after c.number h h' only;
+      text = x.text.items;
+      held = (a.lost.conn c e).0;
+      unsent = bytes_of c.unsent;
+      agrees = record { is_to = t.is_to; address = t.address; sent_is = t.sent_is; told_is = t.told_is; out_is = refl; awaits_is = refl; dialect_is = refl; late_is = refl };
+      shows = a.shows c e;
+    }
+
 -- its connection was closed, whatever it held, for what it showed
 pub line_closes :
-    {at : ℕ} {core : ServedCore} {h h' : List Event} (why : Option Cause) (x y : Link) (r : Option ℕ) → r ≡ option_map (λ (z : Conn). z.number) x.conn → IfSome r (λ c. Closes c h h') → (r ≡ None → h' ≡ h) → y.conn ≡ None
-    → y.text.items ≡ x.text.items → y.waiting.items ≡ x.waiting.items → y.calls.sent.items ≡ x.calls.sent.items → LineGoesFrom (LineFails why) LineAgrees (IsGivingUp why) at core h x core h' y
-line_closes {at} {core} {h} {h'} why x y r r_is some none closed text waiting sent = by x.conn refl
+    {at : ℕ} {core : ServedCore} {h h' : List Event} (why : Option Cause) → left_by why ≡ Apart → (x y : Link) (r : Option ℕ) → r ≡ option_map (λ (z : Conn). z.number) x.conn → IfSome r (λ c. Closes c h h') → (r ≡ None → h' ≡ h) → y.conn ≡ None
+    → MatchOption x.conn (y.draining ≡ x.draining) (λ c. y.draining ≡ None) → y.text.items ≡ x.text.items → y.waiting.items ≡ x.waiting.items → y.calls.sent.items ≡ x.calls.sent.items
+    → LineGoesFrom (LineFails why) LineAgrees (IsGivingUp why) at core h x core h' y
+line_closes {at} {core} {h} {h'} why apart x y r r_is some none closed draining text waiting sent = by x.conn refl draining
   where
-    left : (steps past : List Step) → LineFails why at past h x → (talk_in (steps ++ past) at).asked ≡ (talk_in past at).asked → (talk_in (steps ++ past) at).out ≡ [] → LineAgrees at (steps ++ past) h' y
-    left steps past a same none_out =
-        has_none at (steps ++ past) h' y closed (calls_later steps past at y.waiting.items (subst (λ w. MayAllGo past at w) (sym waiting) a.lost.waiting))
-        (due_later steps past at (numbers_of y.waiting.items) same (subst (λ w. AreDue past at (numbers_of w)) (sym waiting) a.lost.due)) none_out
-        (called_all_later steps past at (said_asks y.calls.sent.items) (subst (λ (l : List SentCall). AreCalled past at (said_asks l)) (sym sent) a.lost.called))
-
-    by : (o : Option Conn) → x.conn ≡ o → LineGoesFrom (LineFails why) LineAgrees (IsGivingUp why) at core h x core h' y
-    by None e =
-        let same = none (r_is ∙ ap (option_map (λ (z : Conn). z.number)) e) in
-        line_moves refl ([], same) (shut_still (λ d. subst (IsUntouched d h) (sym same) (untouched d h)) (ap (option_map (λ (z : Conn). z.number)) (closed ∙ sym e))) text (λ past a. (left [] past a refl (a.lost.none_out e), all_kept (1, at) h h' (λ d. subst (IsUntouched d h) (sym same) (untouched d h))))
-    by (Some c) e = record {
-      steps = Lost at why ∷ [];
-      kinds = (refl, tt);
-      own = (refl, tt);
-      walks = (core, refl, refl);
-      agrees = λ past o a. ((tt, o), left (Lost at why ∷ []) past a (ap (λ b. (if b then given_up (talk_in past at) else talk_in past at).asked) (equal at)) (ap (λ b. (if b then given_up (talk_in past at) else talk_in past at).out) (equal at)), keeps_others c.number (1, at) h h' (a.lost.conn c e).1.is_to (closed_role c.number h h' closes_it) only);
-      shown = λ past o a shown. (was_shown past a, shown_since past h h' (only_after c.number h h' only) shown);
-      shut = shut_closed c.number only (closed_shut c.number h h' closes_it) (ap (option_map (λ (z : Conn). z.number)) e);
-      text = text;
-    }
+    by : (o : Option Conn) → x.conn ≡ o → MatchOption o (y.draining ≡ x.draining) (λ c. y.draining ≡ None) → LineGoesFrom (LineFails why) LineAgrees (IsGivingUp why) at core h x core h' y
+    by None e same = gives_none why x y e (none (r_is ∙ ap (option_map (λ (z : Conn). z.number)) e)) closed same text waiting sent
+    by (Some c) e undrained =
+        gives_up why x y c e only (closed_role c.number h h' closes_it) closed text waiting sent (shut_closed c.number only (closed_shut c.number h h' closes_it) (conn_is x c e))
+        (λ past a. subst (λ (o : Option Conn). Unused h' at y.text.items (talk_in (Lost at why ∷ past) at) (option_map (λ (z : Conn). z.number) o)) (sym undrained)
+        (ap (λ b. (if b then given_up why (talk_in past at) else talk_in past at).stands) (equal at) ∙ apart))
       where
         closes_it : Closes c.number h h'
         closes_it = subst (λ o. IfSome o (λ n. Closes n h h')) (r_is ∙ ap (option_map (λ (z : Conn). z.number)) e) some
@@ -657,23 +700,132 @@ line_closes {at} {core} {h} {h'} why x y r r_is some none closed text waiting se
         only : TouchesOnly c.number h h'
         only = only_closed c.number h h' closes_it
 
-        was_shown : (past : List Step) → LineFails why at past h x → WasShown why at past h'
-        was_shown past a = let t = (a.lost.conn c e).1 in record {
+-- or it can't be kept, and its end is awaited
+pub line_drains :
+    {at : ℕ} {core : ServedCore} {h h' : List Event} (why : Option Cause) → left_by why ≡ Ending → (x y : Link) → h' ≡ h → y.conn ≡ None → conn_of y ≡ conn_of x → (x.conn ≡ None → y.draining ≡ x.draining) → y.text.items ≡ x.text.items
+    → y.waiting.items ≡ x.waiting.items → y.calls.sent.items ≡ x.calls.sent.items → LineGoesFrom (LineFails why) LineAgrees (IsGivingUp why) at core h x core h' y
+line_drains {at} {core} {h} {h'} why ending x y same closed conns draining text waiting sent = by x.conn refl
+  where
+    still : (d : ℕ) → IsUntouched d h h'
+    still d = subst (IsUntouched d h) (sym same) (untouched d h)
+
+    by : (o : Option Conn) → x.conn ≡ o → LineGoesFrom (LineFails why) LineAgrees (IsGivingUp why) at core h x core h' y
+    by None e = gives_none why x y e same closed (draining e) text waiting sent
+    by (Some c) e =
+        gives_up why x y c e (λ d other. still d) (still c.number).same_role closed text waiting sent (shut_still still conns)
+        (λ past a. subst (Unused h' at y.text.items (talk_in (Lost at why ∷ past) at)) (sym (sym (conn_drains y closed) ∙ conns ∙ conn_is x c e)) (awaited past a))
+      where
+        awaited : (past : List Step) → LineFails why at past h x → Unused h' at y.text.items (talk_in (Lost at why ∷ past) at) (Some c.number)
+        awaited past a =
+            let t = (a.lost.conn c e).1 in
+            let talk : talk_in (Lost at why ∷ past) at ≡ given_up why (talk_in past at) = ap (λ b. if b then given_up why (talk_in past at) else talk_in past at) (equal at) in
+            let now : TalkAgrees h at x.text.items (given_up why (talk_in past at)) c.number (a.lost.conn c e).0 (bytes_of c.unsent) [] false (talk_in past at).dialect [] =
+            record { is_to = t.is_to; address = t.address; sent_is = t.sent_is; told_is = t.told_is; out_is = refl; awaits_is = refl; dialect_is = refl; late_is = refl } in
+            subst (λ k. Unused k at y.text.items (talk_in (Lost at why ∷ past) at) (Some c.number)) (sym same)
+            (subst (λ w. Unused h at w (talk_in (Lost at why ∷ past) at) (Some c.number)) (sym text)
+            (subst (λ u. Unused h at x.text.items u (Some c.number)) (sym talk) (ending, (a.lost.conn c e).0, bytes_of c.unsent, now)))
+
+-- ---- the end of one that can't be kept
+
+-- what came over it is thrown away
+pub line_away :
+    {Is : Step → Type 0} {at : ℕ} {core : ServedCore} {h h' : List Event} (x y : Link) (c d : Conn) (bytes : List ℕ) → x.conn ≡ None → x.draining ≡ Some c → y ≡ record x { draining = Some d } → d.number ≡ c.number
+    → ReadsOn c.number [] bytes h h' → LineGoes Is at core h x core h' y
+line_away {at = at} {h = h} {h' = h'} x y c d bytes none was is number r =
+    line_moves refl (only_after c.number h h' r.elsewhere) (shut_used c.number r.elsewhere (conn_drains x none ∙ ap (option_map (λ (z : Conn). z.number)) was) (conn_drains y (ap (λ (z : Link). z.conn) is ∙ none) ∙ drains)) (ap (λ (z : Link). z.text.items) is)
+    (λ past a. (agrees past a, keeps_others c.number (1, at) h h' (before past a).3.is_to r.same_role r.elsewhere))
+  where
+    drains : drain_of y ≡ Some c.number
+    drains = ap drain_of is ∙ ap (λ n. Some n) number
+
+    before : (past : List Step) → LineAgrees at past h x → Unused h at x.text.items (talk_in past at) (Some c.number)
+    before past a = subst (λ (o : Option Conn). Unused h at x.text.items (talk_in past at) (option_map (λ (z : Conn). z.number) o)) was (a.unused none)
+
+    now : (past : List Step) → LineAgrees at past h x → Unused h' at x.text.items (talk_in past at) (Some c.number)
+    now past a =
+        let u = before past a in let t = talk_in past at in (
+          u.0,
+          u.1 ++ bytes,
+          u.2,
+          record {
+            is_to = r.same_role ∙ u.3.is_to;
+            address = r.same_address ∙ u.3.address;
+            sent_is = u.3.sent_is ∙ ap (λ l. l ++ u.2) (sym r.same_went);
+            told_is = r.came ∙ ap (λ l. l ++ r.bytes) u.3.told_is ∙ append_assoc t.told u.1 r.bytes ∙ ap (λ l. t.told ++ (u.1 ++ l)) (sym r.held_is);
+            out_is = u.3.out_is;
+            awaits_is = u.3.awaits_is;
+            dialect_is = u.3.dialect_is;
+            late_is = u.3.late_is;
+          },
+        )
+
+    agrees : (past : List Step) → LineAgrees at past h x → LineAgrees at past h' y
+    agrees past a =
+        let waits = sym (ap (λ (z : Link). z.waiting.items) is) in
+        has_none at past h' y (ap (λ (z : Link). z.conn) is ∙ none) (subst (λ w. MayAllGo past at w) waits a.waiting) (subst (λ w. AreDue past at (numbers_of w)) waits a.due) (a.none_out none)
+        (subst (Unused h' at y.text.items (talk_in past at)) (sym drains) (subst (λ w. Unused h' at w (talk_in past at) (Some c.number)) (sym (ap (λ (z : Link). z.text.items) is)) (now past a)))
+        (subst (λ l. AreCalled past at l) (sym (ap (λ (z : Link). said_asks z.calls.sent.items) is)) a.called)
+
+-- it has ended, or failed, or is awaited no longer, and was closed for that
+pub line_ends :
+    {Is : Step → Type 0} {at : ℕ} {core : ServedCore} {h k h' : List Event} (why : Option Cause) → Is (Lost at why) → left_by why ≡ Apart → (x y : Link) (c : Conn) → x.conn ≡ None → x.draining ≡ Some c → y ≡ record x { draining = None }
+    → ReadsOn c.number [] [] h k → ((t : Talk) → t.stands ≡ Ending → ShowsWhy why t c.number k) → Closes c.number k h' → LineGoes Is at core h x core h' y
+line_ends {Is} {at} {core} {h} {k} {h'} why kind apart x y c none was is r shows closes_it = record {
+  steps = Lost at why ∷ [];
+  kinds = (kind, tt);
+  own = (refl, tt);
+  walks = (core, refl, refl);
+  agrees = λ past o a. ((tt, o), left past a, keeps_others c.number (1, at) h h' (before past a).3.is_to (closed_role c.number k h' closes_it ∙ r.same_role) only);
+  shown = λ past o a shown. (was_shown past a, shown_since past h h' (only_after c.number h h' only) shown);
+  shut = shut_closed c.number only (closed_shut c.number k h' closes_it) (conn_drains x none ∙ ap (option_map (λ (z : Conn). z.number)) was);
+  text = ap (λ (z : Link). z.text.items) is;
+}
+  where
+    only : TouchesOnly c.number h h'
+    only = only_twice c.number h k h' r.elsewhere (only_closed c.number k h' closes_it)
+
+    before : (past : List Step) → LineAgrees at past h x → Unused h at x.text.items (talk_in past at) (Some c.number)
+    before past a = subst (λ (o : Option Conn). Unused h at x.text.items (talk_in past at) (option_map (λ (z : Conn). z.number) o)) was (a.unused none)
+
+    talk : (past : List Step) → talk_in (Lost at why ∷ past) at ≡ given_up why (talk_in past at)
+    talk past = ap (λ b. if b then given_up why (talk_in past at) else talk_in past at) (equal at)
+
+    left : (past : List Step) → LineAgrees at past h x → LineAgrees at (Lost at why ∷ past) h' y
+    left past a =
+        has_none at (Lost at why ∷ past) h' y (ap (λ (z : Link). z.conn) is ∙ none)
+        (calls_later (Lost at why ∷ []) past at y.waiting.items (subst (λ w. MayAllGo past at w) (sym (ap (λ (z : Link). z.waiting.items) is)) a.waiting))
+        (due_later (Lost at why ∷ []) past at (numbers_of y.waiting.items) (ap (λ (t : Talk). t.asked) (talk past)) (subst (λ w. AreDue past at (numbers_of w)) (sym (ap (λ (z : Link). z.waiting.items) is)) a.due))
+        (ap (λ (t : Talk). t.out) (talk past))
+        (subst (Unused h' at y.text.items (talk_in (Lost at why ∷ past) at)) (sym (ap drain_of is)) (ap (λ (t : Talk). t.stands) (talk past) ∙ apart))
+        (called_all_later (Lost at why ∷ []) past at (said_asks y.calls.sent.items) (subst (λ l. AreCalled past at l) (sym (ap (λ (z : Link). said_asks z.calls.sent.items) is)) a.called))
+
+    was_shown : (past : List Step) → LineAgrees at past h x → WasShown why at past h'
+    was_shown past a =
+        let u = before past a in let t = talk_in past at in record {
           conn = c.number;
-          before = h;
-          since = only_after c.number h h' only;
+          before = k;
+          since = only_after c.number k h' (only_closed c.number k h' closes_it);
           text = x.text.items;
-          held = (a.lost.conn c e).0;
-          unsent = bytes_of c.unsent;
-          agrees = record { is_to = t.is_to; address = t.address; sent_is = t.sent_is; told_is = t.told_is; out_is = refl; awaits_is = refl; dialect_is = refl; late_is = refl };
-          shows = a.shows c e;
+          held = u.1;
+          unsent = u.2;
+          agrees = record {
+            is_to = r.same_role ∙ u.3.is_to;
+            address = r.same_address ∙ u.3.address;
+            sent_is = u.3.sent_is ∙ ap (λ l. l ++ u.2) (sym r.same_went);
+            told_is = r.came ∙ ap (λ l. delivered c.number h ++ l) (sym r.held_is) ∙ append-nil (delivered c.number h) ∙ u.3.told_is;
+            out_is = refl;
+            awaits_is = refl;
+            dialect_is = refl;
+            late_is = refl;
+          };
+          shows = shows t u.0;
         }
 
--- it had none, and has none then
+-- it had none in use, and has none then
 pub line_shuts :
     {Before : ℕ → List Step → List Event → Link → Type 0} {Is : Step → Type 0} {at : ℕ} {a b : ServedCore} {h h' : List Event} {x y z : Link} → LineGoesFrom Before LineAgrees Is at a h x b h' y → y.conn ≡ None → z.conn ≡ None
-    → z.text.items ≡ y.text.items → z.waiting.items ≡ y.waiting.items → z.calls.sent.items ≡ y.calls.sent.items → LineGoesFrom Before LineAgrees Is at a h x b h' z
-line_shuts {at = at} {h' = h'} {z = z} g none closed text waiting sent = record {
+    → z.draining ≡ y.draining → z.text.items ≡ y.text.items → z.waiting.items ≡ y.waiting.items → z.calls.sent.items ≡ y.calls.sent.items → LineGoesFrom Before LineAgrees Is at a h x b h' z
+line_shuts {at = at} {h' = h'} {y = y} {z = z} g none closed draining text waiting sent = record {
   steps = g.steps;
   kinds = g.kinds;
   own = g.own;
@@ -681,11 +833,12 @@ line_shuts {at = at} {h' = h'} {z = z} g none closed text waiting sent = record 
   agrees = λ past o was. let r = g.agrees past o was in (
     r.0,
     has_none at (g.steps ++ past) h' z closed (subst (λ w. MayAllGo (g.steps ++ past) at w) (sym waiting) r.1.waiting) (subst (λ w. AreDue (g.steps ++ past) at (numbers_of w)) (sym waiting) r.1.due) (r.1.none_out none)
+        (subst (λ t. Unused h' at t (talk_in (g.steps ++ past) at) (drain_of z)) (sym text) (subst (λ (o : Option Conn). Unused h' at y.text.items (talk_in (g.steps ++ past) at) (option_map (λ (c : Conn). c.number) o)) (sym draining) (r.1.unused none)))
         (subst (λ (l : List SentCall). AreCalled (g.steps ++ past) at (said_asks l)) (sym sent) r.1.called),
     r.2,
   );
   shown = g.shown;
-  shut = λ was. subst (λ o. IsShutBut (1, at) o h') (ap (option_map (λ (c : Conn). c.number)) (none ∙ sym closed)) (g.shut was);
+  shut = λ was. subst (λ o. IsShutBut (1, at) o h') (sym (conns_same y z (closed ∙ sym none) draining)) (g.shut was);
   text = text ∙ g.text;
 }
 
@@ -742,8 +895,8 @@ last_called past at (call ∷ first) later are = last_called past at first later
 -- calls of it fail, while it has no connection: of those that were sent, and of those that wait, the first do
 pub line_fails :
     {why : Option Cause} {at : ℕ} {core core' : ServedCore} {h : List Event} (x y : Link) (mid : ServedCore) → FailsTo x.calls.sent.items y.calls.sent.items core mid → FailsTo x.waiting.items y.waiting.items mid core'
-    → x.conn ≡ None → y.conn ≡ None → y.text.items ≡ x.text.items → LineGoes (IsGivingUp why) at core h x core' h y
-line_fails {why} {at} {core} {core'} {h} x y mid sent waiting had none text = record {
+    → x.conn ≡ None → y.conn ≡ None → y.draining ≡ x.draining → y.text.items ≡ x.text.items → LineGoes (IsGivingUp why) at core h x core' h y
+line_fails {why} {at} {core} {core'} {h} x y mid sent waiting had none draining text = record {
   steps = w.steps ++ f.steps;
   kinds = failed_giving why (w.steps ++ f.steps) kinds;
   own = own.0;
@@ -753,11 +906,14 @@ line_fails {why} {at} {core} {core'} {h} x y mid sent waiting had none text = re
     has_none at ((w.steps ++ f.steps) ++ past) h y none (calls_later (w.steps ++ f.steps) past at y.waiting.items (last_called past at waiting.0 y.waiting.items (subst (λ l. MayAllGo past at l) waiting.1 a.waiting)))
         (due_later (w.steps ++ f.steps) past at (numbers_of y.waiting.items) (ap (λ (t : Talk). t.asked) (plain_talk (w.steps ++ f.steps) own.1 past at)) (due_last past at waiting.0 y.waiting.items (subst (λ l. AreDue past at (numbers_of l)) waiting.1 a.due)))
         (ap (λ (t : Talk). t.out) (plain_talk (w.steps ++ f.steps) own.1 past at) ∙ a.none_out had)
+        (subst (λ t. Unused h at t (talk_in ((w.steps ++ f.steps) ++ past) at) (drain_of y)) (sym text)
+        (subst (λ (o : Option Conn). Unused h at x.text.items (talk_in ((w.steps ++ f.steps) ++ past) at) (option_map (λ (z : Conn). z.number) o)) (sym draining)
+        (subst (λ u. Unused h at x.text.items u (drain_of x)) (sym (plain_talk (w.steps ++ f.steps) own.1 past at)) (a.unused had))))
         (called_all_later (w.steps ++ f.steps) past at (said_asks y.calls.sent.items) (called_last past at sent.0 y.calls.sent.items (subst (λ (l : List SentCall). AreCalled past at (said_asks l)) sent.1 a.called))),
     all_kept (1, at) h h (quiet h),
   );
   shown = λ past o a shown. shown_later (w.steps ++ f.steps) past h h (plain_unlost (w.steps ++ f.steps) own.1) (none_since h) shown;
-  shut = shut_still (quiet h) (ap (option_map (λ (z : Conn). z.number)) (none ∙ sym had));
+  shut = shut_still (quiet h) (conns_same x y (none ∙ sym had) draining);
   text = text;
 }
   where

@@ -8,7 +8,9 @@ use Rattle.serve_wire.specs.Calls.{Closes}
 use Rattle.serve_wire.proofs.Steps.{equal}
 use Rattle.serve_clients.specs.declared.clients.Clients.{Clients}
 use Rattle.serve_links.specs.declared.link.Link.{Link}
-use Rattle.serve_links.specs.Shut.{client_conn, link_conn, IsShutBut, AreShut}
+use Rattle.serve_wire.specs.declared.conn.conn.Conn.{Conn}
+use Rattle.std.specs.Option.{option_map}
+use Rattle.serve_links.specs.Shut.{client_conn, first_some, drain_of, conn_of, link_conn, IsShutBut, AreShut}
 use Rattle.serve_links.specs.Story.{KeepsOthers}
 
 same_pair : {p q : ℕ × ℕ} → Some p ≡ Some q → p ≡ q
@@ -39,6 +41,18 @@ closed_shut c h h' (inl closed) = ap (is_open c) closed ∙ ap (λ b. if b then 
 closed_shut c h h' (inr same) = ap (is_open c) same.0 ∙ same.1
 
 -- ---- one link
+
+-- it has the connection in use, or else the one whose end is awaited
+pub conn_is : (x : Link) (c : Conn) → x.conn ≡ Some c → conn_of x ≡ Some c.number
+conn_is x c was = ap (λ o. first_some (option_map (λ (z : Conn). z.number) o) (drain_of x)) was
+
+pub conn_drains : (x : Link) → x.conn ≡ None → conn_of x ≡ drain_of x
+conn_drains x none = ap (λ o. first_some (option_map (λ (z : Conn). z.number) o) (drain_of x)) none
+
+-- both are as they were
+pub conns_same : (x y : Link) → y.conn ≡ x.conn → y.draining ≡ x.draining → conn_of y ≡ conn_of x
+conns_same x y conn draining =
+    ap (λ o. first_some (option_map (λ (z : Conn). z.number) o) (drain_of y)) conn ∙ ap (λ o. first_some (option_map (λ (z : Conn). z.number) x.conn) (option_map (λ (z : Conn). z.number) o)) draining
 
 -- one connection was touched: if it is open it is the one that is kept now, and any other that was kept still is
 pub shut_by :

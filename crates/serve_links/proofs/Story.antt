@@ -19,12 +19,12 @@ use Rattle.serve_clients.specs.Marks.{client_of}
 use Rattle.serve_links.specs.declared.settings.Greeting.{Greeting}
 use Rattle.serve_links.specs.declared.link.Link.{Link}
 use Rattle.serve_links.specs.CoreSteps.{Step, Closed, Opened, Polled, AreOf}
-use Rattle.serve_links.specs.Talks.{SaidAsk, Talk, talk_in}
-use Rattle.serve_links.specs.Story.{fed_in, gave_in, is_open_in, is_broken_in, AgreesWith, IsTold, AreTold, TellsNone, TookAll, EndsBy, IsGone, HasOrHad, TalkAgrees, said_asks, numbers_of, LineAgrees, LinesAgree, texts_of, OneGoes, LineGoesFrom, LineGoes, AnEnd, Agrees, AgreesBut, AgreesCalled, AllGoFrom, AllGo, StoriesGoOn}
+use Rattle.serve_links.specs.Talks.{SaidAsk, Talk, Apart, talk_in}
+use Rattle.serve_links.specs.Story.{fed_in, gave_in, is_open_in, is_broken_in, AgreesWith, IsTold, AreTold, TellsNone, TookAll, EndsBy, IsGone, HasOrHad, TalkAgrees, Unused, said_asks, numbers_of, LineAgrees, LinesAgree, texts_of, OneGoes, LineGoesFrom, LineGoes, AnEnd, Agrees, AgreesBut, AgreesCalled, AllGoFrom, AllGo, StoriesGoOn}
 use Rattle.serve_links.proofs.Talking.{called_all_later, calls_later, IsPlain, clients_plain, plain_talk, clients_orderly, server_tells_none, talk_elsewhere}
 use Rattle.serve_links.proofs.Due.{due_later}
 use Rattle.serve_links.proofs.Showing.{plain_unlost, shown_later}
-use Rattle.serve_links.specs.Shut.{conn_of, link_conn, IsShutBut, AreShut}
+use Rattle.serve_links.specs.Shut.{drain_of, conn_of, link_conn, IsShutBut, AreShut}
 use Rattle.serve_links.proofs.Shutting.{shut_line, shut_client}
 use Rattle.serve_links.proofs.Walked.{walked, of_both}
 
@@ -89,19 +89,32 @@ talk_stays h h' at text t t' c held unsent out awaits dialect same e was = recor
   late_is = ap (λ (x : Talk). x.late) e ∙ was.late_is;
 }
 
--- a link whose connection nothing touched, and of whose server nothing more was told
+-- the same of one that isn't in use
+pub unused_stays : (h h' : List Event) (at : ℕ) (text : List ℕ) (t t' : Talk) (o : Option ℕ) → ((c : ℕ) → role c h ≡ Some (1, at) → IsUntouched c h h') → t' ≡ t → Unused h at text t o → Unused h' at text t' o
+unused_stays h h' at text t t' o same e was = subst (λ u. Unused h' at text u o) (sym e) (by o was)
+  where
+    by : (p : Option ℕ) → Unused h at text t p → Unused h' at text t p
+    by None apart = apart
+    by (Some c) ending = (ending.0, ending.1, ending.2, talk_stays h h' at text t t c ending.1 ending.2 t.out t.awaits t.dialect (same c ending.3.is_to) refl ending.3)
+
+-- a link whose connections nothing touched, and of whose server nothing more was told
 pub line_stays :
-    (h h' : List Event) (at : ℕ) (steps past : List Step) (link : Link) → ((conn : Conn) → link.conn ≡ Some conn → IsUntouched conn.number h h') → talk_in (steps ++ past) at ≡ talk_in past at
+    (h h' : List Event) (at : ℕ) (steps past : List Step) (link : Link) → ((c : ℕ) → role c h ≡ Some (1, at) → IsUntouched c h h') → talk_in (steps ++ past) at ≡ talk_in past at
     → LineAgrees at past h link → LineAgrees at (steps ++ past) h' link
 line_stays h h' at steps past link same told was = record {
   conn = λ conn is.
-      talk_stays h h' at link.text.items (talk_in past at) (talk_in (steps ++ past) at) conn.number conn.held.items (bytes_of conn.unsent) (said_asks link.calls.sent.items) link.awaits_dialect link.dialect (same conn is) told (was.conn conn is);
-  goes_on = λ conn is. (same conn is).same_over ∙ was.goes_on conn is;
+      talk_stays h h' at link.text.items (talk_in past at) (talk_in (steps ++ past) at) conn.number conn.held.items (bytes_of conn.unsent) (said_asks link.calls.sent.items) link.awaits_dialect link.dialect (same conn.number (was.conn conn is).is_to) told (was.conn conn is);
+  goes_on = λ conn is. (same conn.number (was.conn conn is).is_to).same_over ∙ was.goes_on conn is;
   waiting = calls_later steps past at link.waiting.items was.waiting;
   due = due_later steps past at (numbers_of link.waiting.items) (ap (λ (t : Talk). t.asked) told) was.due;
   none_out = λ none. ap (λ (t : Talk). t.out) told ∙ was.none_out none;
+  unused = λ none. unused_stays h h' at link.text.items (talk_in past at) (talk_in (steps ++ past) at) (drain_of link) same told (was.unused none);
   called = called_all_later steps past at (said_asks link.calls.sent.items) was.called;
 }
+
+-- where no link is, and nothing more was told
+pub unlinked_stays : {t t' : Talk} → t' ≡ t → (t.out ≡ []) × (t.stands ≡ Apart) → (t'.out ≡ []) × (t'.stands ≡ Apart)
+unlinked_stays same was = (ap (λ (z : Talk). z.out) same ∙ was.0, ap (λ (z : Talk). z.stands) same ∙ was.1)
 
 -- ---- connections of clients
 
@@ -250,7 +263,7 @@ one_agrees {Is} id old new x y was is others links g = agree
     lines : (past : List Step) → Agrees past old → LinesAgree (g.steps ++ past) h' new.links
     lines past a at link there =
         let was_there = ap (λ (ls : List Link). slice_get ls at) (sym links) ∙ there in let was_l = a.links at link was_there in
-        line_stays h h' at g.steps past link (λ conn c. g.only conn.number (apart x.conn.number conn.number h (0, id) (1, at) (its h (fed_in past) (gave_in past) id x (was_of past a id x was)) (was_l.conn conn c).is_to (kinds_apart id at)))
+        line_stays h h' at g.steps past link (λ c of_c. g.only c (apart x.conn.number c h (0, id) (1, at) (its h (fed_in past) (gave_in past) id x (was_of past a id x was)) of_c (kinds_apart id at)))
         (plain_talk g.steps plain past at) was_l
 
     numbers : (j : ℕ) → option_map (λ (z : Client). z.conn.number) (client_of new.clients j) ≡ option_map (λ (z : Client). z.conn.number) (client_of old.clients j)
@@ -288,7 +301,7 @@ one_agrees {Is} id old new x y was is others links g = agree
       links = lines past a;
       gone = gone past a;
       shown = shown_later g.steps past h h' (plain_unlost g.steps plain) (only_after x.conn.number h h' g.only) a.shown;
-      unlinked = λ at none. ap (λ (t : Talk). t.out) (plain_talk g.steps plain past at) ∙ a.unlinked at (ap (λ (ls : List Link). slice_get ls at) (sym links) ∙ none);
+      unlinked = λ at none. unlinked_stays (plain_talk g.steps plain past at) (a.unlinked at (ap (λ (ls : List Link). slice_get ls at) (sym links) ∙ none));
       shut = shut past a;
     }
 
@@ -321,7 +334,7 @@ line_among {Before} {After} {Is} at old new x y was is others texts clients_are 
     other past a j z e there =
         let was_z = a.links j z e (sym (others j e) ∙ there) in
         let keeps = (g.agrees past a.orderly (a.this x was)).2 in
-        line_stays h h' j g.steps past z (λ conn c. keeps.were conn.number (1, j) (was_z.conn conn c).is_to (links_apart at j e)) (talk_elsewhere at g.steps g.own past j e) was_z
+        line_stays h h' j g.steps past z (λ c of_c. keeps.were c (1, j) of_c (links_apart at j e)) (talk_elsewhere at g.steps g.own past j e) was_z
 
     gone : (past : List Step) → AgreesBut Before at past old → (conn j : ℕ) → role conn h' ≡ Some (0, j) → HasOrHad (g.steps ++ past) h' new.clients j conn
     gone past a conn j its_now =
@@ -331,8 +344,8 @@ line_among {Before} {After} {Is} at old new x y was is others texts clients_are 
     at_conn : (ls : List Link) (z : Link) → slice_get ls at ≡ Some z → link_conn ls at ≡ conn_of z
     at_conn ls z there = ap (λ o. option_flatten (option_map conn_of o)) there
 
-    unlinked : (past : List Step) → AgreesBut Before at past old → (j : ℕ) → slice_get new.links j ≡ None → (talk_in (g.steps ++ past) j).out ≡ []
-    unlinked past a j none = elim (cases_Bool (nat_eq at j)) [ inl e ↦ absurd (none_is_some (sym none ∙ ap (slice_get new.links) (sym (eqb-true at j e)) ∙ is)) | inr e ↦ ap (λ (t : Talk). t.out) (talk_elsewhere at g.steps g.own past j e) ∙ a.unlinked j (sym (others j e) ∙ none) ]
+    unlinked : (past : List Step) → AgreesBut Before at past old → (j : ℕ) → slice_get new.links j ≡ None → ((talk_in (g.steps ++ past) j).out ≡ []) × ((talk_in (g.steps ++ past) j).stands ≡ Apart)
+    unlinked past a j none = elim (cases_Bool (nat_eq at j)) [ inl e ↦ absurd (none_is_some (sym none ∙ ap (slice_get new.links) (sym (eqb-true at j e)) ∙ is)) | inr e ↦ unlinked_stays (talk_elsewhere at g.steps g.own past j e) (a.unlinked j (sym (others j e) ∙ none)) ]
       where
         none_is_some : {z : Link} → None ≡ Some z → ⊥
         none_is_some e = cc

@@ -219,7 +219,7 @@ talk_elsewhere at (Late a number ∷ steps) own past j other =
 talk_elsewhere at (CameLate a number ask answer bytes ∷ steps) own past j other =
     ap (λ b. if b then with_late bytes (talk_in (steps ++ past) j) else talk_in (steps ++ past) j) (ap (λ n. nat_eq n j) own.0 ∙ other) ∙ talk_elsewhere at steps own.1 past j other
 talk_elsewhere at (Lost a why ∷ steps) own past j other =
-    ap (λ b. if b then given_up (talk_in (steps ++ past) j) else talk_in (steps ++ past) j) (ap (λ n. nat_eq n j) own.0 ∙ other) ∙ talk_elsewhere at steps own.1 past j other
+    ap (λ b. if b then given_up why (talk_in (steps ++ past) j) else talk_in (steps ++ past) j) (ap (λ n. nat_eq n j) own.0 ∙ other) ∙ talk_elsewhere at steps own.1 past j other
 talk_elsewhere at (Opened client ∷ steps) own past j other = absurd own.0
 talk_elsewhere at (NotOpened fault ∷ steps) own past j other = absurd own.0
 talk_elsewhere at (Fed client piece ∷ steps) own past j other = absurd own.0

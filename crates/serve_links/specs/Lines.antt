@@ -3,9 +3,12 @@ use Rattle.std.specs.Prelude.{◌≡◌, ◌⊎◌, ◌||◌, ℕ, Bool, true, f
 use Rattle.mc_types.specs.declared.ask.Dialect.{Dialect}
 use Rattle.mc_types.specs.declared.ask.Dialect.TheVariants.{Classic, Meta}
 use Rattle.wire_parts.specs.Sending.{bytes_of}
-use Rattle.serve_wire.specs.Events.{Event, connects, IsNew}
+use Rattle.serve_wire.specs.Events.{Event, connects, ends, fails, IsNew}
+use Rattle.serve_wire.specs.Flow.{ReadsOn}
 use Rattle.serve_wire.specs.Calls.{Closes}
 use Rattle.serve_wire.specs.declared.conn.conn.Conn.{Conn}
+use Rattle.serve_wire.specs.declared.conn.conn.Got.{Got}
+use Rattle.serve_wire.specs.declared.conn.conn.Got.TheVariants as got
 use Rattle.serve_links.specs.declared.settings.ServerDialect.{ServerDialect}
 use Rattle.serve_links.specs.declared.settings.ServerDialect.TheVariants as asks
 use Rattle.serve_links.specs.declared.settings.Greeting.{Greeting}
@@ -13,6 +16,9 @@ use Rattle.serve_links.specs.Dialects.{AnswersFirst}
 use Rattle.serve_links.specs.declared.link.Opening.{Opening}
 use Rattle.serve_links.specs.declared.link.Opening.TheVariants as opening
 use Rattle.serve_links.specs.declared.link.Link.{Link}
+use Rattle.serve_links.specs.declared.news.Cause.{Cause}
+use Rattle.serve_links.specs.declared.news.Cause.TheVariants as causes
+use Rattle.serve_links.specs.Shut.{drain_of}
 
 -- what a server is asked for its dialects
 abbrev pub dialect_asked : ServerDialect → List ℕ
@@ -57,10 +63,11 @@ SameLine None y = y ≡ None
 SameLine (Some x) None = ⊥
 SameLine (Some x) (Some y) = SameEnd x y
 
--- a link is to the server that it was to, has the connection that it had, with the same bytes, and the same calls, late ones too, asks in the same dialect, and awaits of its server's dialects what it did
+-- a link is to the server that it was to, has the connections that it had, the one in use with the same bytes, and the same calls, late ones too, asks in the same dialect, and awaits of its server's dialects what it did
 pub record KeepsLines (old new : Link) : Type 0 where
   pub text : new.text ≡ old.text
   pub conn : SameLine old.conn new.conn
+  pub draining : drain_of new ≡ drain_of old
   pub calls : new.calls ≡ old.calls
   pub late : new.late ≡ old.late
   pub waiting : new.waiting ≡ old.waiting
@@ -72,9 +79,10 @@ abbrev pub IsNewEnd : ℕ → Greeting → Option Conn → Type 0
 IsNewEnd number greeting None = ⊥
 IsNewEnd number greeting (Some x) = (x.number ≡ number) × (x.held.items ≡ []) × (bytes_of x.unsent ≡ first_asked_of greeting)
 
--- no call is out over it yet, none is late, calls are asked in the first dialect, and what the server says to what it is asked first is awaited
+-- no call is out over it yet, no other is there whose end is awaited, no call is late, calls are asked in the first dialect, and what the server says to what it is asked first is awaited
 pub record HasNewEnd (number : ℕ) (greeting : Greeting) (old new : Link) : Type 0 where
   pub none_there : old.conn ≡ None
+  pub none_draining : old.draining ≡ None
   pub text : new.text ≡ old.text
   pub conn : IsNewEnd number greeting new.conn
   pub none_out : old.calls.sent.items ≡ []
@@ -112,3 +120,36 @@ pub record HasLearnt (old new : Link) : Type 0 where
 pub record Learns (can : Bool) (old new : Link) : Type 0 where
   pub none : can ≡ false → new ≡ old
   pub told : (new ≡ old) ⊎ HasLearnt old new
+
+-- why a connection is over by what a read gave, if it is
+abbrev pub ended_by : Got → Option Cause
+ended_by got.Bytes = None
+ended_by got.Nothing = None
+ended_by got.Full = None
+ended_by got.Ended = Some causes.Closed
+ended_by got.Failed = Some causes.Broken
+
+-- one read of a connection whose end is awaited: nothing came over it, or bytes did, which are thrown away; or it is to be closed, as it has ended or failed
+abbrev pub ReadsAway : Option Cause → ℕ → List Event → List Event → Type 0
+ReadsAway None c h h' = (bytes : List ℕ) × ReadsOn c [] bytes h h'
+ReadsAway (Some causes.Closed) c h h' = h' ≡ ends c ∷ h
+ReadsAway (Some causes.Broken) c h h' = h' ≡ fails c ∷ h
+ReadsAway (Some causes.Unreachable) c h h' = ⊥
+ReadsAway (Some causes.ConnectLate) c h h' = ⊥
+ReadsAway (Some causes.AnswerLate) c h h' = ⊥
+ReadsAway (Some causes.Foreign) c h h' = ⊥
+ReadsAway (Some causes.VainReads) c h h' = ⊥
+
+-- the same of its end
+abbrev pub DrainsOne : Option Cause → Conn → Conn → List Event → List Event → Type 0
+DrainsOne why x y h h' = (y.number ≡ x.number) × ReadsAway why x.number h h'
+
+-- or it wasn't read, as there is none, or as another is in use
+abbrev pub DrainsAt : Option Cause → Option Conn → Option Conn → Option Conn → List Event → List Event → Type 0
+DrainsAt why used None y h h' = (why ≡ None) × (y ≡ None) × (h' ≡ h)
+DrainsAt why used (Some x) None h h' = ⊥
+DrainsAt why used (Some x) (Some y) h h' = ((why ≡ None) × (y.number ≡ x.number) × (h' ≡ h)) ⊎ ((used ≡ None) × DrainsOne why x y h h')
+
+-- nothing else of the link has changed
+abbrev pub DrainsBy : Option Cause → Link → Link → List Event → List Event → Type 0
+DrainsBy why old new h h' = (new ≡ record old { draining = new.draining }) × DrainsAt why old.conn old.draining new.draining h h'

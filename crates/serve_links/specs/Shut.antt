@@ -8,12 +8,19 @@ use Rattle.serve_clients.specs.declared.clients.Clients.{Clients}
 use Rattle.serve_clients.specs.Marks.{client_of}
 use Rattle.serve_links.specs.declared.link.Link.{Link}
 
--- the connection of the client of this id, if there is one; of a link, if it has one; and of the link at this place
+-- the connection of the client of this id, if there is one; of a link, if it has one: the one in use, or else the one whose end is awaited; and of the link at this place
 abbrev pub client_conn : Clients → ℕ → Option ℕ
 client_conn clients id = option_map (λ (x : Client). x.conn.number) (client_of clients id)
 
+abbrev pub first_some : Option ℕ → Option ℕ → Option ℕ
+first_some None other = other
+first_some (Some c) other = Some c
+
+abbrev pub drain_of : Link → Option ℕ
+drain_of link = option_map (λ (x : Conn). x.number) link.draining
+
 abbrev pub conn_of : Link → Option ℕ
-conn_of link = option_map (λ (x : Conn). x.number) link.conn
+conn_of link = first_some (option_map (λ (x : Conn). x.number) link.conn) (drain_of link)
 
 abbrev pub link_conn : List Link → ℕ → Option ℕ
 link_conn links at = option_flatten (option_map conn_of (slice_get links at))

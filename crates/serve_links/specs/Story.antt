@@ -18,8 +18,8 @@ use Rattle.serve_links.specs.declared.link.Link.{Link}
 use Rattle.serve_links.specs.declared.news.Cause.{Cause}
 use Rattle.serve_links.specs.declared.news.Cause.TheVariants as causes
 use Rattle.serve_links.specs.CoreSteps.{Step, Opened, NotOpened, Fed, Polled, Stopped, Settled, Gave, Closed, LeftLine, Broke, Loaded, Linked, Asked, Greeted, Spelled, Late, CameLate, Lost, Walks, AreOf}
-use Rattle.serve_links.specs.Shut.{AreShut, StaysShut}
-use Rattle.serve_links.specs.Talks.{SaidAsk, Talk, talk_in, IsCalledIn, MayBeAsked, AreDue, IsUnasked, IsOrderly, IsOfClients, IsOfServer}
+use Rattle.serve_links.specs.Shut.{drain_of, AreShut, StaysShut}
+use Rattle.serve_links.specs.Talks.{SaidAsk, Talk, Apart, Ending, talk_in, IsCalledIn, MayBeAsked, AreDue, IsUnasked, IsOrderly, IsOfClients, IsOfServer}
 use Rattle.std.specs.Option.{option_map}
 
 -- all that the core was fed for this client since it was opened, by the calls of a walk, the latest first
@@ -203,6 +203,11 @@ pub record TalkAgrees (h : List Event) (at : ℕ) (text : List ℕ) (talk : Talk
 abbrev pub ConnAgrees : ℕ → List Step → List Event → Link → Conn → List ℕ → Type 0
 ConnAgrees at past h link conn held = TalkAgrees h at link.text.items (talk_in past at) conn.number held (bytes_of conn.unsent) (said_asks link.calls.sent.items) link.awaits_dialect link.dialect (said_late link.late.items)
 
+-- where no connection is in use: none is there; or the end of this one is awaited, and it agrees with what was said over it, but for what it delivered that told nothing, and what it didn't take
+abbrev pub Unused : List Event → ℕ → List ℕ → Talk → Option ℕ → Type 0
+Unused h at text talk None = talk.stands ≡ Apart
+Unused h at text talk (Some c) = (talk.stands ≡ Ending) × (held unsent : List ℕ) × TalkAgrees h at text talk c held unsent talk.out talk.awaits talk.dialect talk.late
+
 -- a link agrees with these calls, its connection is not over, and all calls that wait for it may go there, and weren't asked yet; without a connection no call is out there
 pub record LineAgrees (at : ℕ) (past : List Step) (h : List Event) (link : Link) : Type 0 where
   pub conn : (conn : Conn) → link.conn ≡ Some conn → ConnAgrees at past h link conn conn.held.items
@@ -210,6 +215,7 @@ pub record LineAgrees (at : ℕ) (past : List Step) (h : List Event) (link : Lin
   pub waiting : MayAllGo past at link.waiting.items
   pub due : AreDue past at (numbers_of link.waiting.items)
   pub none_out : link.conn ≡ None → (talk_in past at).out ≡ []
+  pub unused : link.conn ≡ None → Unused h at link.text.items (talk_in past at) (drain_of link)
   pub called : AreCalled past at (said_asks link.calls.sent.items)
 
 -- the same of a link whose bytes were lost, or whose connection is over: it agrees but for what it holds
@@ -218,16 +224,18 @@ pub record LineLost (at : ℕ) (past : List Step) (h : List Event) (link : Link)
   pub waiting : MayAllGo past at link.waiting.items
   pub due : AreDue past at (numbers_of link.waiting.items)
   pub none_out : link.conn ≡ None → (talk_in past at).out ≡ []
+  pub unused : link.conn ≡ None → Unused h at link.text.items (talk_in past at) (drain_of link)
   pub called : AreCalled past at (said_asks link.calls.sent.items)
 
 -- this has happened
 abbrev pub HasHappened : Event → List Event → Type 0
 HasHappened event h = (later earlier : List Event) × (h ≡ later ++ event ∷ earlier)
 
--- what the wire shows, or what was said, of a connection that is given up for this cause: it has ended, or has failed, or reads were in vain while calls are out there. For want of a connection none is given up
+-- what the wire shows, or what was said, of a connection that is given up for this cause: it has ended, or has failed, or reads were in vain while calls are out there, or late answers were to come, or the end of one that can't be kept. For want of a connection none is given up
 abbrev pub Shows : Cause → Talk → ℕ → List Event → Type 0
 Shows causes.Unreachable talk c h = ⊥
 Shows causes.ConnectLate talk c h = Unit {0}
+Shows causes.AnswerLate talk c h = (talk.late ≢ []) ⊎ (talk.stands ≡ Ending)
 Shows causes.Closed talk c h = HasHappened (ends c) h
 Shows causes.Broken talk c h = HasHappened (fails c) h
 Shows causes.Foreign talk c h = Unit {0}
@@ -288,13 +296,13 @@ LineCalled call at past h link = LineAgrees at past h link × MayGo past at call
 abbrev pub LinesAgree : List Step → List Event → List Link → Type 0
 LinesAgree past h links = (at : ℕ) (link : Link) → slice_get links at ≡ Some link → LineAgrees at past h link
 
--- all that a link has to do with its connection and its calls: what names its server's address, the connection's number, what is held of it and what is to be sent, the calls that are out, those that wait,
--- what its server was asked first and is still to answer, in which dialect calls are asked, and those that were late
+-- all that a link has to do with its connections and its calls: what names its server's address, the connection's number, what is held of it and what is to be sent, the calls that are out, those that wait,
+-- what its server was asked first and is still to answer, in which dialect calls are asked, those that were late, and the number of the connection whose end is awaited
 abbrev pub LineState : Type 0
-LineState = List ℕ × Option (ℕ × List ℕ × List ℕ) × List SaidAsk × List SentCall × Option Greeting × Dialect × List SaidAsk
+LineState = List ℕ × Option (ℕ × List ℕ × List ℕ) × List SaidAsk × List SentCall × Option Greeting × Dialect × List SaidAsk × Option ℕ
 
 abbrev pub line_of : Link → LineState
-line_of link = (link.text.items, option_map (λ (x : Conn). (x.number, x.held.items, bytes_of x.unsent)) link.conn, said_asks link.calls.sent.items, link.waiting.items, link.awaits_dialect, link.dialect, said_late link.late.items)
+line_of link = (link.text.items, option_map (λ (x : Conn). (x.number, x.held.items, bytes_of x.unsent)) link.conn, said_asks link.calls.sent.items, link.waiting.items, link.awaits_dialect, link.dialect, said_late link.late.items, drain_of link)
 
 -- all connections that were of others than this one, and all that aren't its now, are as they were
 pub record KeepsOthers (its : ℕ × ℕ) (h h' : List Event) : Type 0 where
@@ -348,7 +356,7 @@ pub record Agrees (past : List Step) (x : AnEnd) : Type 0 where
   pub links : LinesAgree past x.history x.links
   pub gone : (conn id : ℕ) → role conn x.history ≡ Some (0, id) → HasOrHad past x.history x.clients id conn
   pub shown : AreShown past x.history
-  pub unlinked : (at : ℕ) → slice_get x.links at ≡ None → (talk_in past at).out ≡ []
+  pub unlinked : (at : ℕ) → slice_get x.links at ≡ None → ((talk_in past at).out ≡ []) × ((talk_in past at).stands ≡ Apart)
   pub shut : AreShut x.history x.clients x.links
 
 -- the same, but that this holds of the link at one place
@@ -360,7 +368,7 @@ pub record AgreesBut (This : ℕ → List Step → List Event → Link → Type 
   pub this : (link : Link) → slice_get x.links at ≡ Some link → This at past x.history link
   pub gone : (conn id : ℕ) → role conn x.history ≡ Some (0, id) → HasOrHad past x.history x.clients id conn
   pub shown : AreShown past x.history
-  pub unlinked : (at : ℕ) → slice_get x.links at ≡ None → (talk_in past at).out ≡ []
+  pub unlinked : (at : ℕ) → slice_get x.links at ≡ None → ((talk_in past at).out ≡ []) × ((talk_in past at).stands ≡ Apart)
   pub shut : AreShut x.history x.clients x.links
 
 -- all agree, and the core just gave all that it had for this client

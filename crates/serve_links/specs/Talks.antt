@@ -1,5 +1,5 @@
 -- What a walk tells of what was said over each server's connection. Source: mcgate's own.
-use Rattle.std.specs.Prelude.{◌≡◌, ◌⊎◌, ℕ, false, List, [], ◌∷◌, ◌++◌, ◌+◌, ◌≤◌, Option, None, nat_eq, length, if◌then◌else◌}
+use Rattle.std.specs.Prelude.{Option, None, Some, ◌≡◌, ◌⊎◌, ℕ, false, List, [], ◌∷◌, ◌++◌, ◌+◌, ◌≤◌, nat_eq, length, if◌then◌else◌}
 use Rattle.mc_types.specs.declared.ask.Ask.{Ask}
 use Rattle.mc_types.specs.declared.ask.Dialect.{Dialect}
 use Rattle.mc_types.specs.declared.ask.Dialect.TheVariants.{Classic}
@@ -10,6 +10,8 @@ use Rattle.wire_stream.specs.Spelling.{spelling_of}
 use Rattle.core_commands.specs.declared.ticket.Ticket.{Ticket}
 use Rattle.core_proxy.specs.declared.note.Poll.{Poll}
 use Rattle.core_proxy.specs.declared.note.Poll.TheVariants as polls
+use Rattle.serve_links.specs.declared.news.Cause.{Cause}
+use Rattle.serve_links.specs.declared.news.Cause.TheVariants as causes
 use Rattle.serve_links.specs.Dialects.{asked_in, SpellsIn, AnswersFirst, awaits_flush}
 use Rattle.serve_links.specs.declared.settings.Greeting.{Greeting}
 use Rattle.serve_links.specs.Lines.{first_asked_of, awaits_first, first_dialect}
@@ -19,10 +21,28 @@ use Rattle.serve_links.specs.CoreSteps.{Step, Opened, NotOpened, Fed, Polled, St
 abbrev pub SaidAsk : Type 0
 SaidAsk = ℕ × Dialect × Ask
 
--- of a server's connection: what was to be sent over it, which bytes that came over it told something, the calls that are out there, the one that was asked first in front, before them those that were late, which have
+-- how a server's connection stands: none is there; one is in use; or one was given up that can't be kept, and its end is awaited
+pub data Standing : Type 0 where
+  Apart : Standing
+  InUse : Standing
+  Ending : Standing
+
+-- how it stands once it was given up for a cause, or as that was wanted: what is no answer came, or reads were in vain; otherwise it was closed
+abbrev pub left_by : Option Cause → Standing
+left_by None = Apart
+left_by (Some causes.Unreachable) = Apart
+left_by (Some causes.ConnectLate) = Apart
+left_by (Some causes.AnswerLate) = Apart
+left_by (Some causes.Closed) = Apart
+left_by (Some causes.Broken) = Apart
+left_by (Some causes.Foreign) = Ending
+left_by (Some causes.VainReads) = Ending
+
+-- of a server's connection: how it stands, what was to be sent over it, which bytes that came over it told something, the calls that are out there, the one that was asked first in front, before them those that were late, which have
 -- failed, and whose answers are still to come first; what the server was asked first, if it is still to say all that it says to that, before it answers any call, in which dialect calls are asked there from now on; and the numbers of all calls that
 -- the server was ever asked, the last in front
 pub record Talk : Type 0 where
+  pub stands : Standing
   pub sent : List ℕ
   pub told : List ℕ
   pub out : List SaidAsk
@@ -43,11 +63,11 @@ first_of (ask ∷ asks) = ask ∷ []
 
 -- where there was no connection yet
 abbrev pub no_talk : Talk
-no_talk = record { sent = []; told = []; out = []; late = []; awaits = None; dialect = Classic; asked = [] }
+no_talk = record { stands = Apart; sent = []; told = []; out = []; late = []; awaits = None; dialect = Classic; asked = [] }
 
 -- a new connection, to a server that is asked this first
 abbrev pub first_talk : Greeting → Talk → Talk
-first_talk greeting talk = record { sent = first_asked_of greeting; told = []; out = []; late = []; awaits = awaits_first greeting; dialect = first_dialect greeting.dialect; asked = talk.asked }
+first_talk greeting talk = record { stands = InUse; sent = first_asked_of greeting; told = []; out = []; late = []; awaits = awaits_first greeting; dialect = first_dialect greeting.dialect; asked = talk.asked }
 
 -- one more call is asked in its dialect
 abbrev pub with_ask : ℕ → Dialect → Ask → Talk → Talk
@@ -69,9 +89,9 @@ turned_late talk = record talk { out = behind talk.out; late = talk.late ++ firs
 abbrev pub with_late : List ℕ → Talk → Talk
 with_late bytes talk = record talk { told = talk.told ++ bytes; late = behind talk.late }
 
--- it was given up: no call is out there any more, and nothing is awaited
-abbrev pub given_up : Talk → Talk
-given_up talk = record talk { out = []; late = []; awaits = None }
+-- it was given up: no call is out there any more, and no answer is awaited
+abbrev pub given_up : Option Cause → Talk → Talk
+given_up why talk = record talk { stands = left_by why; out = []; late = []; awaits = None }
 
 -- what a step adds to what was said over the connection of the server of this number
 abbrev pub talk_after : Step → ℕ → Talk → Talk
@@ -81,7 +101,7 @@ talk_after (Greeted at dialect bytes) i talk = if nat_eq at i then greeted diale
 talk_after (Late at number) i talk = if nat_eq at i then turned_late talk else talk
 talk_after (CameLate at number ask answer bytes) i talk = if nat_eq at i then with_late bytes talk else talk
 talk_after (Spelled at number ask answer bytes) i talk = if nat_eq at i then with_answer bytes talk else talk
-talk_after (Lost at why) i talk = if nat_eq at i then given_up talk else talk
+talk_after (Lost at why) i talk = if nat_eq at i then given_up why talk else talk
 talk_after (Opened client) i talk = talk
 talk_after (NotOpened fault) i talk = talk
 talk_after (Fed client piece) i talk = talk
@@ -221,7 +241,7 @@ abbrev pub ComesBy : ℕ → Outcome → List Step → Type 0
 ComesBy number (Answered answer) past = IsJustSpelled number answer past
 ComesBy number Failed past = IsOutNowhere number past ⊎ IsUnasked number past ⊎ IsJustLate number past
 
--- after these steps this one may come: a server is asked what the core gave out for it, once, in a dialect that it speaks, and neither while late answers are still to come nor before it said that it emptied itself where it is to do that first; tells of its dialects where it is asked for that, and then answers its calls in
+-- after these steps this one may come: a connection is begun where none is there, also none whose end is awaited; a server is asked what the core gave out for it, once, in a dialect that it speaks, and neither while late answers are still to come nor before it said that it emptied itself where it is to do that first; tells of its dialects where it is asked for that, and then answers its calls in
 -- their order, those that are late too, whose answers settle nothing; and a call is settled by its answer
 abbrev pub MayFollow : Step → List Step → Type 0
 MayFollow (Asked at number dialect ask) past = MayBeAsked past number at dialect ask × AreDue past at (number ∷ []) × ((talk_in past at).late ≡ []) × (awaits_flush (talk_in past at).awaits ≡ false)
@@ -230,7 +250,7 @@ MayFollow (Late at number) past = IsFirstOut number (talk_in past at)
 MayFollow (CameLate at number ask answer bytes) past = IsNextLate number ask answer bytes (talk_in past at)
 MayFollow (Spelled at number ask answer bytes) past = IsNextAnswer number ask answer bytes (talk_in past at)
 MayFollow (Settled number outcome) past = ComesBy number outcome past
-MayFollow (Linked at dialect) past = Unit {0}
+MayFollow (Linked at dialect) past = (talk_in past at).stands ≡ Apart
 MayFollow (Lost at why) past = Unit {0}
 MayFollow (Opened client) past = Unit {0}
 MayFollow (NotOpened fault) past = Unit {0}

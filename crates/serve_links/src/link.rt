@@ -6,8 +6,9 @@ ghost use Rattle.serve_links.specs.Links.{IsDown, IsTaken, vain_cause};
 ghost use Rattle.serve_links.specs.Lateness.{HasLate, IsConnectLate};
 ghost use Rattle.wire_parts.specs.Sending.{bytes_of};
 ghost use Rattle.serve_links.specs.Dialects.{awaits_flush};
-ghost use Rattle.serve_links.specs.Lines.{dialect_asked, flush_asked, first_asked_of, asks_dialect, awaits_first, first_dialect, greeting_of, KeepsLines, HasNewEnd, OpensBy, Learns};
+ghost use Rattle.serve_links.specs.Lines.{dialect_asked, flush_asked, first_asked_of, asks_dialect, awaits_first, first_dialect, greeting_of, KeepsLines, HasNewEnd, OpensBy, Learns, ended_by, DrainsOne, DrainsBy};
 ghost use Rattle.serve_links.specs.Story.{line_of};
+ghost use Rattle.serve_links.specs.Shut.{conn_of};
 
 use crate::calls::{LateCall, LinkCalls, SentCall};
 use crate::greeting::{read_greeting, write_flush};
@@ -15,8 +16,8 @@ use crate::news::{Cause, LinkNews};
 use crate::settings::{Greeting, ServerDialect, Settings};
 use crate::tally::LinkTally;
 use mc_types::Dialect;
-use serve_wire::conn::{Conn, Limits};
-use serve_wire::{Connected, Wire};
+use serve_wire::conn::{Conn, Got, Limits};
+use serve_wire::{Connected, Ready, Wire};
 use std::alloc::{AllocError, AllocFailed, Global};
 use std::collections::VecDeque;
 use std::net::Net;
@@ -34,6 +35,9 @@ const LINK_READ: usize = 73_728;
 
 // And for so many where the read before filled its room: the answers to two such clients.
 const LONG_READ: usize = 147_456;
+
+// And for so many where what comes is thrown away.
+const DRAIN_READ: usize = 16_384;
 
 // Of each link news are told once in so many milliseconds at most.
 const NEWS_MS: u64 = 1_000;
@@ -129,6 +133,39 @@ fn ask_first(greeting: Greeting, conn: &mut Conn) -> Result<(), AllocError>
     ask_dialect(greeting.dialect, conn)
 }
 
+// Nothing is held of a connection, and nothing is to be sent.
+fn emptied(conn: Conn) -> Conn
+    ensures { result.number ≡ conn.number }
+{
+    let mut conn = conn;
+    conn.held.clear();
+    conn.unsent.clear();
+    conn
+}
+
+// Why a connection is over by what a read gave, if it is.
+fn ended_by(got: Got) -> Option<Cause>
+    ensures { result ≡ ended_by got }
+{
+    match got {
+        Got::Bytes | Got::Nothing | Got::Full => None,
+        Got::Ended => Some(Cause::Closed),
+        Got::Failed => Some(Cause::Broken),
+    }
+}
+
+// One read of a connection whose end is awaited: what came is thrown away. Why it is to be closed, if that is so. Where memory is refused for the read
+// it is made again.
+fn read_away<W: Wire>(conn: &mut Conn, wire: &mut W) -> Option<Cause>
+    ensures reads { DrainsOne result conn.old conn.new (W.history wire.old) (W.history wire.new) }
+{
+    conn.held.clear();
+    match conn.read_once(wire, DRAIN_READ) {
+        Ok(got) => ended_by(got),
+        Err(_) => None,
+    }
+}
+
 /// What became of the attempt to connect to a server.
 #[derive(Clone, Copy, PartialEq, Eq)]
 pub enum Opening {
@@ -149,6 +186,8 @@ pub enum Lateness {
     Connection,
     /// A call is to be answered.
     Call,
+    /// Late answers are to come, or the end of a connection.
+    Answer,
 }
 
 /// One server's link.
@@ -157,10 +196,15 @@ pub struct Link {
     /// What names its server's address.
     pub text: Vec<u8>,
     pub conn: Option<Conn>,
+    /// One that can't be kept, and over which nothing more goes: what comes over it is thrown away, and no other is begun before its end. Until
+    /// then calls fail at once.
+    pub draining: Option<Conn>,
     pub calls: LinkCalls,
     /// Calls that went out before those and were late: they have failed, and their answers are still to come. While there are any, further calls
     /// fail at once.
     pub late: VecDeque<LateCall>,
+    // Since when there are, or since when the end of a connection is awaited, in milliseconds.
+    late_since: u64,
     // Calls that wait until the server takes more, the one that came first in front. Some are out while one waits.
     waiting: VecDeque<SentCall>,
     /// In which dialect calls go out from now on.
@@ -201,6 +245,7 @@ impl Link {
     /// A link without a connection, to the server whose address this text names, which is emptied before its first call or isn't.
     pub fn new(alloc: Global, text: &[u8], flushes: bool) -> Result<Link, AllocError>
         ensures down { IfOk result IsDown }
+        ensures drained { IfOk result (λ link. link.draining ≡ None) }
         ensures awaits { IfOk result (λ link. link.awaits_dialect ≡ None) }
         ensures dialect { IfOk result (λ link. link.dialect ≡ Classic) }
         ensures late { IfOk result (λ link. link.late.items ≡ []) }
@@ -213,6 +258,7 @@ impl Link {
 
     fn of(alloc: Global, text: Vec<u8>, flushes: bool) -> Link
         ensures down { IsDown result }
+        ensures drained { result.draining ≡ None }
         ensures awaits { result.awaits_dialect ≡ None }
         ensures dialect { result.dialect ≡ Classic }
         ensures late { result.late.items ≡ [] }
@@ -222,8 +268,10 @@ impl Link {
         Link {
             text,
             conn: None,
+            draining: None,
             calls: LinkCalls::new(alloc),
             late: VecDeque::new(alloc),
+            late_since: 0,
             waiting: VecDeque::new(alloc),
             dialect: Dialect::Classic,
             awaits_dialect: None,
@@ -247,7 +295,8 @@ impl Link {
 
     /// Whether answers are still to come of calls that have failed.
     pub fn awaits_late(&self) -> bool
-        ensures { result ≡ false → self.now.late.items ≡ [] }
+        ensures none { result ≡ false → self.now.late.items ≡ [] }
+        ensures some { result ≡ true → self.now.late.items ≢ [] }
     {
         !self.late.is_empty()
     }
@@ -424,32 +473,50 @@ impl Link {
         Some(left - waiting)
     }
 
-    /// When it is late if nothing comes, in milliseconds: its first call, or its connection, has taken too long then.
+    // When it is given up if no late answers come, or not the end of its connection, in milliseconds.
+    fn give_up_limit(&self, settings: &Settings) -> Option<u64>
+        ensures { self.now.late.items ≡ [] → self.now.draining ≡ None → result ≡ None }
+    {
+        if !self.awaits_late() && self.draining.is_none() {
+            return None;
+        }
+        Some(self.late_since.saturating_add(settings.give_up_ms?))
+    }
+
+    /// When it is late if nothing comes, in milliseconds: its first call, or its connection, has taken too long then, or late answers have, or the end of
+    /// a connection.
     pub fn time_limit(&self, settings: &Settings) -> Option<u64>
-        ensures { self.now.is_connected ≡ true → self.now.calls.sent.items ≡ [] → result ≡ None }
+        ensures { self.now.is_connected ≡ true → self.now.calls.sent.items ≡ [] → self.now.late.items ≡ [] → self.now.draining ≡ None → result ≡ None }
     {
         if self.conn.is_none() {
-            return None;
+            return self.give_up_limit(settings);
         }
         if !self.is_connected {
             return Some(self.opened.saturating_add(settings.connect_ms));
         }
         match self.calls.oldest() {
             Some(since) => Some(since.saturating_add(settings.call_ms)),
-            None => None,
+            None => self.give_up_limit(settings),
+        }
+    }
+
+    // What it waits for.
+    fn awaited_first(&self) -> Lateness {
+        if self.conn.is_none() {
+            Lateness::Answer
+        } else if !self.is_connected {
+            Lateness::Connection
+        } else if self.calls.is_empty() {
+            Lateness::Answer
+        } else {
+            Lateness::Call
         }
     }
 
     /// What it has waited for too long by now.
     pub fn lateness(&self, now: u64, settings: &Settings) -> Option<Lateness> {
         match self.time_limit(settings) {
-            Some(limit) if limit < now => {
-                if self.is_connected {
-                    Some(Lateness::Call)
-                } else {
-                    Some(Lateness::Connection)
-                }
-            }
+            Some(limit) if limit < now => Some(self.awaited_first()),
             _ => None,
         }
     }
@@ -496,10 +563,10 @@ impl Link {
         self.stand()
     }
 
-    /// Whether a call fails at once: late answers are awaited, or no call goes out any more; or the server failed too many times in a row, and either it isn't to be tried
+    /// Whether a call fails at once: late answers are awaited, or the end of a connection, or no call goes out any more; or the server failed too many times in a row, and either it isn't to be tried
     /// yet, or a call tries.
     pub fn is_held_back(&self, now: u64, settings: &Settings) -> bool {
-        if self.awaits_late() || self.is_retired {
+        if self.awaits_late() || self.draining.is_some() || self.is_retired {
             return true;
         }
         settings.fail_limit <= self.failures && (now < self.held_until || !self.calls.is_empty())
@@ -525,8 +592,8 @@ impl Link {
     }
 
     /// A connection to its server is begun, at the address that its text names. Where the server is to tell its dialects, calls go out in the
-    /// classic one until it has. Where memory is refused for its end, the connection is closed. While it has one, or calls are out or late, none is
-    /// begun.
+    /// classic one until it has. Where memory is refused for its end, the connection is closed. While it has one, or the end of
+    /// one is awaited, or calls are out or late, none is begun.
     ///
     /// Source: mcgate's own.
     pub fn connect<N: Net, W: Wire>(
@@ -540,7 +607,11 @@ impl Link {
     ) -> Opening
         ensures opens { OpensBy server dialect result self.old self.new (W.history wire.old) (W.history wire.new) }
     {
-        if self.conn.is_some() || !self.calls.is_empty() || self.awaits_late() {
+        if self.conn.is_some()
+            || self.draining.is_some()
+            || !self.calls.is_empty()
+            || self.awaits_late()
+        {
             return Opening::Failed;
         }
         match wire.connect(net, server, &self.text) {
@@ -578,6 +649,7 @@ impl Link {
         greeting: Greeting,
     ) -> Result<(), AllocError>
         requires unlinked { self.old.conn ≡ None }
+        requires drained { self.old.draining ≡ None }
         requires none_out { self.old.calls.sent.items ≡ [] }
         requires none_late { self.old.late.items ≡ [] }
         ensures ok { OnOk result (HasNewEnd number greeting self.old self.new) }
@@ -661,10 +733,11 @@ impl Link {
         true
     }
 
-    /// A call of it took too long, which is news.
-    pub fn turn_late(&mut self)
-        ensures { self.new ≡ record self.old { tally = self.new.tally; news = self.new.news; was_down = self.new.was_down } }
+    /// A call of it took too long by now, which is news.
+    pub fn turn_late(&mut self, now: u64)
+        ensures { self.new ≡ record self.old { late_since = self.new.late_since; tally = self.new.tally; news = self.new.news; was_down = self.new.was_down } }
     {
+        self.late_since = now;
         self.tally.note_late();
         self.news = Some(LinkNews::Late);
         self.was_down = true;
@@ -685,6 +758,104 @@ impl Link {
     pub fn close(&mut self, cause: Cause, now: u64, settings: &Settings) -> Option<usize>
         ensures number { result ≡ option_map (λ x. x.number) self.old.conn }
         ensures conn { self.new.conn ≡ None }
+        ensures draining { MatchOption self.old.conn (self.new.draining ≡ self.old.draining) (λ _. self.new.draining ≡ None) }
+        ensures text { self.new.text ≡ self.old.text }
+        ensures calls { self.new.calls ≡ self.old.calls }
+        ensures late { self.new.late.items ≡ [] }
+        ensures waiting { self.new.waiting ≡ self.old.waiting }
+    {
+        let number = self.let_go();
+        self.note_failed(cause, now, settings);
+        number
+    }
+
+    // It has no connection then: the number of the one that was in use. (while one is, none is there whose end is awaited)
+    fn let_go(&mut self) -> Option<usize>
+        ensures number { result ≡ option_map (λ x. x.number) self.old.conn }
+        ensures draining { MatchOption self.old.conn (self.new.draining ≡ self.old.draining) (λ _. self.new.draining ≡ None) }
+        ensures rest { self.new ≡ record self.old { conn = None; draining = self.new.draining } }
+    {
+        let conn = self.conn.take()?;
+        self.draining = None;
+        Some(conn.number)
+    }
+
+    /// The connection can't be kept, and its end is awaited: its number. Late answers are awaited no longer.
+    pub fn drain(&mut self, cause: Cause, now: u64, settings: &Settings) -> Option<usize>
+        ensures number { result ≡ option_map (λ x. x.number) self.old.conn }
+        ensures conn { self.new.conn ≡ None }
+        ensures drains { conn_of self.new ≡ conn_of self.old }
+        ensures draining { self.old.conn ≡ None → self.new.draining ≡ self.old.draining }
+        ensures text { self.new.text ≡ self.old.text }
+        ensures calls { self.new.calls ≡ self.old.calls }
+        ensures late { self.new.late.items ≡ [] }
+        ensures waiting { self.new.waiting ≡ self.old.waiting }
+    {
+        let number = self.hold_back();
+        self.late_since = now;
+        self.note_failed(cause, now, settings);
+        number
+    }
+
+    // The end of its connection is awaited: its number.
+    fn hold_back(&mut self) -> Option<usize>
+        ensures number { result ≡ option_map (λ x. x.number) self.old.conn }
+        ensures drains { conn_of self.new ≡ conn_of self.old }
+        ensures draining { self.old.conn ≡ None → self.new.draining ≡ self.old.draining }
+        ensures rest { self.new ≡ record self.old { conn = None; draining = self.new.draining } }
+    {
+        let conn = self.conn.take()?;
+        let number = conn.number;
+        self.draining = Some(emptied(conn));
+        Some(number)
+    }
+
+    /// What the system told of the connection whose end is awaited: whether there is one.
+    pub fn note_draining(&mut self, told: Ready) -> bool
+        ensures { KeepsLines self.old self.new }
+    {
+        match self.draining.as_mut() {
+            Some(conn) => {
+                conn.note(told);
+                true
+            }
+            None => false,
+        }
+    }
+
+    /// Whether more may have come over the connection whose end is awaited.
+    pub fn may_drain(&self) -> bool {
+        match &self.draining {
+            Some(conn) => conn.readable,
+            None => false,
+        }
+    }
+
+    /// One read of the connection whose end is awaited, while it has no other: what came is thrown away. Why it is to be closed, if that is so: it has
+    /// ended, or has failed.
+    pub fn read_draining<W: Wire>(&mut self, wire: &mut W) -> Option<Cause>
+        ensures reads { DrainsBy result self.old self.new (W.history wire.old) (W.history wire.new) }
+    {
+        if self.conn.is_some() {
+            return None;
+        }
+        read_away(self.draining.as_mut()?, wire)
+    }
+
+    /// The end of its connection is awaited no longer: the number of the one that is to be closed.
+    pub fn end_draining(&mut self) -> Option<usize>
+        ensures number { result ≡ option_map (λ x. x.number) self.old.draining }
+        ensures rest { self.new ≡ record self.old { draining = None } }
+    {
+        let number = number_of(&self.draining);
+        self.draining = None;
+        number
+    }
+
+    // What becomes of it where a connection is given up: late answers are awaited no longer, and that it failed is news.
+    fn note_failed(&mut self, cause: Cause, now: u64, settings: &Settings)
+        ensures conn { self.new.conn ≡ self.old.conn }
+        ensures draining { self.new.draining ≡ self.old.draining }
         ensures text { self.new.text ≡ self.old.text }
         ensures calls { self.new.calls ≡ self.old.calls }
         ensures late { self.new.late.items ≡ [] }
@@ -696,15 +867,12 @@ impl Link {
         } else {
             unconnected(cause)
         };
-        let number = number_of(&self.conn);
-        self.conn = None;
         self.is_connected = false;
         self.was_down = true;
         self.failures = self.failures.saturating_add(1);
         self.tally.note_failed(cause);
         self.held_until = now.saturating_add(settings.retry_ms);
         self.news = Some(LinkNews::Failed(cause, self.failures));
-        number
     }
 
     /// When its news may be told, if there are any.

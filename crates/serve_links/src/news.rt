@@ -1,5 +1,8 @@
 //! What there is to tell of a server's link.
 
+ghost use Rattle.std.specs.Prelude.{◌≡◌, true, false, Some};
+ghost use Rattle.serve_links.specs.Talks.{Apart, Ending, left_by};
+
 use std::fmt;
 use std::fmt::Display;
 
@@ -10,6 +13,8 @@ pub enum Cause {
     Unreachable,
     /// A connection took too long to stand.
     ConnectLate,
+    /// Late answers didn't come for too long.
+    AnswerLate,
     /// The server closed the connection.
     Closed,
     /// Reading or writing failed.
@@ -22,9 +27,10 @@ pub enum Cause {
 }
 
 /// All causes.
-pub const CAUSES: [Cause; 6] = [
+pub const CAUSES: [Cause; 7] = [
     Cause::Unreachable,
     Cause::ConnectLate,
+    Cause::AnswerLate,
     Cause::Closed,
     Cause::Broken,
     Cause::Foreign,
@@ -32,11 +38,27 @@ pub const CAUSES: [Cause; 6] = [
 ];
 
 impl Cause {
+    /// Whether a connection that is given up for it is closed only once its end has come: it stands still, and its server may apply what came over it.
+    pub fn drains(self) -> bool
+        ensures ends { result ≡ true → left_by (Some self) ≡ Ending }
+        ensures closes { result ≡ false → left_by (Some self) ≡ Apart }
+    {
+        match self {
+            Cause::Foreign | Cause::VainReads => true,
+            Cause::Unreachable
+            | Cause::ConnectLate
+            | Cause::AnswerLate
+            | Cause::Closed
+            | Cause::Broken => false,
+        }
+    }
+
     /// Its name where failures are counted.
     pub fn name(self) -> &'static str {
         match self {
             Cause::Unreachable => "unreachable",
             Cause::ConnectLate => "connect_late",
+            Cause::AnswerLate => "answer_late",
             Cause::Closed => "closed",
             Cause::Broken => "broken",
             Cause::Foreign => "foreign",
@@ -63,6 +85,7 @@ fn words_of(cause: Cause) -> &'static str {
     match cause {
         Cause::Unreachable => "no connection could be made",
         Cause::ConnectLate => "a connection took too long to stand",
+        Cause::AnswerLate => "late answers didn't come",
         Cause::Closed => "it closed the connection",
         Cause::Broken => "reading or writing failed",
         Cause::Foreign => "it sent what is no answer to the oldest call",

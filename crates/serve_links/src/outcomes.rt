@@ -86,6 +86,7 @@ pub fn fail_all(
     ensures down { OnOk result (IsDown link.new) }
     ensures all { OnOk result (AllFail (link.old.calls.sent.items ++ link.old.waiting.items) core.old core.new) }
     ensures closed { link.new.conn ≡ None }
+    ensures draining { link.new.draining ≡ link.old.draining }
     ensures text { link.new.text ≡ link.old.text }
     ensures first { (mid : ServedCore) × FailsTo link.old.calls.sent.items link.new.calls.sent.items core.old mid × FailsTo link.old.waiting.items link.new.waiting.items mid core.new }
     ensures ends { KeepsEnds clients.old clients.new }
@@ -109,7 +110,7 @@ pub fn fail_late(
     if !link.has_late(now, settings) {
         return Ok(());
     }
-    fail_all_late(link, core, clients)
+    fail_all_late(link, core, clients, now)
 }
 
 // The calls that are out on the link have failed, and keep their places.
@@ -117,11 +118,12 @@ fn fail_all_late(
     link: &mut Link,
     core: &mut ServedCore,
     clients: &mut Clients,
+    now: u64,
 ) -> Result<(), AllocError>
     ensures goes { (at : ℕ) (h : List Event) → LineGoes IsSending at core.old h link.old core.new h link.new }
     ensures ends { KeepsEnds clients.old clients.new }
 {
-    link.turn_late();
+    link.turn_late(now);
     for _ in 0..link.calls.len() {
         let Some(client) = link.fail_late(core)? else {
             return Ok(());

@@ -44,6 +44,8 @@ pub struct Settings {
     pub fail_limit: u32,
     /// For how many milliseconds they do, before one call tries it.
     pub retry_ms: u64,
+    /// After how many milliseconds in which late answers were awaited a server's connection is given up; without a number it never is.
+    pub give_up_ms: Option<u64>,
     /// After so many reads of a server in a row that brought no whole answer its calls have failed; without a number they may be any.
     pub polls: Option<u32>,
     pub server_dialect: ServerDialect,
@@ -52,8 +54,8 @@ pub struct Settings {
 }
 
 impl Settings {
-    /// 1,024 clients, 32 commands of each, 256 calls that have gone out to each server, keys shared, one second each time, three failures, any number of reads,
-    /// and dialects as servers tell.
+    /// 1,024 clients, 32 commands of each, 256 calls that have gone out to each server, keys shared, one second each time, three failures, no connection
+    /// given up for late answers, any number of reads, and dialects as servers tell.
     pub fn usual() -> Settings {
         Settings {
             clients: 1_024,
@@ -65,6 +67,7 @@ impl Settings {
             connect_ms: 1_000,
             fail_limit: 3,
             retry_ms: 1_000,
+            give_up_ms: None,
             polls: None,
             server_dialect: ServerDialect::Auto,
             flushes_new: false,

@@ -43,7 +43,7 @@ pub struct LinkTally {
     /// How often a call of it was late.
     pub late: u64,
     // How often it failed for each cause.
-    failed: [u64; 6],
+    failed: [u64; 7],
 }
 
 // The place of an operation among all.
@@ -68,7 +68,7 @@ fn place_of(op: Op) -> usize
 
 // The place of a cause among all.
 fn cause_place(cause: Cause) -> usize
-    ensures { result < 6 }
+    ensures { result < 7 }
 {
     match cause {
         Cause::Unreachable => 0,
@@ -77,6 +77,7 @@ fn cause_place(cause: Cause) -> usize
         Cause::Broken => 3,
         Cause::Foreign => 4,
         Cause::VainReads => 5,
+        Cause::AnswerLate => 6,
     }
 }
 
@@ -164,7 +165,7 @@ impl LinkTally {
         LinkTally {
             stood: 0,
             late: 0,
-            failed: [0; 6],
+            failed: [0; 7],
         }
     }
 

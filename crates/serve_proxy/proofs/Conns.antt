@@ -5,12 +5,12 @@ use Rattle.std.specs.Option.{option_map, option_flatten}
 use Rattle.serve_wire.specs.declared.conn.conn.Conn.{Conn}
 use Rattle.wire_parts.specs.Sending.{bytes_of}
 use Rattle.serve_links.specs.declared.link.Link.{Link}
-use Rattle.serve_links.specs.Shut.{link_conn}
+use Rattle.serve_links.specs.Shut.{first_some, drain_of, link_conn}
 use Rattle.serve_links.specs.Story.{LineState}
 use Rattle.serve_proxy.specs.Ends.{lines_of, down_line, AddsLines}
 
 abbrev conn_by : LineState → Option ℕ
-conn_by line = option_map (λ (e : ℕ × List ℕ × List ℕ). e.0) line.1
+conn_by line = first_some (option_map (λ (e : ℕ × List ℕ × List ℕ). e.0) line.1) line.7
 
 abbrev conn_in : List LineState → ℕ → Option ℕ
 conn_in lines at = option_flatten (option_map conn_by (slice_get lines at))
@@ -21,7 +21,7 @@ one_conn (Some x) = refl
 
 conn_line : (links : List Link) (at : ℕ) → conn_in (lines_of links) at ≡ link_conn links at
 conn_line [] at = refl
-conn_line (link ∷ links) zero = one_conn link.conn
+conn_line (link ∷ links) zero = ap (λ o. first_some o (drain_of link)) (one_conn link.conn)
 conn_line (link ∷ links) (suc at) = conn_line links at
 
 -- links of the same lines have the same connections

@@ -1,5 +1,5 @@
 -- Links that are given up for what their connections show.
-use Rattle.std.proofs.Common.{◌≡◌, ◌≢◌, ℕ, ◌<◌, Bool, true, false, List, [], ◌∷◌, ◌++◌, length, get_or, Option, Some, None, Result, Ok, Err, refl, sym, ap, ◌∙◌, subst}
+use Rattle.std.proofs.Common.{◌≡◌, ◌≢◌, ℕ, ◌<◌, Bool, true, false, List, [], ◌∷◌, ◌++◌, length, get_or, Option, Some, None, Result, Ok, Err, inl, refl, sym, ap, ◌∙◌, subst}
 use Rattle.std.proofs.Math.ListN.{set}
 use Rattle.std.specs.Prelude.{IfSome, slice_get}
 use Rattle.std.specs.Result.{IsErr}
@@ -13,17 +13,18 @@ use Rattle.core_accepted.specs.declared.served.ServedCore.{ServedCore}
 use Rattle.serve_clients.specs.declared.clients.Clients.{Clients}
 use Rattle.serve_clients.specs.Agrees.{KeepsEnds}
 use Rattle.serve_links.specs.declared.calls.calls.SentCall.{SentCall}
+use Rattle.serve_links.specs.declared.calls.calls.LateCall.{LateCall}
 use Rattle.serve_links.specs.declared.link.Link.{Link}
 use Rattle.serve_links.specs.declared.news.Cause.{Cause}
 use Rattle.serve_links.specs.declared.news.Cause.TheVariants as causes
 use Rattle.serve_links.specs.Links.{vain_cause}
 use Rattle.serve_links.specs.CoreSteps.{Step, Opened, NotOpened, Fed, Polled, Stopped, Settled, Gave, Closed, LeftLine, Broke, Loaded, Linked, Asked, Greeted, Spelled, Late, CameLate, Lost, Walks, AreOf, GoesBy, IsOfTurn, IsGivingUp, IsSending, Fails}
 use Rattle.serve_links.specs.Talks.{SaidAsk, talk_in}
-use Rattle.serve_links.specs.Story.{said_asks, line_of, LineAgrees, LineLost, LineFails, ShowsWhy, LineGoesFrom, AnEnd, Agrees, AgreesBut, AllGoFrom}
+use Rattle.serve_links.specs.Story.{said_asks, said_late, line_of, LineAgrees, LineLost, LineFails, ShowsWhy, LineGoesFrom, AnEnd, Agrees, AgreesBut, AllGoFrom}
 use Rattle.serve_links.proofs.LinkGoes.{as_failing, line_between, line_keeps}
 use Rattle.serve_links.proofs.Story.{go_between, all_but, but_all}
 use Rattle.serve_proxy.specs.declared.sockets.Sockets.{Sockets}
-use Rattle.serve_proxy.specs.Ends.{end_of, over_by, over_of, idle_cause, broken_unless, LineUnless, LineStandsUnless, EndsGoFrom, AgreesUnless, AllGoOn, AllGoUnless, AllGoFromUnless}
+use Rattle.serve_proxy.specs.Ends.{end_of, over_by, over_of, idle_cause, broken_unless, AwaitsLateAt, LineUnless, LineStandsUnless, EndsGoFrom, AgreesUnless, AllGoOn, AllGoUnless, AllGoFromUnless}
 use Rattle.serve_proxy.proofs.Going.{and_then, stays, line_lends}
 use Rattle.serve_proxy.proofs.Staying.{stay_clients}
 use Rattle.serve_proxy.proofs.Linking.{but_clients}
@@ -128,6 +129,26 @@ failing_at why at past x this a =
 pub unconnected : {Q : List Step → AnEnd → Type 0} {Is : Step → Type 0} {a b : AnEnd} (at : ℕ) → AllGoFrom (AgreesBut (LineFails (Some causes.ConnectLate)) at) Q Is a b → AllGoFrom Agrees Q Is a b
 unconnected {a = a} at g =
     go_between (λ past was. failing_at (Some causes.ConnectLate) at past a (λ link there. as_failing (Some causes.ConnectLate) at past a.history link (λ conn is. tt) (was.links at link there)) was) (λ past was. was) g
+
+-- so may one whose late answers didn't come
+pub late_some : (at : ℕ) (past : List Step) (h : List Event) (y : Link) (conn : Conn) → LineAgrees at past h y → y.conn ≡ Some conn → y.late.items ≢ [] → (talk_in past at).late ≢ []
+late_some at past h y conn a there some none = some (none_said y.late.items (sym (a.conn conn there).late_is ∙ none))
+  where
+    none_said : (calls : List LateCall) → said_late calls ≡ [] → calls ≡ []
+    none_said [] e = refl
+    none_said (call ∷ calls) e = absurd (some_said (call.number, call.dialect, call.ask) (said_late calls) e)
+      where
+        some_said : (said : SaidAsk) (others : List SaidAsk) → said ∷ others ≡ [] → ⊥
+        some_said said others none = cc
+
+pub unanswered : {Q : List Step → AnEnd → Type 0} {Is : Step → Type 0} {a b : AnEnd} (at : ℕ) → AwaitsLateAt at a.links → AllGoFrom (AgreesBut (LineFails (Some causes.AnswerLate)) at) Q Is a b → AllGoFrom Agrees Q Is a b
+unanswered {a = a} at awaits g = go_between (λ past was. failing_at (Some causes.AnswerLate) at past a (this past was) was) (λ past was. was) g
+  where
+    this : (past : List Step) → Agrees past a → (link : Link) → slice_get a.links at ≡ Some link → LineFails (Some causes.AnswerLate) at past a.history link
+    this past was link there =
+        let agrees = was.links at link there in
+        let late : link.late.items ≢ [] = subst (λ (o : Option Link). IfSome o (λ z. z.late.items ≢ [])) there awaits in
+        as_failing (Some causes.AnswerLate) at past a.history link (λ conn is. inl (late_some at past a.history link conn agrees is late)) agrees
 
 -- or for what is no answer, or where that is wanted
 pub foreign_at : (at : ℕ) (past : List Step) (x : AnEnd) → Agrees past x → AgreesBut (LineFails (Some causes.Foreign)) at past x

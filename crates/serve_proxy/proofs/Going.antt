@@ -37,7 +37,7 @@ use Rattle.serve_links.specs.Pieces.{FeedsHeld}
 use Rattle.serve_links.specs.Story.{fed_in, gave_in, is_open_in, is_broken_in, AgreesWith, IsTold, AreTold, TellsNone, HasOrHad, numbers_of, LineState, line_of, LineAgrees, LineLost, LineCalled, LinesAgree, OneGoes, LineGoesFrom, LineGoes, AnEnd, Agrees, AgreesGiven, AgreesBut, AgreesCalled, AgreesDue, AgreesLosing, AllGoFrom, AllGo, texts_of, AgreesSent}
 use Rattle.serve_links.proofs.Reading.{breaks_now}
 use Rattle.serve_links.proofs.Talking.{IsPlain, plain_talk, clients_orderly}
-use Rattle.serve_links.proofs.Story.{one_agrees, at_told, each_told, all_told, same_told, had_stays, one_of_all, line_among, line_stays, all_still, from_then, go_between, all_but, but_all}
+use Rattle.serve_links.proofs.Story.{one_agrees, at_told, each_told, all_told, same_told, had_stays, one_of_all, line_among, line_stays, unlinked_stays, all_still, from_then, go_between, all_but, but_all}
 use Rattle.serve_links.proofs.Showing.{plain_unlost, none_since, shown_since, shown_later}
 use Rattle.serve_links.proofs.Shutting.{shut_quiet}
 use Rattle.serve_links.proofs.Due.{due_first, none_more, one_due}
@@ -84,11 +84,11 @@ lines_stay h h' past ls ls' quiet same was at link there = by (slice_get ls at) 
   where
     by : (o : Option Link) → slice_get ls at ≡ o → option_map line_of o ≡ Some (line_of link) → LineAgrees at past h' link
     by None e l = absurd (none_some l)
-    by (Some x) e l = line_stays h h' at [] past link (λ conn is. quiet conn.number) refl (same_line at past h x link (sym (same_some l)) (was at x e))
+    by (Some x) e l = line_stays h h' at [] past link (λ c of_c. quiet c) refl (same_line at past h x link (sym (same_some l)) (was at x e))
 
 -- steps of which servers are told nothing
 pub lines_told : (h : List Event) (steps past : List Step) (ls : List Link) → AreOf IsPlain steps → LinesAgree past h ls → LinesAgree (steps ++ past) h ls
-lines_told h steps past ls plain was at link there = line_stays h h at steps past link (λ conn is. untouched conn.number h) (plain_talk steps plain past at) (was at link there)
+lines_told h steps past ls plain was at link there = line_stays h h at steps past link (λ c of_c. untouched c h) (plain_talk steps plain past at) (was at link there)
 
 clients_quiet : (h h' : List Event) (input output : ℕ → List ℕ) (cs : Clients) → ((d : ℕ) → IsUntouched d h h') → AllAgree h input output cs → AllAgree h' input output cs
 clients_quiet h h' input output cs quiet was id = by (client_of cs id) (was id)
@@ -464,7 +464,7 @@ calls_agree {h} {cs} {ls} a b past steps silent was = record {
   gone = λ conn id is. had_quiet past steps h h cs cs id conn (untouched conn h) refl is was.gone;
   shown = shown_later steps past h h (plain_unlost steps (silent_plain steps silent)) (none_since h) was.shown;
   shut = was.shut;
-  unlinked = λ at none. ap (λ (t : Talk). t.out) (plain_talk steps (silent_plain steps silent) past at) ∙ was.unlinked at none;
+  unlinked = λ at none. unlinked_stays (plain_talk steps (silent_plain steps silent) past at) (was.unlinked at none);
 }
 
 calls_go :

@@ -21,8 +21,9 @@ use Rattle.serve_links.specs.declared.link.Link.{Link}
 use Rattle.serve_links.specs.Links.{IsDown}
 use Rattle.serve_links.specs.CoreSteps.{Step, Loaded}
 use Rattle.serve_links.specs.declared.settings.Greeting.{Greeting}
-use Rattle.serve_links.specs.Story.{fed_in, gave_in, IsTold, said_asks, said_late, numbers_of, AreCalled, LineState, line_of, LineAgrees, LinesAgree, AnEnd, Agrees, AllGoFrom, texts_of, MayAllGo}
-use Rattle.serve_links.specs.Talks.{talk_in, AreDue, IsOrderly}
+use Rattle.serve_links.specs.Story.{fed_in, gave_in, IsTold, said_asks, said_late, numbers_of, AreCalled, LineState, line_of, Unused, LineAgrees, LinesAgree, AnEnd, Agrees, AllGoFrom, texts_of, MayAllGo}
+use Rattle.serve_links.specs.Shut.{drain_of}
+use Rattle.serve_links.specs.Talks.{Apart, talk_in, AreDue, IsOrderly}
 use Rattle.serve_links.proofs.Due.{none_more}
 use Rattle.serve_links.proofs.Shutting.{shut_quiet}
 use Rattle.serve_links.proofs.Walked.{walked, of_both}
@@ -37,21 +38,22 @@ pub adds_none : (old new : List Link) → new ≡ old → AddsLines old new
 adds_none old new same = ([], ap lines_of same ∙ sym (append-nil (lines_of old)))
 
 -- the line of a link that is down
-down_of : (link : Link) → IsDown link → link.late.items ≡ [] → link.awaits_dialect ≡ None → link.dialect ≡ Classic → line_of link ≡ down_line link.text.items
-down_of link down alone off classic =
-    ap (λ (o : Option Conn). let s : LineState = (link.text.items, option_map (λ (x : Conn). (x.number, x.held.items, bytes_of x.unsent)) o, said_asks link.calls.sent.items, link.waiting.items, link.awaits_dialect, link.dialect, said_late link.late.items) in s) down.closed
-    ∙ ap (λ (l : List SentCall). let s : LineState = (link.text.items, None, said_asks l, link.waiting.items, link.awaits_dialect, link.dialect, said_late link.late.items) in s) down.sent
-    ∙ ap (λ (l : List SentCall). let s : LineState = (link.text.items, None, [], l, link.awaits_dialect, link.dialect, said_late link.late.items) in s) down.waiting
-    ∙ ap (λ (b : Option Greeting). let s : LineState = (link.text.items, None, [], [], b, link.dialect, said_late link.late.items) in s) off
-    ∙ ap (λ (d : Dialect). let s : LineState = (link.text.items, None, [], [], None, d, said_late link.late.items) in s) classic ∙ ap (λ (l : List LateCall). let s : LineState = (link.text.items, None, [], [], None, Classic, said_late l) in s) alone
+down_of : (link : Link) → IsDown link → link.draining ≡ None → link.late.items ≡ [] → link.awaits_dialect ≡ None → link.dialect ≡ Classic → line_of link ≡ down_line link.text.items
+down_of link down undrained alone off classic =
+    ap (λ (o : Option Conn). let s : LineState = (link.text.items, option_map (λ (x : Conn). (x.number, x.held.items, bytes_of x.unsent)) o, said_asks link.calls.sent.items, link.waiting.items, link.awaits_dialect, link.dialect, said_late link.late.items, drain_of link) in s) down.closed
+    ∙ ap (λ (l : List SentCall). let s : LineState = (link.text.items, None, said_asks l, link.waiting.items, link.awaits_dialect, link.dialect, said_late link.late.items, drain_of link) in s) down.sent
+    ∙ ap (λ (l : List SentCall). let s : LineState = (link.text.items, None, [], l, link.awaits_dialect, link.dialect, said_late link.late.items, drain_of link) in s) down.waiting
+    ∙ ap (λ (b : Option Greeting). let s : LineState = (link.text.items, None, [], [], b, link.dialect, said_late link.late.items, drain_of link) in s) off
+    ∙ ap (λ (d : Dialect). let s : LineState = (link.text.items, None, [], [], None, d, said_late link.late.items, drain_of link) in s) classic ∙ ap (λ (l : List LateCall). let s : LineState = (link.text.items, None, [], [], None, Classic, said_late l, drain_of link) in s) alone
+    ∙ ap (λ (o : Option Conn). let s : LineState = (link.text.items, None, [], [], None, Classic, [], option_map (λ (x : Conn). x.number) o) in s) undrained
 
 lines_more : (links : List Link) (link : Link) → lines_of (links ++ link ∷ []) ≡ lines_of links ++ line_of link ∷ []
 lines_more [] link = refl
 lines_more (x ∷ links) link = ap (λ l. line_of x ∷ l) (lines_more links link)
 
 -- one without a connection
-pub adds_one : (old new : List Link) (link : Link) → new ≡ old ++ link ∷ [] → IsDown link → link.late.items ≡ [] → link.awaits_dialect ≡ None → link.dialect ≡ Classic → AddsLines old new
-adds_one old new link more down alone off classic = (link.text.items ∷ [], ap lines_of more ∙ lines_more old link ∙ ap (λ (s : LineState). lines_of old ++ s ∷ []) (down_of link down alone off classic))
+pub adds_one : (old new : List Link) (link : Link) → new ≡ old ++ link ∷ [] → IsDown link → link.draining ≡ None → link.late.items ≡ [] → link.awaits_dialect ≡ None → link.dialect ≡ Classic → AddsLines old new
+adds_one old new link more down undrained alone off classic = (link.text.items ∷ [], ap lines_of more ∙ lines_more old link ∙ ap (λ (s : LineState). lines_of old ++ s ∷ []) (down_of link down undrained alone off classic))
 
 down_both : (xs ys : List (List ℕ)) → each down_line (xs ++ ys) ≡ each down_line xs ++ each down_line ys
 down_both [] ys = refl
@@ -80,9 +82,9 @@ in_first [] ys at none = refl
 in_first (x ∷ xs) ys zero none = none
 in_first (x ∷ xs) ys (suc at) none = in_first xs ys at none
 
-is_down : (texts : List (List ℕ)) (k : ℕ) (line : LineState) → slice_get (each down_line texts) k ≡ Some line → (line.1 ≡ None) × (line.3 ≡ []) × (line.2 ≡ [])
+is_down : (texts : List (List ℕ)) (k : ℕ) (line : LineState) → slice_get (each down_line texts) k ≡ Some line → (line.1 ≡ None) × (line.3 ≡ []) × (line.2 ≡ []) × (line.7 ≡ None)
 is_down [] k line is = absurd (none_some is)
-is_down (text ∷ texts) zero line is = (ap (λ (p : LineState). p.1) (sym (same_some is)), ap (λ (p : LineState). p.3) (sym (same_some is)), ap (λ (p : LineState). p.2) (sym (same_some is)))
+is_down (text ∷ texts) zero line is = (ap (λ (p : LineState). p.1) (sym (same_some is)), ap (λ (p : LineState). p.3) (sym (same_some is)), ap (λ (p : LineState). p.2) (sym (same_some is)), ap (λ (p : LineState). p.7) (sym (same_some is)))
 is_down (text ∷ texts) (suc k) line is = is_down texts k line is
 
 no_conn : (o : Option Conn) → option_map (λ (x : Conn). let e : ℕ × List ℕ × List ℕ = (x.number, x.held.items, bytes_of x.unsent) in e) o ≡ None → o ≡ None
@@ -101,7 +103,7 @@ none_of ls at none = by (slice_get ls at) (get_line ls at ∙ none)
 none_before : (ls ls' : List Link) → AddsLines ls ls' → (at : ℕ) → slice_get ls' at ≡ None → slice_get ls at ≡ None
 none_before ls ls' adds at none = none_of ls at (in_first (lines_of ls) (each down_line adds.0) at (ap (λ l. slice_get l at) (sym adds.1) ∙ sym (get_line ls' at) ∙ ap (option_map line_of) none))
 
-pub lines_grow : (h : List Event) (past : List Step) (ls ls' : List Link) → AddsLines ls ls' → IsOrderly past → ((at : ℕ) → slice_get ls at ≡ None → (talk_in past at).out ≡ []) → LinesAgree past h ls → LinesAgree past h ls'
+pub lines_grow : (h : List Event) (past : List Step) (ls ls' : List Link) → AddsLines ls ls' → IsOrderly past → ((at : ℕ) → slice_get ls at ≡ None → ((talk_in past at).out ≡ []) × ((talk_in past at).stands ≡ Apart)) → LinesAgree past h ls → LinesAgree past h ls'
 lines_grow h past ls ls' adds orderly unlinked was at link there = by (in_both (lines_of ls) (each down_line adds.0) at (line_of link) (ap (λ l. slice_get l at) (sym adds.1) ∙ sym (get_line ls' at) ∙ ap (option_map line_of) there))
   where
     of_old : (o : Option Link) → slice_get ls at ≡ o → option_map line_of o ≡ Some (line_of link) → LineAgrees at past h link
@@ -110,7 +112,7 @@ lines_grow h past ls ls' adds orderly unlinked was at link there = by (in_both (
 
     by : (slice_get (lines_of ls) at ≡ Some (line_of link)) ⊎ ((slice_get (lines_of ls) at ≡ None) × (k : ℕ) × (slice_get (each down_line adds.0) k ≡ Some (line_of link))) → LineAgrees at past h link
     by (inl old) = of_old (slice_get ls at) refl (get_line ls at ∙ old)
-    by (inr new) = let down = is_down adds.0 new.1 (line_of link) new.2 in has_none at past h link (no_conn link.conn down.0) (subst (λ w. MayAllGo past at w) (sym down.1) tt) (subst (λ w. AreDue past at (numbers_of w)) (sym down.1) (none_more past at orderly)) (unlinked at (none_of ls at new.0)) (subst (λ l. AreCalled past at l) (sym down.2) tt)
+    by (inr new) = let down = is_down adds.0 new.1 (line_of link) new.2 in has_none at past h link (no_conn link.conn down.0) (subst (λ w. MayAllGo past at w) (sym down.1) tt) (subst (λ w. AreDue past at (numbers_of w)) (sym down.1) (none_more past at orderly)) (unlinked at (none_of ls at new.0)).0 (subst (Unused h at link.text.items (talk_in past at)) (sym down.3) (unlinked at (none_of ls at new.0)).1) (subst (λ l. AreCalled past at l) (sym down.2) tt)
 
 texts_both : (lines : List LineState) (texts : List (List ℕ)) → each (λ (p : LineState). p.0) (lines ++ each down_line texts) ≡ each (λ (p : LineState). p.0) lines ++ texts
 texts_both [] [] = refl
@@ -173,7 +175,7 @@ grow_from {Is} {h} {cs} {ls} {a} {x} {b} same g = subst (λ y. AllGrow Is (recor
 
 -- no client is there, and no link has a connection
 pub new_agrees : (h : List Event) (core : ServedCore) (cs : Clients) (ls : List Link) → cs.all.items ≡ [] → AddsLines [] ls → HasNoConns h → Agrees [] (record { core = core; history = h; clients = cs; links = ls })
-new_agrees h core cs ls none adds new = record { orderly = tt; clients = λ id. subst (λ o. IfSome o (EndAgrees h (fed_in []) (gave_in []) id)) (sym (nobody id)) tt; told = λ id. subst (λ o. IfSome o (IsTold [] id)) (sym (nobody id)) tt; links = lines_grow h [] [] ls adds tt (λ at none. refl) (λ at link there. absurd (none_some there)); gone = λ conn id is. absurd (none_some (sym (new conn).0 ∙ is)); shown = tt; shut = record { clients = λ id conn is. absurd (none_some (sym (new conn).0 ∙ is)); links = λ at conn is. absurd (none_some (sym (new conn).0 ∙ is)); nobodys = λ conn is. (new conn).1 }; unlinked = λ at none. refl }
+new_agrees h core cs ls none adds new = record { orderly = tt; clients = λ id. subst (λ o. IfSome o (EndAgrees h (fed_in []) (gave_in []) id)) (sym (nobody id)) tt; told = λ id. subst (λ o. IfSome o (IsTold [] id)) (sym (nobody id)) tt; links = lines_grow h [] [] ls adds tt (λ at none. (refl, refl)) (λ at link there. absurd (none_some there)); gone = λ conn id is. absurd (none_some (sym (new conn).0 ∙ is)); shown = tt; shut = record { clients = λ id conn is. absurd (none_some (sym (new conn).0 ∙ is)); links = λ at conn is. absurd (none_some (sym (new conn).0 ∙ is)); nobodys = λ conn is. (new conn).1 }; unlinked = λ at none. (refl, refl) }
   where
     nobody : (id : ℕ) → client_of cs id ≡ None
     nobody id = ap (λ (xs : List (Option Client)). option_flatten (slice_get xs id)) none

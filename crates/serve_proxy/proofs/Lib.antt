@@ -13,3 +13,4 @@ pub mod Stalling
 pub mod Greatest
 pub mod Sparing
 pub mod Refusing
+pub mod Draining

@@ -35,6 +35,7 @@ use Rattle.serve_links.specs.Settled.{SettlesSome, SettlesFront}
 use Rattle.serve_links.specs.Lateness.{HasLate, HasLateAt}
 use Rattle.serve_links.specs.Links.{IsTaken}
 use Rattle.serve_links.specs.Lines.{IsNewEnd, OpensBy, greeting_of}
+use Rattle.serve_links.specs.Shut.{drain_of}
 use Rattle.serve_links.specs.Talks.{SaidAsk, talk_in, IsCalledIn}
 use Rattle.serve_links.specs.Story.{LineState, line_of, said_asks, said_late, numbers_of, MayGo, LineAgrees, LineLost, LineGoesFrom, LineGoes, AnEnd, Agrees, AgreesBut, AgreesCalled, AgreesSent, AllGoFrom, fed_in, gave_in}
 use Rattle.serve_links.proofs.LinkGoes.{as_lost, line_between, line_settles, line_loses, line_asks, line_waits, line_takes}
@@ -58,10 +59,10 @@ same_state c d number held unsent =
     ∙ ap (λ (l : List ℕ). let s : ℕ × List ℕ × List ℕ = (c.number, c.held.items, l) in s) unsent
 
 line_parts :
-    {t t' : List ℕ} {o o' : Option (ℕ × List ℕ × List ℕ)} {a a' : List SaidAsk} (w : List SentCall) (b : Bool) (l : Dialect) (e : List SaidAsk) → t' ≡ t → o' ≡ o → a' ≡ a → ◌≡◌ {A = LineState} (t', o', a', w, b, l, e) (t, o, a, w, b, l, e)
-line_parts {t} {t'} {o} {o'} {a} {a'} w b l e p q r =
-    ap (λ (x : List ℕ). let s : LineState = (x, o', a', w, b, l, e) in s) p ∙ ap (λ (x : Option (ℕ × List ℕ × List ℕ)). let s : LineState = (t, x, a', w, b, l, e) in s) q
-    ∙ ap (λ (x : List SaidAsk). let s : LineState = (t, o, x, w, b, l, e) in s) r
+    {t t' : List ℕ} {o o' : Option (ℕ × List ℕ × List ℕ)} {a a' : List SaidAsk} (w : List SentCall) (b : Bool) (l : Dialect) (e : List SaidAsk) (n : Option ℕ) → t' ≡ t → o' ≡ o → a' ≡ a → ◌≡◌ {A = LineState} (t', o', a', w, b, l, e, n) (t, o, a, w, b, l, e, n)
+line_parts {t} {t'} {o} {o'} {a} {a'} w b l e n p q r =
+    ap (λ (x : List ℕ). let s : LineState = (x, o', a', w, b, l, e, n) in s) p ∙ ap (λ (x : Option (ℕ × List ℕ × List ℕ)). let s : LineState = (t, x, a', w, b, l, e, n) in s) q
+    ∙ ap (λ (x : List SaidAsk). let s : LineState = (t, o, x, w, b, l, e, n) in s) r
 
 -- a link whose end and calls are others, with the same in them
 pub line_same :
@@ -69,16 +70,16 @@ pub line_same :
     → line_of y ≡ line_of x
 line_same x y c d was is number held unsent sent =
     ap line_of is
-    ∙ line_parts x.waiting.items x.awaits_dialect x.dialect (said_late x.late.items) refl (ap (λ (s : ℕ × List ℕ × List ℕ). Some s) (same_state c d number held unsent) ∙ sym (ap (option_map {U = ℕ × List ℕ × List ℕ} conn_state) was)) (ap said_asks sent)
+    ∙ line_parts x.waiting.items x.awaits_dialect x.dialect (said_late x.late.items) (drain_of x) refl (ap (λ (s : ℕ × List ℕ × List ℕ). Some s) (same_state c d number held unsent) ∙ sym (ap (option_map {U = ℕ × List ℕ × List ℕ} conn_state) was)) (ap said_asks sent)
 
 -- so has one that has the same calls in others
 pub line_calls : (x y : Link) → y ≡ record x { calls = y.calls } → y.calls.sent.items ≡ x.calls.sent.items → line_of y ≡ line_of x
-line_calls x y is sent = ap line_of is ∙ line_parts x.waiting.items x.awaits_dialect x.dialect (said_late x.late.items) refl refl (ap said_asks sent)
+line_calls x y is sent = ap line_of is ∙ line_parts x.waiting.items x.awaits_dialect x.dialect (said_late x.late.items) (drain_of x) refl refl (ap said_asks sent)
 
 -- and one for which as many calls wait
 pub line_waiting : (x y : Link) → y ≡ record x { waiting = y.waiting } → y.waiting.items ≡ x.waiting.items → line_of y ≡ line_of x
 line_waiting x y is waiting =
-    ap line_of is ∙ ap (λ (w : List SentCall). let s : LineState = (x.text.items, option_map {U = ℕ × List ℕ × List ℕ} conn_state x.conn, said_asks x.calls.sent.items, w, x.awaits_dialect, x.dialect, said_late x.late.items) in s) waiting
+    ap line_of is ∙ ap (λ (w : List SentCall). let s : LineState = (x.text.items, option_map {U = ℕ × List ℕ × List ℕ} conn_state x.conn, said_asks x.calls.sent.items, w, x.awaits_dialect, x.dialect, said_late x.late.items, drain_of x) in s) waiting
 
 -- ---- calls that are handed over
 

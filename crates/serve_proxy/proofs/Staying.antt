@@ -88,8 +88,8 @@ line_opens at dialect what h h' x y o = λ core. line_begins x y dialect what o
 
 -- or none, and its calls fail for a while
 pub line_opens_not :
-    (at : ℕ) (dialect : ServerDialect) (what : Opening) (h h' : List Event) (x y z : Link) → OpensBy at dialect what x y h h' → y.conn ≡ None → z.conn ≡ None → z.text.items ≡ y.text.items → z.waiting.items ≡ y.waiting.items → z.calls.sent.items ≡ y.calls.sent.items → LineStands at h h' x z
-line_opens_not at dialect what h h' x y z o none closed text waiting sent = λ core. line_shuts (line_begins x y dialect what o) none closed text waiting sent
+    (at : ℕ) (dialect : ServerDialect) (what : Opening) (h h' : List Event) (x y z : Link) → OpensBy at dialect what x y h h' → y.conn ≡ None → z.conn ≡ None → z.draining ≡ y.draining → z.text.items ≡ y.text.items → z.waiting.items ≡ y.waiting.items → z.calls.sent.items ≡ y.calls.sent.items → LineStands at h h' x z
+line_opens_not at dialect what h h' x y z o none closed draining text waiting sent = λ core. line_shuts (line_begins x y dialect what o) none closed draining text waiting sent
 
 -- ---- all ends
 

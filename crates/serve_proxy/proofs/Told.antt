@@ -29,7 +29,7 @@ use Rattle.serve_links.proofs.Shutting.{closed_shut, shut_without, shut_opened, 
 use Rattle.serve_links.proofs.Showing.{plain_unlost, shown_later}
 use Rattle.serve_links.specs.Talks.{Talk}
 use Rattle.serve_links.proofs.Talking.{IsPlain, plain_talk, clients_orderly}
-use Rattle.serve_links.proofs.Story.{at_told, all_told, took_all, TellsSame, same_told, gone_stays, end_gone, had_stays, line_stays}
+use Rattle.serve_links.proofs.Story.{at_told, all_told, took_all, TellsSame, same_told, gone_stays, end_gone, had_stays, line_stays, unlinked_stays}
 use Rattle.serve_links.proofs.Walked.{walked, of_both}
 use Rattle.serve_proxy.specs.Ends.{EndsStay, EndsGo, IsAllSent, IsAllSentTo, IsClosing, MayAdmit}
 use Rattle.serve_proxy.proofs.Staying.{quiet}
@@ -77,7 +77,7 @@ if_moved h h' input output input' output' id (Some x) same fed gave was = end_mo
 lines_apart :
     (h h' : List Event) (steps past : List Step) (ls : List Link) → ((d at : ℕ) → role d h ≡ Some (1, at) → IsUntouched d h h') → AreOf IsPlain steps → LinesAgree past h ls → LinesAgree (steps ++ past) h' ls
 lines_apart h h' steps past ls only plain was at link there =
-    line_stays h h' at steps past link (λ conn is. only conn.number at ((was at link there).conn conn is).is_to) (plain_talk steps plain past at) (was at link there)
+    line_stays h h' at steps past link (λ c of_c. only c at of_c) (plain_talk steps plain past at) (was at link there)
 
 -- what touches a new connection alone, which isn't open then, leaves all clients as they were, too: one was turned away
 pub new_touched : {h h' : List Event} {cs : Clients} {ls : List Link} (c : ℕ) → role c h ≡ None → role c h' ≡ None → is_open c h' ≡ false → TouchesOnly c h h' → EndsGo h h' cs cs ls ls
@@ -158,7 +158,7 @@ opened_go {h} {h1} {h2} {h'} {cs} {cs'} {ls} id c b last new is dropped only unu
     gone = gone past was;
     shown = shown_later q.steps (Opened id ∷ past) h' h' (plain_unlost q.steps (silent_plain q.steps q.kinds)) ([], refl) (shown_later (Opened id ∷ []) past h h' (tt, tt) after was.shown);
     shut = shut_opened id c (λ d e. (tells d e).0) opens own (λ j other. ap (option_map (λ (x : Client). x.conn.number)) (others j other)) (λ j. refl) was.shut;
-    unlinked = λ at none. ap (λ (t : Talk). t.out) (plain_talk q.steps (silent_plain q.steps q.kinds) (Opened id ∷ past) at) ∙ was.unlinked at none;
+    unlinked = λ at none. unlinked_stays (plain_talk q.steps (silent_plain q.steps q.kinds) (Opened id ∷ past) at) (was.unlinked at none);
   });
   texts = refl;
 }

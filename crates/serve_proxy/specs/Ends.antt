@@ -1,5 +1,5 @@
 -- What a proxy's end has on its wire, and how that stays or goes on. Source: mcgate's own.
-use Rattle.std.specs.Prelude.{Bool, ◌≡◌, ℕ, List, [], ◌∷◌, ◌++◌, Option, Some, None, Result, Ok, Err, true, false, ◌⊎◌, IfSome, map as each, slice_get, IsSome, MatchOption}
+use Rattle.std.specs.Prelude.{Bool, ◌≡◌, ◌≢◌, ℕ, List, [], ◌∷◌, ◌++◌, Option, Some, None, Result, Ok, Err, true, false, ◌⊎◌, IfSome, map as each, slice_get, IsSome, MatchOption}
 use Rattle.wire_parts.specs.Sending.{bytes_of}
 use Rattle.mc_types.specs.declared.ask.Dialect.{Dialect}
 use Rattle.mc_types.specs.declared.ask.Dialect.TheVariants.{Classic}
@@ -20,6 +20,7 @@ use Rattle.serve_links.specs.declared.news.Cause.TheVariants as causes
 use Rattle.serve_wire.specs.declared.conn.conn.Got.{Got}
 use Rattle.serve_wire.specs.declared.conn.conn.Got.TheVariants as got
 use Rattle.serve_proxy.specs.declared.sockets.Sockets.{Sockets}
+use Rattle.serve_links.specs.Talks.{Standing, left_by}
 use Rattle.serve_links.specs.Story.{LineState, line_of, LineAgrees, LineLost, LineFails, LineCalled, LineGoesFrom, LineGoes, OneGoes, AnEnd, Agrees, AgreesGiven, AgreesBut, AgreesCalled, AgreesSent, AgreesLosing, AllGoFrom, AllGo, texts_of}
 
 -- what each link has to do with its connection and its calls
@@ -54,6 +55,10 @@ IsOpenAt at links = (link : Link) × (slice_get links at ≡ Some link) × IsSom
 
 abbrev pub AsksIn : Dialect → ℕ → List Link → Type 0
 AsksIn dialect at links = MatchOption (slice_get links at) (dialect ≡ Classic) (λ link. dialect ≡ link.dialect)
+
+-- answers are still to come of calls of the link at this place, if there is one, that have failed
+abbrev pub AwaitsLateAt : ℕ → List Link → Type 0
+AwaitsLateAt at links = IfSome (slice_get links at) (λ link. link.late.items ≢ [])
 
 -- of links alone: this call, which may go to this server, was taken over by its link; or it was taken from there
 abbrev pub LinksTake : ℕ → SentCall → List Link → List Link → Type 0
@@ -142,9 +147,14 @@ AllSendFrom Before history core sockets core' sockets' = AllGoFrom Before Agrees
 abbrev pub AllFailOn : {W : Type 0} → (W → List Event) → ServedCore → Sockets W → ServedCore → Sockets W → Type 0
 AllFailOn history core sockets core' sockets' = AllSendFrom Agrees history core sockets core' sockets'
 
--- the link at this place, whose bytes may be lost, is given up, for whatever its connection shows: its calls fail, and nothing else is done with the core
-abbrev pub AllGiveUp : {W : Type 0} → ℕ → (W → List Event) → ServedCore → Sockets W → ServedCore → Sockets W → Type 0
-AllGiveUp at history core sockets core' sockets' = (why : Option Cause) → AllGoFrom (AgreesBut (LineFails why) at) Agrees (IsGivingUp why) (end_of history core sockets) (end_of history core' sockets')
+-- the link at this place, whose bytes may be lost, is given up, for whatever its connection shows that leaves it so: its calls fail, and nothing else is done with the core
+abbrev pub AllLeave : {W : Type 0} → Standing → ℕ → (W → List Event) → ServedCore → Sockets W → ServedCore → Sockets W → Type 0
+AllLeave standing at history core sockets core' sockets' =
+    (why : Option Cause) → left_by why ≡ standing → AllGoFrom (AgreesBut (LineFails why) at) Agrees (IsGivingUp why) (end_of history core sockets) (end_of history core' sockets')
+
+-- it is given up for this cause, and where it can't be kept its end may be seen with that
+abbrev pub AllGiveUp : {W : Type 0} → ℕ → Cause → (W → List Event) → ServedCore → Sockets W → ServedCore → Sockets W → Type 0
+AllGiveUp at cause history core sockets core' sockets' = AllSendFrom (AgreesBut (LineFails (Some cause)) at) history core sockets core' sockets'
 
 -- so it is with one that agrees, as that is wanted
 abbrev pub AllDrop : {W : Type 0} → (W → List Event) → ServedCore → Sockets W → ServedCore → Sockets W → Type 0
@@ -224,7 +234,7 @@ HasNoConns h = (conn : ℕ) → (role conn h ≡ None) × (is_open conn h ≡ fa
 
 -- the line of a link to the server whose address this text names, without a connection, and without calls
 abbrev pub down_line : List ℕ → LineState
-down_line text = (text, None, [], [], None, Classic, [])
+down_line text = (text, None, [], [], None, Classic, [], None)
 
 -- behind the links that were there, which have the lines that they had, come links to these texts, without a connection
 abbrev pub AddsLines : List Link → List Link → Type 0

@@ -29,12 +29,20 @@ pub fn read_links<W: Wire>(core: &mut ServedCore, sockets: &mut Sockets<W>) -> i
     Ok(())
 }
 
-/// The link is read, and fails where it has failed by that.
+/// The link is read, and fails where it has failed by that. So is the connection whose end is awaited.
 pub fn serve_link<W: Wire>(
     core: &mut ServedCore,
     sockets: &mut Sockets<W>,
     at: usize,
 ) -> io::Result<()>
+    ensures ends { AllGoOr result W.history core.old sockets.old core.new sockets.new }
+{
+    sockets.drain(at)?;
+    serve_used(core, sockets, at)
+}
+
+// The same of the connection in use.
+fn serve_used<W: Wire>(core: &mut ServedCore, sockets: &mut Sockets<W>, at: usize) -> io::Result<()>
     ensures ends { AllGoOr result W.history core.old sockets.old core.new sockets.new }
 {
     match read_link(core, sockets, at)? {

@@ -1,14 +1,15 @@
 //! Links fail: their connections broke, brought what is no answer, or took too long.
 
-ghost use Rattle.std.specs.Prelude.{◌≡◌, ◌⊎◌, OnOk};
+ghost use Rattle.std.specs.Prelude.{◌≡◌, ◌⊎◌, ℕ, OnOk};
 ghost use Rattle.serve_wire.specs.Events.{time};
 ghost use Rattle.serve_links.specs.Lateness.{HasLateAt, IsConnectLateAt};
 ghost use Rattle.serve_links.specs.Links.{IsDownAt, IsClosedAt};
-ghost use Rattle.serve_proxy.specs.Ends.{idle_cause, GoAloneUnless, AllFailOn, AllGiveUp, AllGoOr};
+ghost use Rattle.serve_links.specs.Talks.{Apart, Ending};
+ghost use Rattle.serve_proxy.specs.Ends.{idle_cause, GoAlone, GoAloneUnless, LineStands, AllFailOn, AllGiveUp, AllLeave, AllGoOr};
 
 use crate::answers::{read_line, serve_link};
 use crate::calls::fail_waited;
-use crate::sockets::{Sockets, close_if_any};
+use crate::sockets::{Sockets, close_if_any, shut_if_any};
 use core_accepted::ServedCore;
 use serve_links::{Cause, Lateness, Link, fail_all, fail_late as fail_out};
 use serve_wire::Wire;
@@ -16,17 +17,57 @@ use serve_wire::conn::Got;
 use std::alloc::AllocError;
 use std::io;
 
+// So many reads at most are made at once of a connection whose end is awaited.
+const DRAIN_READS: usize = 64;
+
 // So many reads at most are made of a link that is late, before it fails.
 const LATE_READS: usize = 1_024;
 
-/// The link's calls have all failed, and it has no connection.
+/// The link's calls have all failed, and no connection is in use. One that can't be kept is closed once its end has come.
 pub fn fail_link<W: Wire>(
     core: &mut ServedCore,
     sockets: &mut Sockets<W>,
     at: usize,
     cause: Cause,
 ) -> Result<(), AllocError>
-    ensures ends { AllGiveUp at W.history core.old sockets.old core.new sockets.new }
+    ensures ends { AllGiveUp at cause W.history core.old sockets.old core.new sockets.new }
+{
+    if !cause.drains() {
+        return shut_link(core, sockets, at, cause);
+    }
+    drain_link(core, sockets, at, cause)?;
+    sockets.drain_now(at)
+}
+
+// The link's calls have all failed, and its connection, which can't be kept, is used no more: nothing more is sent over it.
+fn drain_link<W: Wire>(
+    core: &mut ServedCore,
+    sockets: &mut Sockets<W>,
+    at: usize,
+    cause: Cause,
+) -> Result<(), AllocError>
+    ensures ends { AllLeave Ending at W.history core.old sockets.old core.new sockets.new }
+{
+    match sockets.links.all.get_mut(at) {
+        None => Ok(()),
+        Some(link) => {
+            let drained = link.drain(cause, sockets.time, &sockets.links.settings);
+            shut_if_any(&mut sockets.wire, drained);
+            sockets.links.has_news = true;
+            sockets.is_freed = true;
+            fail_all(link, core, &mut sockets.clients)
+        }
+    }
+}
+
+/// The link's calls have all failed, and its connection was closed.
+pub fn shut_link<W: Wire>(
+    core: &mut ServedCore,
+    sockets: &mut Sockets<W>,
+    at: usize,
+    cause: Cause,
+) -> Result<(), AllocError>
+    ensures ends { AllLeave Apart at W.history core.old sockets.old core.new sockets.new }
     ensures down { OnOk result (IsDownAt at sockets.new.links.all.items) }
     ensures closed { IsClosedAt at sockets.new.links.all.items }
 {
@@ -99,7 +140,23 @@ fn fail_by<W: Wire>(
     match late {
         Lateness::Connection => fail_unconnected(core, sockets, at),
         Lateness::Call => fail_calls(core, sockets, at),
+        Lateness::Answer => give_up(core, sockets, at),
     }
+}
+
+// The link's late answers didn't come for too long, or not the end of its connection: that is kept no longer.
+fn give_up<W: Wire>(
+    core: &mut ServedCore,
+    sockets: &mut Sockets<W>,
+    at: usize,
+) -> Result<(), AllocError>
+    ensures ends { AllFailOn W.history core.old sockets.old core.new sockets.new }
+{
+    sockets.stop_draining(at);
+    if !sockets.links.awaits_late(at) {
+        return Ok(());
+    }
+    fail_link(core, sockets, at, Cause::AnswerLate)
 }
 
 // If the link's connection has taken too long to stand, by what the clock showed last, it is given up.
@@ -185,6 +242,31 @@ fn look_again<W: Wire>(core: &mut ServedCore, sockets: &mut Sockets<W>, at: usiz
     serve_link(core, sockets, at)
 }
 
+// One read of the link's connection whose end is awaited, if it has one: it is closed where that has come. Whether more may be there.
+fn drain_line<W: Wire>(link: &mut Link, wire: &mut W) -> bool
+    ensures stands { (at : ℕ) → LineStands at (W.history wire.old) (W.history wire.new) link.old link.new }
+{
+    match link.read_draining(wire) {
+        Some(_cause) => {
+            let ended = link.end_draining();
+            close_if_any(wire, ended);
+            false
+        }
+        None => link.may_drain(),
+    }
+}
+
+// The end of the link's connection is awaited no longer, if it was: it is closed.
+fn stop_line<W: Wire>(link: &mut Link, wire: &mut W)
+    ensures stands { (at : ℕ) → LineStands at (W.history wire.old) (W.history wire.new) link.old link.new }
+{
+    if link.conn.is_some() {
+        return;
+    }
+    let stopped = link.end_draining();
+    close_if_any(wire, stopped);
+}
+
 // Whether the link's connection stands, nothing is out on it or waits for it, and no late answer is awaited.
 fn is_idle(link: &Link) -> bool {
     let is_awaited = link.awaits_greeting() || link.awaits_late();
@@ -217,6 +299,50 @@ impl<W: Wire> Sockets<W> {
         match read_line(link, &mut self.wire) {
             Some(got) => idle_fault(got),
             None => None,
+        }
+    }
+
+    // One read of the link's connection whose end is awaited, if it has one. Whether more may be there.
+    fn drain_once(&mut self, at: usize) -> bool
+        ensures ends { GoAlone W.history self.old self.new }
+    {
+        match self.links.all.get_mut(at) {
+            Some(link) => drain_line(link, &mut self.wire),
+            None => false,
+        }
+    }
+
+    /// What has come over the link's connection whose end is awaited is thrown away, if it has one. Where more may be there it is to be read again.
+    pub fn drain(&mut self, at: usize) -> Result<(), AllocError>
+        ensures ends { GoAlone W.history self.old self.new }
+    {
+        if self.drain_once(at) {
+            return self.links.mark_ready(at);
+        }
+        Ok(())
+    }
+
+    // The same of a connection that was just given up: its end may be there at once.
+    fn drain_now(&mut self, at: usize) -> Result<(), AllocError>
+        ensures ends { GoAlone W.history self.old self.new }
+    {
+        for _ in 0..DRAIN_READS {
+            if !self.drain_once(at) {
+                self.links.note_limit(at);
+                return Ok(());
+            }
+        }
+        self.links.note_limit(at);
+        self.links.mark_ready(at)
+    }
+
+    // The end of the link's connection is awaited no longer, if it was.
+    fn stop_draining(&mut self, at: usize)
+        ensures ends { GoAlone W.history self.old self.new }
+    {
+        match self.links.all.get_mut(at) {
+            Some(link) => stop_line(link, &mut self.wire),
+            None => {}
         }
     }
 

@@ -6,7 +6,7 @@ ghost use Rattle.serve_clients.specs.declared.clients.Clients.{Clients};
 ghost use Rattle.serve_links.specs.Lateness.{IsConnectLateAt};
 ghost use Rattle.serve_links.specs.Links.{calls_out};
 ghost use Rattle.serve_links.specs.Story.{line_of, texts_of};
-ghost use Rattle.serve_proxy.specs.Ends.{lines_of, LinksTake, LinksGive, LineStands, LineTakes, IsOpenAt, AsksIn, EndsGo, AddsLines};
+ghost use Rattle.serve_proxy.specs.Ends.{lines_of, LinksTake, LinksGive, LineStands, LineTakes, IsOpenAt, AsksIn, AwaitsLateAt, EndsGo, AddsLines};
 
 use crate::clock::earlier;
 use crate::texts::{is_over, share_address, text_at};
@@ -23,7 +23,13 @@ use std::net::Net;
 fn note_told(link: &mut Link, told: Ready) -> Option<bool>
     ensures line { line_of link.new ≡ line_of link.old }
 {
-    let conn = link.conn.as_mut()?;
+    let Some(conn) = link.conn.as_mut() else {
+        return if link.note_draining(told) {
+            Some(false)
+        } else {
+            None
+        };
+    };
     conn.note(told);
     Some(told.writes && !told.closes && link.stand())
 }
@@ -520,6 +526,16 @@ impl Links {
         match self.all.get_mut(at) {
             Some(link) => write_to(link, call),
             None => Err(call),
+        }
+    }
+
+    /// Whether answers are still to come of calls of the link that have failed.
+    pub fn awaits_late(&self, at: usize) -> bool
+        ensures { result ≡ true → AwaitsLateAt at self.now.all.items }
+    {
+        match self.all.get(at) {
+            Some(link) => link.awaits_late(),
+            None => false,
         }
     }
 

@@ -16,7 +16,7 @@ use crate::accepting::accept_ready;
 use crate::answers::read_links;
 use crate::beginning::{fresh_core, unchecked_core};
 use crate::clock::at_most;
-use crate::failing::{fail_late, fail_link};
+use crate::failing::{fail_late, shut_link};
 use crate::links::Links;
 use crate::sending::{send_clients, send_links};
 use crate::serving::{serve_all, serve_asks};
@@ -254,7 +254,7 @@ impl<W: Wire> ProxyEnd<W> {
         ensures down { OnOk result (IsDownAt server self.new.sockets.links.all.items) }
         ensures closed { IsClosedAt server self.new.sockets.links.all.items }
     {
-        fail_link(self.core.as_mut(), &mut self.sockets, server, Cause::Broken)
+        shut_link(self.core.as_mut(), &mut self.sockets, server, Cause::Broken)
     }
 
     /// One turn: a wait until something is ready or late, and then all that is ready is done.

@@ -49,6 +49,15 @@ pub fn close_if_any<W: Wire>(wire: &mut W, conn: Option<usize>)
     }
 }
 
+/// Nothing more is sent over a connection, if there is one.
+pub fn shut_if_any<W: Wire>(wire: &mut W, conn: Option<usize>)
+    ensures { W.history wire.new ≡ W.history wire.old }
+{
+    if let Some(conn) = conn {
+        wire.shut_writes(conn);
+    }
+}
+
 impl<W: Wire> Sockets<W> {
     /// No client is there yet, and no link has a connection.
     pub fn new(alloc: Global, wire: W, links: Links) -> Sockets<W>

@@ -180,6 +180,8 @@ sends END\r\n
 awaits 14
 until 3500
 sends STORED\r\nEND\r\n
+awaits end
+ends
 answers 127.0.0.1:5001
 peer 9
 awaits 7
@@ -228,6 +230,8 @@ awaits 7
 sends END\r\n
 until 50
 sends VALUE b 0 1\r\n9\r\nEND\r\n
+awaits end
+ends
 answers 127.0.0.1:5001
 peer 9
 awaits 7
@@ -244,6 +248,75 @@ taken 1 => END\r\nEND\r\n
 open 8 => no
 taken 8 => get a\r\n
 taken 9 => get b\r\n
+
+A connection over which a wrong answer came is closed only when its server has ended it: until then calls fail at once, and no other is begun. What comes over it is nobody's.
+host 127.0.0.1:5001
+peer 8
+awaits 14
+sends HELLO\r\n
+awaits end
+until 2000
+sends END\r\nEND\r\n
+until 4000
+ends
+answers 127.0.0.1:5001
+peer 9
+awaits 7
+sends END\r\n
+answers 127.0.0.1:5001
+peer 1
+sends get a\r\nget b\r\n
+until 1000
+sends get c\r\n
+until 3500
+sends get d\r\n
+until 5000
+sends get e\r\n
+calls 0
+proxy <one server>
+turn 40
+open 8 => yes
+turn 60
+taken 1 => SERVER_ERROR call failed\r\nSERVER_ERROR call failed\r\nSERVER_ERROR call failed\r\nSERVER_ERROR call failed\r\nEND\r\n
+open 8 => no
+taken 8 => get a\r\nget b\r\n
+taken 9 => get e\r\n
+news => server 0: connected; server 0: failed: it sent what is no answer to the oldest call, 1 in a row; server 0: back
+
+The end of a connection that doesn't come, and late answers that don't: with a bound both are given up, and calls go to a new connection.
+host 127.0.0.1:5001
+peer 7
+awaits 7
+sends HELLO\r\n
+answers 127.0.0.1:5001
+peer 8
+awaits 7
+answers 127.0.0.1:5001
+peer 9
+awaits 7
+sends END\r\n
+answers 127.0.0.1:5001
+peer 1
+sends get a\r\n
+until 1000
+sends get b\r\n
+until 3000
+sends get c\r\n
+until 5000
+sends get d\r\n
+until 7000
+sends get e\r\n
+calls 0
+giving-up-proxy <one server>
+turn 15
+open 7 => yes
+turn 120
+taken 1 => SERVER_ERROR call failed\r\nSERVER_ERROR call failed\r\nSERVER_ERROR call failed\r\nSERVER_ERROR call failed\r\nEND\r\n
+open 7 => no
+open 8 => no
+taken 7 => get a\r\n
+taken 8 => get c\r\n
+taken 9 => get e\r\n
 
 A connection that ends or fails while nothing is out costs no command.
 host 127.0.0.1:5001
@@ -313,10 +386,14 @@ host 127.0.0.1:5001
 peer 7
 awaits 11
 sends MN\r\nHELLO\r\nEND\r\n
+awaits end
+ends
 answers 127.0.0.1:5001
 peer 8
 awaits 11
 sends HELLO\r\nEND\r\n
+awaits end
+ends
 answers 127.0.0.1:5001
 peer 9
 awaits 11
@@ -818,6 +895,14 @@ fn narrow() -> Settings {
     }
 }
 
+// Late answers, or the end of a connection, are awaited for two seconds.
+fn giving_up() -> Settings {
+    Settings {
+        give_up_ms: Some(2_000),
+        ..settings(ServerDialect::Classic)
+    }
+}
+
 // So many news of links are told after a turn at most.
 const NEWS: usize = 16;
 
@@ -1016,6 +1101,7 @@ impl Scripted<'_> {
             "proxy" => self.begin(text, settings(ServerDialect::Classic)),
             "auto-proxy" => self.begin(text, settings(ServerDialect::Auto)),
             "narrow-proxy" => self.begin(text, narrow()),
+            "giving-up-proxy" => self.begin(text, giving_up()),
             "turn" => self.turn_often(text.parse::<usize>()?),
             "bounds" => self.bound(text),
             _ => self.script(verb, text),

@@ -222,6 +222,7 @@ pub fn put_act(alloc: Global, peer: &mut Peer, verb: &str, text: &str) -> Result
             let bytes = bytes_of(alloc, text)?;
             peer.then(Act::Sends(bytes))?;
         }
+        "awaits" if text == "end" => peer.then(Act::AwaitsEnd)?,
         "awaits" => peer.then(Act::Awaits(text.parse::<usize>()?))?,
         "until" => peer.then(Act::Until(text.parse::<u64>()?))?,
         "ends" => peer.then(Act::Ends)?,

@@ -1,7 +1,6 @@
-use Rattle.std.proofs.Common.{Some, refl, subst, inl, inr}
+use Rattle.std.proofs.Common.{refl, subst, inl, inr}
 use Rattle.serve_links.specs.Lateness.{IsConnectLateAt}
-use Rattle.serve_links.specs.declared.news.Cause.TheVariants as causes
-use Rattle.serve_proxy.proofs.Going.{giving_up, still}
+use Rattle.serve_proxy.proofs.Going.{still}
 use Rattle.serve_proxy.proofs.GivenUp.{unconnected}
 use Rattle.serve_proxy.proofs.failing.fail_unconnected.Goals as goal
 
@@ -10,6 +9,6 @@ returns-then-not-is_connect_late g c = record { ends = still; late = inr (refl, 
 
 pub returns : goal.returns
 returns g c = record {
-  ends = giving_up (unconnected c.args.at (c.fail_link.ensures.ends (Some causes.ConnectLate)));
+  ends = unconnected c.args.at c.fail_link.ensures.ends;
   late = inl (subst (λ t. IsConnectLateAt c.args.at c.args.sockets.now.links.settings.connect_ms t c.args.sockets.now.links.all.items) c.last_millis-now.ensures (c.is_connect_late.ensures c.if-not-is_connect_late.false));
 }

@@ -1,6 +1,4 @@
-use Rattle.std.proofs.Common.{Some}
-use Rattle.serve_links.specs.declared.news.Cause.TheVariants as causes
-use Rattle.serve_proxy.proofs.Going.{and_then, giving_up, stays}
+use Rattle.serve_proxy.proofs.Going.{and_then, stays}
 use Rattle.serve_proxy.proofs.GivenUp.{sent_all, sent_not}
 use Rattle.serve_proxy.proofs.Staying.{stay_links}
 use Rattle.serve_proxy.proofs.sending.send_link.Goals as goal
@@ -12,7 +10,7 @@ pub loop-preserved : goal.loop-preserved
 loop-preserved g c = and_then (and_then c.loop.invariant (sent_all c.args.at _ c.if-not-send_unsent.false c.send_unsent.ensures.ends c.loop.core)) c.begin_waiting.ensures.ends
 
 pub returns-then-not-send_unsent : goal.returns-then-not-send_unsent
-returns-then-not-send_unsent g c = record { ends = and_then (and_then c.loop.invariant (sent_not c.args.at _ c.if-not-send_unsent.true c.send_unsent.ensures.ends c.loop.core)) (giving_up (c.fail_link.ensures.ends (Some causes.Broken))) }
+returns-then-not-send_unsent g c = record { ends = and_then (and_then c.loop.invariant (sent_not c.args.at _ c.if-not-send_unsent.true c.send_unsent.ensures.ends c.loop.core)) c.fail_link.ensures.ends }
 
 pub returns-in_err-begin_waiting : goal.returns-in_err-begin_waiting
 returns-in_err-begin_waiting g c = record { ends = and_then (and_then c.loop.invariant (sent_all c.args.at _ c.if-not-send_unsent.false c.send_unsent.ensures.ends c.loop.core)) c.begin_waiting.ensures.ends }

@@ -14,6 +14,6 @@ returns c =
     let conn = some_conn x.conn (c.is_none.ensures ∙ ap not c.if-is_none.false) in
     record {
       goes = λ at h.
-          line_turns x y conn.0 c.in-Some.call c.fail_next.result conn.1 refl refl refl refl refl (subst (λ o. IsFirstLate x.calls.sent.items o) c.in-Some.is c.in_ok-call.ensures) c.in_ok-push_back.ensures.items
+          line_turns x y conn.0 c.in-Some.call c.fail_next.result conn.1 refl refl refl refl refl refl (subst (λ o. IsFirstLate x.calls.sent.items o) c.in-Some.is c.in_ok-call.ensures) c.in_ok-push_back.ensures.items
           c.fail_next.ensures;
     }

@@ -7,6 +7,6 @@ returns c =
     let x = c.args.self.now in
     let y = record x { late = c.pass_over.new.late; calls = c.pass_over.new.calls; conn = Some c.pass_over.new.conn } in
     record {
-      goes = λ at core h. line_passes x y c.in-Some.conn.now c.pass_over.new.conn c.pass_over.result (sym c.in-Some.ensures.value) refl c.requires refl refl refl refl (ap (λ q. q.items) c.pass_over.ensures.sent) c.pass_over.ensures.rest c.pass_over.ensures.passes;
+      goes = λ at core h. line_passes x y c.in-Some.conn.now c.pass_over.new.conn c.pass_over.result (sym c.in-Some.ensures.value) refl c.requires refl refl refl refl refl (ap (λ q. q.items) c.pass_over.ensures.sent) c.pass_over.ensures.rest c.pass_over.ensures.passes;
       told = c.requires;
     }

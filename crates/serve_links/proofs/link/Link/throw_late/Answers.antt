@@ -26,6 +26,6 @@ returns-then-awaits_late c = record { goes = c.loop.invariant.goes; over = λ is
 pub returns : goal.returns
 returns c = record {
   goes = λ at core h. line_then (c.loop.invariant.goes at core h) (line_keeps (quiet h) (ap line_of c.come_back.ensures));
-  over = λ is. ap (λ (z : Link). z.late.items) c.come_back.ensures ∙ c.awaits_late.ensures c.if-awaits_late.false;
+  over = λ is. ap (λ (z : Link). z.late.items) c.come_back.ensures ∙ c.awaits_late.ensures.none c.if-awaits_late.false;
   told = ap (λ (z : Link). z.awaits_dialect) c.come_back.ensures ∙ c.loop.invariant.told;
 }
