@@ -26,6 +26,7 @@ use Rattle.serve_clients.specs.Agrees.{KeepsEnds}
 use Rattle.serve_clients.proofs.Agreeing.{agree_still}
 use Rattle.serve_links.specs.declared.calls.calls.SentCall.{SentCall}
 use Rattle.serve_links.specs.declared.settings.ServerDialect.{ServerDialect}
+use Rattle.serve_links.specs.declared.settings.Greeting.{Greeting}
 use Rattle.serve_links.specs.declared.link.Opening.{Opening}
 use Rattle.serve_links.specs.declared.link.Opening.TheVariants as opening
 use Rattle.serve_links.specs.declared.link.Link.{Link}
@@ -59,7 +60,7 @@ same_state c d number held unsent =
     ∙ ap (λ (l : List ℕ). let s : ℕ × List ℕ × List ℕ = (c.number, c.held.items, l) in s) unsent
 
 line_parts :
-    {t t' : List ℕ} {o o' : Option (ℕ × List ℕ × List ℕ)} {a a' : List SaidAsk} (w : List SentCall) (b : Bool) (l : Dialect) (e : List SaidAsk) (n : Option ℕ) → t' ≡ t → o' ≡ o → a' ≡ a → ◌≡◌ {A = LineState} (t', o', a', w, b, l, e, n) (t, o, a, w, b, l, e, n)
+    {t t' : List ℕ} {o o' : Option (ℕ × List ℕ × List ℕ)} {a a' : List SaidAsk} (w : List SentCall) (b : Option Greeting) (l : Dialect) (e : List SaidAsk) (n : Option ℕ) → t' ≡ t → o' ≡ o → a' ≡ a → ◌≡◌ {A = LineState} (t', o', a', w, b, l, e, n) (t, o, a, w, b, l, e, n)
 line_parts {t} {t'} {o} {o'} {a} {a'} w b l e n p q r =
     ap (λ (x : List ℕ). let s : LineState = (x, o', a', w, b, l, e, n) in s) p ∙ ap (λ (x : Option (ℕ × List ℕ × List ℕ)). let s : LineState = (t, x, a', w, b, l, e, n) in s) q
     ∙ ap (λ (x : List SaidAsk). let s : LineState = (t, o, x, w, b, l, e, n) in s) r
