@@ -1,5 +1,5 @@
 -- What a server tells over its link's connection.
-use Rattle.std.proofs.Common.{◌≡◌, ℕ, suc, ◌+◌, ◌≤◌, true, false, codes, None, List, [], ◌∷◌, ◌++◌, length, take, drop, length-append, Some, refl, sym, ap, ◌∙◌, subst, inr, arith}
+use Rattle.std.proofs.Common.{◌≡◌, ℕ, suc, ◌+◌, ◌≤◌, Bool, true, false, not, codes, None, List, [], ◌∷◌, ◌++◌, length, take, drop, length-append, Some, refl, sym, ap, ◌∙◌, subst, inr, arith}
 use Rattle.std.specs.Str.{bytes_eq}
 use Rattle.std.proofs.lemmas.List.{take-append-drop}
 use Rattle.std.proofs.lemmas.Slice.Eq.{bytes_eq-Decides}
@@ -68,6 +68,10 @@ reads_behind greeting rest (reads.Told dialect used) on is =
     within n l le = omega (arith, le)
 reads_behind greeting rest reads.More on is = tt
 reads_behind greeting rest reads.Foreign on is = tt
+
+pub not_not : (b : Bool) → not b ≡ false → b ≡ true
+not_not true e = refl
+not_not false e = absurd cc
 
 -- where the first four bytes say it, what stands behind them
 pub reads_flushed : (greeting : Greeting) (bytes : List ℕ) (read : DialectRead) → greeting.flushes ≡ true → bytes_eq (take 4 bytes) (codes "OK\r\n") ≡ true → ReadsDialect greeting.dialect (drop 4 bytes) read → ReadsGreeting greeting bytes (four_more read)

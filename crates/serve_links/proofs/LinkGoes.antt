@@ -490,7 +490,7 @@ talk_asks h at text t c held unsent out awaits speaks number dialect ask was = r
 -- a call that the core gave out for its server is asked
 pub line_asks :
     {at : ℕ} {core : ServedCore} {h : List Event} (x y : Link) (c d : Conn) (call : SentCall) → x.conn ≡ Some c → y ≡ record x { calls = y.calls; conn = Some d } → d ≡ record c { unsent = d.unsent }
-    → x.late.items ≡ [] → awaits_flush x.awaits_dialect ≡ None → y.calls.sent.items ≡ x.calls.sent.items ++ call ∷ [] → bytes_of d.unsent ≡ bytes_of c.unsent ++ spelling_of (asked_in call.dialect call.ticket.ask)
+    → x.late.items ≡ [] → awaits_flush x.awaits_dialect ≡ false → y.calls.sent.items ≡ x.calls.sent.items ++ call ∷ [] → bytes_of d.unsent ≡ bytes_of c.unsent ++ spelling_of (asked_in call.dialect call.ticket.ask)
     → LineGoesFrom (LineCalled call) LineAgrees IsSending at core h x core h y
 line_asks {at} {core} {h} x y c d call was is same alone ready more unsent = record {
   steps = step ∷ [];
@@ -719,7 +719,7 @@ line_drains {at} {core} {h} {h'} why ending x y same closed conns draining text 
         awaited past a =
             let t = (a.lost.conn c e).1 in
             let talk : talk_in (Lost at why ∷ past) at ≡ given_up why (talk_in past at) = ap (λ b. if b then given_up why (talk_in past at) else talk_in past at) (equal at) in
-            let now : TalkAgrees h at x.text.items (given_up why (talk_in past at)) c.number (a.lost.conn c e).0 (bytes_of c.unsent) [] false (talk_in past at).dialect [] =
+            let now : TalkAgrees h at x.text.items (given_up why (talk_in past at)) c.number (a.lost.conn c e).0 (bytes_of c.unsent) [] None (talk_in past at).dialect [] =
             record { is_to = t.is_to; address = t.address; sent_is = t.sent_is; told_is = t.told_is; out_is = refl; awaits_is = refl; dialect_is = refl; late_is = refl } in
             subst (λ k. Unused k at y.text.items (talk_in (Lost at why ∷ past) at) (Some c.number)) (sym same)
             (subst (λ w. Unused h at w (talk_in (Lost at why ∷ past) at) (Some c.number)) (sym text)

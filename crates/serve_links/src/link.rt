@@ -336,11 +336,14 @@ impl Link {
         self.is_retired = is_retired;
     }
 
-    /// Whether no call is out or waits, and none is late.
+    /// Whether no call is out or waits, none is late, and no end of a connection is awaited.
     pub fn is_quiet(&self) -> bool
         ensures { result ≡ true → (self.now.calls.sent.items ≡ []) × (self.now.waiting.items ≡ []) × (self.now.late.items ≡ []) }
     {
-        self.calls.is_empty() && self.waiting.is_empty() && self.late.is_empty()
+        self.calls.is_empty()
+            && self.waiting.is_empty()
+            && self.late.is_empty()
+            && self.draining.is_none()
     }
 
     // Whether what is to be sent is a backlog.
