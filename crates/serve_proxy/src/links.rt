@@ -256,7 +256,8 @@ impl Links {
         }
         let mut have_begun = true;
         for at in 0..servers.len() {
-            have_begun = self.keep_epoch(servers, at) && have_begun;
+            let is_kept = self.keep_epoch(servers, at);
+            have_begun = is_kept && have_begun;
         }
         have_begun
     }

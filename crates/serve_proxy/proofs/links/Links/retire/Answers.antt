@@ -1,0 +1,5 @@
+use Rattle.serve_proxy.proofs.Staying.{line_lent}
+use Rattle.serve_proxy.proofs.links.Links.retire.Goals as goal
+
+pub returns-in-Some : goal.returns-in-Some
+returns-in-Some c = record { lines = line_lent c.args.self.now.all.items c.args.at c.in-Some.link.now c.retire.new.self c.in-Some.ensures.value c.retire.ensures }
