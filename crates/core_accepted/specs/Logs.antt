@@ -7,11 +7,12 @@ use Rattle.fresh_runs.specs.OverlapState.{LeadsTo}
 use Rattle.fresh_runs.specs.Sharing.{LosesOnly, IsFresh, IsFreshByNumber}
 use Rattle.fresh_runs.specs.SharingStale.{stale_in}
 use Rattle.route_tree.specs.At.{tree_at}
-use Rattle.route_tree.specs.Route.{Route}
+use Rattle.route_tree.specs.Each.{Each}
+use Rattle.route_tree.specs.Route.{Route, IsTree}
 use Rattle.route_tree.specs.Word.{tree_words}
 use Rattle.route_json.specs.Configuration.{Configuration}
 use Rattle.gate_check.specs.Sound.{AreLoaded, IsLast, trees_of}
-use Rattle.gate_growth.specs.Grown.{OpensBy}
+use Rattle.gate_growth.specs.Grown.{AreSoundSince, OpensBy}
 use Rattle.core_proxy.specs.declared.limits.Limits.{Limits}
 use Rattle.core_commands.specs.declared.sharing.Sharing.{Sharing}
 use Rattle.core_commands.specs.declared.sharing.Sharing.TheVariants.{Alone}
@@ -71,6 +72,10 @@ pub record IsFreshLog (sharing : Sharing) (opening : ℕ → List ℕ → Option
   pub fresh : IsFresh opening (run_of past)
   pub by_number : sharing ≡ Alone → IsFreshByNumber opening (run_of past)
   pub none_stale : sharing ≡ Alone → stale_in opening (run_of past) ≡ 0
+
+-- where the gate accepted its trees, each clears what it and later ones take, or nothing was put there before
+abbrev pub TreesAreSound : ServedCore → Type 0
+TreesAreSound served = (known : Known) → served.accepted ≡ Some known → Each IsTree (trees_of known.configs) × AreSoundSince (is_arbitrary known) (trees_of known.configs)
 
 -- the gate accepted the trees of the core, whatever servers held at first
 abbrev pub IsAccepted : ServedCore → Type 0

@@ -14,7 +14,7 @@ use Rattle.core_proxy.specs.declared.fault.CoreFault.{CoreFault}
 use Rattle.core_proxy.specs.declared.fault.CoreFault.TheVariants as faults
 use Rattle.core_proxy.specs.CoreState.{dialect, client_at, dropped_by, IsBeside}
 use Rattle.core_proxy.specs.Steps.{event_of, settled}
-use Rattle.core_proxy.specs.Settles.{Settles, Breaks, freed}
+use Rattle.core_proxy.specs.Settles.{HasNoCall, Settles, Breaks, freed}
 use Rattle.core_proxy.specs.Polls.{StopsAt, SoFar, Then}
 use Rattle.core_accepted.specs.declared.served.ServedCore.{ServedCore}
 use Rattle.core_accepted.specs.Logs.{MayHaveLed, LogsGoBy}
@@ -53,15 +53,15 @@ pub record BreaksWith (old : ServedCore) (number : ℕ) (outcome : Outcome) (new
   pub breaks : Breaks old.core number outcome new.core
   pub goes : SettlesOn old number breaks.command outcome (λ more. more ≡ freed breaks.numbers ++ log.Frees number ∷ log.Drops breaks.command.client ∷ []) new
 
--- after a fault of a result all is as it was, but where memory was refused
+-- no call of this number was out, and all is as it was; or memory was refused
 abbrev pub SettleStops : ServedCore → ℕ → Outcome → CoreFault → ServedCore → Type 0
 SettleStops old number outcome faults.NoMemory new = BreaksWith old number outcome new
-SettleStops old number outcome faults.NoTicket new = new ≡ old
-SettleStops old number outcome faults.TooManyClients new = new ≡ old
-SettleStops old number outcome faults.NoClient new = new ≡ old
-SettleStops old number outcome faults.InputFull new = new ≡ old
-SettleStops old number outcome faults.UnderWay new = new ≡ old
-SettleStops old number outcome faults.Spent new = new ≡ old
+SettleStops old number outcome faults.NoTicket new = HasNoCall old.core number × (new ≡ old)
+SettleStops old number outcome faults.TooManyClients new = ⊥
+SettleStops old number outcome faults.NoClient new = ⊥
+SettleStops old number outcome faults.InputFull new = ⊥
+SettleStops old number outcome faults.UnderWay new = ⊥
+SettleStops old number outcome faults.Spent new = ⊥
 
 -- the core went on by this call's outcome, also where memory was refused; a call that isn't out changes nothing
 abbrev pub IsSettled : ServedCore → ℕ → Outcome → ServedCore → Type 0

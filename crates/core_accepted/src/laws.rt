@@ -2,7 +2,7 @@
 
 ghost use Rattle.std.specs.Prelude.{◌≡◌, Some};
 ghost use Rattle.core_accepted.specs.Known.{Known};
-ghost use Rattle.core_accepted.specs.Logs.{IsAccepted, EveryLogIsFresh, EveryLogFromIsFresh};
+ghost use Rattle.core_accepted.specs.Logs.{TreesAreSound, IsAccepted, EveryLogIsFresh, EveryLogFromIsFresh};
 ghost use Rattle.core_accepted.specs.Losses.{ServersMayLose};
 
 use crate::served::ServedCore;
@@ -18,6 +18,15 @@ pub fn accepted_core_is_fresh(core: &ServedCore)
 /// The same where something is said of what servers held at first, of each log that began so.
 pub fn begun_core_is_fresh(core: &ServedCore)
     ensures { (known : Known) → core.now.accepted ≡ Some known → EveryLogFromIsFresh known core.now }
+{
+    if let Some(generations) = &core.accepted {
+        let _config = generations.config();
+    }
+}
+
+/// The trees that the gate accepted are sound: each clears what it and later ones take, or nothing was put there before.
+pub fn accepted_trees_are_sound(core: &ServedCore)
+    ensures { TreesAreSound core.now }
 {
     if let Some(generations) = &core.accepted {
         let _config = generations.config();

@@ -15,3 +15,4 @@ pub mod Logs
 pub mod Owns
 pub mod Cores
 pub mod InTurn
+pub mod LateCores

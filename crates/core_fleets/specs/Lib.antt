@@ -12,3 +12,4 @@ pub mod FleetGate
 pub mod Grown
 pub mod Cores
 pub mod InTurn
+pub mod LateCores

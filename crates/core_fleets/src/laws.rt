@@ -1,6 +1,11 @@
-//! The laws of a fleet of cores.
+//! The laws of a fleet of cores, and of one.
 
+ghost use Rattle.core_accepted.specs.Logs.{IsAccepted};
+ghost use Rattle.core_fleets.specs.LateCores.{EveryLateLogIsFresh};
 ghost use Rattle.core_fleets.specs.Cores.{FleetOfCoresIsFresh, LateFleetOfCoresIsFresh, StickyFleetOfCoresIsFresh};
+
+use core_accepted::ServedCore;
+use core_accepted::laws::accepted_trees_are_sound;
 
 /// Any number of cores, on trees that cover one another as far as they may be in use together and copy nothing, before the same
 /// servers, which only they write, and where a store that failed was applied before or never is: whatever they and the servers
@@ -20,3 +25,12 @@ pub fn late_fleet_of_cores_is_fresh()
 pub fn sticky_fleet_of_cores_is_fresh()
     ensures { StickyFleetOfCoresIsFresh }
 {}
+
+/// One core on trees that the gate accepted, whose reads may copy, before servers which only it writes, and which apply what comes over its
+/// connection in order, however late, also what had failed: whatever it and they do, a command that begins after a delete of its key was
+/// acknowledged shows no item of a store that was over when the delete began.
+pub fn late_core_is_fresh(core: &ServedCore)
+    ensures { IsAccepted core.now → EveryLateLogIsFresh core.now }
+{
+    accepted_trees_are_sound(core);
+}

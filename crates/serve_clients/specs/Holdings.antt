@@ -1,5 +1,5 @@
 -- How many bytes are held for a client, and when one of its commands may begin. Source: mcgate's own.
-use Rattle.std.specs.Prelude.{◌≡◌, ◌⊎◌, ℕ, ◌+◌, ◌-◌, ◌^◌, ◌<◌, min, nat_eq, length, Option, Some, None, if◌then◌else◌}
+use Rattle.std.specs.Prelude.{◌≡◌, ◌⊎◌, [], false, ℕ, ◌+◌, ◌-◌, ◌^◌, ◌<◌, min, nat_eq, length, Option, Some, None, if◌then◌else◌}
 use Rattle.wire_parts.specs.Sending.{bytes_of}
 use Rattle.serve_clients.specs.declared.clients.Client.{Client}
 use Rattle.serve_clients.specs.declared.clients.Clients.{Clients}
@@ -20,6 +20,10 @@ MayBegin share x = (x.waiting ≡ 0) × (replies_of x < share)
 -- one of its commands may go on, as a call of it was settled, or begin
 abbrev pub MayGoOn : ℕ → Client → Type 0
 MayGoOn share x = (0 < x.settled) ⊎ MayBegin share x
+
+-- nothing of it is under way: no call waits, is out or was settled just now, nothing that came waits, nothing is to be sent, and all was read
+abbrev pub IsQuiet : Client → Type 0
+IsQuiet x = (x.waiting ≡ 0) × (x.calls_out ≡ 0) × (x.settled ≡ 0) × (x.conn.held.items ≡ []) × (bytes_of x.conn.unsent ≡ []) × (x.conn.readable ≡ false)
 
 -- how many bytes of what it sent the core holds at most, when one of its commands went on or began: one that begins is the end of a message, behind which stands only what came last
 abbrev pub input_left : Client → ℕ

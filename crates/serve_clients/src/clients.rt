@@ -8,7 +8,7 @@ ghost use Rattle.serve_clients.specs.Marks.{client_of, Changes, AreAlike, EndsBu
 ghost use Rattle.serve_clients.specs.Agrees.{Breaks, KeepsEnds};
 ghost use Rattle.serve_clients.specs.Lending.{LendsClient};
 ghost use Rattle.serve_clients.specs.Waits.{waits_a_turn};
-ghost use Rattle.serve_clients.specs.Holdings.{unshown, replies_of, input_left, held_for, held_at, MayBegin, MayGoOn};
+ghost use Rattle.serve_clients.specs.Holdings.{unshown, replies_of, input_left, held_for, held_at, MayBegin, MayGoOn, IsQuiet};
 ghost use Rattle.serve_clients.specs.declared.clients.TheConstants.{HELD_BACK, INPUT};
 
 use serve_wire::Ready;
@@ -164,6 +164,21 @@ impl Client {
             && !self.is_ended
             && self.conn.held.is_empty()
             && self.may_begin(SHARE)
+    }
+
+    /// Whether nothing of it is under way, as far as its end shows: no call of it waits, is out or was settled just now, nothing that was read
+    /// waits for the core, nothing is to be sent to it, and all that came was read.
+    ///
+    /// Source: mcgate's own.
+    pub fn is_quiet(&self) -> bool
+        ensures { IsTrue result ↔ IsQuiet self.now }
+    {
+        self.conn.held.is_empty()
+            && self.conn.unsent.is_empty()
+            && self.waiting == 0
+            && self.calls_out == 0
+            && self.settled == 0
+            && !self.conn.readable
     }
 
     /// Whether bytes that were read wait for room in the core.

@@ -1,6 +1,7 @@
 pub mod CallOrder
 pub mod StoreLines
 pub mod Walked
+pub mod Called
 pub mod Failing
 pub mod Feeding
 pub mod Leaving

@@ -197,12 +197,12 @@ stopped_keeps client faults.NoTicket a b stops = as_it_was a b stops
 
 settle_keeps : (number : ℕ) (outcome : Outcome) (fault : CoreFault) (a b : ServedCore) → SettleStops a number outcome fault b → IsWordKept a b
 settle_keeps number outcome faults.NoMemory a b stops = by_word a b stops.word
-settle_keeps number outcome faults.NoClient a b stops = as_it_was a b stops
-settle_keeps number outcome faults.Spent a b stops = as_it_was a b stops
-settle_keeps number outcome faults.TooManyClients a b stops = as_it_was a b stops
-settle_keeps number outcome faults.InputFull a b stops = as_it_was a b stops
-settle_keeps number outcome faults.UnderWay a b stops = as_it_was a b stops
-settle_keeps number outcome faults.NoTicket a b stops = as_it_was a b stops
+settle_keeps number outcome faults.NoClient a b stops = absurd stops
+settle_keeps number outcome faults.Spent a b stops = absurd stops
+settle_keeps number outcome faults.TooManyClients a b stops = absurd stops
+settle_keeps number outcome faults.InputFull a b stops = absurd stops
+settle_keeps number outcome faults.UnderWay a b stops = absurd stops
+settle_keeps number outcome faults.NoTicket a b stops = as_it_was a b stops.1
 
 settled_keeps : (number : ℕ) (outcome : Outcome) (a b : ServedCore) → IsSettled a number outcome b → IsWordKept a b
 settled_keeps number outcome a b (inl takes) = by_word a b takes.word

@@ -9,5 +9,6 @@ pub mod Links
 pub mod Pieces
 pub mod Settled
 pub mod Talks
+pub mod Called
 pub mod Shut
 pub mod Story

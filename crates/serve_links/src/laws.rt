@@ -1,6 +1,7 @@
 //! Laws of the ends of a proxy, and of what they do to its core.
 
 ghost use Rattle.serve_links.specs.CoreSteps.{IsOfTurn, IsFailure, IsSending, IsAnyCall};
+ghost use Rattle.serve_links.specs.Called.{WalksTellCalls};
 ghost use Rattle.serve_links.specs.Story.{StoriesGoOn};
 
 /// What one end of a proxy does, all its ends do, and they go on one after another: by all calls of a core, by all but loads, where calls
@@ -10,4 +11,10 @@ pub fn stories_go_on()
     ensures turns { StoriesGoOn IsOfTurn }
     ensures failures { StoriesGoOn IsFailure }
     ensures sendings { StoriesGoOn IsSending }
+{}
+
+/// Whatever calls of a core are made, a call that it gave out is out until it is settled, and until then none of its number is given out: so
+/// the ask that an answer is read for is that of the last call of this number that the core gave out.
+pub fn walks_tell_calls()
+    ensures { WalksTellCalls }
 {}

@@ -162,12 +162,12 @@ module _ (opening : ℕ → List ℕ → Option Item) (past : List (Entry dialec
             let more : AreOwn g.0 = both_own g.0 (Frees number ∷ (Drops a.client ∷ [])) (freed s.breaks.numbers) g.1 (λ past l. l) (freed_own s.breaks.numbers) in
             (g.0 ++ Happens event ∷ [], (g.0, refl), then_own (Happens event ∷ []) g.0 (λ past l. l) more, g.2, holds _ g.2),
       )
-  settle_stops number outcome faults.NoTicket s = inl (by_none s)
-  settle_stops number outcome faults.TooManyClients s = inl (by_none s)
-  settle_stops number outcome faults.NoClient s = inl (by_none s)
-  settle_stops number outcome faults.InputFull s = inl (by_none s)
-  settle_stops number outcome faults.UnderWay s = inl (by_none s)
-  settle_stops number outcome faults.Spent s = inl (by_none s)
+  settle_stops number outcome faults.NoTicket s = inl (by_none s.1)
+  settle_stops number outcome faults.TooManyClients s = absurd s
+  settle_stops number outcome faults.NoClient s = absurd s
+  settle_stops number outcome faults.InputFull s = absurd s
+  settle_stops number outcome faults.UnderWay s = absurd s
+  settle_stops number outcome faults.Spent s = absurd s
 
   settles :
       (number : ℕ) (outcome : Outcome) → TakesResult old number outcome new ⊎ ((fault : CoreFault) × SettleStops old number outcome fault new)

@@ -14,6 +14,7 @@
 //! - A link that broke, is late or brought what is no answer fails its calls (`failing.rt`).
 //! - Settled commands go on when their clients are polled next (`serving.rt`), and the core's replies go to the client's end
 //!   (`showing.rt`), from which they are sent.
+//! - Where it is to end, clients go once nothing of them is under way (`draining.rt`).
 //! - A client that takes nothing of much that is to be sent to it is closed after a while (`stalls.rt`), and how much is held for clients is
 //!   counted (`budget.rt`).
 //! - Room that large data took is lent to the next client that wants such, and goes back after a while (`rooms.rt`).
@@ -28,6 +29,7 @@ mod budget;
 mod calls;
 mod clients;
 mod clock;
+mod draining;
 mod failing;
 pub mod laws;
 mod links;

@@ -16,6 +16,7 @@ use crate::accepting::accept_ready;
 use crate::answers::read_links;
 use crate::beginning::{fresh_core, unchecked_core};
 use crate::clock::at_most;
+use crate::draining::end_quiet;
 use crate::failing::{fail_late, shut_link};
 use crate::links::Links;
 use crate::sending::{send_clients, send_links};
@@ -213,6 +214,23 @@ impl<W: Wire> ProxyEnd<W> {
         ensures { LogsAreFresh self.now.core.value }
     {
         begun_core_is_fresh(self.core.as_ref());
+    }
+
+    /// Nobody is accepted from now on, and who would connect is refused. Clients that are there stay.
+    pub fn stop_accepting(&mut self)
+        ensures core { self.new.core ≡ self.old.core }
+        ensures ends { Stay W.history self.old.sockets self.new.sockets }
+    {
+        self.sockets.wire.stop_accepting();
+    }
+
+    /// Nothing more is read of clients of which nothing is under way: all that came of them is done, and all replies were sent. Each of them is
+    /// closed by the next turn. An error comes where memory was refused.
+    pub fn end_quiet(&mut self) -> io::Result<()>
+        ensures core { GoesOn self.old.core.value self.new.core.value }
+        ensures ends { AllGoOn W.history self.old.core.value self.old.sockets self.new.core.value self.new.sockets }
+    {
+        end_quiet(self.core.as_mut(), &mut self.sockets)
     }
 
     /// From now on clients are polled in rounds, as those of a script are: each once, in the order in which they were accepted. Without it

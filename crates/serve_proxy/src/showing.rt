@@ -194,9 +194,9 @@ fn give_back_clients<W: Wire>(core: &mut ServedCore, sockets: &mut Sockets<W>) -
     Ok(is_held)
 }
 
-// The room for what is to be sent to a client goes back where nothing is, and the core's for what it sent where all is done: whether all
-// is.
-fn give_back_client<W: Wire>(
+/// The room for what is to be sent to a client goes back where nothing is, and the core's for what it sent where all is done: whether all
+/// is.
+pub fn give_back_client<W: Wire>(
     core: &mut ServedCore,
     sockets: &mut Sockets<W>,
     id: usize,

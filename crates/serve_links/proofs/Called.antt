@@ -1,0 +1,110 @@
+-- Those calls of a core are out that a walk tells to be.
+use Rattle.std.proofs.Common.{◌≡◌, ℕ, cond, List, [], ◌∷◌, ◌++◌, Option, Some, None, option_map, inl, inr, refl, sym, ap, ◌∙◌, subst, nat_eq}
+use Rattle.mc_types.specs.declared.ask.Ask.{Ask}
+use Rattle.mc_types.specs.declared.call.Outcome.{Outcome}
+use Rattle.core_proxy.specs.declared.fault.CoreFault.{CoreFault}
+use Rattle.core_proxy.specs.declared.fault.CoreFault.TheVariants as faults
+use Rattle.core_proxy.specs.declared.note.Poll.{Poll}
+use Rattle.core_proxy.specs.declared.note.Poll.TheVariants as polls
+use Rattle.core_proxy.specs.Settles.{asked, SettleFault}
+use Rattle.core_proxy.specs.CallsStay.{KeepsCalls, EndsCall, PollsCalls, CallsStay}
+use Rattle.core_proxy.proofs.CallsStay.{calls_stay}
+use Rattle.core_accepted.specs.declared.served.ServedCore.{ServedCore}
+use Rattle.core_accepted.specs.Results.{SettleStops, IsSettled}
+use Rattle.serve_links.specs.CoreSteps.{Step, Opened, NotOpened, Fed, Polled, Stopped, Settled, Gave, Closed, LeftLine, Broke, Loaded, Linked, Asked, Greeted, Spelled, Late, CameLate, Lost, Does, Walks}
+use Rattle.serve_links.specs.Called.{call_in, TellsCalls, IsOfCall, AreOfCalls, WalksTellCalls}
+
+law : CallsStay
+law = calls_stay
+
+-- what a step does, and what it tells
+abbrev Goes : Step → List Step → ServedCore → Type 0
+Goes step past new = TellsCalls (step ∷ past) new × IsOfCall step past
+
+-- where nothing of calls changes
+kept : (past : List Step) (old new : ServedCore) → TellsCalls past old → KeepsCalls old.core new.core → TellsCalls past new
+kept past old new was keeps = record { stands = keeps.stands; calls = λ n. keeps.calls n ∙ was.calls n }
+
+stayed : (past : List Step) (old new : ServedCore) → TellsCalls past old → new ≡ old → TellsCalls past new
+stayed past old new was same = subst (TellsCalls past) (sym same) was
+
+polled : (client : ℕ) (poll : Poll) (past : List Step) (old new : ServedCore) → TellsCalls past old → PollsCalls old.core poll new.core → Goes (Polled client poll) past new
+polled client (polls.Call ticket) past old new was gives = (
+  record { stands = gives.stands; calls = λ n. gives.calls n ∙ ap (λ o. cond (nat_eq ticket.number n) (Some (ticket.server, ticket.ask)) o) (was.calls n) },
+  sym (was.calls ticket.number) ∙ gives.none,
+)
+polled client polls.Idle past old new was keeps = let k = kept past old new was keeps in (record { stands = k.stands; calls = k.calls }, tt)
+polled client polls.Own past old new was keeps = let k = kept past old new was keeps in (record { stands = k.stands; calls = k.calls }, tt)
+polled client polls.Refused past old new was keeps = let k = kept past old new was keeps in (record { stands = k.stands; calls = k.calls }, tt)
+polled client polls.Waiting past old new was keeps = let k = kept past old new was keeps in (record { stands = k.stands; calls = k.calls }, tt)
+polled client polls.Queued past old new was keeps = let k = kept past old new was keeps in (record { stands = k.stands; calls = k.calls }, tt)
+polled client polls.Busy past old new was keeps = let k = kept past old new was keeps in (record { stands = k.stands; calls = k.calls }, tt)
+polled client (polls.Did note) past old new was keeps = let k = kept past old new was keeps in (record { stands = k.stands; calls = k.calls }, tt)
+
+ended : (number : ℕ) (outcome : Outcome) (past : List Step) (old new : ServedCore) → TellsCalls past old → EndsCall old.core number new.core → TellsCalls (Settled number outcome ∷ past) new
+ended number outcome past old new was ends = record { stands = ends.stands; calls = λ n. ends.calls n ∙ ap (λ o. cond (nat_eq number n) None o) (was.calls n) }
+
+faulted : (old new : ServedCore) (number : ℕ) (outcome : Outcome) (fault : CoreFault) → SettleStops old number outcome fault new → SettleFault old.core number outcome fault new.core
+faulted old new number outcome faults.NoMemory stops = stops.breaks
+faulted old new number outcome faults.NoTicket stops = (stops.0, ap (λ (c : ServedCore). c.core) stops.1)
+faulted old new number outcome faults.TooManyClients stops = absurd stops
+faulted old new number outcome faults.NoClient stops = absurd stops
+faulted old new number outcome faults.InputFull stops = absurd stops
+faulted old new number outcome faults.UnderWay stops = absurd stops
+faulted old new number outcome faults.Spent stops = absurd stops
+
+settled : (number : ℕ) (outcome : Outcome) (past : List Step) (old new : ServedCore) → TellsCalls past old → IsSettled old number outcome new → TellsCalls (Settled number outcome ∷ past) new
+settled number outcome past old new was (inl takes) = ended number outcome past old new was (law.settles old.core new.core number outcome was.stands takes.settles)
+settled number outcome past old new was (inr stops) = ended number outcome past old new was (law.faults old.core new.core number outcome stops.0 was.stands (faulted old new number outcome stops.0 stops.1))
+
+-- what the core's call of this number asks is what the steps tell
+asks_so : (o : Option (ℕ × Ask)) (ask : Ask) → option_map (λ (c : ℕ × Ask). c.1) o ≡ Some ask → (server : ℕ) × (o ≡ Some (server, ask))
+asks_so None ask e = absurd (nobody e)
+  where
+    nobody : ◌≡◌ {A = Option Ask} None (Some ask) → ⊥
+    nobody e = cc
+asks_so (Some c) ask e = (c.0, ap (λ (x : Ask). Some (c.0, x)) (inside e))
+  where
+    inside : {x y : Ask} → Some x ≡ Some y → x ≡ y
+    inside e = cc
+
+spelled : (past : List Step) (old : ServedCore) (number : ℕ) (ask : Ask) → TellsCalls past old → asked old.core number ≡ Some ask → (server : ℕ) × (call_in past number ≡ Some (server, ask))
+spelled past old number ask was asks = asks_so (call_in past number) ask (ap (option_map (λ (c : ℕ × Ask). c.1)) (sym (was.calls number)) ∙ sym (law.asks old.core number) ∙ asks)
+
+keep : (step : Step) (past : List Step) (new : ServedCore) → ((n : ℕ) → call_in (step ∷ past) n ≡ call_in past n) → TellsCalls past new → TellsCalls (step ∷ past) new
+keep step past new same k = record { stands = k.stands; calls = λ n. k.calls n ∙ sym (same n) }
+
+step_goes : (step : Step) (past : List Step) (old new : ServedCore) → TellsCalls past old → Does step old new → Goes step past new
+step_goes (Opened client) past old new was does = (keep (Opened client) past new (λ n. refl) (kept past old new was (law.opens old.core new.core client was.stands does.1)), tt)
+step_goes (NotOpened fault) past old new was does = (keep (NotOpened fault) past new (λ n. refl) (kept past old new was (law.unopened old.core new.core fault was.stands does.0)), tt)
+step_goes (Fed client piece) past old new was does = (keep (Fed client piece) past new (λ n. refl) (kept past old new was (law.feeds old.core new.core client piece was.stands does.1)), tt)
+step_goes (Polled client poll) past old new was does = polled client poll past old new was (law.polls old.core new.core client poll was.stands does.0)
+step_goes (Stopped client fault) past old new was does = (keep (Stopped client fault) past new (λ n. refl) (kept past old new was (law.stops old.core new.core client fault was.stands does.0)), tt)
+step_goes (Settled number outcome) past old new was does = (settled number outcome past old new was does, tt)
+step_goes (Gave client bytes) past old new was does = (keep (Gave client bytes) past new (λ n. refl) (kept past old new was (law.gives old.core new.core client bytes was.stands does.0)), tt)
+step_goes (Closed client) past old new was does = (keep (Closed client) past new (λ n. refl) (kept past old new was (law.closes old.core new.core client was.stands does.1)), tt)
+step_goes (LeftLine client) past old new was does = (keep (LeftLine client) past new (λ n. refl) (kept past old new was (law.leaves old.core new.core client was.stands does.0)), tt)
+step_goes (Broke client) past old new was does = (keep (Broke client) past new (λ n. refl) (stayed past old new was does), tt)
+step_goes (Loaded configuration generation) past old new was does =
+    (keep (Loaded configuration generation) past new (λ n. refl) (kept past old new was (law.reloads old.core new.core configuration.tree was.stands does.reloads)), tt)
+step_goes (Linked at dialect) past old new was does = (keep (Linked at dialect) past new (λ n. refl) (stayed past old new was does), tt)
+step_goes (Asked at number dialect ask) past old new was does = (keep (Asked at number dialect ask) past new (λ n. refl) (stayed past old new was does), tt)
+step_goes (Greeted at dialect bytes) past old new was does = (keep (Greeted at dialect bytes) past new (λ n. refl) (stayed past old new was does), tt)
+step_goes (Late at number) past old new was does = (keep (Late at number) past new (λ n. refl) (stayed past old new was does), tt)
+step_goes (CameLate at number ask answer bytes) past old new was does = (keep (CameLate at number ask answer bytes) past new (λ n. refl) (stayed past old new was does), tt)
+step_goes (Spelled at number ask answer bytes) past old new was does =
+    (keep (Spelled at number ask answer bytes) past new (λ n. refl) (stayed past old new was does.0), spelled past old number ask was does.1)
+step_goes (Lost at why) past old new was does = (keep (Lost at why) past new (λ n. refl) (stayed past old new was does), tt)
+
+walk_tells : (steps past : List Step) (old new : ServedCore) → TellsCalls past old → Walks steps old new → TellsCalls (steps ++ past) new × AreOfCalls steps past
+walk_tells [] past old new was same = (stayed past old new was same, tt)
+walk_tells (step ∷ steps) past old new was walks =
+    let before = walk_tells steps past old walks.0 was walks.1 in
+    let last = step_goes step (steps ++ past) walks.0 new before.0 walks.2 in
+    (last.0, (last.1, before.1))
+
+pub walks_tell_calls : WalksTellCalls
+walks_tell_calls = record {
+  begins = λ tree limits core fresh. let b = law.begins tree limits core.core fresh in record { stands = b.0; calls = b.1 };
+  goes_on = walk_tells;
+}

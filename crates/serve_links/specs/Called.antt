@@ -1,0 +1,95 @@
+-- Which calls of the core are out, as a walk tells it. Source: mcgate's own.
+use Rattle.std.specs.Prelude.{◌≡◌, ℕ, List, [], ◌∷◌, ◌++◌, Option, Some, None, if◌then◌else◌, nat_eq}
+use Rattle.mc_types.specs.declared.ask.Ask.{Ask}
+use Rattle.route_tree.specs.Route.{Route}
+use Rattle.core_proxy.specs.declared.limits.Limits.{Limits}
+use Rattle.core_proxy.specs.declared.note.Poll.{Poll}
+use Rattle.core_proxy.specs.declared.note.Poll.TheVariants as polls
+use Rattle.core_proxy.specs.CoreState.{IsFresh}
+use Rattle.core_proxy.specs.CallsStay.{CanStand, called}
+use Rattle.core_accepted.specs.declared.served.ServedCore.{ServedCore}
+use Rattle.serve_links.specs.CoreSteps.{Step, Opened, NotOpened, Fed, Polled, Stopped, Settled, Gave, Closed, LeftLine, Broke, Loaded, Linked, Asked, Greeted, Spelled, Late, CameLate, Lost, Walks}
+
+-- by a poll that gives out a call of this number it is out, at its server, and asks this
+abbrev pub call_by : Poll → ℕ → Option (ℕ × Ask) → Option (ℕ × Ask)
+call_by (polls.Call ticket) n call = if nat_eq ticket.number n then Some (ticket.server, ticket.ask) else call
+call_by polls.Idle n call = call
+call_by polls.Own n call = call
+call_by polls.Refused n call = call
+call_by polls.Waiting n call = call
+call_by polls.Queued n call = call
+call_by polls.Busy n call = call
+call_by (polls.Did note) n call = call
+
+-- what a step changes of that
+abbrev pub call_after : Step → ℕ → Option (ℕ × Ask) → Option (ℕ × Ask)
+call_after (Polled client poll) n call = call_by poll n call
+call_after (Settled number outcome) n call = if nat_eq number n then None else call
+call_after (Opened client) n call = call
+call_after (NotOpened fault) n call = call
+call_after (Fed client piece) n call = call
+call_after (Stopped client fault) n call = call
+call_after (Gave client bytes) n call = call
+call_after (Closed client) n call = call
+call_after (LeftLine client) n call = call
+call_after (Broke client) n call = call
+call_after (Loaded configuration generation) n call = call
+call_after (Linked at dialect) n call = call
+call_after (Asked at number dialect ask) n call = call
+call_after (Greeted at dialect bytes) n call = call
+call_after (Late at number) n call = call
+call_after (CameLate at number ask answer bytes) n call = call
+call_after (Spelled at number ask answer bytes) n call = call
+call_after (Lost at why) n call = call
+
+-- the call of this number that the core gave out in these steps, the latest first, and that wasn't settled since: its server, and its ask
+abbrev pub call_in : List Step → ℕ → Option (ℕ × Ask)
+call_in [] n = None
+call_in (step ∷ steps) n = call_after step n (call_in steps n)
+
+-- those calls of the core are out that these steps tell to be
+pub record TellsCalls (steps : List Step) (core : ServedCore) : Type 0 where
+  pub stands : CanStand core.core
+  pub calls : (n : ℕ) → called core.core n ≡ call_in steps n
+
+-- none of its number is out where a call is given out
+abbrev pub IsGivenOnce : Poll → List Step → Type 0
+IsGivenOnce (polls.Call ticket) past = call_in past ticket.number ≡ None
+IsGivenOnce polls.Idle past = Unit {0}
+IsGivenOnce polls.Own past = Unit {0}
+IsGivenOnce polls.Refused past = Unit {0}
+IsGivenOnce polls.Waiting past = Unit {0}
+IsGivenOnce polls.Queued past = Unit {0}
+IsGivenOnce polls.Busy past = Unit {0}
+IsGivenOnce (polls.Did note) past = Unit {0}
+
+-- and the ask that an answer is read for is that of the call of its number which is out
+abbrev pub IsOfCall : Step → List Step → Type 0
+IsOfCall (Polled client poll) past = IsGivenOnce poll past
+IsOfCall (Spelled at number ask answer bytes) past = (server : ℕ) × (call_in past number ≡ Some (server, ask))
+IsOfCall (Opened client) past = Unit {0}
+IsOfCall (NotOpened fault) past = Unit {0}
+IsOfCall (Fed client piece) past = Unit {0}
+IsOfCall (Stopped client fault) past = Unit {0}
+IsOfCall (Settled number outcome) past = Unit {0}
+IsOfCall (Gave client bytes) past = Unit {0}
+IsOfCall (Closed client) past = Unit {0}
+IsOfCall (LeftLine client) past = Unit {0}
+IsOfCall (Broke client) past = Unit {0}
+IsOfCall (Loaded configuration generation) past = Unit {0}
+IsOfCall (Linked at dialect) past = Unit {0}
+IsOfCall (Asked at number dialect ask) past = Unit {0}
+IsOfCall (Greeted at dialect bytes) past = Unit {0}
+IsOfCall (Late at number) past = Unit {0}
+IsOfCall (CameLate at number ask answer bytes) past = Unit {0}
+IsOfCall (Lost at why) past = Unit {0}
+
+-- so it is with each of these steps, after those before it
+abbrev pub AreOfCalls : List Step → List Step → Type 0
+AreOfCalls [] past = Unit {0}
+AreOfCalls (step ∷ steps) past = IsOfCall step (steps ++ past) × AreOfCalls steps past
+
+-- laws of all walks: a core of which nothing was asked yet has no call out; and where those calls are out that the steps before tell to be, so it is after each step of the walk
+pub record WalksTellCalls : Type 0 where
+  pub begins : (tree : Route) (limits : Limits) (core : ServedCore) → IsFresh tree limits core.core → TellsCalls [] core
+  pub goes_on : (steps past : List Step) (old new : ServedCore) → TellsCalls past old → Walks steps old new → TellsCalls (steps ++ past) new × AreOfCalls steps past
