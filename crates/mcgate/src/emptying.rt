@@ -3,7 +3,6 @@
 
 use crate::remembering::put;
 use crate::serving::Proxy;
-use mcgate_args::ends::Stop;
 use mcgate_args::input::text_of;
 use mcgate_args::input_text::InputFault;
 use route_json::addresses::Servers;
@@ -58,6 +57,15 @@ fn text_with(alloc: Global, names: &[String]) -> Result<String, AllocError> {
     Ok(text)
 }
 
+// The names in a file.
+fn names_in<R: Files + Input + AllocGlobal>(rt: &R, path: &str) -> io::Result<Vec<String>> {
+    match text_of(rt, Some(path)) {
+        Ok(text) => Ok(lines_of(rt.alloc(), text.as_str())?),
+        Err(InputFault::NoMemory) => Err(io::Error::from(ErrorKind::OutOfMemory)),
+        Err(_) => Err(io::Error::from(ErrorKind::InvalidData)),
+    }
+}
+
 fn has(names: &[String], name: &str) -> bool {
     for known in names {
         if known.as_str() == name {
@@ -83,14 +91,10 @@ impl Emptying {
     pub fn read<R: Files + Input + AllocGlobal>(
         rt: &R,
         history: Option<&str>,
-    ) -> Result<Emptying, Stop> {
+    ) -> io::Result<Emptying> {
         let path = path_beside(rt.alloc(), history)?;
         let names = match &path {
-            Some(path) if is_there(rt, path.as_str()) => match text_of(rt, Some(path.as_str())) {
-                Ok(text) => lines_of(rt.alloc(), text.as_str())?,
-                Err(InputFault::NoMemory) => return Err(Stop::Memory),
-                Err(_) => return Err(Stop::Device),
-            },
+            Some(path) if is_there(rt, path.as_str()) => names_in(rt, path.as_str())?,
             _ => Vec::new(rt.alloc()),
         };
         Ok(Emptying { path, names })

@@ -72,14 +72,14 @@ fn note_new<R: Files + Input + AllocGlobal>(
     if !job.settings.flushes_new {
         return Ok(());
     }
-    match file.history().generations() {
-        [.., before, last] => {
-            let mut emptying = Emptying::read(rt, Some(path))?;
-            let from = before.config.servers().len();
-            Ok(emptying.add(rt, last.config.servers(), from)?)
-        }
-        _ => Ok(()),
+    let generations = file.history().generations();
+    let count = generations.len();
+    if count < 2 {
+        return Ok(());
     }
+    let from = generations[count - 2].config.servers().len();
+    let mut emptying = Emptying::read(rt, Some(path))?;
+    Ok(emptying.add(rt, generations[count - 1].config.servers(), from)?)
 }
 
 // The text is served after the history of this file, of which it is the last generation: the file is written, if that is new.
