@@ -108,7 +108,7 @@ fn keep_in<R: Files + AllocGlobal>(
 }
 
 // The text is the next generation of this file, if it may be; else why not is printed.
-fn begin_in<R: Files + AllocGlobal, W: Write>(
+fn begin_in<R: Files + Input + AllocGlobal, W: Write>(
     rt: &R,
     job: &ServeJob<'_>,
     path: &str,
