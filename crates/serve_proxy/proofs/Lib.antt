@@ -13,4 +13,4 @@ pub mod Stalling
 pub mod Greatest
 pub mod Sparing
 pub mod Refusing
-pub mod Draining
+pub mod Drained
