@@ -4,6 +4,7 @@ ghost use Rattle.std.specs.Prelude.{◌≡◌, ◌≢◌, ◌⊎◌, IsTrue, IfO
 ghost use Rattle.core_accepted.specs.declared.loading.LoadFault.TheVariants.{Refused};
 ghost use Rattle.gate_check.specs.declared.reloading.ReloadFault.TheVariants.{NoMemory};
 ghost use Rattle.serve_proxy.specs.Ends.{Stay, AllGoOr, AllGrow, IsLoadOf};
+ghost use Rattle.core_accepted.specs.Logs.{TreesAreSound};
 ghost use Rattle.serve_proxy.specs.LogsGoOn.{LogsAreFresh};
 ghost use Rattle.mcgate.specs.Serves.{SaysAfter, history_of, proxy_of, Serves, ServesTo, MayLoad, MayLoadText};
 ghost use Rattle.mcgate.specs.Remembers.{StandsIn, StandsIfLoaded};
@@ -236,9 +237,10 @@ impl Serving {
         })
     }
 
-    /// Where the gate accepted its trees, each log that may have led to its core is fresh. A law: it does nothing.
+    /// Where the gate accepted its trees, they are sound, and each log that may have led to its core is fresh. A law: it does nothing.
     pub fn logs_are_fresh(&self)
-        ensures { LogsAreFresh self.now.end.core.value }
+        ensures fresh { LogsAreFresh self.now.end.core.value }
+        ensures sound { TreesAreSound self.now.end.core.value }
     {
         self.end.logs_are_fresh();
     }

@@ -8,6 +8,7 @@ ghost use Rattle.serve_links.specs.CoreSteps.{GoesOn, Fails};
 ghost use Rattle.serve_links.specs.Links.{IsDownAt, IsClosedAt};
 ghost use Rattle.serve_links.specs.Story.{Agrees, texts_of};
 ghost use Rattle.serve_proxy.specs.Ends.{Stay, end_of, AllGoOn, AllGoOr, AllDrop, AllLoad, HasNoConns};
+ghost use Rattle.core_accepted.specs.Logs.{TreesAreSound};
 ghost use Rattle.serve_proxy.specs.LogsGoOn.{LogsAreFresh};
 ghost use Rattle.serve_proxy.specs.Stillness.{IsStill};
 ghost use Rattle.serve_proxy.specs.Beginning.{BeginsFresh, BeginsUnchecked, LoadStops};
@@ -24,7 +25,7 @@ use crate::serving::{serve_all, serve_asks};
 use crate::showing::give_back_room;
 use crate::sockets::Sockets;
 use crate::stalls::close_slow;
-use core_accepted::laws::begun_core_is_fresh;
+use core_accepted::laws::{accepted_trees_are_sound, begun_core_is_fresh};
 use core_accepted::{Beginnings, LoadFault, ServedCore};
 use gate_check::{Accepted, ReloadFault};
 use route_json::Config;
@@ -208,12 +209,15 @@ impl<W: Wire> ProxyEnd<W> {
         self.sockets.stalls.next_closed(self.sockets.time)
     }
 
-    /// Where the gate accepted its trees, each log that may have led to the core is fresh, if servers began as is said. A law: it does
-    /// nothing.
+    /// Where the gate accepted its trees, they are sound, and each log that may have led to the core is fresh, if servers began as is said. A
+    /// law: it does nothing.
     pub fn logs_are_fresh(&self)
-        ensures { LogsAreFresh self.now.core.value }
+        ensures fresh { LogsAreFresh self.now.core.value }
+        ensures sound { TreesAreSound self.now.core.value }
     {
-        begun_core_is_fresh(self.core.as_ref());
+        let core = self.core.as_ref();
+        begun_core_is_fresh(core);
+        accepted_trees_are_sound(core);
     }
 
     /// Nobody is accepted from now on, and who would connect is refused. Clients that are there stay.
