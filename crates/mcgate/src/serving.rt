@@ -1,6 +1,8 @@
 //! A proxy that runs: its turns, what is told of its servers, and the configurations that are loaded meanwhile.
 
-ghost use Rattle.std.specs.Prelude.{◌≡◌, ◌≢◌, ◌⊎◌, IsTrue, IfOk, OnOk, string_bytes};
+ghost use Rattle.std.specs.Prelude.{◌≡◌, ◌≢◌, ◌⊎◌, IsTrue, IfOk, OnOk, string_bytes, ℕ, List, Some, ◌∷◌, length, slice_get};
+ghost use Rattle.serve_wire.specs.Events.{looks_up};
+ghost use Rattle.serve_links.specs.Story.{HasHappened};
 ghost use Rattle.core_accepted.specs.declared.loading.LoadFault.TheVariants.{Refused};
 ghost use Rattle.gate_check.specs.declared.reloading.ReloadFault.TheVariants.{NoMemory};
 ghost use Rattle.serve_proxy.specs.Ends.{Stay, AllGoOr, AllGrow, IsLoadOf};
@@ -8,6 +10,7 @@ ghost use Rattle.core_accepted.specs.Logs.{TreesAreSound};
 ghost use Rattle.serve_proxy.specs.LogsGoOn.{LogsAreFresh};
 ghost use Rattle.mcgate.specs.Serves.{SaysAfter, history_of, proxy_of, Serves, ServesTo, MayLoad, MayLoadText};
 ghost use Rattle.mcgate.specs.Remembers.{StandsIn, StandsIfLoaded};
+ghost use Rattle.mcgate.specs.LooksUp.{AreLookedUp};
 
 use crate::controlling::Controlling;
 use crate::draining::Draining;
@@ -1107,6 +1110,7 @@ impl Serving {
 
     // Looks up those of these servers that weren't in use before.
     fn resolve<R: Net + Eprint>(&mut self, rt: &R, servers: &Servers) -> io::Result<()>
+        ensures looked { OnOk result (AreLookedUp (length self.old.servers) servers.now (history_of self.new.end.sockets.wire)) }
         ensures core { self.new.end.core ≡ self.old.end.core }
         ensures ends { Stay history_of self.old.end.sockets self.new.end.sockets }
         ensures memory { self.new.memory ≡ self.old.memory }
@@ -1124,6 +1128,7 @@ impl Serving {
         servers: &Servers,
         at: usize,
     ) -> io::Result<()>
+        ensures looked { (text : List ℕ) → slice_get servers.now at ≡ Some text → HasHappened (looks_up text) (history_of self.new.end.sockets.wire) }
         ensures core { self.new.end.core ≡ self.old.end.core }
         ensures ends { Stay history_of self.old.end.sockets self.new.end.sockets }
         ensures memory { self.new.memory ≡ self.old.memory }
@@ -1135,6 +1140,7 @@ impl Serving {
     }
 
     fn resolve_one<R: Net + Eprint>(&mut self, rt: &R, text: &str) -> io::Result<()>
+        ensures looked { history_of self.new.end.sockets.wire ≡ looks_up text.now ∷ history_of self.old.end.sockets.wire }
         ensures core { self.new.end.core ≡ self.old.end.core }
         ensures ends { Stay history_of self.old.end.sockets self.new.end.sockets }
         ensures memory { self.new.memory ≡ self.old.memory }
@@ -1144,7 +1150,8 @@ impl Serving {
         Ok(())
     }
 
-    // Loads a configuration of these servers, and prints what came of that. Whether it was loaded.
+    // Loads a configuration of these servers, once those that weren't in use before were looked up, and prints what came of that. Whether it
+    // was loaded.
     fn load<R: Net + AllocGlobal + Eprint, W: Write>(
         &mut self,
         rt: &R,
@@ -1156,6 +1163,7 @@ impl Serving {
         ensures core { MayLoad config self.old.end.core.value self.new.end.core.value }
         ensures ends { AllGrow (IsLoadOf config) (proxy_of self.old.end) (proxy_of self.new.end) }
         ensures memory { self.new.memory ≡ self.old.memory }
+        ensures looked { IfOk result (λ used. IsTrue used → AreLookedUp (length self.old.servers) servers (history_of self.new.end.sockets.wire)) }
         ensures noted { IfOk result (λ used. IsTrue used → self.new.servers ≡ servers) }
         ensures unused { IfOk result (λ used. IsTrue used ⊎ (self.new.end.core.value ≡ self.old.end.core.value)) }
     {
