@@ -6,6 +6,7 @@ use crate::serving::Proxy;
 use mcgate_args::input::text_of;
 use mcgate_args::input_text::InputFault;
 use route_json::addresses::Servers;
+use route_json::read_config_after;
 use serve_proxy::text_at;
 use std::alloc::{AllocError, Global};
 use std::fs::metadata;
@@ -18,6 +19,8 @@ use std::rt::Files;
 pub struct Emptying {
     path: Option<String>,
     names: Vec<String>,
+    // Whether servers that a reload brings are.
+    flushes_new: bool,
 }
 
 // The file beside a history.
@@ -91,13 +94,18 @@ impl Emptying {
     pub fn read<R: Files + Input + AllocGlobal>(
         rt: &R,
         history: Option<&str>,
+        flushes_new: bool,
     ) -> io::Result<Emptying> {
         let path = path_beside(rt.alloc(), history)?;
         let names = match &path {
             Some(path) if is_there(rt, path.as_str()) => names_in(rt, path.as_str())?,
             _ => Vec::new(rt.alloc()),
         };
-        Ok(Emptying { path, names })
+        Ok(Emptying {
+            path,
+            names,
+            flushes_new,
+        })
     }
 
     // The file names them, and the disk has it.
@@ -130,6 +138,22 @@ impl Emptying {
             return self.write(rt);
         }
         Ok(())
+    }
+
+    /// So are the servers that a text's configuration has behind these, if it says one, and if they are to be.
+    pub fn add_of<R: Files + AllocGlobal>(
+        &mut self,
+        rt: &R,
+        servers: &Servers,
+        text: &str,
+    ) -> io::Result<()> {
+        if !self.flushes_new {
+            return Ok(());
+        }
+        match read_config_after(rt.alloc(), servers.copy(rt.alloc())?, text) {
+            Ok(config) => self.add(rt, config.servers(), servers.len()),
+            Err(_) => Ok(()),
+        }
     }
 
     /// The number of the first of them among these servers from this number on.

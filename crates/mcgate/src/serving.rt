@@ -106,8 +106,6 @@ pub struct Serving {
     draining: Option<Draining>,
     /// Servers that are to be emptied before their first call.
     emptying: Option<Emptying>,
-    /// Whether those are that a reload brings.
-    flushes_new: bool,
     /// Whether no server waits until those of earlier epochs at its address have no calls any more.
     have_begun: bool,
 }
@@ -195,6 +193,33 @@ fn print_kept<W: Write>(
     }
 }
 
+// The new servers of a text are to be emptied, if it says a configuration, where that is so of all that a reload brings: it is written
+// before they are used. Whether it was, or needn't be; where it can't be written that is told and printed.
+fn notes_new<R: Files + AllocGlobal + Eprint, W: Write>(
+    rt: &R,
+    lines: &mut Lines,
+    emptying: &mut Option<Emptying>,
+    servers: &Servers,
+    text: &str,
+    out: &mut W,
+) -> Result<bool, Stop> {
+    let Some(emptying) = emptying else {
+        return Ok(true);
+    };
+    match emptying.add_of(rt, servers, text) {
+        Ok(()) => Ok(true),
+        Err(error) if error.kind() == ErrorKind::OutOfMemory => Err(Stop::Memory),
+        Err(error) => {
+            let line = format_args!(
+                "mcgate: cannot write which servers are to be emptied: {error}"
+            );
+            lines.tell(rt, line);
+            writeln!(out, "reload refused: history not written")?;
+            Ok(false)
+        }
+    }
+}
+
 // How many generations there were before the last one.
 fn before_of(memory: &Option<Kept>) -> u32 {
     match memory {
@@ -235,7 +260,6 @@ impl Serving {
             controlling,
             draining: None,
             emptying: None,
-            flushes_new: false,
             have_begun: false,
         })
     }
@@ -423,7 +447,7 @@ impl Serving {
         ensures core { self.new.end.core ≡ self.old.end.core }
         ensures ends { Stay history_of self.old.end.sockets self.new.end.sockets }
     {
-        let emptying = Emptying::read(rt, job.history)?;
+        let emptying = Emptying::read(rt, job.history, job.settings.flushes_new)?;
         let mut from = 0usize;
         for _ in 0..self.servers.len() {
             let Some(at) = emptying.next(&self.servers, from) else {
@@ -434,7 +458,6 @@ impl Serving {
         }
         self.keep_epochs();
         self.emptying = Some(emptying);
-        self.flushes_new = job.settings.flushes_new;
         Ok(())
     }
 
@@ -444,49 +467,6 @@ impl Serving {
     {
         if let Some(emptying) = &mut self.emptying {
             let _ = emptying.settle(rt, &self.end, &self.servers);
-        }
-    }
-
-    // The new servers of a text are to be emptied, if it says a configuration, where that is so of all that a reload brings: it is written before they are used.
-    fn note_new<R: Files + AllocGlobal>(&mut self, rt: &R, text: &str) -> io::Result<()>
-        ensures end { self.new.end ≡ self.old.end }
-        ensures memory { self.new.memory ≡ self.old.memory }
-        ensures servers { self.new.servers ≡ self.old.servers }
-    {
-        if !self.flushes_new {
-            return Ok(());
-        }
-        let Some(emptying) = &mut self.emptying else {
-            return Ok(());
-        };
-        match read_after(rt.alloc(), &self.servers, text) {
-            Ok((_, servers)) => emptying.add(rt, &servers, self.servers.len()),
-            Err(_) => Ok(()),
-        }
-    }
-
-    // The same. Where it can't be written that is told and printed: whether it was.
-    fn has_noted_new<R: Files + AllocGlobal + Eprint, W: Write>(
-        &mut self,
-        rt: &R,
-        text: &str,
-        out: &mut W,
-    ) -> Result<bool, Stop>
-        ensures end { self.new.end ≡ self.old.end }
-        ensures memory { self.new.memory ≡ self.old.memory }
-        ensures servers { self.new.servers ≡ self.old.servers }
-    {
-        match self.note_new(rt, text) {
-            Ok(()) => Ok(true),
-            Err(error) if error.kind() == ErrorKind::OutOfMemory => Err(Stop::Memory),
-            Err(error) => {
-                let line = format_args!(
-                    "mcgate: cannot write which servers are to be emptied: {error}"
-                );
-                self.lines.tell(rt, line);
-                writeln!(out, "reload refused: history not written")?;
-                Ok(false)
-            }
         }
     }
 
@@ -1054,7 +1034,8 @@ impl Serving {
         ensures ends { Serves self.old.end self.new.end }
         ensures remembered { StandsIfLoaded self.old.end.core.value self.new.end.core.value self.new.memory text.now }
     {
-        if !self.has_noted_new(rt, text, out)? {
+        let emptying = &mut self.emptying;
+        if !notes_new(rt, &mut self.lines, emptying, &self.servers, text, out)? {
             return Ok(false);
         }
         match remember(rt, &mut self.lines, &mut self.memory, text, out)? {

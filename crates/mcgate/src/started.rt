@@ -78,7 +78,7 @@ fn note_new<R: Files + Input + AllocGlobal>(
         return Ok(());
     }
     let from = generations[count - 2].config.servers().len();
-    let mut emptying = Emptying::read(rt, Some(path))?;
+    let mut emptying = Emptying::read(rt, Some(path), true)?;
     Ok(emptying.add(rt, generations[count - 1].config.servers(), from)?)
 }
 
