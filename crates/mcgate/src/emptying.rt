@@ -19,6 +19,8 @@ use std::rt::Files;
 pub struct Emptying {
     path: Option<String>,
     names: Vec<String>,
+    // Whether the file has just these.
+    is_written: bool,
     // Whether servers that a reload brings are.
     flushes_new: bool,
 }
@@ -104,19 +106,22 @@ impl Emptying {
         Ok(Emptying {
             path,
             names,
+            is_written: true,
             flushes_new,
         })
     }
 
     // The file names them, and the disk has it.
-    fn write<R: Files + AllocGlobal>(&self, rt: &R) -> io::Result<()> {
-        match &self.path {
-            None => Ok(()),
-            Some(path) => {
-                let text = text_with(rt.alloc(), &self.names)?;
-                put(rt, path.as_str(), text.as_str())
-            }
+    fn write<R: Files + AllocGlobal>(&mut self, rt: &R) -> io::Result<()> {
+        if self.is_written {
+            return Ok(());
         }
+        if let Some(path) = &self.path {
+            let text = text_with(rt.alloc(), &self.names)?;
+            put(rt, path.as_str(), text.as_str())?;
+        }
+        self.is_written = true;
+        Ok(())
     }
 
     /// So are these servers from this number on. The file has them before they are used.
@@ -126,18 +131,15 @@ impl Emptying {
         servers: &Servers,
         from: usize,
     ) -> io::Result<()> {
-        let known = self.names.len();
         for at in from..servers.len() {
             if let Some(name) = text_at(servers, at) {
                 if !has(&self.names, name) {
                     self.names.push(String::from_str(rt.alloc(), name)?)?;
+                    self.is_written = false;
                 }
             }
         }
-        if known < self.names.len() {
-            return self.write(rt);
-        }
-        Ok(())
+        self.write(rt)
     }
 
     /// So are the servers that a text's configuration has behind these, if it says one, and if they are to be.
@@ -186,8 +188,8 @@ impl Emptying {
         }
         if left.len() < self.names.len() {
             self.names = left;
-            return self.write(rt);
+            self.is_written = false;
         }
-        Ok(())
+        self.write(rt)
     }
 }

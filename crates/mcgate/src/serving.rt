@@ -1034,8 +1034,14 @@ impl Serving {
         ensures ends { Serves self.old.end self.new.end }
         ensures remembered { StandsIfLoaded self.old.end.core.value self.new.end.core.value self.new.memory text.now }
     {
-        let emptying = &mut self.emptying;
-        if !notes_new(rt, &mut self.lines, emptying, &self.servers, text, out)? {
+        if !notes_new(
+            rt,
+            &mut self.lines,
+            &mut self.emptying,
+            &self.servers,
+            text,
+            out,
+        )? {
             return Ok(false);
         }
         match remember(rt, &mut self.lines, &mut self.memory, text, out)? {
