@@ -80,14 +80,14 @@ fn has(names: &[String], name: &str) -> bool {
     false
 }
 
-// Whether the server of this name is still to be emptied.
+// Whether the server of this name is still to be emptied, as far as is known: one that isn't in use is.
 fn is_due(end: &Proxy, servers: &Servers, name: &str) -> bool {
     let Some(server) = servers.find(name) else {
-        return false;
+        return true;
     };
     match end.link(server.number() as usize) {
         Some(link) => link.flushes,
-        None => false,
+        None => true,
     }
 }
 

@@ -448,17 +448,32 @@ impl Serving {
         ensures ends { Stay history_of self.old.end.sockets self.new.end.sockets }
     {
         let emptying = Emptying::read(rt, job.history, job.settings.flushes_new)?;
+        self.emptying = Some(emptying);
+        self.keep_epochs();
+        Ok(())
+    }
+
+    // The first of those that are to be emptied, from this server on.
+    fn next_emptying(&self, from: usize) -> Option<usize> {
+        match &self.emptying {
+            Some(emptying) => emptying.next(&self.servers, from),
+            None => None,
+        }
+    }
+
+    // All of them are emptied before their first call.
+    fn mark_emptying(&mut self)
+        ensures core { self.new.end.core ≡ self.old.end.core }
+        ensures ends { Stay history_of self.old.end.sockets self.new.end.sockets }
+    {
         let mut from = 0usize;
         for _ in 0..self.servers.len() {
-            let Some(at) = emptying.next(&self.servers, from) else {
-                break;
+            let Some(at) = self.next_emptying(from) else {
+                return;
             };
             self.end.empty_first(at);
             from = at.saturating_add(1);
         }
-        self.keep_epochs();
-        self.emptying = Some(emptying);
-        Ok(())
     }
 
     // What was emptied is noted. Where that can't be written, it may be emptied once more by the next run.
@@ -470,14 +485,16 @@ impl Serving {
         }
     }
 
-    // Calls go to each server while its epoch lasts.
+    // Servers are emptied that are to be, and calls go to each while its epoch lasts.
     fn keep_epochs(&mut self)
         ensures core { self.new.end.core ≡ self.old.end.core }
         ensures ends { Stay history_of self.old.end.sockets self.new.end.sockets }
     {
-        if !self.have_begun {
-            self.have_begun = self.end.keep_epochs(&self.servers);
+        if self.have_begun {
+            return;
         }
+        self.mark_emptying();
+        self.have_begun = self.end.keep_epochs(&self.servers);
     }
 
     fn millis<R: Clock>(&self, rt: &R) -> io::Result<u64> {
