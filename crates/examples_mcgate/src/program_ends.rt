@@ -13,6 +13,7 @@ use mcgate_args::input::{text_noting, text_of};
 use mcgate_args::input_text::InputFault;
 use mcgate_args::serve_arguments::ServeJob;
 use mcgate_args::slots::SlotsChange;
+use mcgate_args::tell_arguments::TellJob;
 use mcgate_check::{Form, RunFault};
 use mcgate_replay::Judging;
 use route_json::Config;
@@ -81,6 +82,16 @@ mcgate serve --listen a:1 --config c --history h => serve - after h fail-limit 3
 mcgate serve --listen a:1 --config c --history h --any => refused, told
 mcgate serve --listen a:1 --config c --stall-ms 7 --memory-mb 8 => serve - fail-limit 3 stall-ms 7 memory 8388608 auto
 mcgate serve --listen a:1 --config c --metrics b:2 => serve - fail-limit 3 metrics b:2 auto
+mcgate serve --listen a:1 --config c --control d => serve - fail-limit 3 control d drain-ms 10000 auto
+mcgate serve --listen a:1 --config c --control d --drain-ms 5 => serve - fail-limit 3 control d drain-ms 5 auto
+mcgate serve --listen a:1 --config c --drain-ms 0 => refused, told
+mcgate serve --listen unix:a --unix-mode 660 --config c => serve - at unix:a 660 fail-limit 3 auto
+mcgate serve --listen unix:a --unix-mode 777 --config c => refused, told
+mcgate serve --listen a:1 --config c --log-level warn => serve - fail-limit 3 log warn auto
+mcgate serve --listen a:1 --config c --log-json => serve - fail-limit 3 log info json auto
+mcgate serve --listen a:1 --config c --log-level all => refused, told
+mcgate tell d drain => tell d drain
+mcgate tell d where k => tell d where k
 mcgate serve --listen a:1 --config c --server-dialect auto => serve - fail-limit 3 auto
 mcgate serve --listen a:1 --config c --server-dialect classic => serve - fail-limit 3 classic
 mcgate serve --listen a:1 --config c --server-dialect meta => serve - fail-limit 3 meta
@@ -111,6 +122,7 @@ mcgate serve --config c => refused, told
 mcgate cache --listen a:1 --capacity 0 => refused, told
 mcgate cache --listen a:1 --capacity 4294967296 => refused, told
 mcgate cache --listen a:1 --capacity 5 --memory-mb 0 => refused, told
+mcgate tell d => refused, told
 mcgate check f g => refused, told
 mcgate loopback --any => refused, told
 mcgate replay --any --any => refused, told
@@ -193,6 +205,9 @@ fn push_beginning(out: &mut String, word: &str, beginning: Beginning) -> Result<
 
 fn push_serve(out: &mut String, job: &ServeJob<'_>) -> Result<(), AllocError> {
     write!(out, "serve {}", any_word(job.any))?;
+    if job.listen != "a:1" {
+        write!(out, " at {} {:o}", job.listen, job.unix_mode)?;
+    }
     if let Some(certificate) = job.certificate {
         write!(out, " by {certificate}")?;
     }
@@ -207,6 +222,13 @@ fn push_serve(out: &mut String, job: &ServeJob<'_>) -> Result<(), AllocError> {
     }
     if let Some(metrics) = job.metrics {
         write!(out, " metrics {metrics}")?;
+    }
+    if let Some(log) = job.log {
+        write!(out, " log {}", log.level.word())?;
+        out.push_str(if log.json { " json" } else { "" })?;
+    }
+    if let Some(control) = job.control {
+        write!(out, " control {control} drain-ms {}", job.drain_ms)?;
     }
     write!(out, " {}", dialect_word(job.settings.server_dialect))?;
     push_beginning(out, "own", job.begun.opened)?;
@@ -226,6 +248,14 @@ fn change_words(change: SlotsChange<'_>) -> &'static str {
         SlotsChange::Add(_) => "one more",
         SlotsChange::Remove(_) => "one less",
     }
+}
+
+fn push_tell(out: &mut String, job: &TellJob<'_>) -> Result<(), AllocError> {
+    write!(out, "tell {} {}", job.path, job.word)?;
+    if let Some(key) = job.key {
+        write!(out, " {key}")?;
+    }
+    Ok(())
 }
 
 fn push_job(out: &mut String, job: &Job<'_>) -> Result<(), AllocError> {
@@ -279,6 +309,7 @@ fn push_job(out: &mut String, job: &Job<'_>) -> Result<(), AllocError> {
             push_number(out, "turns", job.turns)?;
         }
         Job::Serve(job) => push_serve(out, job)?,
+        Job::Tell(job) => push_tell(out, job)?,
         Job::Print(text) => out.push_str(text)?,
     }
     Ok(())

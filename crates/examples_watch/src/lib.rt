@@ -1,7 +1,11 @@
-//! Worked examples of what a running proxy tells over HTTP: requests, answers, and numbers as texts.
+//! Worked examples of what a running proxy tells, and is told: requests, answers, and numbers as texts.
 #![tactic(auto)]
 
+#[cfg(test)]
+mod control;
 #[cfg(test)]
 mod numbers;
 #[cfg(test)]
 mod requests;
+#[cfg(test)]
+mod times;

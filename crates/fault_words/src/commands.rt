@@ -27,13 +27,14 @@ pub enum Command {
     History,
     Slots,
     Plan,
+    Tell,
     Help,
 }
 
 /// The names of the commands.
-pub const COMMANDS: [&str; 11] = [
+pub const COMMANDS: [&str; 12] = [
     "check", "certify", "replay", "where", "serve", "cache", "loopback", "history", "slots",
-    "plan", "help",
+    "plan", "tell", "help",
 ];
 
 const CHECK_FLAGS: [&str; 8] = [
@@ -47,11 +48,12 @@ const CHECK_FLAGS: [&str; 8] = [
     "new-servers",
 ];
 
-const SERVE_FLAGS: [&str; 25] = [
+const SERVE_FLAGS: [&str; 30] = [
     "help",
     "check",
     "config",
     "listen",
+    "unix-mode",
     "any",
     "history",
     "certificate",
@@ -67,6 +69,10 @@ const SERVE_FLAGS: [&str; 25] = [
     "stall-ms",
     "memory-mb",
     "metrics",
+    "control",
+    "drain-ms",
+    "log-level",
+    "log-json",
     "server-dialect",
     "opened",
     "new-servers",
@@ -83,11 +89,13 @@ pub const TOP_FLAGS: [&str; 2] = ["help", "version"];
 /// What follows the flag of this name.
 pub fn takes_of(flag: &str) -> Takes {
     match flag {
-        "help" | "version" | "any" | "check" | "explain" | "dot" | "fleet" => Takes::Nothing,
-        "config" | "certificate" | "with" | "history" | "after" => Takes::File,
+        "help" | "version" | "any" | "check" | "explain" | "dot" | "fleet" | "log-json" => {
+            Takes::Nothing
+        }
+        "config" | "certificate" | "with" | "history" | "after" | "control" => Takes::File,
         "listen" | "metrics" | "add" | "remove" => Takes::Address,
         "pool" => Takes::Pool,
-        "server-dialect" | "opened" | "new-servers" => Takes::Word,
+        "server-dialect" | "opened" | "new-servers" | "unix-mode" | "log-level" => { Takes::Word }
         _ => Takes::Count,
     }
 }
@@ -103,6 +111,8 @@ pub fn words_after(flag: &str) -> &'static [&'static str] {
         "server-dialect" => &["auto", "classic", "meta"],
         "opened" => &["any", "own"],
         "new-servers" => &["any", "empty"],
+        "log-level" => &["error", "warn", "info", "debug"],
+        "unix-mode" => &["600", "660", "666"],
         _ => &[],
     }
 }
@@ -135,6 +145,7 @@ impl Command {
             "history" => Some(Command::History),
             "slots" => Some(Command::Slots),
             "plan" => Some(Command::Plan),
+            "tell" => Some(Command::Tell),
             "help" => Some(Command::Help),
             _ => None,
         }
@@ -153,6 +164,7 @@ impl Command {
             Command::History => "history",
             Command::Slots => "slots",
             Command::Plan => "plan",
+            Command::Tell => "tell",
             Command::Help => "help",
         }
     }
@@ -179,6 +191,7 @@ impl Command {
                 "mcgate slots [--add HOST:PORT | --remove HOST:PORT] [--pool NAME] [--after FILE ..] [FILE]"
             }
             Command::Plan => "mcgate plan [--opened WORD] [--new-servers WORD] OLD NEW",
+            Command::Tell => "mcgate tell PATH drain | reload | status | servers | where KEY",
             Command::Help => "mcgate help [COMMAND]",
         }
     }
@@ -193,7 +206,11 @@ impl Command {
             Command::Serve => &SERVE_FLAGS,
             Command::Cache => &CACHE_FLAGS,
             Command::Slots => &["help", "add", "remove", "pool", "after"],
-            Command::Certify | Command::Loopback | Command::History | Command::Help => &["help"],
+            Command::Certify
+            | Command::Loopback
+            | Command::History
+            | Command::Tell
+            | Command::Help => &["help"],
         }
     }
 
@@ -218,6 +235,7 @@ impl Command {
             | Command::Slots
             | Command::Help => 1,
             Command::Plan => 2,
+            Command::Tell => 3,
             Command::Where => usize::MAX,
             Command::Serve | Command::Cache => 0,
         }
@@ -227,7 +245,7 @@ impl Command {
     pub fn least_words(self) -> usize {
         match self {
             Command::Where | Command::History => 1,
-            Command::Plan => 2,
+            Command::Plan | Command::Tell => 2,
             _ => 0,
         }
     }
@@ -240,6 +258,7 @@ impl Command {
             Command::Replay | Command::Loopback => "SCRIPT",
             Command::Where => "KEY",
             Command::Serve | Command::Cache => "",
+            Command::Tell => "PATH, WORD",
             Command::Help => "COMMAND",
         }
     }

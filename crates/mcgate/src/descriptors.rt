@@ -4,6 +4,7 @@ use crate::lines::Lines;
 use libc::types::rlimit;
 use libc::{RLIMIT_NOFILE, getrlimit};
 use mcgate_args::serve_arguments::ServeJob;
+use watch_control::callers::PLACES as CALLERS;
 use watch_http::visitors::PLACES;
 
 // So many descriptors are kept for what is neither a client nor a server of the configuration: the standard ones, the listener, what it
@@ -12,6 +13,9 @@ const RESERVE: usize = 16;
 
 // And so many for who asks for numbers, where it listens for them: as many as may be there, the listener, and what waits for them.
 const WATCHING: usize = PLACES + 2;
+
+// And so many for who tells it things, where it listens for them.
+const CONTROLLING: usize = CALLERS + 2;
 
 // How many descriptors the process may have open, if the system tells.
 fn most_descriptors() -> Option<usize> {
@@ -23,6 +27,17 @@ fn most_descriptors() -> Option<usize> {
         return None;
     }
     usize::try_from(limit.rlim_cur).ok()
+}
+
+// How many are kept for what is neither a client nor a server.
+fn rest_of(job: &ServeJob<'_>) -> usize {
+    let watching = if job.metrics.is_some() { WATCHING } else { 0 };
+    let controlling = if job.control.is_some() {
+        CONTROLLING
+    } else {
+        0
+    };
+    RESERVE + watching + controlling
 }
 
 /// The job, with as many clients at once as there are descriptors for beside its servers'. Where those are fewer than wanted, a line on
@@ -37,17 +52,14 @@ pub fn within_descriptors<'a, R: Eprint>(
         return job;
     };
     let wanted = job.settings.clients;
-    let rest = match job.metrics {
-        Some(_) => RESERVE + WATCHING,
-        None => RESERVE,
-    };
+    let rest = rest_of(&job);
     let settings = job.settings.within_descriptors(most, servers, rest);
     let clients = settings.clients;
     if clients < wanted {
         let line = format_args!(
             "mcgate: WARNING: {most} descriptors may be open (ulimit -n): {clients} clients are served at once, not {wanted}; {servers} are kept for servers, {rest} for the rest"
         );
-        lines.tell(rt, line);
+        lines.warn(rt, line);
     }
     ServeJob { settings, ..job }
 }

@@ -97,7 +97,7 @@ pub fn run_after<R: Files + Input + AllocGlobal + Eprint, W: Write>(
     out: &mut W,
     details: &mut Details,
 ) -> Result<u8, Stop> {
-    let mut lines = Lines::new();
+    let mut lines = Lines::new(rt.alloc(), None);
     match file_at(rt, path, &mut lines, out, details)? {
         Some(file) => check_after(rt.alloc(), path, file, text, begun, form, out, details),
         None => Ok(BAD_INPUT),

@@ -3,7 +3,13 @@
 
 use libc::net::{POLLOUT, poll};
 use libc::types::pollfd;
+use mcgate_args::log_arguments::{Level, Log};
+use std::alloc::{AllocError, Global};
 use std::fmt::Display;
+use std::rt::Clock;
+use std::time::{SystemTime, UNIX_EPOCH};
+use watch_text::quoted::Quoted;
+use watch_text::times::Moment;
 
 // An output of the program.
 #[derive(Clone, Copy)]
@@ -31,9 +37,21 @@ impl Output {
     }
 }
 
+// The time, in milliseconds from the begin of 1970 on, if the system tells.
+fn millis<R: Clock>(rt: &R) -> Option<u64> {
+    let now = SystemTime::now(rt).ok()?;
+    let since = now.duration_since(UNIX_EPOCH).ok()?;
+    u64::try_from(since.as_millis()).ok()
+}
+
 /// The lines of a proxy that runs.
 #[derive(Drop)]
 pub struct Lines {
+    alloc: Global,
+    // How they are written, if not as they are.
+    log: Option<Log>,
+    // The time, in milliseconds from the begin of 1970 on, when it was looked at last.
+    now: u64,
     // How many were lost since it was told last.
     lost: u64,
     // How many before that.
@@ -41,9 +59,12 @@ pub struct Lines {
 }
 
 impl Lines {
-    /// None was lost yet.
-    pub fn new() -> Lines {
+    /// None was lost yet. They are written so, if not as they are.
+    pub fn new(alloc: Global, log: Option<Log>) -> Lines {
         Lines {
+            alloc,
+            log,
+            now: 0,
             lost: 0,
             lost_before: 0,
         }
@@ -54,10 +75,70 @@ impl Lines {
         self.lost_before.saturating_add(self.lost)
     }
 
+    /// Whether lines are told as they are, or with the least urgent ones.
+    pub fn tells_all(&self) -> bool {
+        match self.log {
+            None => true,
+            Some(log) => log.level == Level::Debug,
+        }
+    }
+
+    /// Whether lines have a time.
+    pub fn have_time(&self) -> bool {
+        self.log.is_some()
+    }
+
+    /// The time when it was looked at last, in milliseconds.
+    pub fn now(&self) -> u64 {
+        self.now
+    }
+
+    /// The time is looked at, where lines have one.
+    pub fn look<R: Clock>(&mut self, rt: &R) {
+        if self.log.is_none() {
+            return;
+        }
+        if let Some(now) = millis(rt) {
+            self.now = now;
+        }
+    }
+
+    // A line with its time and level.
+    fn timed<D: Display + Drop>(
+        &self,
+        log: Log,
+        level: Level,
+        line: D,
+    ) -> Result<String, AllocError> {
+        let told = format!(in self.alloc; "{line}")?;
+        let told = told.strip_prefix("mcgate: ").unwrap_or(told.as_str());
+        let (time, word) = (Moment(self.now), level.word());
+        if !log.json {
+            return format!(in self.alloc; "{time} {word} {told}");
+        }
+        let begin = format!(in self.alloc; "{{\"time\":\"{time}\",\"level\":\"{word}\"")?;
+        let told = Quoted(told);
+        format!(in self.alloc; "{begin},\"line\":{told}}}")
+    }
+
     // Notes what became of a line.
     fn note(&mut self, is_written: bool) {
         if !is_written {
             self.lost = self.lost.saturating_add(1);
+        }
+    }
+
+    // Writes a line, if it is told. Whether it is lost.
+    fn loses<R: Eprint, D: Display + Drop>(&self, rt: &R, level: Level, line: D) -> bool {
+        let Some(log) = self.log else {
+            return rt.eprintln(line).is_err();
+        };
+        if !level.is_within(log.level) {
+            return false;
+        }
+        match self.timed(log, level, line) {
+            Ok(text) => rt.eprintln(text.as_str()).is_err(),
+            Err(_) => true,
         }
     }
 
@@ -66,17 +147,28 @@ impl Lines {
         if self.lost == 0 || !Output::Error.is_ready() {
             return;
         }
-        if eprintln!(rt; "mcgate: {} lines could not be written before", self.lost).is_ok() {
+        let lost = self.lost;
+        let line = format_args!("mcgate: {lost} lines could not be written before");
+        if !self.loses(rt, Level::Warn, line) {
             self.lost_before = self.lost();
             self.lost = 0;
         }
     }
 
+    fn tell_at<R: Eprint, D: Display + Drop>(&mut self, rt: &R, level: Level, line: D) {
+        self.tell_lost(rt);
+        let is_lost = !Output::Error.is_ready() || self.loses(rt, level, line);
+        self.note(!is_lost);
+    }
+
     /// A line for standard error.
     pub fn tell<R: Eprint, D: Display + Drop>(&mut self, rt: &R, line: D) {
-        self.tell_lost(rt);
-        let is_written = Output::Error.is_ready() && rt.eprintln(line).is_ok();
-        self.note(is_written);
+        self.tell_at(rt, Level::Info, line);
+    }
+
+    /// One that somebody should see.
+    pub fn warn<R: Eprint, D: Display + Drop>(&mut self, rt: &R, line: D) {
+        self.tell_at(rt, Level::Warn, line);
     }
 
     /// Lines for standard output, each with its end.

@@ -3,9 +3,13 @@
 
 mod cache;
 mod certified;
+mod controlling;
 mod descriptors;
+mod draining;
 mod histories;
 mod lines;
+mod listening;
+mod outages;
 mod over_tcp;
 mod remembering;
 mod serve;
@@ -14,15 +18,18 @@ mod sharing;
 mod slots;
 mod special;
 mod started;
+mod telling;
 mod warnings;
 mod watching;
 
 use cache::serve_cache;
 use certified::judge_text_by;
+use controlling::Controlling;
 use descriptors::within_descriptors;
 use fault_words::script::BadLine;
 use histories::{run_after, run_history};
 use lines::Lines;
+use listening::Given;
 use mc_types::Key;
 use mcgate_args::arguments::{Job, Task, read_arguments};
 use mcgate_args::bad_lines::{bad_line_of_events, bad_line_of_task};
@@ -53,6 +60,7 @@ use std::io::{BufWriter, ErrorKind, Write};
 use std::net::Net;
 use std::process::ExitCode;
 use std::rt::{Clock, Env, Files};
+use telling::tell;
 use warnings::say_warnings;
 use watching::Watching;
 
@@ -370,8 +378,26 @@ fn watch_job<R: Net + Clock + AllocGlobal>(
     }
 }
 
+/// Listens where a job says for who tells it things, if it does. Where it can't, a line of detail says why.
+fn control_job<R: Files + Net + Clock + AllocGlobal>(
+    rt: &R,
+    job: &ServeJob<'_>,
+    details: &mut Details,
+) -> Result<Option<Controlling>, Stop> {
+    let Some(path) = job.control else {
+        return Ok(None);
+    };
+    match Controlling::listen(rt, path) {
+        Ok(controlling) => Ok(Some(controlling)),
+        Err(error) => {
+            details.add_listen(rt.alloc(), path, &error);
+            Err(Stop::from(error))
+        }
+    }
+}
+
 /// Serves a configuration. Where it can't listen there, a line of detail says why.
-fn serve_job<R: Files + Input + AllocGlobal + Net + Clock + Print + Eprint>(
+fn serve_job<R: Files + Input + AllocGlobal + Net + Clock + Print + Eprint + Given>(
     rt: &R,
     job: ServeJob<'_>,
     servable: Servable,
@@ -380,7 +406,8 @@ fn serve_job<R: Files + Input + AllocGlobal + Net + Clock + Print + Eprint>(
     details: &mut Details,
 ) -> Result<u8, Stop> {
     let watching = watch_job(rt, &job, details)?;
-    match serve_to_end(rt, &job, servable, started, lines, watching) {
+    let controlling = control_job(rt, &job, details)?;
+    match serve_to_end(rt, &job, servable, started, lines, watching, controlling) {
         Ok((_serving, ended)) => ended,
         Err(error) => {
             details.add_listen(rt.alloc(), job.listen, &error);
@@ -410,7 +437,7 @@ fn judge_job<R: Files + Input + AllocGlobal, W: Write>(
 }
 
 /// Serves it after the history that is kept, if it may follow, or prints why not.
-fn begin_job<R: Files + Input + AllocGlobal + Net + Clock + Print + Eprint, W: Write>(
+fn begin_job<R: Files + Input + AllocGlobal + Net + Clock + Print + Eprint + Given, W: Write>(
     rt: &R,
     job: ServeJob<'_>,
     servable: Servable,
@@ -454,7 +481,7 @@ fn check_job<R: Files + Input + AllocGlobal + Net + Eprint, W: Write>(
 }
 
 /// Serves what a job names, or prints why it isn't served.
-fn run_serve<R: Files + Input + AllocGlobal + Net + Clock + Print + Eprint, W: Write>(
+fn run_serve<R: Files + Input + AllocGlobal + Net + Clock + Print + Eprint + Given, W: Write>(
     rt: &R,
     job: ServeJob<'_>,
     out: &mut W,
@@ -480,7 +507,8 @@ fn run_serve<R: Files + Input + AllocGlobal + Net + Clock + Print + Eprint, W: W
             Ok(status)
         }
         Judged::Servable(servable) => {
-            let mut lines = Lines::new();
+            let mut lines = Lines::new(rt.alloc(), job.log);
+            lines.look(rt);
             say_warnings(rt, &mut lines, job.file, text.as_str());
             let job = within_descriptors(rt, &mut lines, job, servable.len());
             if job.check {
@@ -492,7 +520,7 @@ fn run_serve<R: Files + Input + AllocGlobal + Net + Clock + Print + Eprint, W: W
 }
 
 /// Runs what the arguments ask for, and answers the exit status.
-fn run<R: Files + Input + AllocGlobal + Env + Net + Clock + Print + Eprint, W: Write>(
+fn run<R: Files + Input + AllocGlobal + Env + Net + Clock + Print + Eprint + Given, W: Write>(
     rt: &R,
     out: &mut W,
     details: &mut Details,
@@ -527,6 +555,7 @@ fn run<R: Files + Input + AllocGlobal + Env + Net + Clock + Print + Eprint, W: W
         Job::Loopback { file } => run_loopback(rt, file, out, details),
         Job::Cache(job) => serve_cache(rt, job, details),
         Job::Serve(job) => run_serve(rt, job, out, details),
+        Job::Tell(job) => tell(rt, &job, out, details),
         Job::Print(text) => {
             out.write_all(text.as_bytes())?;
             Ok(DONE)
@@ -535,7 +564,7 @@ fn run<R: Files + Input + AllocGlobal + Env + Net + Clock + Print + Eprint, W: W
 }
 
 /// Runs, and gives out what was written, also what was written before a fault.
-fn run_and_flush<R: Files + Input + AllocGlobal + Env + Net + Clock + Print + Eprint>(
+fn run_and_flush<R: Files + Input + AllocGlobal + Env + Net + Clock + Print + Eprint + Given>(
     rt: &R,
     details: &mut Details,
 ) -> Result<u8, Stop> {

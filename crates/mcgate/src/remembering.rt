@@ -80,7 +80,7 @@ fn tell_unwritten<R: AllocGlobal + Eprint>(
     error: &io::Error,
 ) {
     if let Ok(line) = unwritten_line(rt.alloc(), path, error) {
-        lines.tell(rt, line.as_str());
+        lines.warn(rt, line.as_str());
     }
 }
 

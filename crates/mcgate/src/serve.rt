@@ -6,7 +6,9 @@ ghost use Rattle.serve_proxy.specs.Ends.{HasNoConns};
 ghost use Rattle.mcgate.specs.Judging.{Judges, JudgesText};
 ghost use Rattle.mcgate.specs.Serves.{Begins, HasServers, BeginsServing, HasServed, StaysFresh, history_of, proxy_of};
 
+use crate::controlling::Controlling;
 use crate::lines::Lines;
+use crate::listening::{Given, Place, listener_at, place_of};
 use crate::serving::{Proxy, Serving, resolve, tell_if_unknown};
 use crate::sharing::sharing_for;
 use crate::started::Started;
@@ -132,10 +134,15 @@ fn end_over(
 }
 
 // A wire that listens there.
-fn listen_at<R: Net + Clock + AllocGlobal>(rt: &R, listen: &str) -> io::Result<Sockets>
+fn open_wire<R: Files + Net + Clock + AllocGlobal + Given>(
+    rt: &R,
+    job: &ServeJob<'_>,
+) -> io::Result<Sockets>
     ensures { IfOk result (λ wire. history_of wire ≡ []) }
 {
-    Sockets::listen(rt, resolve(rt, listen)?)
+    let mut listeners = Vec::new(rt.alloc());
+    listeners.push(listener_at(rt, job.listen, job.unix_mode)?)?;
+    Sockets::listen_by(rt, listeners)
 }
 
 // The wire looks up these servers. Those that name no host are told of.
@@ -189,15 +196,15 @@ fn tell_unknown<R: Net + Eprint>(
 }
 
 // A wire that listens there, and has looked up these servers. Which of them name no host is told before why it can't listen.
-fn listen<R: Net + Clock + AllocGlobal + Eprint>(
+fn listen<R: Files + Net + Clock + AllocGlobal + Eprint + Given>(
     rt: &R,
     lines: &mut Lines,
-    listen: &str,
+    job: &ServeJob<'_>,
     servers: &Servers,
 ) -> io::Result<Sockets>
     ensures { IfOk result (λ wire. history_of wire ≡ []) }
 {
-    match listen_at(rt, listen) {
+    match open_wire(rt, job) {
         Ok(mut wire) => {
             look_up(rt, lines, &mut wire, servers)?;
             Ok(wire)
@@ -210,7 +217,7 @@ fn listen<R: Net + Clock + AllocGlobal + Eprint>(
 }
 
 // The end that serves it where the job says, with these servers.
-fn open<R: Net + Clock + AllocGlobal + Eprint>(
+fn open<R: Files + Net + Clock + AllocGlobal + Eprint + Given>(
     rt: &R,
     lines: &mut Lines,
     job: &ServeJob<'_>,
@@ -221,43 +228,46 @@ fn open<R: Net + Clock + AllocGlobal + Eprint>(
     ensures ends { IfOk result (λ end. Agrees [] (proxy_of end)) }
     ensures texts { IfOk result (λ end. texts_of end.sockets.links.all.items ≡ servers.now) }
 {
-    let wire = listen(rt, lines, job.listen, servers)?;
+    let wire = listen(rt, lines, job, servers)?;
     Ok(end_over(rt.alloc(), wire, servable, servers, job.begun, job.settings)?)
 }
 
-fn start<R: Net + Clock + AllocGlobal + Eprint>(
+fn start<R: Files + Net + Clock + AllocGlobal + Eprint + Given>(
     rt: &R,
     job: &ServeJob<'_>,
     servable: Servable,
     started: Started,
     lines: Lines,
     watching: Option<Watching>,
+    controlling: Option<Controlling>,
 ) -> io::Result<Serving>
     ensures { IfOk result (λ serving. BeginsServing servable job.now.begun job.now.settings serving.end) }
 {
     let servers = servable.servers(rt.alloc())?;
     let mut lines = lines;
     let end = open(rt, &mut lines, job, servable, &servers)?;
-    Serving::new(rt, end, servers, started, lines, watching)
+    Serving::new(rt, end, servers, started, lines, watching, controlling)
 }
 
-/// Serves a configuration, which starts so, and tells it; who asks for numbers gets them, where it listens for them. What it was in the end comes with the exit status after the turns that
-/// were asked, or with why it ended before.
+/// Serves a configuration, which starts so, and tells it; who asks for numbers gets them, and who tells it things is answered, where it
+/// listens for them. What it was in the end comes with the exit status after the turns that were asked, or once it has drained, or with why
+/// it ended before.
 ///
 /// [`Stop::Device`] comes where the system's wait or clock fails, and [`Stop::Memory`] where memory was refused for a configuration that is
 /// read while it runs. An error comes where it can't listen there, or memory was refused for the proxy itself.
-pub fn serve_to_end<R: Files + Input + Net + Clock + AllocGlobal + Print + Eprint>(
+pub fn serve_to_end<R: Files + Input + Net + Clock + AllocGlobal + Print + Eprint + Given>(
     rt: &R,
     job: &ServeJob<'_>,
     servable: Servable,
     started: Started,
     lines: Lines,
     watching: Option<Watching>,
+    controlling: Option<Controlling>,
 ) -> io::Result<(Serving, Result<u8, Stop>)>
     ensures served { IfOk result (λ ended. HasServed servable job.now.begun job.now.settings ended.1 ended.0.end) }
     ensures fresh { IfOk result (λ ended. StaysFresh servable job.now.begun ended.0.end.core.value) }
 {
-    let mut serving = start(rt, job, servable, started, lines, watching)?;
+    let mut serving = start(rt, job, servable, started, lines, watching, controlling)?;
     let ended = serving.tell_and_run(rt, job);
     serving.logs_are_fresh();
     Ok((serving, ended))
@@ -298,7 +308,9 @@ pub fn look_up_only<R: Net + AllocGlobal + Eprint>(
         return Err(Stop::Memory);
     };
     let unknown = tell_unknown(rt, lines, &servers)?;
-    look_up_own(rt, job.listen, details)?;
+    if let Place::Address(address) = place_of(job.listen) {
+        look_up_own(rt, address, details)?;
+    }
     if let Some(metrics) = job.metrics {
         look_up_own(rt, metrics, details)?;
     }

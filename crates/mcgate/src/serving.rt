@@ -9,15 +9,18 @@ ghost use Rattle.serve_proxy.specs.LogsGoOn.{LogsAreFresh};
 ghost use Rattle.mcgate.specs.Serves.{SaysAfter, history_of, proxy_of, Serves, ServesTo, MayLoad, MayLoadText};
 ghost use Rattle.mcgate.specs.Remembers.{StandsIn, StandsIfLoaded};
 
+use crate::controlling::Controlling;
+use crate::draining::Draining;
 use crate::lines::Lines;
+use crate::outages::Outages;
 use crate::remembering::{Kept, Remembering, forget, remember};
 use crate::special::is_special;
 use crate::started::Started;
-use crate::watching::{Seen, Watching};
+use crate::watching::{Seen, Times, Watching, stats_of, write_servers};
 use core_accepted::LoadFault;
 use gate_check::ReloadFault;
-use mc_types::ServerId;
-use mcgate_args::ends::Stop;
+use mc_types::{Key, ServerId};
+use mcgate_args::ends::{Stop, find_in_text};
 use mcgate_args::input::text_of;
 use mcgate_args::input_text::InputFault;
 use mcgate_args::serve_arguments::ServeJob;
@@ -35,6 +38,9 @@ use std::io::{ErrorKind, Write};
 use std::net::{Net, SocketAddr, ToSocketAddrs};
 use std::rt::{Clock, Files};
 use std::time::{Duration, Instant};
+use watch_control::answers::Verdict;
+use watch_control::callers::PLACES;
+use watch_control::requests::{Request, request_of};
 
 /// The first address that a text names, or why it names none.
 pub fn resolve<N: Net>(net: &N, text: &str) -> io::Result<SocketAddr> {
@@ -56,7 +62,7 @@ pub fn tell_if_unknown<R: Eprint>(
         Err(error) if error.kind() == ErrorKind::OutOfMemory => Err(error),
         Err(_) => {
             let line = format_args!("mcgate: server {text}: no such host, its calls fail");
-            lines.tell(rt, line);
+            lines.warn(rt, line);
             Ok(false)
         }
     }
@@ -86,9 +92,14 @@ pub struct Serving {
     /// How many turns ago.
     turns: u32,
     lines: Lines,
+    outages: Outages,
     seen: Seen,
     /// Who asks for numbers, where it listens for them.
     watching: Option<Watching>,
+    /// Who tells it things, where it listens for them.
+    controlling: Option<Controlling>,
+    /// Since when it drains, if it does.
+    draining: Option<Draining>,
 }
 
 // The text of a regular file. Of what is none the program doesn't wait for a text.
@@ -184,13 +195,14 @@ fn before_of(memory: &Option<Kept>) -> u32 {
 
 impl Serving {
     /// Of this end, by a configuration of these servers, which starts so.
-    pub fn new<R: Clock>(
+    pub fn new<R: Clock + AllocGlobal>(
         rt: &R,
         end: Proxy,
         servers: Servers,
         started: Started,
         lines: Lines,
         watching: Option<Watching>,
+        controlling: Option<Controlling>,
     ) -> io::Result<Serving>
         ensures { IfOk result (λ serving. serving.end ≡ end) }
     {
@@ -207,8 +219,11 @@ impl Serving {
             since: Instant::now(rt)?,
             turns: 0,
             lines,
+            outages: Outages::new(rt.alloc()),
             seen: Seen::new(before.saturating_add(1)),
             watching,
+            controlling,
+            draining: None,
         })
     }
 
@@ -237,23 +252,41 @@ impl Serving {
     fn tell_start<R: Eprint>(&mut self, rt: &R, job: &ServeJob<'_>) -> io::Result<()>
         ensures { self.new.end ≡ self.old.end }
     {
-        let address = self.end.wire().local_addr()?;
         if job.any {
-            self.lines.tell(
+            self.lines.warn(
                 rt,
                 "mcgate: WARNING: --any: no gate was asked, nothing is promised: replies may show deleted data",
             );
         }
-        let servers = self.servers.len();
-        let line = format_args!(
-            "mcgate: serving {} on {address}, {servers} servers, generation {}",
-            job.file,
-            self.generation.saturating_add(self.before)
-        );
-        self.lines.tell(rt, line);
+        self.tell_place(rt, job);
         self.tell_if_new(rt, job);
         self.tell_if_giving_up(rt, job);
-        self.begin_watching(rt)
+        self.begin_watching(rt)?;
+        self.begin_controlling(rt)
+    }
+
+    // Tells where it listens, and what it serves.
+    fn tell_place<R: Eprint>(&mut self, rt: &R, job: &ServeJob<'_>)
+        ensures { self.new.end ≡ self.old.end }
+    {
+        let servers = self.servers.len();
+        let generation = self.generation.saturating_add(self.before);
+        match self.end.wire().local_addr() {
+            Ok(address) => self.lines.tell(
+                rt,
+                format_args!(
+                    "mcgate: serving {} on {address}, {servers} servers, generation {generation}",
+                    job.file
+                ),
+            ),
+            Err(_) => self.lines.tell(
+                rt,
+                format_args!(
+                    "mcgate: serving {} on {}, {servers} servers, generation {generation}",
+                    job.file, job.listen
+                ),
+            ),
+        }
     }
 
     // Tells what the promise rests on where connections are given up while late answers are to come.
@@ -279,6 +312,19 @@ impl Serving {
         let address = watching.local_addr()?;
         self.lines
             .tell(rt, format_args!("mcgate: metrics on {address}"));
+        Ok(())
+    }
+
+    // From now on it wakes up for who tells it things, where it listens for them, and tells that.
+    fn begin_controlling<R: Eprint>(&mut self, rt: &R) -> io::Result<()>
+        ensures { self.new.end ≡ self.old.end }
+    {
+        let Some(controlling) = &self.controlling else {
+            return Ok(());
+        };
+        self.end.wire().wake_by(controlling.descriptor())?;
+        let line = format_args!("mcgate: control at {}", controlling.path());
+        self.lines.tell(rt, line);
         Ok(())
     }
 
@@ -318,11 +364,37 @@ impl Serving {
         self.end.bound_clients(job.stall_ms, job.memory);
         for _ in 0..job.turns.map_or(u64::MAX, u64::from) {
             self.turn(rt, job)?;
-            self.tell_news(rt);
-            self.look_if_due(rt, job)?;
-            self.turn_watching(rt);
+            if self.end_turn(rt, job)? {
+                return self.end_all(rt);
+            }
         }
+        self.end_all(rt)
+    }
+
+    // What is done after a turn: whether that was the last one.
+    #[tactic(auto, using(crate::proofs::Loads::serves_still))]
+    fn end_turn<R: Files + Input + Net + Clock + AllocGlobal + Print + Eprint>(
+        &mut self,
+        rt: &R,
+        job: &ServeJob<'_>,
+    ) -> Result<bool, Stop>
+        ensures ends { Serves self.old.end self.new.end }
+    {
+        self.lines.look(rt);
+        self.tell_news(rt);
+        self.look_if_due(rt, job)?;
+        self.turn_watching(rt);
+        self.take_words(rt, job)?;
+        Ok(self.has_drained(rt)?)
+    }
+
+    // What is done after the last one.
+    #[tactic(auto, using(crate::proofs::Loads::serves_still))]
+    fn end_all<R: Files + AllocGlobal + Eprint>(&mut self, rt: &R) -> Result<u8, Stop>
+        ensures ends { Serves self.old.end self.new.end }
+    {
         self.end.end_turns()?;
+        self.end_controlling(rt);
         Ok(DONE)
     }
 
@@ -341,7 +413,19 @@ impl Serving {
             Some(reload_ms) => Some(u64::from(reload_ms).saturating_sub(self.millis(rt)?)),
             None => None,
         };
-        Ok(earlier(until_watched, until_read).map(Duration::from_millis))
+        let until_told = match &self.controlling {
+            Some(controlling) => controlling.rest(rt)?,
+            None => None,
+        };
+        let until_drained = match &self.draining {
+            Some(draining) => Some(draining.rest(rt)?),
+            None => None,
+        };
+        let until = earlier(
+            earlier(until_watched, until_read),
+            earlier(until_told, until_drained),
+        );
+        Ok(until.map(Duration::from_millis))
     }
 
     // One turn, which doesn't wait longer than that.
@@ -373,7 +457,7 @@ impl Serving {
         if let Some(count) = self.end.next_stalled() {
             self.seen.closed_slow = self.seen.closed_slow.saturating_add(count);
             let line = format_args!("mcgate: clients closed that took too little: {count}");
-            self.lines.tell(rt, line);
+            self.lines.warn(rt, line);
         }
     }
 
@@ -397,9 +481,49 @@ impl Serving {
         let Ok(number) = u32::try_from(at) else {
             return;
         };
+        if !self.may_tell(at, news) {
+            return;
+        }
         if let Some(text) = self.servers.get(ServerId::new(number)) {
             let line = format_args!("mcgate: server {text}: {news}");
-            self.lines.tell(rt, line);
+            match news {
+                LinkNews::Opened | LinkNews::Back => self.lines.tell(rt, line),
+                LinkNews::Failed(_, _) | LinkNews::Late => self.lines.warn(rt, line),
+            }
+        }
+    }
+
+    // Whether this of a server is to be told: where lines have a time, that it is still down is once a minute.
+    fn may_tell(&mut self, at: usize, news: LinkNews) -> bool
+        ensures { self.new.end ≡ self.old.end }
+    {
+        match news {
+            LinkNews::Opened | LinkNews::Back => {
+                self.outages.note_up(at);
+                true
+            }
+            LinkNews::Failed(_, _) | LinkNews::Late => {
+                self.lines.tells_all() || self.outages.note_down(at, self.lines.now())
+            }
+        }
+    }
+
+    // Tells what came of a text on standard error too, where lines have a time.
+    fn tell_verdict<R: Eprint>(&mut self, rt: &R, is_used: bool, said: &[u8])
+        ensures end { self.new.end ≡ self.old.end }
+        ensures memory { self.new.memory ≡ self.old.memory }
+    {
+        if !self.lines.have_time() {
+            return;
+        }
+        let Ok(said) = std::str::from_utf8(said) else {
+            return;
+        };
+        let said = said.trim_end();
+        if is_used {
+            self.lines.tell(rt, said);
+        } else {
+            self.lines.warn(rt, said);
         }
     }
 
@@ -487,10 +611,310 @@ impl Serving {
             return Ok(());
         }
         let mut said = Vec::new(rt.alloc());
-        let is_used = self.judge_text(rt, any, text.as_str(), &mut said)?;
-        self.note_text(text, is_used);
-        self.lines.print(rt, said.as_slice());
+        self.load_new(rt, any, text, &mut said)?;
         Ok(())
+    }
+
+    // The same of a text that it may have had before: whether the configuration in use is that of the text then. What came of it is added to
+    // what was said, and printed.
+    #[tactic(auto, using(crate::proofs::Loads::serves_still))]
+    fn load_new<R: Files + Net + AllocGlobal + Print + Eprint>(
+        &mut self,
+        rt: &R,
+        any: bool,
+        text: String,
+        said: &mut Vec<u8>,
+    ) -> Result<bool, Stop>
+        ensures core { MayLoadText self.old.servers (string_bytes text) self.old.end.core.value self.new.end.core.value }
+        ensures ends { Serves self.old.end self.new.end }
+        ensures remembered { StandsIfLoaded self.old.end.core.value self.new.end.core.value self.new.memory (string_bytes text) }
+    {
+        let is_used = self.judge_text(rt, any, text.as_str(), said)?;
+        self.note_said(rt, text, is_used, said.as_slice());
+        Ok(is_used)
+    }
+
+    // The same, and what was said of it is printed.
+    fn note_said<R: Print + Eprint>(&mut self, rt: &R, text: String, is_used: bool, said: &[u8])
+        ensures ends { self.new.end ≡ self.old.end }
+        ensures memory { self.new.memory ≡ self.old.memory }
+    {
+        self.note_text(text, is_used);
+        self.lines.print(rt, said);
+        self.tell_verdict(rt, is_used, said);
+    }
+
+    // Who tells it things is answered, if there is somebody.
+    #[tactic(auto, using(crate::proofs::Loads::serves_still))]
+    fn take_words<R: Files + Input + Net + Clock + AllocGlobal + Print + Eprint>(
+        &mut self,
+        rt: &R,
+        job: &ServeJob<'_>,
+    ) -> Result<(), Stop>
+        ensures ends { Serves self.old.end self.new.end }
+    {
+        self.turn_controlling(rt);
+        for _ in 0..PLACES {
+            let Some((place, line)) = self.next_line() else {
+                return Ok(());
+            };
+            self.take_word(rt, job, place, line.as_slice())?;
+        }
+        Ok(())
+    }
+
+    fn turn_controlling<R: Clock>(&mut self, rt: &R)
+        ensures { self.new.end ≡ self.old.end }
+    {
+        let is_woken = self.end.wire().was_woken();
+        if let Some(controlling) = &mut self.controlling {
+            controlling.turn(rt, is_woken);
+        }
+    }
+
+    fn next_line(&mut self) -> Option<(usize, Vec<u8>)>
+        ensures { self.new.end ≡ self.old.end }
+    {
+        match &mut self.controlling {
+            Some(controlling) => controlling.next_line(),
+            None => None,
+        }
+    }
+
+    // The one at this place is answered, or waits until it ends.
+    #[tactic(auto, using(crate::proofs::Loads::serves_still))]
+    fn take_word<R: Files + Input + Net + Clock + AllocGlobal + Print + Eprint>(
+        &mut self,
+        rt: &R,
+        job: &ServeJob<'_>,
+        place: usize,
+        line: &[u8],
+    ) -> Result<(), Stop>
+        ensures ends { Serves self.old.end self.new.end }
+    {
+        match request_of(line) {
+            Request::Drain => self.drain(rt, job, place),
+            Request::Reload => self.reload(rt, job, place),
+            Request::Status => {
+                self.tell_status(rt, place);
+                Ok(())
+            }
+            Request::Servers => {
+                self.tell_servers(rt, place);
+                Ok(())
+            }
+            Request::Where(key) => {
+                self.tell_where(rt, place, key);
+                Ok(())
+            }
+            Request::Unknown => {
+                self.answer(place, Verdict::Unknown, b"no such word\n");
+                Ok(())
+            }
+        }
+    }
+
+    fn answer(&mut self, place: usize, verdict: Verdict, text: &[u8])
+        ensures { self.new.end ≡ self.old.end }
+    {
+        if let Some(controlling) = &mut self.controlling {
+            controlling.answer(place, verdict, text);
+        }
+    }
+
+    // The same where it was written, or memory was refused for it.
+    fn answer_written(&mut self, place: usize, written: io::Result<()>, text: &[u8])
+        ensures { self.new.end ≡ self.old.end }
+    {
+        match written {
+            Ok(()) => self.answer(place, Verdict::Done, text),
+            Err(_) => self.answer(place, Verdict::Failed, b"out of memory\n"),
+        }
+    }
+
+    // Nobody is accepted from now on; who told that is answered when it ends.
+    #[tactic(auto, using(crate::proofs::Loads::serves_still))]
+    fn drain<R: Clock + Eprint>(
+        &mut self,
+        rt: &R,
+        job: &ServeJob<'_>,
+        place: usize,
+    ) -> Result<(), Stop>
+        ensures ends { Serves self.old.end self.new.end }
+    {
+        self.keep(place);
+        self.begin_draining(rt, job)
+    }
+
+    // The one at this place is answered when it ends.
+    fn keep(&mut self, place: usize)
+        ensures { self.new.end ≡ self.old.end }
+    {
+        if let Some(controlling) = &mut self.controlling {
+            controlling.keep(place);
+        }
+    }
+
+    // Nobody is accepted from now on, if that wasn't so before.
+    #[tactic(auto, using(crate::proofs::Loads::serves_still))]
+    fn begin_draining<R: Clock + Eprint>(&mut self, rt: &R, job: &ServeJob<'_>) -> Result<(), Stop>
+        ensures ends { Serves self.old.end self.new.end }
+    {
+        if self.draining.is_some() {
+            return Ok(());
+        }
+        let draining = Draining::new(rt, job.drain_ms)?;
+        self.draining = Some(draining);
+        self.stop_accepting(rt);
+        Ok(())
+    }
+
+    fn stop_accepting<R: Eprint>(&mut self, rt: &R)
+        ensures core { self.new.end.core ≡ self.old.end.core }
+        ensures ends { Stay history_of self.old.end.sockets self.new.end.sockets }
+    {
+        let clients = self.end.clients();
+        let line = format_args!("mcgate: draining, {clients} clients are there");
+        self.lines.tell(rt, line);
+        self.end.stop_accepting();
+    }
+
+    // Whether it drains, and all clients are gone or its time is up. While it drains, clients go of which nothing is under way.
+    #[tactic(auto, using(crate::proofs::Loads::serves_still))]
+    fn has_drained<R: Clock>(&mut self, rt: &R) -> io::Result<bool>
+        ensures ends { Serves self.old.end self.new.end }
+    {
+        let Some(draining) = self.draining else {
+            return Ok(false);
+        };
+        let rest = draining.rest(rt)?;
+        if rest == 0 || self.end.clients() == 0 {
+            return Ok(true);
+        }
+        self.end.end_quiet()?;
+        Ok(false)
+    }
+
+    // Who waits for the end is told that it has come, and how many clients were left.
+    fn end_controlling<R: Files + AllocGlobal + Eprint>(&mut self, rt: &R)
+        ensures { self.new.end ≡ self.old.end }
+    {
+        let clients = self.end.clients();
+        self.tell_drained(rt, clients);
+        if let Some(controlling) = &mut self.controlling {
+            if clients == 0 {
+                controlling.end(rt, Verdict::Done, b"drained\n");
+            } else {
+                controlling.end(rt, Verdict::Refused, b"drained, clients were left\n");
+            }
+        }
+    }
+
+    // Tells that it has drained, if it has.
+    fn tell_drained<R: Eprint>(&mut self, rt: &R, clients: usize)
+        ensures { self.new.end ≡ self.old.end }
+    {
+        if self.draining.is_some() {
+            let line = format_args!("mcgate: drained, {clients} clients were left");
+            self.lines.tell(rt, line);
+        }
+    }
+
+    // The file is read now, whatever it had before, and who told that is answered what came of it.
+    #[tactic(auto, using(crate::proofs::Loads::serves_still))]
+    fn reload<R: Files + Input + Net + Clock + AllocGlobal + Print + Eprint>(
+        &mut self,
+        rt: &R,
+        job: &ServeJob<'_>,
+        place: usize,
+    ) -> Result<(), Stop>
+        ensures ends { Serves self.old.end self.new.end }
+    {
+        self.turns = 0;
+        self.since = Instant::now(rt)?;
+        match regular_text(rt, job.file) {
+            Ok(text) => self.reload_text(rt, job.any, place, text),
+            Err(InputFault::NoMemory) => Err(Stop::Memory),
+            Err(_) => {
+                self.answer(
+                    place,
+                    Verdict::Failed,
+                    b"reload failed: FILE can't be read\n",
+                );
+                Ok(())
+            }
+        }
+    }
+
+    #[tactic(auto, using(crate::proofs::Loads::serves_still))]
+    fn reload_text<R: Files + Net + AllocGlobal + Print + Eprint>(
+        &mut self,
+        rt: &R,
+        any: bool,
+        place: usize,
+        text: String,
+    ) -> Result<(), Stop>
+        ensures ends { Serves self.old.end self.new.end }
+    {
+        let mut said = Vec::new(rt.alloc());
+        let is_used = self.load_new(rt, any, text, &mut said)?;
+        let verdict = if is_used {
+            Verdict::Done
+        } else {
+            Verdict::Refused
+        };
+        self.answer(place, verdict, said.as_slice());
+        Ok(())
+    }
+
+    // The numbers that it counts, as a text.
+    fn stats<R: Files + Clock + AllocGlobal>(&self, rt: &R) -> io::Result<Vec<u8>> {
+        let uptime_ms = match &self.controlling {
+            Some(controlling) => controlling.uptime(rt)?,
+            None => 0,
+        };
+        let scrapes = match &self.watching {
+            Some(watching) => watching.answered(),
+            None => 0,
+        };
+        let times = Times {
+            uptime_ms,
+            scrapes,
+            lost_lines: self.lines.lost(),
+        };
+        stats_of(rt, &self.end, &self.servers, &self.seen, times)
+    }
+
+    fn tell_status<R: Files + Clock + AllocGlobal>(&mut self, rt: &R, place: usize)
+        ensures { self.new.end ≡ self.old.end }
+    {
+        match self.stats(rt) {
+            Ok(text) => self.answer(place, Verdict::Done, text.as_slice()),
+            Err(_) => self.answer(place, Verdict::Failed, b"out of memory\n"),
+        }
+    }
+
+    fn tell_servers<R: AllocGlobal>(&mut self, rt: &R, place: usize)
+        ensures { self.new.end ≡ self.old.end }
+    {
+        let mut text = Vec::new(rt.alloc());
+        let written = write_servers(&self.end, &self.servers, &mut text);
+        self.answer_written(place, written, text.as_slice());
+    }
+
+    fn tell_where<R: AllocGlobal>(&mut self, rt: &R, place: usize, key: &[u8])
+        ensures { self.new.end ≡ self.old.end }
+    {
+        let Ok(key) = Key::read(key) else {
+            return self.answer(place, Verdict::Unknown, b"no key\n");
+        };
+        let mut text = Vec::new(rt.alloc());
+        let keys = [key];
+        let written = find_in_text(rt.alloc(), &keys, self.text.as_str(), &mut text);
+        match written {
+            Ok(_) => self.answer(place, Verdict::Done, text.as_slice()),
+            Err(_) => self.answer(place, Verdict::Failed, b"out of memory\n"),
+        }
     }
 
     // Loads the configuration of the text, unless the text says what the one in use says, and prints what came of that. Whether the

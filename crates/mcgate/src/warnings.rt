@@ -7,7 +7,7 @@ use fault_inputs::lines_of_warnings;
 pub fn say_warnings<R: AllocGlobal + Eprint>(rt: &R, lines: &mut Lines, file: &str, text: &str) {
     if let Ok(warnings) = lines_of_warnings(rt.alloc(), file, text) {
         for line in &warnings {
-            lines.tell(rt, line.as_str());
+            lines.warn(rt, line.as_str());
         }
     }
 }

@@ -4,9 +4,11 @@ use crate::serving::{Proxy, resolve};
 use gate_gaps::names::op_name;
 use mc_types::{Op, ServerId};
 use route_json::addresses::Servers;
-use serve_links::CAUSES;
+use serve_links::{CAUSES, Link};
+use serve_proxy::text_at;
 use std::alloc::{AllocError, Global};
 use std::io;
+use std::io::Write;
 use std::net::{Net, SocketAddr};
 use std::os::fd::RawFd;
 use std::rt::{Clock, Files};
@@ -178,6 +180,92 @@ fn servers_of(
     Ok(told)
 }
 
+/// What is counted beside all that.
+#[derive(Clone, Copy)]
+pub struct Times {
+    pub uptime_ms: u64,
+    pub scrapes: u64,
+    pub lost_lines: u64,
+}
+
+// What there is to tell.
+fn numbers_of<R: Files + AllocGlobal>(
+    rt: &R,
+    end: &Proxy,
+    servers: &Servers,
+    seen: &Seen,
+    times: Times,
+) -> io::Result<Numbers> {
+    let used = process_use(rt);
+    Ok(Numbers {
+        process: ProcessNumbers {
+            version: String::from_str(rt.alloc(), "1")?,
+            uptime_ms: times.uptime_ms,
+            processor_ms: used.processor_ms,
+            resident_bytes: used.resident_bytes,
+            lost_lines: times.lost_lines,
+        },
+        config: seen.config,
+        clients: clients_of(end, seen),
+        commands: commands_of(rt.alloc(), end)?,
+        servers: servers_of(rt.alloc(), end, servers)?,
+        scrapes: times.scrapes,
+    })
+}
+
+/// All of that as the text of a page.
+pub fn stats_of<R: Files + AllocGlobal>(
+    rt: &R,
+    end: &Proxy,
+    servers: &Servers,
+    seen: &Seen,
+    times: Times,
+) -> io::Result<Vec<u8>> {
+    let numbers = numbers_of(rt, end, servers, seen, times)?;
+    let families = families_of(rt.alloc(), &numbers)?;
+    body_of(rt.alloc(), Page::Stats, families.as_slice())
+}
+
+// How a server is whose link is so.
+fn state_of(link: &Link) -> &'static str {
+    if link.awaits_late() {
+        "late"
+    } else if link.is_connected {
+        "up"
+    } else if link.tally.stood == 0 {
+        "unused"
+    } else {
+        "down"
+    }
+}
+
+// How often it has failed.
+fn failures_of(link: &Link) -> u64 {
+    let mut count = link.tally.late;
+    for cause in CAUSES {
+        count = count.saturating_add(link.tally.failed(cause));
+    }
+    count
+}
+
+/// Writes a line for each server: how it is, its calls that are out, its connections and its failures.
+pub fn write_servers<W: Write>(end: &Proxy, servers: &Servers, out: &mut W) -> io::Result<()> {
+    for server in 0..servers.len() {
+        let (Some(link), Some(text)) = (end.link(server), text_at(servers, server)) else {
+            return Ok(());
+        };
+        writeln!(
+            out,
+            "server {text} {} calls_out={} connections={} failures={}",
+            state_of(link),
+            link.calls.len(),
+            link.tally.stood,
+            failures_of(link)
+        )?;
+    }
+    Ok(())
+}
+
 // The text of a page.
 fn body_of(alloc: Global, page: Page, families: &[Family]) -> io::Result<Vec<u8>> {
     let mut body = Vec::new(alloc);
@@ -227,6 +315,11 @@ impl Watching {
         matches!(self.rest(rt), Ok(Some(0)))
     }
 
+    /// How many were answered.
+    pub fn answered(&self) -> u64 {
+        self.visitors.answered()
+    }
+
     // What there is to tell.
     fn numbers<R: Files + Clock + AllocGlobal>(
         &self,
@@ -236,21 +329,12 @@ impl Watching {
         seen: &Seen,
         lost_lines: u64,
     ) -> io::Result<Numbers> {
-        let used = process_use(rt);
-        Ok(Numbers {
-            process: ProcessNumbers {
-                version: String::from_str(rt.alloc(), "1")?,
-                uptime_ms: self.uptime(rt)?,
-                processor_ms: used.processor_ms,
-                resident_bytes: used.resident_bytes,
-                lost_lines,
-            },
-            config: seen.config,
-            clients: clients_of(end, seen),
-            commands: commands_of(rt.alloc(), end)?,
-            servers: servers_of(rt.alloc(), end, servers)?,
+        let times = Times {
+            uptime_ms: self.uptime(rt)?,
             scrapes: self.visitors.answered(),
-        })
+            lost_lines,
+        };
+        numbers_of(rt, end, servers, seen, times)
     }
 
     // The text of a page, by what there is to tell.

@@ -13,6 +13,7 @@ use crate::loopback_arguments::{LOOPBACK_HELP, loopback_command, loopback_job};
 use crate::plan_arguments::{PLAN_HELP, PlanJob, plan_command, plan_job};
 use crate::serve_arguments::{SERVE_HELP, ServeJob, serve_command, serve_job};
 use crate::slots::arguments::{SLOTS_HELP, SlotsJob, slots_command, slots_job};
+use crate::tell_arguments::{TELL_HELP, TellJob, tell_command, tell_job};
 use clap::error::ErrorKind;
 use clap::{Arg, ArgAction, ArgMatches, Command, Error};
 use core_accepted::Beginnings;
@@ -80,6 +81,8 @@ pub enum Job<'a> {
     Cache(CacheJob<'a>),
     /// Serve a configuration over TCP.
     Serve(ServeJob<'a>),
+    /// Tell a proxy that runs something.
+    Tell(TellJob<'a>),
     /// Print this text.
     Print(&'static str),
 }
@@ -123,6 +126,7 @@ usage: mcgate check [--explain | --dot] [--history HISTORY] [FILE]
                                      print where keys live in the tree of a configuration
        mcgate serve --config FILE --listen HOST:PORT [--any]
                                      serve a configuration that the gate accepts, between clients and servers
+       mcgate tell PATH WORD         tell a running serve --control PATH: drain, reload, status, servers, where KEY
        mcgate history FILE           print what serve --history FILE remembers
        mcgate slots [--add ADDR | --remove ADDR] [--pool NAME] [--after FILE ..] [FILE]
                                      print a configuration with a table of slots in a pool, of a server more or less
@@ -306,6 +310,7 @@ fn command<'a>(alloc: Global) -> Result<Command<'a>, AllocError> {
         .subcommand(history_command(alloc)?)?
         .subcommand(slots_command(alloc)?)?
         .subcommand(plan_command(alloc)?)?
+        .subcommand(tell_command(alloc)?)?
         .subcommand(help_command(alloc)?)?
         .subcommand(serve_command(alloc)?)
 }
@@ -410,6 +415,7 @@ fn help_on<'a>(name: &str) -> Result<Job<'a>, ArgumentsFault> {
         "history" => Ok(Job::Print(HISTORY_HELP)),
         "slots" => Ok(Job::Print(SLOTS_HELP)),
         "plan" => Ok(Job::Print(PLAN_HELP)),
+        "tell" => Ok(Job::Print(TELL_HELP)),
         "help" => Ok(Job::Print(HELP)),
         _ => Err(ArgumentsFault::Refused),
     }
@@ -442,7 +448,7 @@ fn plain_job<'a>(given: &ArgMatches<'a>) -> Job<'a> {
 /// What the arguments ask for, the program's name first: `check [--explain | --dot] [--history HISTORY] [FILE]` or `check --fleet
 /// [--with FILE ..] [FILE]`, `certify [FILE]`, `replay [--any] [--config FILE] [SCRIPT]`, `where --config FILE KEY..`, `history FILE`,
 /// `plan OLD NEW`, these but `certify`, `where` and `history` also with `--opened WORD` and `--new-servers WORD`,
-/// `slots [--add ADDR | --remove ADDR] [--pool NAME] [--after FILE ..] [FILE]`,
+/// `tell PATH WORD [KEY]`, `slots [--add ADDR | --remove ADDR] [--pool NAME] [--after FILE ..] [FILE]`,
 /// `cache --listen HOST:PORT --capacity C [--memory-mb N] [--turns N]`, `loopback [SCRIPT]`, `serve` with its flags, or none
 /// at all after it, which is `replay`. Also `help [COMMAND]`, `-h` and `--help`, before or after a command, and `--version`.
 ///
@@ -465,6 +471,7 @@ pub fn read_arguments<'a>(
         Some(("history", given)) => history_job(given),
         Some(("slots", given)) => slots_job(alloc, given),
         Some(("plan", given)) => plan_job(given),
+        Some(("tell", given)) => tell_job(given),
         Some(("help", given)) => help_job(given),
         Some((_, given)) => replay_job(given),
         None => Ok(plain_job(&matches)),

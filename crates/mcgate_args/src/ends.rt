@@ -196,7 +196,13 @@ pub fn run_input<W: Write>(
     }
 }
 
-fn find_in_text<W: Write>(alloc: Global, keys: &[Key], text: &str, out: &mut W) -> Result<u8, Stop>
+/// Prints where the keys live in the tree of a text, or its first fault. The answer and the faults are as those of [`run_input`].
+pub fn find_in_text<W: Write>(
+    alloc: Global,
+    keys: &[Key],
+    text: &str,
+    out: &mut W,
+) -> Result<u8, Stop>
     ensures { RunsBy (λ text old new status. FindsKeys text keys.now old new status) SaysNothing NeverOverruns text.now (W.contents out.old) (W.contents out.new) result }
 {
     ended(run_where(alloc, text, keys, out))

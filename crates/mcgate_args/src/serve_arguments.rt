@@ -2,6 +2,7 @@
 
 use crate::arguments::{ArgumentsFault, Job, count_of, help_flag, option, switch};
 use crate::beginning_arguments::begun_of;
+use crate::log_arguments::{Log, log_of};
 use clap::{ArgMatches, Command};
 use core_accepted::Beginnings;
 use serve_links::{ServerDialect, Settings};
@@ -12,10 +13,18 @@ use std::alloc::{AllocError, Global};
 pub struct ServeJob<'a> {
     /// The file of the configuration.
     pub file: &'a str,
-    /// Where to listen: a host and a port.
+    /// Where to listen: a host and a port, `unix:` and a path, or `fd:0`, standard input.
     pub listen: &'a str,
+    /// The mode of the file at that path.
+    pub unix_mode: u32,
     /// Where to listen for who asks for numbers over HTTP.
     pub metrics: Option<&'a str>,
+    /// The path of the socket at which it is told things.
+    pub control: Option<&'a str>,
+    /// How lines on standard error are written, if not as they are.
+    pub log: Option<Log>,
+    /// When it drains, it ends after so many milliseconds at most.
+    pub drain_ms: u64,
     pub settings: Settings,
     /// How servers began.
     pub begun: Beginnings,
@@ -42,6 +51,9 @@ pub struct ServeJob<'a> {
 // How many milliseconds a client may take nothing.
 const STALL_MS: u64 = 10_000;
 
+// How many milliseconds it may drain.
+const DRAIN_MS: u64 = 10_000;
+
 // How many MiB may be to be sent to all clients.
 const MEMORY_MB: usize = 1_024;
 
@@ -53,6 +65,8 @@ pub const SERVE_HELP: &str =
 Reads a configuration in JSON, of FILE, and asks the gate. A tree that it accepts is served at HOST:PORT: what clients send goes
 to the configuration's servers, at their addresses. Lines on standard error tell when it listens, and when a server's connection
 opens, fails or comes back.
+  --listen unix:PATH     clients of this machine connect at PATH; --listen fd:0: to the socket that standard input is, which listens
+  --unix-mode WORD       who may connect at PATH: 600, the user that it runs as, 660, its group too, or 666, everybody; 600
   --clients N            at most so many clients at once, 1024 where it is left out
   --client-window N      at most so many commands of one client without a shown reply, 32
   --link-window N        at most so many calls out at one server, 256
@@ -65,6 +79,11 @@ opens, fails or comes back.
   --stall-ms N           a client that takes nothing for so many milliseconds, while more than 1 MiB is to be sent to it, is closed, 10000
   --memory-mb N          where more than so many MiB are to be sent to all clients, the client to which most are is closed, 1024
   --metrics HOST:PORT    answers there over HTTP what it counts: /metrics in Prometheus' text format, /stats.json in JSON
+  --control PATH         it is told things there by mcgate tell: to drain, to reload, and what it counts
+  --drain-ms N           when it is told to drain it ends after so many milliseconds at most, 10000
+  --log-level WORD       each line on standard error begins with a time and a level, and those of WORD and more urgent ones are told:
+                         error, warn, info or debug; without it and the next one, all, as they are
+  --log-json             each is an object in JSON with that
   --server-dialect WORD  how servers are asked for classic gets: classic, meta, or auto, by what each answers to an mn; auto
   --opened WORD          what the servers of the first configuration held before: any, or own: of each key nothing but what its tree
                          may put on them; any
@@ -93,6 +112,7 @@ pub fn serve_command<'a>(alloc: Global) -> Result<Command<'a>, AllocError> {
         .arg(help_flag(alloc))?
         .arg(option(alloc, "config"))?
         .arg(option(alloc, "listen"))?
+        .arg(option(alloc, "unix-mode"))?
         .arg(option(alloc, "clients"))?
         .arg(option(alloc, "client-window"))?
         .arg(option(alloc, "link-window"))?
@@ -105,6 +125,10 @@ pub fn serve_command<'a>(alloc: Global) -> Result<Command<'a>, AllocError> {
         .arg(option(alloc, "stall-ms"))?
         .arg(option(alloc, "memory-mb"))?
         .arg(option(alloc, "metrics"))?
+        .arg(option(alloc, "control"))?
+        .arg(option(alloc, "drain-ms"))?
+        .arg(option(alloc, "log-level"))?
+        .arg(switch(alloc, "log-json"))?
         .arg(option(alloc, "server-dialect"))?
         .arg(option(alloc, "opened"))?
         .arg(option(alloc, "new-servers"))?
@@ -140,6 +164,16 @@ fn dialect_of(
         "classic" => Ok(ServerDialect::Classic),
         "meta" => Ok(ServerDialect::Meta),
         _ => Err(ArgumentsFault::Refused),
+    }
+}
+
+// The mode after its flag, or the usual one: for the user that it runs as, for its group too, or for everybody.
+fn mode_of(given: &ArgMatches<'_>) -> Result<u32, ArgumentsFault> {
+    match given.get_str("unix-mode") {
+        None | Some("600") => Ok(0o600),
+        Some("660") => Ok(0o660),
+        Some("666") => Ok(0o666),
+        Some(_) => Err(ArgumentsFault::Refused),
     }
 }
 
@@ -185,7 +219,11 @@ pub fn serve_job<'a>(given: &ArgMatches<'a>) -> Result<Job<'a>, ArgumentsFault> 
     Ok(Job::Serve(ServeJob {
         file,
         listen,
+        unix_mode: mode_of(given)?,
         metrics: given.get_str("metrics"),
+        control: given.get_str("control"),
+        log: log_of(given)?,
+        drain_ms: millis_of(given, "drain-ms", DRAIN_MS)?,
         settings: settings_of(given)?,
         begun: begun_of(given)?,
         any,

@@ -1,7 +1,7 @@
 -- What a server tells over its link's connection.
-use Rattle.std.proofs.Common.{◌≡◌, ℕ, suc, ◌+◌, ◌≤◌, Bool, true, false, not, codes, None, List, [], ◌∷◌, ◌++◌, length, take, drop, length-append, Some, refl, sym, ap, ◌∙◌, subst, inr, arith}
+use Rattle.std.proofs.Common.{◌≡◌, ℕ, suc, ◌+◌, ◌-◌, ◌≤◌, Bool, true, false, not, codes, None, List, [], ◌∷◌, ◌++◌, length, take, drop, length-append, Some, refl, sym, ap, ◌∙◌, subst, inr, arith}
 use Rattle.std.specs.Str.{bytes_eq}
-use Rattle.std.proofs.lemmas.List.{take-append-drop}
+use Rattle.std.proofs.lemmas.List.{take-append-drop, take_all, length-drop}
 use Rattle.std.proofs.lemmas.Slice.Eq.{bytes_eq-Decides}
 use Rattle.std.proofs.Math.Seq.{take-append-add}
 use Rattle.text_words.specs.Line.{LF}
@@ -68,6 +68,10 @@ reads_behind greeting rest (reads.Told dialect used) on is =
     within n l le = omega (arith, le)
 reads_behind greeting rest reads.More on is = tt
 reads_behind greeting rest reads.Foreign on is = tt
+
+-- all that stands behind a place
+pub rest_of : (i : ℕ) (l : List ℕ) → take (length l - i) (drop i l) ≡ drop i l
+rest_of i l = take_all (length l - i) (drop i l) (let e = length-drop i l in omega (arith, e))
 
 pub not_not : (b : Bool) → not b ≡ false → b ≡ true
 not_not true e = refl

@@ -6,3 +6,4 @@ pub mod json;
 pub mod numbers;
 pub mod prometheus;
 pub mod quoted;
+pub mod times;

@@ -1,0 +1,62 @@
+//! Where a proxy listens: at a host and a port, at a path of the machine, or on a socket that it was given.
+
+use crate::serving::resolve;
+use mio::net::TcpListener;
+use serve_wire::sockets::Listener;
+use std::io;
+use std::net::Net;
+use std::os::fd::{AsFd, OwnedFd};
+use std::rt::Files;
+use watch_control::paths::listen_at;
+
+/// What a process was given when it began.
+pub trait Given {
+    /// Another descriptor of its standard input.
+    fn given_input(&self) -> io::Result<OwnedFd>;
+}
+
+impl Given for HostRuntime {
+    fn given_input(&self) -> io::Result<OwnedFd> {
+        self.stdin().as_fd().try_clone_to_owned()
+    }
+}
+
+/// What a text says of where to listen.
+#[derive(Clone, Copy, PartialEq, Eq)]
+pub enum Place<'a> {
+    /// At a host and a port.
+    Address(&'a str),
+    /// At a path.
+    Path(&'a str),
+    /// On the socket that is standard input, which listens already.
+    Input,
+}
+
+/// The place that a text names: `unix:PATH`, `fd:0`, or else a host and a port.
+pub fn place_of(text: &str) -> Place<'_> {
+    match text.strip_prefix("unix:") {
+        Some(path) => Place::Path(path),
+        None if text == "fd:0" => Place::Input,
+        None => Place::Address(text),
+    }
+}
+
+// Standard input as what listens, if it is a socket over TCP.
+fn given_listener<R: Given>(rt: &R) -> io::Result<TcpListener> {
+    let listener = std::net::TcpListener::from(rt.given_input()?);
+    let _ = listener.local_addr()?;
+    listener.set_nonblocking(true)?;
+    Ok(TcpListener::from_std(listener))
+}
+
+/// It listens where a text says; the file of a path gets this mode.
+pub fn listener_at<R: Files + Net + Given>(rt: &R, text: &str, mode: u32) -> io::Result<Listener> {
+    match place_of(text) {
+        Place::Address(address) => {
+            let listener = TcpListener::bind(rt, resolve(rt, address)?)?;
+            Ok(Listener::Tcp(listener))
+        }
+        Place::Path(path) => Ok(Listener::Unix(listen_at(rt, path, mode)?)),
+        Place::Input => Ok(Listener::Tcp(given_listener(rt)?)),
+    }
+}

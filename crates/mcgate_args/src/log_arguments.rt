@@ -1,0 +1,74 @@
+//! How lines on standard error are to be written, by the arguments of `mcgate serve`.
+
+use crate::arguments::ArgumentsFault;
+use clap::ArgMatches;
+
+/// How urgent a line is.
+#[derive(Clone, Copy, PartialEq, Eq)]
+pub enum Level {
+    Error,
+    Warn,
+    Info,
+    Debug,
+}
+
+impl Level {
+    /// Its name.
+    pub fn word(self) -> &'static str {
+        match self {
+            Level::Error => "error",
+            Level::Warn => "warn",
+            Level::Info => "info",
+            Level::Debug => "debug",
+        }
+    }
+
+    fn rank(self) -> u8 {
+        match self {
+            Level::Error => 0,
+            Level::Warn => 1,
+            Level::Info => 2,
+            Level::Debug => 3,
+        }
+    }
+
+    /// Whether it is written where lines of this level are, and more urgent ones.
+    pub fn is_within(self, most: Level) -> bool {
+        self.rank() <= most.rank()
+    }
+}
+
+/// Lines have a time and a level, and those of this one and more urgent ones are written.
+#[derive(Clone, Copy, PartialEq, Eq)]
+pub struct Log {
+    pub level: Level,
+    /// Each is an object in JSON.
+    pub json: bool,
+}
+
+// The level of this name.
+fn level_of(word: &str) -> Result<Level, ArgumentsFault> {
+    match word {
+        "error" => Ok(Level::Error),
+        "warn" => Ok(Level::Warn),
+        "info" => Ok(Level::Info),
+        "debug" => Ok(Level::Debug),
+        _ => Err(ArgumentsFault::Refused),
+    }
+}
+
+/// How lines are to be written, if not as they are.
+pub fn log_of(given: &ArgMatches<'_>) -> Result<Option<Log>, ArgumentsFault> {
+    let json = given.get_flag("log-json");
+    match given.get_str("log-level") {
+        Some(word) => Ok(Some(Log {
+            level: level_of(word)?,
+            json,
+        })),
+        None if json => Ok(Some(Log {
+            level: Level::Info,
+            json,
+        })),
+        None => Ok(None),
+    }
+}
