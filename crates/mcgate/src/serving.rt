@@ -14,6 +14,7 @@ ghost use Rattle.mcgate.specs.LooksUp.{AreLookedUp};
 
 use crate::controlling::Controlling;
 use crate::draining::Draining;
+use crate::emptying::Emptying;
 use crate::lines::Lines;
 use crate::outages::Outages;
 use crate::remembering::{Kept, Remembering, forget, remember};
@@ -103,6 +104,10 @@ pub struct Serving {
     controlling: Option<Controlling>,
     /// Since when it drains, if it does.
     draining: Option<Draining>,
+    /// Servers that are to be emptied before their first call.
+    emptying: Option<Emptying>,
+    /// Whether no server waits until those of earlier epochs at its address have no calls any more.
+    have_begun: bool,
 }
 
 // The text of a regular file. Of what is none the program doesn't wait for a text.
@@ -188,6 +193,33 @@ fn print_kept<W: Write>(
     }
 }
 
+// The new servers of a text are to be emptied, if it says a configuration, where that is so of all that a reload brings: it is written
+// before they are used. Whether it was, or needn't be; where it can't be written that is told and printed.
+fn notes_new<R: Files + AllocGlobal + Eprint, W: Write>(
+    rt: &R,
+    lines: &mut Lines,
+    emptying: &mut Option<Emptying>,
+    servers: &Servers,
+    text: &str,
+    out: &mut W,
+) -> Result<bool, Stop> {
+    let Some(emptying) = emptying else {
+        return Ok(true);
+    };
+    match emptying.add_of(rt, servers, text) {
+        Ok(()) => Ok(true),
+        Err(error) if error.kind() == ErrorKind::OutOfMemory => Err(Stop::Memory),
+        Err(error) => {
+            let line = format_args!(
+                "mcgate: cannot write which servers are to be emptied: {error}"
+            );
+            lines.tell(rt, line);
+            writeln!(out, "reload refused: history not written")?;
+            Ok(false)
+        }
+    }
+}
+
 // How many generations there were before the last one.
 fn before_of(memory: &Option<Kept>) -> u32 {
     match memory {
@@ -227,6 +259,8 @@ impl Serving {
             watching,
             controlling,
             draining: None,
+            emptying: None,
+            have_begun: false,
         })
     }
 
@@ -365,6 +399,7 @@ impl Serving {
         ensures ends { ServesTo result self.old.end self.new.end }
     {
         self.end.bound_clients(job.stall_ms, job.memory);
+        self.begin_emptying(rt, job)?;
         for _ in 0..job.turns.map_or(u64::MAX, u64::from) {
             self.turn(rt, job)?;
             if self.end_turn(rt, job)? {
@@ -385,7 +420,9 @@ impl Serving {
     {
         self.lines.look(rt);
         self.tell_news(rt);
+        self.settle_emptying(rt);
         self.look_if_due(rt, job)?;
+        self.keep_epochs();
         self.turn_watching(rt);
         self.take_words(rt, job)?;
         Ok(self.has_drained(rt)?)
@@ -399,6 +436,65 @@ impl Serving {
         self.end.end_turns()?;
         self.end_controlling(rt);
         Ok(DONE)
+    }
+
+    // Those of whom the run before didn't know it are emptied before their first call.
+    fn begin_emptying<R: Files + Input + AllocGlobal>(
+        &mut self,
+        rt: &R,
+        job: &ServeJob<'_>,
+    ) -> Result<(), Stop>
+        ensures core { self.new.end.core ≡ self.old.end.core }
+        ensures ends { Stay history_of self.old.end.sockets self.new.end.sockets }
+    {
+        let emptying = Emptying::read(rt, job.history, job.settings.flushes_new)?;
+        self.emptying = Some(emptying);
+        self.keep_epochs();
+        Ok(())
+    }
+
+    // The first of those that are to be emptied, from this server on.
+    fn next_emptying(&self, from: usize) -> Option<usize> {
+        match &self.emptying {
+            Some(emptying) => emptying.next(&self.servers, from),
+            None => None,
+        }
+    }
+
+    // All of them are emptied before their first call.
+    fn mark_emptying(&mut self)
+        ensures core { self.new.end.core ≡ self.old.end.core }
+        ensures ends { Stay history_of self.old.end.sockets self.new.end.sockets }
+    {
+        let mut from = 0usize;
+        for _ in 0..self.servers.len() {
+            let Some(at) = self.next_emptying(from) else {
+                return;
+            };
+            self.end.empty_first(at);
+            from = at.saturating_add(1);
+        }
+    }
+
+    // What was emptied is noted. Where that can't be written, it may be emptied once more by the next run.
+    fn settle_emptying<R: Files + AllocGlobal>(&mut self, rt: &R)
+        ensures { self.new.end ≡ self.old.end }
+    {
+        if let Some(emptying) = &mut self.emptying {
+            let _ = emptying.settle(rt, &self.end, &self.servers);
+        }
+    }
+
+    // Servers are emptied that are to be, and calls go to each while its epoch lasts.
+    fn keep_epochs(&mut self)
+        ensures core { self.new.end.core ≡ self.old.end.core }
+        ensures ends { Stay history_of self.old.end.sockets self.new.end.sockets }
+    {
+        if self.have_begun {
+            return;
+        }
+        self.mark_emptying();
+        self.have_begun = self.end.keep_epochs(&self.servers);
     }
 
     fn millis<R: Clock>(&self, rt: &R) -> io::Result<u64> {
@@ -962,6 +1058,16 @@ impl Serving {
         ensures ends { Serves self.old.end self.new.end }
         ensures remembered { StandsIfLoaded self.old.end.core.value self.new.end.core.value self.new.memory text.now }
     {
+        if !notes_new(
+            rt,
+            &mut self.lines,
+            &mut self.emptying,
+            &self.servers,
+            text,
+            out,
+        )? {
+            return Ok(false);
+        }
         match remember(rt, &mut self.lines, &mut self.memory, text, out)? {
             Remembering::Refused => Ok(false),
             Remembering::Stands(old) => self.load_remembered(rt, any, text, old, out),
@@ -1076,6 +1182,7 @@ impl Serving {
         match self.end.load(config, &servers) {
             Ok(generation) => {
                 self.servers = servers;
+                self.have_begun = false;
                 self.generation = generation;
                 print_loaded(any, generation.saturating_add(self.before), out)?;
                 Ok(true)
