@@ -422,9 +422,9 @@ impl Serving {
         self.tell_news(rt);
         self.settle_emptying(rt);
         self.look_if_due(rt, job)?;
-        self.keep_epochs();
         self.turn_watching(rt);
         self.take_words(rt, job)?;
+        self.keep_epochs();
         Ok(self.has_drained(rt)?)
     }
 
