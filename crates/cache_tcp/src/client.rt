@@ -19,6 +19,10 @@ use wire_parts::to_send::SendBuffer;
 // The room of one read, in bytes.
 const READ_ROOM: usize = 16_384;
 
+const FLUSH_LINE: &[u8] = b"flush_all\r\n";
+
+const FLUSHED: &[u8] = b"OK\r\n";
+
 // An empty buffer is given back where it has more room than this, in bytes.
 const KEPT_ROOM: usize = 262_144;
 
@@ -238,6 +242,28 @@ impl<S: Read + Write + Drop> CacheClient<S> {
         let served = self.serve(cache, moment);
         self.stopped = self.conn.has_backlog();
         served.is_ok()
+    }
+
+    // Whether what is held begins with the line, and no message is begun before it.
+    fn begins_flush(&self) -> bool {
+        !self.stopped
+            && self.served.is_between()
+            && self.conn.held.as_slice().starts_with(FLUSH_LINE)
+    }
+
+    /// One read, where nothing is left to serve. Whether what it sent begins with `flush_all`: that is passed over, and `OK` is to be sent. The line
+    /// counts where it comes in one piece, and no message is begun before it.
+    ///
+    /// The only error is running out of memory; then the client is to be closed.
+    pub fn take_flush(&mut self) -> Result<bool, AllocError>
+        ensures limits { self.new.conn.limits ≡ self.old.conn.limits }
+    {
+        if self.conn.has_backlog() || !self.read() || !self.begins_flush() {
+            return Ok(false);
+        }
+        self.conn.unsent.text.extend_from_slice(FLUSHED)?;
+        self.conn.use_held(FLUSH_LINE.len());
+        Ok(true)
     }
 
     // Whether nothing of what it sent is left to serve, or can come.

@@ -1,5 +1,8 @@
 //! The server's sockets: who is ready, in turns.
 
+ghost use Rattle.std.specs.Prelude.{◌≡◌};
+ghost use Rattle.cache_server.specs.Contents.{restarted};
+
 use crate::client::{AfterTurn, CacheClient};
 use crate::clock::{Moment, SetClock};
 use crate::connection::Cache;
@@ -51,6 +54,7 @@ pub struct CacheEnd<R: Net> {
     accepting: Accepting,
     clients: Slab<CacheClient<R::Stream>>,
     most_clients: usize,
+    flushes: bool,
     // The clients for which something is to be done in the next turn, each once.
     ready: Vec<usize>,
     // Those for which it is done in this one.
@@ -87,6 +91,16 @@ fn look_at_uses<S: Drop>(
         room.look_at(cache, moment, key)?;
     }
     Ok(())
+}
+
+// All items are lost, and none is counted any more.
+fn lose_all(room: &mut Option<Room>, cache: &mut Cache)
+    ensures { cache.new ≡ restarted cache.old }
+{
+    match room {
+        Some(room) => room.give_up(cache),
+        None => cache.restart(),
+    }
 }
 
 // What the client's turn changed is counted, where so many bytes were to be sent to it before, and items are lost where all takes too much.
@@ -133,6 +147,7 @@ impl<R: Net + Clock + AllocGlobal> CacheEnd<R> {
             accepting: Accepting::Now,
             clients: Slab::new(alloc),
             most_clients: settings.clients,
+            flushes: settings.flushes,
             ready: Vec::new(alloc),
             serving: Vec::new(alloc),
             clock: SetClock::new(rt)?,
@@ -302,6 +317,13 @@ impl<R: Net + Clock + AllocGlobal> CacheEnd<R> {
             return AfterTurn::Waits;
         };
         client.listed = false;
+        if self.flushes {
+            match client.take_flush() {
+                Ok(true) => lose_all(&mut self.room, &mut self.cache),
+                Ok(false) => {}
+                Err(_) => return AfterTurn::Done,
+            }
+        }
         let before = client.conn.unsent.len();
         let after = client.turn(&mut self.cache, moment);
         if let Some(room) = &mut self.room {

@@ -25,6 +25,8 @@ pub struct Settings {
     pub capacity: usize,
     /// The most clients that it serves at a time; one more is told so and closed.
     pub clients: usize,
+    /// Whether a client may empty it, by `flush_all`.
+    pub flushes: bool,
     ghost some: { 0 < capacity },
 }
 
@@ -39,6 +41,16 @@ impl Settings {
         Settings {
             capacity,
             clients: 1_024,
+            flushes: false,
         }
+    }
+
+    /// The same, which a client may empty or not.
+    pub fn with_flushes(self, flushes: bool) -> Settings
+        ensures { result.capacity ≡ self.capacity }
+    {
+        let mut settings = self;
+        settings.flushes = flushes;
+        settings
     }
 }

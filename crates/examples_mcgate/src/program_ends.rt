@@ -102,7 +102,8 @@ mcgate serve --listen a:1 --config c --opened any --new-servers any => serve - f
 mcgate serve --listen a:1 --config c --opened own => serve - fail-limit 3 auto own
 mcgate serve --listen a:1 --config c --new-servers empty => serve - fail-limit 3 auto empty
 mcgate serve --listen a:1 --config c --opened empty => refused, told
-mcgate serve --listen a:1 --config c --new-servers flush => refused, told"
+mcgate serve --listen a:1 --config c --new-servers flush => serve - fail-limit 3 auto empty
+mcgate serve --listen a:1 --config c --new-servers full => refused, told"
 }
 
 // Arguments that the program doesn't have.

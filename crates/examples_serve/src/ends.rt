@@ -707,6 +707,7 @@ fn one_client() -> cache_tcp::Settings {
     cache_tcp::Settings {
         capacity: 16,
         clients: 1,
+        flushes: false,
     }
 }
 

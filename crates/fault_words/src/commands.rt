@@ -81,7 +81,14 @@ const SERVE_FLAGS: [&str; 30] = [
     "turns",
 ];
 
-const CACHE_FLAGS: [&str; 5] = ["help", "listen", "capacity", "memory-mb", "turns"];
+const CACHE_FLAGS: [&str; 6] = [
+    "help",
+    "listen",
+    "capacity",
+    "memory-mb",
+    "flush-all",
+    "turns",
+];
 
 /// The flags that may stand before any command.
 pub const TOP_FLAGS: [&str; 2] = ["help", "version"];
@@ -89,9 +96,15 @@ pub const TOP_FLAGS: [&str; 2] = ["help", "version"];
 /// What follows the flag of this name.
 pub fn takes_of(flag: &str) -> Takes {
     match flag {
-        "help" | "version" | "any" | "check" | "explain" | "dot" | "fleet" | "log-json" => {
-            Takes::Nothing
-        }
+        "help"
+        | "version"
+        | "any"
+        | "check"
+        | "explain"
+        | "dot"
+        | "fleet"
+        | "log-json"
+        | "flush-all" => { Takes::Nothing }
         "config" | "certificate" | "with" | "history" | "after" | "control" => Takes::File,
         "listen" | "metrics" | "add" | "remove" => Takes::Address,
         "pool" => Takes::Pool,
@@ -110,7 +123,7 @@ pub fn words_after(flag: &str) -> &'static [&'static str] {
     match flag {
         "server-dialect" => &["auto", "classic", "meta"],
         "opened" => &["any", "own"],
-        "new-servers" => &["any", "empty"],
+        "new-servers" => &["any", "empty", "flush"],
         "log-level" => &["error", "warn", "info", "debug"],
         "unix-mode" => &["600", "660", "666"],
         _ => &[],
@@ -184,7 +197,7 @@ impl Command {
                 "mcgate serve --config FILE --listen HOST:PORT [--any] [--check] [FLAG N ..]"
             }
             Command::Cache =>
-                "mcgate cache --listen HOST:PORT --capacity C [--memory-mb N] [--turns N]",
+                "mcgate cache --listen HOST:PORT --capacity C [--memory-mb N] [--flush-all] [--turns N]",
             Command::Loopback => "mcgate loopback [SCRIPT]",
             Command::History => "mcgate history FILE",
             Command::Slots => {

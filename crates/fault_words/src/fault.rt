@@ -53,7 +53,7 @@ pub struct WordFault<'a> {
 fn wanted_word(flag: &str) -> &'static str {
     match flag {
         "opened" => "any or own",
-        "new-servers" => "any or empty",
+        "new-servers" => "any, empty or flush",
         _ => "auto, classic or meta",
     }
 }

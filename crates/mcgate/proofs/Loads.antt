@@ -13,9 +13,11 @@ use Rattle.serve_wire.specs.declared.sockets.sockets.Sockets.{Sockets}
 use Rattle.serve_links.specs.CoreSteps.{Step, Opened, NotOpened, Fed, Polled, Stopped, Settled, Gave, Closed, LeftLine, Broke, Loaded, Linked, Asked, Greeted, Spelled, Late, CameLate, Lost, Walks, AreOf, IsOfTurn}
 use Rattle.serve_links.specs.Story.{AnEnd, Agrees, AgreesLosing, AllGoFrom, texts_of}
 use Rattle.serve_links.proofs.LinkGoes.{losing}
+use Rattle.serve_links.specs.Called.{TellsCalls}
+use Rattle.serve_links.proofs.Called.{walks_tell_calls}
 use Rattle.serve_links.proofs.Walked.{walks_keep_since}
 use Rattle.serve_proxy.specs.declared.proxy.ProxyEnd.{ProxyEnd}
-use Rattle.serve_proxy.specs.Beginning.{LoadStops}
+use Rattle.serve_proxy.specs.Beginning.{limits_by, LoadStops}
 use Rattle.serve_proxy.specs.Ends.{Stay, AllGoOr, AllGrowFrom, AllGrow, IsLoadOf, HasNoConns}
 use Rattle.serve_proxy.proofs.Going.{still, and_then, stays, same_core}
 use Rattle.serve_proxy.proofs.Linking.{or_any}
@@ -26,7 +28,12 @@ use Rattle.gate_check.specs.declared.reloading.ReloadFault.TheVariants.{NoMemory
 use Rattle.core_accepted.specs.declared.loading.LoadFault.{LoadFault}
 use Rattle.core_accepted.specs.declared.loading.LoadFault.TheVariants.{Refused}
 use Rattle.core_accepted.specs.declared.beginnings.Beginnings.{Beginnings}
+use Rattle.core_accepted.specs.Begun.{any_begun}
+use Rattle.core_accepted.specs.Known.{first_of}
+use Rattle.core_accepted.specs.Logs.{TreesAreSound, IsAcceptedSince}
 use Rattle.core_accepted.proofs.Keeping.{since_are_fresh}
+use Rattle.core_fleets.specs.LateCores.{EveryLateLogIsFresh}
+use Rattle.core_fleets.proofs.LateCores.{late_core}
 use Rattle.serve_proxy.specs.LogsGoOn.{LogsAreFresh}
 use Rattle.mcgate.specs.declared.serve.Servable.{Servable}
 use Rattle.mcgate.specs.declared.serve.Servable.TheVariants as servables
@@ -150,6 +157,11 @@ has_freshly : (servable : Servable) (begun : Beginnings) (settings : Settings) (
 has_freshly (servables.Accepted accepted) begun settings steps a b begins walks fresh = (begins.config, begins.last, walks_are_fresh steps a b walks fresh begins.config begun ([], begins.word))
 has_freshly (servables.Unchecked configuration) begun settings steps a b begins walks fresh = tt
 
+-- its first core has no call out
+begins_uncalled : (servable : Servable) (begun : Beginnings) (settings : Settings) (core : ServedCore) → BeginsBy servable begun settings core → TellsCalls [] core
+begins_uncalled (servables.Accepted accepted) begun settings core begins = walks_tell_calls.begins begins.config.tree (limits_by settings) core begins.core_is
+begins_uncalled (servables.Unchecked configuration) begun settings core begins = walks_tell_calls.begins configuration.tree (limits_by settings) core begins.core_is
+
 pub has_served :
     {A E : Type 0} (servable : Servable) (begun : Beginnings) (settings : Settings) (ended : Result A E) (first last : ProxyEnd Sockets) → BeginsServing servable begun settings first → ServesTo ended first last → LogsAreFresh last.core.value
     → HasServed servable begun settings ended last
@@ -159,14 +171,22 @@ has_served servable begun settings ended first last begins g fresh = record {
   serves = g;
   agrees = subst (λ l. AgreesTo ended l (proxy_of last)) (append-nil g.steps) (g.agree [] begins.agrees);
   fresh = has_freshly servable begun (record settings { sharing = sharing_for begins.core.0 }) g.steps first.core.value last.core.value begins.core.2 g.walks fresh;
+  calls = (walks_tell_calls.goes_on g.steps [] first.core.value last.core.value (begins_uncalled servable begun (record settings { sharing = sharing_for begins.core.0 }) first.core.value begins.core.2) g.walks).1;
 }
 
-by_kind : (servable : Servable) (begun : Beginnings) (settings : Settings) (steps : List Step) (a b : ServedCore) → BeginsBy servable begun settings a → Walks steps a b → LogsAreFresh b → StaysFresh servable begun b
-by_kind (servables.Accepted accepted) begun settings steps a b begins walks fresh =
-    let is = walks_keep_since steps a b walks begins.config begun ([], begins.word) in
-    (begins.config, begins.last, is, since_are_fresh begins.config begun b fresh is)
-by_kind (servables.Unchecked configuration) begun settings steps a b begins walks fresh = tt
+-- also where servers apply late what had failed
+late_since : (first : Configuration) (begun : Beginnings) (b : ServedCore) → TreesAreSound b → IsAcceptedSince first begun b → begun ≡ any_begun → EveryLateLogIsFresh b
+late_since first begun b sound is any = late_core b sound (record (first_of first begun) { configs = first ∷ is.0 }, is.1, any)
 
-pub stays_fresh : {A E : Type 0} (servable : Servable) (begun : Beginnings) (settings : Settings) (ended : Result A E) (end : ProxyEnd Sockets) → HasServed servable begun settings ended end → LogsAreFresh end.core.value → StaysFresh servable begun end.core.value
-stays_fresh servable begun settings ended end served fresh =
-    by_kind servable begun (record settings { sharing = sharing_for served.begins.core.0 }) served.serves.steps served.first.core.value end.core.value served.begins.core.2 served.serves.walks fresh
+by_kind :
+    (servable : Servable) (begun : Beginnings) (settings : Settings) (steps : List Step) (a b : ServedCore) → BeginsBy servable begun settings a → Walks steps a b → LogsAreFresh b → TreesAreSound b → StaysFresh servable begun b
+by_kind (servables.Accepted accepted) begun settings steps a b begins walks fresh sound =
+    let is = walks_keep_since steps a b walks begins.config begun ([], begins.word) in
+    (begins.config, begins.last, is, since_are_fresh begins.config begun b fresh is, late_since begins.config begun b sound is)
+by_kind (servables.Unchecked configuration) begun settings steps a b begins walks fresh sound = tt
+
+pub stays_fresh :
+    {A E : Type 0} (servable : Servable) (begun : Beginnings) (settings : Settings) (ended : Result A E) (end : ProxyEnd Sockets) → HasServed servable begun settings ended end → LogsAreFresh end.core.value
+    → TreesAreSound end.core.value → StaysFresh servable begun end.core.value
+stays_fresh servable begun settings ended end served fresh sound =
+    by_kind servable begun (record settings { sharing = sharing_for served.begins.core.0 }) served.serves.steps served.first.core.value end.core.value served.begins.core.2 served.serves.walks fresh sound

@@ -4,3 +4,4 @@ pub mod Judging
 pub mod Certified
 pub mod Remembers
 pub mod OverTcp
+pub mod LooksUp

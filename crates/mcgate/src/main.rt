@@ -6,6 +6,7 @@ mod certified;
 mod controlling;
 mod descriptors;
 mod draining;
+mod emptying;
 mod histories;
 mod lines;
 mod listening;

@@ -57,7 +57,7 @@ fn sync_folder<R: Files>(rt: &R, folder: &str) -> io::Result<()> {
 }
 
 // The file has the text, and the disk too: at each moment before it has it as it was. One that couldn't be read again isn't written.
-fn put<R: Files + AllocGlobal>(rt: &R, path: &str, text: &str) -> io::Result<()> {
+pub fn put<R: Files + AllocGlobal>(rt: &R, path: &str, text: &str) -> io::Result<()> {
     if text.len() > INPUT_LIMIT {
         return Err(io::Error::from(ErrorKind::FileTooLarge));
     }

@@ -1,9 +1,12 @@
 //! `mcgate serve`: the configuration is read and judged, and then served.
 
-ghost use Rattle.std.specs.Prelude.{◌≡◌, IfOk, false, []};
+ghost use Rattle.std.specs.Prelude.{◌≡◌, IfOk, false, [], ℕ, List, Some, slice_get, OnOk};
+ghost use Rattle.serve_wire.specs.Events.{looks_up};
+ghost use Rattle.serve_links.specs.Story.{HasHappened};
 ghost use Rattle.serve_links.specs.Story.{Agrees, texts_of};
-ghost use Rattle.serve_proxy.specs.Ends.{HasNoConns};
+ghost use Rattle.serve_proxy.specs.Ends.{HasNoConns, IsQuiet};
 ghost use Rattle.mcgate.specs.Judging.{Judges, JudgesText};
+ghost use Rattle.mcgate.specs.LooksUp.{AreLookedUp};
 ghost use Rattle.mcgate.specs.Serves.{Begins, HasServers, BeginsServing, HasServed, StaysFresh, history_of, proxy_of};
 
 use crate::controlling::Controlling;
@@ -152,7 +155,8 @@ fn look_up<R: Net + Eprint>(
     wire: &mut Sockets,
     servers: &Servers,
 ) -> io::Result<()>
-    ensures { history_of wire.new ≡ history_of wire.old }
+    ensures quiet { IsQuiet (history_of wire.old) (history_of wire.new) }
+    ensures looked { OnOk result (AreLookedUp 0 servers.now (history_of wire.new)) }
 {
     for at in 0..servers.len() {
         look_up_at(rt, lines, wire, servers, at)?;
@@ -168,7 +172,8 @@ fn look_up_at<R: Net + Eprint>(
     servers: &Servers,
     at: usize,
 ) -> io::Result<()>
-    ensures { history_of wire.new ≡ history_of wire.old }
+    ensures quiet { IsQuiet (history_of wire.old) (history_of wire.new) }
+    ensures looked { (text : List ℕ) → slice_get servers.now at ≡ Some text → HasHappened (looks_up text) (history_of wire.new) }
 {
     if let Some(text) = text_at(servers, at) {
         let found = wire.resolve(rt, text.as_bytes(), address_in(text).as_bytes());
@@ -202,7 +207,8 @@ fn listen<R: Files + Net + Clock + AllocGlobal + Eprint + Given>(
     job: &ServeJob<'_>,
     servers: &Servers,
 ) -> io::Result<Sockets>
-    ensures { IfOk result (λ wire. history_of wire ≡ []) }
+    ensures none { IfOk result (λ wire. HasNoConns (history_of wire)) }
+    ensures looked { IfOk result (λ wire. AreLookedUp 0 servers.now (history_of wire)) }
 {
     match open_wire(rt, job) {
         Ok(mut wire) => {

@@ -1,6 +1,8 @@
 //! A proxy that runs: its turns, what is told of its servers, and the configurations that are loaded meanwhile.
 
-ghost use Rattle.std.specs.Prelude.{◌≡◌, ◌≢◌, ◌⊎◌, IsTrue, IfOk, OnOk, string_bytes};
+ghost use Rattle.std.specs.Prelude.{◌≡◌, ◌≢◌, ◌⊎◌, IsTrue, IfOk, OnOk, string_bytes, ℕ, List, Some, ◌∷◌, length, slice_get};
+ghost use Rattle.serve_wire.specs.Events.{looks_up};
+ghost use Rattle.serve_links.specs.Story.{HasHappened};
 ghost use Rattle.core_accepted.specs.declared.loading.LoadFault.TheVariants.{Refused};
 ghost use Rattle.gate_check.specs.declared.reloading.ReloadFault.TheVariants.{NoMemory};
 ghost use Rattle.serve_proxy.specs.Ends.{Stay, AllGoOr, AllGrow, IsLoadOf};
@@ -8,9 +10,11 @@ ghost use Rattle.core_accepted.specs.Logs.{TreesAreSound};
 ghost use Rattle.serve_proxy.specs.LogsGoOn.{LogsAreFresh};
 ghost use Rattle.mcgate.specs.Serves.{SaysAfter, history_of, proxy_of, Serves, ServesTo, MayLoad, MayLoadText};
 ghost use Rattle.mcgate.specs.Remembers.{StandsIn, StandsIfLoaded};
+ghost use Rattle.mcgate.specs.LooksUp.{AreLookedUp};
 
 use crate::controlling::Controlling;
 use crate::draining::Draining;
+use crate::emptying::Emptying;
 use crate::lines::Lines;
 use crate::outages::Outages;
 use crate::remembering::{Kept, Remembering, forget, remember};
@@ -100,6 +104,10 @@ pub struct Serving {
     controlling: Option<Controlling>,
     /// Since when it drains, if it does.
     draining: Option<Draining>,
+    /// Servers that are to be emptied before their first call.
+    emptying: Option<Emptying>,
+    /// Whether no server waits until those of earlier epochs at its address have no calls any more.
+    have_begun: bool,
 }
 
 // The text of a regular file. Of what is none the program doesn't wait for a text.
@@ -185,6 +193,33 @@ fn print_kept<W: Write>(
     }
 }
 
+// The new servers of a text are to be emptied, if it says a configuration, where that is so of all that a reload brings: it is written
+// before they are used. Whether it was, or needn't be; where it can't be written that is told and printed.
+fn notes_new<R: Files + AllocGlobal + Eprint, W: Write>(
+    rt: &R,
+    lines: &mut Lines,
+    emptying: &mut Option<Emptying>,
+    servers: &Servers,
+    text: &str,
+    out: &mut W,
+) -> Result<bool, Stop> {
+    let Some(emptying) = emptying else {
+        return Ok(true);
+    };
+    match emptying.add_of(rt, servers, text) {
+        Ok(()) => Ok(true),
+        Err(error) if error.kind() == ErrorKind::OutOfMemory => Err(Stop::Memory),
+        Err(error) => {
+            let line = format_args!(
+                "mcgate: cannot write which servers are to be emptied: {error}"
+            );
+            lines.tell(rt, line);
+            writeln!(out, "reload refused: history not written")?;
+            Ok(false)
+        }
+    }
+}
+
 // How many generations there were before the last one.
 fn before_of(memory: &Option<Kept>) -> u32 {
     match memory {
@@ -224,6 +259,8 @@ impl Serving {
             watching,
             controlling,
             draining: None,
+            emptying: None,
+            have_begun: false,
         })
     }
 
@@ -362,6 +399,7 @@ impl Serving {
         ensures ends { ServesTo result self.old.end self.new.end }
     {
         self.end.bound_clients(job.stall_ms, job.memory);
+        self.begin_emptying(rt, job)?;
         for _ in 0..job.turns.map_or(u64::MAX, u64::from) {
             self.turn(rt, job)?;
             if self.end_turn(rt, job)? {
@@ -382,7 +420,9 @@ impl Serving {
     {
         self.lines.look(rt);
         self.tell_news(rt);
+        self.settle_emptying(rt);
         self.look_if_due(rt, job)?;
+        self.keep_epochs();
         self.turn_watching(rt);
         self.take_words(rt, job)?;
         Ok(self.has_drained(rt)?)
@@ -396,6 +436,65 @@ impl Serving {
         self.end.end_turns()?;
         self.end_controlling(rt);
         Ok(DONE)
+    }
+
+    // Those of whom the run before didn't know it are emptied before their first call.
+    fn begin_emptying<R: Files + Input + AllocGlobal>(
+        &mut self,
+        rt: &R,
+        job: &ServeJob<'_>,
+    ) -> Result<(), Stop>
+        ensures core { self.new.end.core ≡ self.old.end.core }
+        ensures ends { Stay history_of self.old.end.sockets self.new.end.sockets }
+    {
+        let emptying = Emptying::read(rt, job.history, job.settings.flushes_new)?;
+        self.emptying = Some(emptying);
+        self.keep_epochs();
+        Ok(())
+    }
+
+    // The first of those that are to be emptied, from this server on.
+    fn next_emptying(&self, from: usize) -> Option<usize> {
+        match &self.emptying {
+            Some(emptying) => emptying.next(&self.servers, from),
+            None => None,
+        }
+    }
+
+    // All of them are emptied before their first call.
+    fn mark_emptying(&mut self)
+        ensures core { self.new.end.core ≡ self.old.end.core }
+        ensures ends { Stay history_of self.old.end.sockets self.new.end.sockets }
+    {
+        let mut from = 0usize;
+        for _ in 0..self.servers.len() {
+            let Some(at) = self.next_emptying(from) else {
+                return;
+            };
+            self.end.empty_first(at);
+            from = at.saturating_add(1);
+        }
+    }
+
+    // What was emptied is noted. Where that can't be written, it may be emptied once more by the next run.
+    fn settle_emptying<R: Files + AllocGlobal>(&mut self, rt: &R)
+        ensures { self.new.end ≡ self.old.end }
+    {
+        if let Some(emptying) = &mut self.emptying {
+            let _ = emptying.settle(rt, &self.end, &self.servers);
+        }
+    }
+
+    // Servers are emptied that are to be, and calls go to each while its epoch lasts.
+    fn keep_epochs(&mut self)
+        ensures core { self.new.end.core ≡ self.old.end.core }
+        ensures ends { Stay history_of self.old.end.sockets self.new.end.sockets }
+    {
+        if self.have_begun {
+            return;
+        }
+        self.mark_emptying();
+        self.have_begun = self.end.keep_epochs(&self.servers);
     }
 
     fn millis<R: Clock>(&self, rt: &R) -> io::Result<u64> {
@@ -952,6 +1051,16 @@ impl Serving {
         ensures ends { Serves self.old.end self.new.end }
         ensures remembered { StandsIfLoaded self.old.end.core.value self.new.end.core.value self.new.memory text.now }
     {
+        if !notes_new(
+            rt,
+            &mut self.lines,
+            &mut self.emptying,
+            &self.servers,
+            text,
+            out,
+        )? {
+            return Ok(false);
+        }
         match remember(rt, &mut self.lines, &mut self.memory, text, out)? {
             Remembering::Refused => Ok(false),
             Remembering::Stands(old) => self.load_remembered(rt, any, text, old, out),
@@ -1005,6 +1114,7 @@ impl Serving {
 
     // Looks up those of these servers that weren't in use before.
     fn resolve<R: Net + Eprint>(&mut self, rt: &R, servers: &Servers) -> io::Result<()>
+        ensures looked { OnOk result (AreLookedUp (length self.old.servers) servers.now (history_of self.new.end.sockets.wire)) }
         ensures core { self.new.end.core ≡ self.old.end.core }
         ensures ends { Stay history_of self.old.end.sockets self.new.end.sockets }
         ensures memory { self.new.memory ≡ self.old.memory }
@@ -1022,6 +1132,7 @@ impl Serving {
         servers: &Servers,
         at: usize,
     ) -> io::Result<()>
+        ensures looked { (text : List ℕ) → slice_get servers.now at ≡ Some text → HasHappened (looks_up text) (history_of self.new.end.sockets.wire) }
         ensures core { self.new.end.core ≡ self.old.end.core }
         ensures ends { Stay history_of self.old.end.sockets self.new.end.sockets }
         ensures memory { self.new.memory ≡ self.old.memory }
@@ -1033,6 +1144,7 @@ impl Serving {
     }
 
     fn resolve_one<R: Net + Eprint>(&mut self, rt: &R, text: &str) -> io::Result<()>
+        ensures looked { history_of self.new.end.sockets.wire ≡ looks_up text.now ∷ history_of self.old.end.sockets.wire }
         ensures core { self.new.end.core ≡ self.old.end.core }
         ensures ends { Stay history_of self.old.end.sockets self.new.end.sockets }
         ensures memory { self.new.memory ≡ self.old.memory }
@@ -1042,7 +1154,8 @@ impl Serving {
         Ok(())
     }
 
-    // Loads a configuration of these servers, and prints what came of that. Whether it was loaded.
+    // Loads a configuration of these servers, once those that weren't in use before were looked up, and prints what came of that. Whether it
+    // was loaded.
     fn load<R: Net + AllocGlobal + Eprint, W: Write>(
         &mut self,
         rt: &R,
@@ -1054,6 +1167,7 @@ impl Serving {
         ensures core { MayLoad config self.old.end.core.value self.new.end.core.value }
         ensures ends { AllGrow (IsLoadOf config) (proxy_of self.old.end) (proxy_of self.new.end) }
         ensures memory { self.new.memory ≡ self.old.memory }
+        ensures looked { IfOk result (λ used. IsTrue used → AreLookedUp (length self.old.servers) servers (history_of self.new.end.sockets.wire)) }
         ensures noted { IfOk result (λ used. IsTrue used → self.new.servers ≡ servers) }
         ensures unused { IfOk result (λ used. IsTrue used ⊎ (self.new.end.core.value ≡ self.old.end.core.value)) }
     {
@@ -1061,6 +1175,7 @@ impl Serving {
         match self.end.load(config, &servers) {
             Ok(generation) => {
                 self.servers = servers;
+                self.have_begun = false;
                 self.generation = generation;
                 print_loaded(any, generation.saturating_add(self.before), out)?;
                 Ok(true)

@@ -1,8 +1,10 @@
 //! A text that is to be served, and what is remembered of those before it.
 
 ghost use Rattle.std.specs.Prelude.{string_bytes};
+ghost use Rattle.gate_history.specs.Standing.{Stands};
 ghost use Rattle.mcgate.specs.Remembers.{StandsIn};
 
+use crate::emptying::Emptying;
 use crate::histories::file_at;
 use crate::lines::Lines;
 use crate::remembering::{Kept, unwritten_line};
@@ -60,8 +62,53 @@ fn begun_after(file: &HistoryFile, begun: Beginnings) -> Beginnings {
     }
 }
 
+// The servers that the last generation brought, after those before, are to be emptied, where that is so of new ones: it is written.
+fn note_new<R: Files + Input + AllocGlobal>(
+    rt: &R,
+    job: &ServeJob<'_>,
+    path: &str,
+    file: &HistoryFile,
+) -> Result<(), Stop> {
+    if !job.settings.flushes_new {
+        return Ok(());
+    }
+    let generations = file.history().generations();
+    let count = generations.len();
+    if count < 2 {
+        return Ok(());
+    }
+    let from = generations[count - 2].config.servers().len();
+    let mut emptying = Emptying::read(rt, Some(path), true)?;
+    Ok(emptying.add(rt, generations[count - 1].config.servers(), from)?)
+}
+
+// The text is served after the history of this file, of which it is the last generation: the file is written, if that is new.
+fn keep_in<R: Files + AllocGlobal>(
+    rt: &R,
+    path: &str,
+    file: HistoryFile,
+    text: String,
+    begun: Beginnings,
+    is_new: bool,
+    details: &mut Details,
+) -> Result<Begun, Stop>
+    requires { Stands file.text (string_bytes text) }
+{
+    match Kept::new(rt, path, file, begun.added, is_new) {
+        Ok(kept) => Ok(Begun::Started(Started {
+            text,
+            memory: Some(kept),
+            begun,
+        })),
+        Err(error) => {
+            details.add(unwritten_line(rt.alloc(), path, &error));
+            Err(Stop::from(error))
+        }
+    }
+}
+
 // The text is the next generation of this file, if it may be; else why not is printed.
-fn begin_in<R: Files + AllocGlobal, W: Write>(
+fn begin_in<R: Files + Input + AllocGlobal, W: Write>(
     rt: &R,
     job: &ServeJob<'_>,
     path: &str,
@@ -74,17 +121,12 @@ fn begin_in<R: Files + AllocGlobal, W: Write>(
     let begun = begun_after(&file, job.begun);
     let mut file = file;
     match file.take_text(rt.alloc(), text.as_str(), began) {
-        Ok(old) => match Kept::new(rt, path, file, begun.added, old.is_some()) {
-            Ok(kept) => Ok(Begun::Started(Started {
-                text,
-                memory: Some(kept),
-                begun,
-            })),
-            Err(error) => {
-                details.add(unwritten_line(rt.alloc(), path, &error));
-                Err(Stop::from(error))
+        Ok(old) => {
+            if old.is_some() {
+                note_new(rt, job, path, &file)?;
             }
-        },
+            keep_in(rt, path, file, text, begun, old.is_some(), details)
+        }
         Err(fault) => {
             let status = print_no_next(rt.alloc(), path, &fault, out, details)?;
             tell_no_next(

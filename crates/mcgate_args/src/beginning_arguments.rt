@@ -5,25 +5,35 @@ use clap::ArgMatches;
 use core_accepted::{Beginning, Beginnings};
 use mcgate_replay::Judging;
 
-// What servers held by the word after a flag: anything where it is `any` or left out, and nothing of others where it is this one.
-fn beginning_of(
-    given: &ArgMatches<'_>,
-    name: &str,
-    own: &str,
-) -> Result<Beginning, ArgumentsFault> {
-    match given.get_str(name) {
+// What the first servers held: anything where the word is `any` or left out.
+fn opened_of(word: Option<&str>) -> Result<Beginning, ArgumentsFault> {
+    match word {
         None | Some("any") => Ok(Beginning::Any),
-        Some(word) if word == own => Ok(Beginning::Own),
+        Some("own") => Ok(Beginning::Own),
         Some(_) => Err(ArgumentsFault::Refused),
     }
 }
 
-/// How servers began, by the flags `--opened any|own` and `--new-servers any|empty`.
+// What new servers held before their first call: nothing where they were empty, or are emptied first.
+fn added_of(word: Option<&str>) -> Result<Beginning, ArgumentsFault> {
+    match word {
+        None | Some("any") => Ok(Beginning::Any),
+        Some("empty" | "flush") => Ok(Beginning::Own),
+        Some(_) => Err(ArgumentsFault::Refused),
+    }
+}
+
+/// How servers began, by the flags `--opened any|own` and `--new-servers any|empty|flush`.
 pub fn begun_of(given: &ArgMatches<'_>) -> Result<Beginnings, ArgumentsFault> {
     Ok(Beginnings {
-        opened: beginning_of(given, "opened", "own")?,
-        added: beginning_of(given, "new-servers", "empty")?,
+        opened: opened_of(given.get_str("opened"))?,
+        added: added_of(given.get_str("new-servers"))?,
     })
+}
+
+/// Whether new servers are to be emptied before their first call.
+pub fn flushes_new(given: &ArgMatches<'_>) -> bool {
+    given.get_str("new-servers") == Some("flush")
 }
 
 /// How the trees of a script are judged, by these flags and `--any`, beside which they say nothing.

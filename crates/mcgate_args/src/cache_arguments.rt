@@ -1,6 +1,6 @@
 //! The arguments of `mcgate cache`, and what they ask for.
 
-use crate::arguments::{ArgumentsFault, Job, count_of, help_flag, option};
+use crate::arguments::{ArgumentsFault, Job, count_of, help_flag, option, switch};
 use cache_tcp::Settings;
 use clap::{ArgMatches, Command};
 use std::alloc::{AllocError, Global};
@@ -18,13 +18,14 @@ pub struct CacheJob<'a> {
 }
 
 pub const CACHE_HELP: &str =
-    "usage: mcgate cache --listen HOST:PORT --capacity C [--memory-mb N] [--turns N]
+    "usage: mcgate cache --listen HOST:PORT --capacity C [--memory-mb N] [--flush-all] [--turns N]
 
 Is one memcached server, in both dialects, over TCP. One line tells on standard error when it listens.
   --listen HOST:PORT     where; with port 0 the system picks one
   --capacity C           it keeps at most C items; a new one drops the one that was used least recently
   --memory-mb N          items and replies that clients don't take have N MiB at most; for more, items are dropped, the least recently
                          used first, and of replies that take half of it, the client that leaves most of them is closed
+  --flush-all            a client may empty it, by `flush_all`; without it that line is an ERROR
   --turns N              ends after N turns; without it, it doesn't end. A turn serves the clients that are ready, each one read
 C and N are 1..=4294967295. At most 1,024 clients are served at a time.
 Exit status: 0 done, 2 bad arguments, 3 memory or a device failed, also where it can't listen there.
@@ -38,6 +39,7 @@ pub fn cache_command<'a>(alloc: Global) -> Result<Command<'a>, AllocError> {
         .arg(option(alloc, "listen"))?
         .arg(option(alloc, "capacity"))?
         .arg(option(alloc, "memory-mb"))?
+        .arg(switch(alloc, "flush-all"))?
         .arg(option(alloc, "turns"))
 }
 
@@ -60,7 +62,7 @@ pub fn cache_job<'a>(given: &ArgMatches<'a>) -> Result<Job<'a>, ArgumentsFault> 
     };
     Ok(Job::Cache(CacheJob {
         listen,
-        settings: settings_of(capacity)?,
+        settings: settings_of(capacity)?.with_flushes(given.get_flag("flush-all")),
         memory_mb: count_of(given, "memory-mb")?,
         turns: count_of(given, "turns")?,
     }))

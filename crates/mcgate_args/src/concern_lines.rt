@@ -19,8 +19,8 @@ const NAMED: usize = 10;
 fn advice() -> &'static str {
     "to change: keys may move to a server that never had them, and back to one that had them if all deletes went there meanwhile
 - while keys move let deletes go to both, the servers that had them and those that get them: mcgate plan tells the steps
-- write the list with each server many times first, by which no key moves; then a new server takes places of each
-- start an emptied server at another address, so that it is a new one, with --new-servers empty
+- make the list a table of slots first, by which no key moves: mcgate slots prints it, and then what a new server takes of each
+- a server that was emptied is a new one by another epoch, as HOST:PORT#2, with --new-servers empty
 - say --opened own, if since they were last empty the first servers got nothing but what the first tree puts there"
 }
 

@@ -1,7 +1,7 @@
 //! The arguments of `mcgate serve`, and what they ask for.
 
 use crate::arguments::{ArgumentsFault, Job, count_of, help_flag, option, switch};
-use crate::beginning_arguments::begun_of;
+use crate::beginning_arguments::{begun_of, flushes_new};
 use crate::log_arguments::{Log, log_of};
 use clap::{ArgMatches, Command};
 use core_accepted::Beginnings;
@@ -87,7 +87,8 @@ opens, fails or comes back.
   --server-dialect WORD  how servers are asked for classic gets: classic, meta, or auto, by what each answers to an mn; auto
   --opened WORD          what the servers of the first configuration held before: any, or own: of each key nothing but what its tree
                          may put on them; any
-  --new-servers WORD     what servers held that a reload brings: any, or empty: nothing; any
+  --new-servers WORD     what servers held that a reload brings: any, or empty: nothing, or flush: each is emptied by flush_all before
+                         its first call; any
   --reload-ms N          FILE is read again each N milliseconds; without it and the next one, it isn't
   --reload-every N       FILE is read again each N turns
   --turns N              ends after so many turns; without it, it doesn't end
@@ -192,7 +193,7 @@ fn settings_of(given: &ArgMatches<'_>) -> Result<Settings, ArgumentsFault> {
         give_up_ms: count_of(given, "give-up-ms")?.map(u64::from),
         polls: count_of(given, "polls")?,
         server_dialect: dialect_of(given, usual.server_dialect)?,
-        flushes_new: usual.flushes_new,
+        flushes_new: flushes_new(given),
     })
 }
 

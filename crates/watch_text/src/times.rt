@@ -61,7 +61,7 @@ impl Display for Moment {
     fn fmt<W: fmt::Write>(&self, f: &mut fmt::Formatter<W>) -> fmt::Result {
         let (year, day) = year_of(self.0 / DAY_MS);
         let (month, day) = month_of(year, day);
-        let (month, day) = (month as u64 + 1, day.min(30) + 1);
+        let (month, day) = ((month as u64).saturating_add(1), day.min(30) + 1);
         write!(f, "{year:04}-{month:02}-{day:02}T")?;
         let (minutes, millis) = (self.0 % DAY_MS / 60_000, self.0 % 60_000);
         write!(f, "{:02}:{:02}:", minutes / 60, minutes % 60)?;

@@ -1,9 +1,10 @@
 //! One connection of a cache server: pieces in, replies out.
 
-ghost use Rattle.std.specs.Prelude.{◌≡◌, ◌↔◌, pos, ◌≤ℤ◌, [], IsTrue, OnOk, OnErr};
+ghost use Rattle.std.specs.Prelude.{◌≡◌, ◌↔◌, pos, ◌≤ℤ◌, true, [], IsTrue, OnOk, OnErr};
 ghost use Rattle.wire_parts.specs.declared.skip.Skip.TheVariants.{Nothing};
 ghost use Rattle.wire_parts.specs.Sending.{bytes_of};
 ghost use Rattle.wire_parts.specs.Stream.{Stands, Closed, extended};
+ghost use Rattle.wire_stream.specs.Held.{held_at};
 ghost use Rattle.cache_tcp.specs.Steps.{RunsOn, Stops, IsAnswered, IsWithin, at_front, spot_at};
 
 use crate::connection::moment::Moment;
@@ -53,6 +54,13 @@ impl Served {
         ensures { IsTrue result ↔ self.now.place ≡ Closed }
     {
         self.stream.is_closed()
+    }
+
+    /// Whether no message is begun: nothing came that isn't answered yet. It takes no memory.
+    pub fn is_between(&self) -> bool
+        ensures { result ≡ true → (held_at self.now.place ≡ []) × (self.now.count ≡ 0) }
+    {
+        self.answered == 0 && self.stream.held_len() == 0 && !self.stream.is_closed()
     }
 
     /// A piece of the client's bytes comes. After the end they are dropped. The only error is running out of memory, which changes nothing.

@@ -1,6 +1,7 @@
-use Rattle.std.proofs.Common.{◌≡◌}
+use Rattle.serve_proxy.specs.Ends.{IsQuiet}
+use Rattle.mcgate.specs.LooksUp.{AreLookedUpTo}
 use Rattle.mcgate.specs.Serves.{history_of}
 use Rattle.mcgate.proofs.serve.look_up.Given as goal
 
 abbrev pub invariant-loop-at : goal.invariant-loop-at
-invariant-loop-at g l = history_of l.wire ≡ history_of l.fn.wire
+invariant-loop-at g l = record { quiet : IsQuiet (history_of l.fn.wire) (history_of l.wire); looked : AreLookedUpTo 0 l.at l.servers (history_of l.wire) }

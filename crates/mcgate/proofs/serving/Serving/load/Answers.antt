@@ -1,5 +1,8 @@
 use Rattle.serve_proxy.proofs.Growing.{then_grows}
-use Rattle.std.proofs.Common.{ap, inr}
+use Rattle.std.proofs.Common.{ap, inr, sym, subst, length}
+use Rattle.serve_wire.specs.declared.sockets.sockets.Sockets.{Sockets}
+use Rattle.mcgate.specs.LooksUp.{AreLookedUp}
+use Rattle.mcgate.specs.Serves.{history_of}
 use Rattle.serve_proxy.specs.declared.proxy.ProxyEnd.{ProxyEnd}
 use Rattle.mcgate.proofs.Loads.{stood, not_loaded}
 use Rattle.mcgate.proofs.serving.Serving.load.Goals as goal
@@ -22,3 +25,6 @@ returns-in_ok-print_kept-in-Err-clause-ends g c = then_grows (stood c.args.self.
 pub returns-in_ok-print_kept-in-Err-clause-unused : goal.returns-in_ok-print_kept-in-Err-clause-unused
 returns-in_ok-print_kept-in-Err-clause-unused g c =
     inr (not_loaded c.args.self.now.end.core.value c.resolve.new.self.end.core.value c.load.new.self.core.value c.args.config c.in-Err.fault (ap (λ x. x.value) c.resolve.ensures.core) c.in-Err.ensures.refused c.in_ok-print_kept-in-Err.ensures)
+
+pub returns-in_ok-print_loaded-in-Ok-clause-looked : goal.returns-in_ok-print_loaded-in-Ok-clause-looked
+returns-in_ok-print_loaded-in-Ok-clause-looked g c = λ used. subst (λ (w : Sockets). AreLookedUp (length c.args.self.now.servers) c.args.servers (history_of w)) (sym c.load.ensures.wire) c.in_ok-resolve.ensures.looked

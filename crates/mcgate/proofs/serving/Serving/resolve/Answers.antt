@@ -1,12 +1,25 @@
-use Rattle.std.proofs.Common.{◌∙◌, refl}
+use Rattle.std.proofs.Common.{◌≡◌, ◌≤◌, length, ◌∙◌, refl, sym, ap, subst, arith}
 use Rattle.serve_proxy.proofs.Staying.{stay_then, stay_still}
+use Rattle.mcgate.specs.LooksUp.{AreLookedUpTo}
+use Rattle.mcgate.specs.Serves.{history_of}
+use Rattle.mcgate.proofs.LookedUp.{none_yet, one_more, to_all}
 use Rattle.mcgate.proofs.serving.Serving.resolve.Goals as goal
 
 pub loop-at-init : goal.loop-at-init
-loop-at-init g c = record { core = refl; ends = stay_still _ _ _; memory = refl }
+loop-at-init g c = record { looked = subst (λ n. AreLookedUpTo (length c.args.self.now.servers) n c.args.servers.now (history_of c.args.self.now.end.sockets.wire)) (sym c.len-at.ensures) (none_yet (length c.args.self.now.servers) c.args.servers.now (history_of c.args.self.now.end.sockets.wire)); core = refl; ends = stay_still _ _ _; memory = refl }
 
 pub loop-at-preserved : goal.loop-at-preserved
-loop-at-preserved g c = record { core = c.resolve_at.ensures.core ∙ c.loop-at.invariant.core; ends = stay_then c.loop-at.invariant.ends c.resolve_at.ensures.ends; memory = c.resolve_at.ensures.memory ∙ c.loop-at.invariant.memory }
+loop-at-preserved g c = record {
+  looked = one_more (length c.args.self.now.servers) c.loop-at.at c.args.servers.now (history_of c.loop-at.self.end.sockets.wire) (history_of c.resolve_at.new.self.end.sockets.wire) (c.resolve_at.ensures.ends.quiet 0).after c.resolve_at.ensures.looked c.loop-at.invariant.looked;
+  core = c.resolve_at.ensures.core ∙ c.loop-at.invariant.core;
+  ends = stay_then c.loop-at.invariant.ends c.resolve_at.ensures.ends;
+  memory = c.resolve_at.ensures.memory ∙ c.loop-at.invariant.memory;
+}
 
 pub returns-in_err-resolve_at : goal.returns-in_err-resolve_at
 returns-in_err-resolve_at g c = record { core = c.resolve_at.ensures.core ∙ c.loop-at.invariant.core; ends = stay_then c.loop-at.invariant.ends c.resolve_at.ensures.ends; memory = c.resolve_at.ensures.memory ∙ c.loop-at.invariant.memory }
+
+pub returns : goal.returns
+returns g c =
+    let all : length c.args.servers.now ≤ c.loop-at.at = omega arith in
+    record { looked = to_all (length c.args.self.now.servers) c.loop-at.at c.args.servers.now (history_of c.loop-at.self.end.sockets.wire) all c.loop-at.invariant.looked; core = c.loop-at.invariant.core; ends = c.loop-at.invariant.ends; memory = c.loop-at.invariant.memory }

@@ -1,7 +1,13 @@
-use Rattle.std.proofs.Common.{◌≡◌}
+use Rattle.std.proofs.Common.{◌≡◌, length}
 use Rattle.serve_proxy.specs.Ends.{Stay}
+use Rattle.mcgate.specs.LooksUp.{AreLookedUpTo}
 use Rattle.mcgate.specs.Serves.{history_of}
 use Rattle.mcgate.proofs.serving.Serving.resolve.Given as goal
 
 abbrev pub invariant-loop-at : goal.invariant-loop-at
-invariant-loop-at g l = record { core : l.self.end.core ≡ l.fn.self.end.core; ends : Stay history_of l.fn.self.end.sockets l.self.end.sockets; memory : l.self.memory ≡ l.fn.self.memory }
+invariant-loop-at g l = record {
+  looked : AreLookedUpTo (length l.fn.self.servers) l.at l.servers (history_of l.self.end.sockets.wire);
+  core : l.self.end.core ≡ l.fn.self.end.core;
+  ends : Stay history_of l.fn.self.end.sockets l.self.end.sockets;
+  memory : l.self.memory ≡ l.fn.self.memory;
+}
