@@ -252,9 +252,13 @@ pub or_from :
     {W A E : Type 0} (history : W → List Event) (core x : ServedCore) (s : Sockets W) (core' : ServedCore) (s' : Sockets W) (r : Result A E) → x ≡ core → AllGoOr r history x s core' s' → AllGoOr r history core s core' s'
 or_from history core x s core' s' r same did = subst (λ y. AllGoOr r history y s core' s') same did
 
+-- the link at this place
+pub link_there : (links read : List Link) (at : ℕ) (x : Link) → read ≡ links → at < length read → x ≡ get_or read at x → slice_get links at ≡ Some x
+link_there links read at x is within was = subst (λ (l : List Link). slice_get l at ≡ Some x) is (slice_get_read read (length read) at x refl within was)
+
 -- one of the calls of the link at this place is late, or nothing is done
 pub late_at :
-    {a b : ServedCore} {now t : ℕ} {links : List Link} {x y : Link} (at most : ℕ) → now ≡ t → at < length links → x ≡ get_or links at x → HasLate most now x ⊎ ((y ≡ x) × (b ≡ a))
+    {a b : ServedCore} {now t : ℕ} (links : List Link) (x y : Link) (at most : ℕ) → now ≡ t → at < length links → x ≡ get_or links at x → HasLate most now x ⊎ ((y ≡ x) × (b ≡ a))
     → HasLateAt at most t links ⊎ (b ≡ a)
-late_at {t = t} {links = links} {x = x} at most shown within was (inl late) = inl (x, (slice_get_read links (length links) at x refl within was, subst (λ n. HasLate most n x) shown late))
-late_at at most shown within was (inr same) = inr same.1
+late_at links x y at most shown within was (inl late) = inl (x, slice_get_read links (length links) at x refl within was, subst (λ n. HasLate most n x) shown late)
+late_at links x y at most shown within was (inr same) = inr same.1
