@@ -267,7 +267,8 @@ impl<S: Read + Write + Drop> CacheClient<S> {
             return Ok(false);
         }
         self.conn.unsent.text.extend_from_slice(FLUSHED)?;
-        self.conn.use_held(FLUSH_LINE.len());
+        let used = FLUSH_LINE.len().min(self.conn.held.len());
+        self.conn.use_held(used);
         Ok(true)
     }
 

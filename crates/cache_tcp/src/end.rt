@@ -1,8 +1,5 @@
 //! The server's sockets: who is ready, in turns.
 
-ghost use Rattle.std.specs.Prelude.{◌≡◌};
-ghost use Rattle.cache_server.specs.Contents.{restarted};
-
 use crate::client::{AfterTurn, CacheClient};
 use crate::clock::{Moment, SetClock};
 use crate::connection::Cache;
@@ -94,9 +91,7 @@ fn look_at_uses<S: Drop>(
 }
 
 // All items are lost, and none is counted any more.
-fn lose_all(room: &mut Option<Room>, cache: &mut Cache)
-    ensures { cache.new ≡ restarted cache.old }
-{
+fn lose_all(room: &mut Option<Room>, cache: &mut Cache) {
     match room {
         Some(room) => room.give_up(cache),
         None => cache.restart(),
