@@ -1,6 +1,7 @@
 //! How much memory items and what is to be sent take, and which items go for it.
 
 ghost use Rattle.std.specs.Prelude.{◌≡◌, ◌+◌, ◌≤◌, ◌⊎◌, false, []};
+ghost use Rattle.cache_server.specs.Contents.{restarted};
 ghost use Rattle.cache_tcp.specs.Oldest.{LosesOldest};
 
 use crate::clock::Moment;
@@ -140,7 +141,9 @@ impl Room {
     }
 
     /// All items are lost, as memory was refused here.
-    pub fn give_up(&mut self, cache: &mut Cache) {
+    pub fn give_up(&mut self, cache: &mut Cache)
+        ensures { cache.new ≡ restarted cache.old }
+    {
         cache.restart();
         self.sizes.clear();
         self.items = 0;
