@@ -5,7 +5,7 @@ ghost use Rattle.wire_parts.specs.Sending.{bytes_of};
 ghost use Rattle.serve_wire.specs.Events.{Event};
 ghost use Rattle.core_accepted.specs.declared.served.ServedCore.{ServedCore};
 ghost use Rattle.serve_links.specs.CoreSteps.{IsOfTurn, Broke};
-ghost use Rattle.serve_clients.specs.Agrees.{said_of};
+ghost use Rattle.serve_clients.specs.Agrees.{said_of, KeepsEnds};
 ghost use Rattle.serve_links.specs.Story.{OneGoes};
 ghost use Rattle.serve_proxy.specs.Ends.{Stay, AllGoOn, AllClose, AllGiven, OneGives, IsClosing, IsAllSent, IsAllSentTo};
 
@@ -18,7 +18,7 @@ use crate::showing::{lend_room, show_lent};
 use crate::sockets::Sockets;
 use core_accepted::ServedCore;
 use core_proxy::{CoreFault, Poll as Polled};
-use serve_clients::Client;
+use serve_clients::{Client, Clients};
 use serve_links::{Tally, feed_held, read_once, show};
 use serve_wire::Wire;
 use std::alloc::AllocError;
@@ -90,6 +90,15 @@ fn serve_busy<W: Wire, N: Net>(
     Ok(())
 }
 
+// Those that wait for a key or a server are put behind these. Those for which memory was refused are listed again in the next turn.
+fn add_busy(clients: &mut Clients, ids: &mut Vec<usize>)
+    ensures ends { KeepsEnds clients.old clients.new }
+{
+    if clients.move_busy(ids).is_err() {
+        clients.is_short = true;
+    }
+}
+
 // A round: all that are ready, and all that wait for a key or a server.
 fn serve_round<W: Wire, N: Net>(
     net: &N,
@@ -100,10 +109,7 @@ fn serve_round<W: Wire, N: Net>(
 {
     sockets.is_freed = false;
     let mut ids = sockets.work.take(&mut sockets.clients.ready);
-    if sockets.clients.move_busy(&mut ids).is_err() {
-        // (those that are left are listed again in the next turn)
-        sockets.clients.is_short = true;
-    }
+    add_busy(&mut sockets.clients, &mut ids);
     ids.sort_unstable();
     serve_list(net, core, sockets, ids)
 }
