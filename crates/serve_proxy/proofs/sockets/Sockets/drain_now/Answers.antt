@@ -12,4 +12,4 @@ pub returns-then-not-drain_once : goal.returns-then-not-drain_once
 returns-then-not-drain_once g c = record { ends = go_stay (go_then c.loop.invariant c.drain_once.ensures.ends) (stay_links _ _ _ _ c.note_limit.ensures.lines) }
 
 pub returns : goal.returns
-returns g c = record { ends = go_stay (go_stay c.loop.invariant (stay_links _ _ _ _ c.note_limit.ensures.lines)) (stay_links _ _ _ _ c.mark_ready.ensures.lines) }
+returns g c = record { ends = go_stay (go_stay c.loop.invariant (stay_links _ _ _ _ c.note_limit-2.ensures.lines)) (stay_links _ _ _ _ c.mark_ready.ensures.lines) }
