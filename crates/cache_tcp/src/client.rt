@@ -245,12 +245,7 @@ impl<S: Read + Write + Drop> CacheClient<S> {
     }
 
     // Whether what is held begins with the line, and no message is begun before it.
-    fn begins_flush(&self) -> bool
-        ensures { result ≡ true → 11 ≤ length self.now.conn.held.items }
-    {
-        if self.conn.held.len() < FLUSH_LINE.len() {
-            return false;
-        }
+    fn begins_flush(&self) -> bool {
         !self.stopped
             && self.served.is_between()
             && self.conn.held.as_slice().starts_with(FLUSH_LINE)

@@ -1,7 +1,6 @@
 //! How much memory items and what is to be sent take, and which items go for it.
 
 ghost use Rattle.std.specs.Prelude.{◌≡◌, ◌+◌, ◌≤◌, ◌⊎◌, false, []};
-ghost use Rattle.cache_server.specs.Contents.{restarted};
 ghost use Rattle.cache_tcp.specs.Oldest.{LosesOldest};
 
 use crate::clock::Moment;
@@ -141,9 +140,7 @@ impl Room {
     }
 
     /// All items are lost, as memory was refused here.
-    pub fn give_up(&mut self, cache: &mut Cache)
-        ensures { cache.new ≡ restarted cache.old }
-    {
+    pub fn give_up(&mut self, cache: &mut Cache) {
         cache.restart();
         self.sizes.clear();
         self.items = 0;
