@@ -204,10 +204,18 @@ fn push_beginning(out: &mut String, word: &str, beginning: Beginning) -> Result<
     Ok(())
 }
 
+fn mode_word(mode: u32) -> &'static str {
+    match mode {
+        0o600 => "600",
+        0o660 => "660",
+        _ => "666",
+    }
+}
+
 fn push_serve(out: &mut String, job: &ServeJob<'_>) -> Result<(), AllocError> {
     write!(out, "serve {}", any_word(job.any))?;
     if job.listen != "a:1" {
-        write!(out, " at {} {:o}", job.listen, job.unix_mode)?;
+        write!(out, " at {} {}", job.listen, mode_word(job.unix_mode))?;
     }
     if let Some(certificate) = job.certificate {
         write!(out, " by {certificate}")?;

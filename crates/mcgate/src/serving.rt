@@ -400,13 +400,26 @@ impl Serving {
     {
         self.end.bound_clients(job.stall_ms, job.memory);
         self.begin_emptying(rt, job)?;
+        self.run_turns(rt, job)?;
+        self.end_all(rt)
+    }
+
+    // As many turns as are asked, or until it has drained.
+    fn run_turns<R: Files + Input + Net + Clock + AllocGlobal + Print + Eprint>(
+        &mut self,
+        rt: &R,
+        job: &ServeJob<'_>,
+    ) -> Result<(), Stop>
+        ensures ends { ServesTo result self.old.end self.new.end }
+    {
         for _ in 0..job.turns.map_or(u64::MAX, u64::from) {
             self.turn(rt, job)?;
-            if self.end_turn(rt, job)? {
-                return self.end_all(rt);
+            let is_last = self.end_turn(rt, job)?;
+            if is_last {
+                return Ok(());
             }
         }
-        self.end_all(rt)
+        Ok(())
     }
 
     // What is done after a turn: whether that was the last one.
