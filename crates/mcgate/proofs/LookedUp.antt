@@ -16,10 +16,10 @@ none_yet from servers h at text least less there = absurd (omega arith)
 
 -- what has happened has happened however much did since
 happened_still : (event : Event) (h h' : List Event) → Extends h h' → HasHappened event h → HasHappened event h'
-happened_still event h h' more was = (more.0 ++ was.0, (was.1, more.1 ∙ ap (λ (l : List Event). more.0 ++ l) was.2 ∙ sym (append_assoc more.0 was.0 (event ∷ was.1))))
+happened_still event h h' more was = (more.0 ++ was.0, was.1, more.1 ∙ ap (λ (l : List Event). more.0 ++ l) was.2 ∙ sym (append_assoc more.0 was.0 (event ∷ was.1)))
 
 pub just_happened : (event : Event) (h h' : List Event) → h' ≡ event ∷ h → HasHappened event h'
-just_happened event h h' is = ([], (h, is))
+just_happened event h h' is = ([], h, is)
 
 pub one_more :
     (from to : ℕ) (servers : Addresses) (h h' : List Event) → Extends h h' → ((text : List ℕ) → slice_get servers to ≡ Some text → HasHappened (looks_up text) h') → AreLookedUpTo from to servers h
