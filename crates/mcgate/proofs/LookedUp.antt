@@ -30,15 +30,18 @@ one_more from to servers h h' more now were at text least less there =
 pub to_all : (from to : ℕ) (servers : Addresses) (h : List Event) → length servers ≤ to → AreLookedUpTo from to servers h → AreLookedUp from servers h
 to_all from to servers h all were at text least there = were at text least (let within = slice_get_within servers at text there in omega arith) there
 
+same_some : {A : Type 0} {x y : A} → Some x ≡ Some y → x ≡ y
+same_some e = cc
+
+none_some : {A : Type 0} {x : A} → None ≡ Some x → ⊥
+none_some e = cc
+
 -- one that names no text
 pub none_there : (servers : Addresses) (at : ℕ) (h : List Event) → slice_get servers at ≡ None → (text : List ℕ) → slice_get servers at ≡ Some text → HasHappened (looks_up text) h
-none_there servers at h none text there = absurd (let e = sym none ∙ there in cc e)
+none_there servers at h none text there = absurd (none_some (sym none ∙ there))
 
 pub same_text : (servers : Addresses) (at : ℕ) (text : List ℕ) (h h' : List Event) → slice_get servers at ≡ Some text → h' ≡ looks_up text ∷ h → (other : List ℕ) → slice_get servers at ≡ Some other → HasHappened (looks_up other) h'
-same_text servers at text h h' is now other there = subst (λ (t : List ℕ). HasHappened (looks_up t) h') (same (sym is ∙ there)) (just_happened (looks_up text) h h' now)
-  where
-    same : {a b : List ℕ} → Some a ≡ Some b → a ≡ b
-    same e = cc e
+same_text servers at text h h' is now other there = subst (λ (t : List ℕ). HasHappened (looks_up t) h') (same_some (sym is ∙ there)) (just_happened (looks_up text) h h' now)
 
 -- nothing happened on any connection
 pub quiet_still : (h : List Event) → IsQuiet h h

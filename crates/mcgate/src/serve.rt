@@ -1,6 +1,6 @@
 //! `mcgate serve`: the configuration is read and judged, and then served.
 
-ghost use Rattle.std.specs.Prelude.{◌≡◌, IfOk, false, [], ℕ, List, Some, slice_get, OnOk};
+ghost use Rattle.std.specs.Prelude.{◌≡◌, IfOk, false, [], ℕ, List, Some, slice_get, OnOk, ◌∷◌};
 ghost use Rattle.serve_wire.specs.Events.{looks_up};
 ghost use Rattle.serve_links.specs.Story.{HasHappened};
 ghost use Rattle.serve_links.specs.Story.{Agrees, texts_of};
@@ -175,10 +175,23 @@ fn look_up_at<R: Net + Eprint>(
     ensures quiet { IsQuiet (history_of wire.old) (history_of wire.new) }
     ensures looked { (text : List ℕ) → slice_get servers.now at ≡ Some text → HasHappened (looks_up text) (history_of wire.new) }
 {
-    if let Some(text) = text_at(servers, at) {
-        let found = wire.resolve(rt, text.as_bytes(), address_in(text).as_bytes());
-        tell_if_unknown(rt, lines, text, found)?;
+    match text_at(servers, at) {
+        Some(text) => look_up_text(rt, lines, wire, text),
+        None => Ok(()),
     }
+}
+
+// The same of this text.
+fn look_up_text<R: Net + Eprint>(
+    rt: &R,
+    lines: &mut Lines,
+    wire: &mut Sockets,
+    text: &str,
+) -> io::Result<()>
+    ensures { history_of wire.new ≡ looks_up text.now ∷ history_of wire.old }
+{
+    let found = wire.resolve(rt, text.as_bytes(), address_in(text).as_bytes());
+    tell_if_unknown(rt, lines, text, found)?;
     Ok(())
 }
 
