@@ -1,5 +1,5 @@
 -- Servers whose addresses were asked for, one after another.
-use Rattle.std.proofs.Common.{◌≡◌, ℕ, suc, ◌≤◌, ◌<◌, length, List, [], ◌∷◌, ◌++◌, Some, None, Result, Ok, Err, inl, inr, refl, sym, ap, ◌∙◌, subst, append_assoc, arith}
+use Rattle.std.proofs.Common.{◌≡◌, ℕ, ◌+◌, ◌≤◌, ◌<◌, length, List, [], ◌∷◌, ◌++◌, Some, None, Result, Ok, Err, inl, inr, refl, sym, ap, ◌∙◌, subst, append_assoc, arith}
 use Rattle.std.proofs.lemmas.Bool.{cases_eq}
 use Rattle.std.proofs.lemmas.Option.{slice_get_within}
 use Rattle.std.specs.Prelude.{slice_get, IfOk}
@@ -23,7 +23,7 @@ just_happened event h h' is = ([], h, is)
 
 pub one_more :
     (from to : ℕ) (servers : Addresses) (h h' : List Event) → Extends h h' → ((text : List ℕ) → slice_get servers to ≡ Some text → HasHappened (looks_up text) h') → AreLookedUpTo from to servers h
-    → AreLookedUpTo from (suc to) servers h'
+    → AreLookedUpTo from (to + 1) servers h'
 one_more from to servers h h' more now were at text least less there =
     elim (cases_eq at to) [ inl e ↦ now text (ap (slice_get servers) (sym e) ∙ there) | inr other ↦ happened_still (looks_up text) h h' more (were at text least (omega arith) there) ]
 

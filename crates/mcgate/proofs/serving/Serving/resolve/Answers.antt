@@ -6,7 +6,7 @@ use Rattle.mcgate.proofs.LookedUp.{none_yet, one_more, to_all}
 use Rattle.mcgate.proofs.serving.Serving.resolve.Goals as goal
 
 pub loop-at-init : goal.loop-at-init
-loop-at-init g c = record { looked = subst (λ n. AreLookedUpTo (length c.args.self.now.servers) n c.args.servers.now (history_of c.args.self.now.end.sockets.wire)) (sym c.len-at.ensures) (none_yet (length c.args.self.now.servers) c.args.servers.now (history_of c.args.self.now.end.sockets.wire)); core = refl; ends = stay_still _ _ _; memory = refl }
+loop-at-init g c = record { looked = subst (λ n. AreLookedUpTo (length c.args.self.now.servers) n c.args.servers.now (history_of c.args.self.now.end.sockets.wire)) (sym c.len-at.ensures.len) (none_yet (length c.args.self.now.servers) c.args.servers.now (history_of c.args.self.now.end.sockets.wire)); core = refl; ends = stay_still _ _ _; memory = refl }
 
 pub loop-at-preserved : goal.loop-at-preserved
 loop-at-preserved g c = record {
@@ -16,8 +16,14 @@ loop-at-preserved g c = record {
   memory = c.resolve_at.ensures.memory ∙ c.loop-at.invariant.memory;
 }
 
-pub returns-in_err-resolve_at : goal.returns-in_err-resolve_at
-returns-in_err-resolve_at g c = record { core = c.resolve_at.ensures.core ∙ c.loop-at.invariant.core; ends = stay_then c.loop-at.invariant.ends c.resolve_at.ensures.ends; memory = c.resolve_at.ensures.memory ∙ c.loop-at.invariant.memory }
+pub returns-in_err-resolve_at-clause-core : goal.returns-in_err-resolve_at-clause-core
+returns-in_err-resolve_at-clause-core g c = c.resolve_at.ensures.core ∙ c.loop-at.invariant.core
+
+pub returns-in_err-resolve_at-clause-ends : goal.returns-in_err-resolve_at-clause-ends
+returns-in_err-resolve_at-clause-ends g c = stay_then c.loop-at.invariant.ends c.resolve_at.ensures.ends
+
+pub returns-in_err-resolve_at-clause-memory : goal.returns-in_err-resolve_at-clause-memory
+returns-in_err-resolve_at-clause-memory g c = c.resolve_at.ensures.memory ∙ c.loop-at.invariant.memory
 
 pub returns : goal.returns
 returns g c =
