@@ -6,4 +6,4 @@ pub returns-then-self : goal.returns-then-self
 returns-then-self c = record { core = refl; ends = stay_still _ _ _ }
 
 pub returns : goal.returns
-returns c = record { core = c.keep_epochs.ensures.core ∙ c.mark_emptying.ensures.core; ends = stay_then c.mark_emptying.ensures.ends c.keep_epochs.ensures.ends }
+returns c = record { core = c.keep_epochs-self.ensures.core ∙ c.mark_emptying.ensures.core; ends = stay_then c.mark_emptying.ensures.ends c.keep_epochs-self.ensures.ends }
