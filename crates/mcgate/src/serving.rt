@@ -373,7 +373,8 @@ impl Serving {
         let lost_lines = self.lines.lost();
         if let Some(watching) = &mut self.watching {
             if is_woken || watching.is_due(rt) {
-                let _ = watching.turn(rt, &self.end, &self.servers, &self.seen, lost_lines);
+                let text = self.text.as_str();
+                let _ = watching.turn(rt, &self.end, &self.servers, &self.seen, lost_lines, text);
             }
         }
     }

@@ -3,6 +3,8 @@
 
 mod calls;
 mod sending;
+mod times;
 
 pub use calls::{LateCall, LateRead, LinkCalls, Next, SentCall, fail_call};
 pub use sending::send_ask;
+pub use times::CallTimes;

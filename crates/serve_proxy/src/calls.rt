@@ -104,7 +104,8 @@ fn begin_call<W: Wire>(
 ) -> Result<(), AllocError>
     ensures ends { AllSendFrom (AgreesSent at call) W.history core.old sockets.old core.new sockets.new }
 {
-    match sockets.links.write_call(at, call) {
+    let now = sockets.wire.last_micros();
+    match sockets.links.write_call(at, call, now) {
         Ok(()) => Ok(()),
         Err(call) => refuse_call(core, sockets, call.client, call.ticket),
     }

@@ -65,8 +65,8 @@ fn begin<W: Wire, N: Net>(
     }
 }
 
-// The call is written to the link, or given back, as it is where late answers are awaited, or the server is still to empty itself.
-fn write_to(link: &mut Link, call: SentCall) -> Result<(), SentCall>
+// The call is written to the link, or given back, as it is where late answers are awaited, or the server is still to empty itself. `now` is in microseconds.
+fn write_to(link: &mut Link, call: SentCall, now: u64) -> Result<(), SentCall>
     ensures ok { OnOk result (LineTakes call link.old link.new) }
     ensures err { IfErr result (λ given. (given ≡ call) × (line_of link.new ≡ line_of link.old)) }
 {
@@ -77,7 +77,7 @@ fn write_to(link: &mut Link, call: SentCall) -> Result<(), SentCall>
         return Err(call);
     }
     match link.conn.as_mut() {
-        Some(conn) => link.calls.begin(call, &mut conn.unsent),
+        Some(conn) => link.calls.begin(call, now, &mut conn.unsent),
         None => Err(call),
     }
 }
@@ -519,13 +519,13 @@ impl Links {
         self.all.get_mut(at)?.next_too_late(pace, &settings)
     }
 
-    /// The call is written to the link, or given back.
-    pub fn write_call(&mut self, at: usize, call: SentCall) -> Result<(), SentCall>
+    /// The call is written to the link, or given back. `now` is in microseconds.
+    pub fn write_call(&mut self, at: usize, call: SentCall, now: u64) -> Result<(), SentCall>
         ensures ok { OnOk result (LinksTake at call self.old.all.items self.new.all.items) }
         ensures err { IfErr result (λ given. (given ≡ call) × (lines_of self.new.all.items ≡ lines_of self.old.all.items)) }
     {
         match self.all.get_mut(at) {
-            Some(link) => write_to(link, call),
+            Some(link) => write_to(link, call, now),
             None => Err(call),
         }
     }

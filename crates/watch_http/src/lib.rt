@@ -3,5 +3,6 @@
 
 pub mod answers;
 pub mod exchange;
+pub mod home;
 pub mod request;
 pub mod visitors;

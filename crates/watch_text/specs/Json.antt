@@ -4,7 +4,8 @@ use Rattle.std.specs.Prelude.{ℕ, List, [], ◌∷◌, ◌++◌, codes, flat_ma
 use Rattle.watch_text.specs.declared.families.Label.{Label}
 use Rattle.watch_text.specs.declared.families.Sample.{Sample}
 use Rattle.watch_text.specs.declared.families.Samples.{Samples}
-use Rattle.watch_text.specs.declared.families.Samples.TheVariants.{One, Each}
+use Rattle.watch_text.specs.declared.families.Spread.{Spread}
+use Rattle.watch_text.specs.declared.families.Samples.TheVariants.{One, Each, Times}
 use Rattle.watch_text.specs.declared.families.Family.{Family}
 use Rattle.watch_text.specs.Families.{amount_text}
 use Rattle.watch_text.specs.Quoted.{quoted}
@@ -30,9 +31,15 @@ each_json (sample ∷ samples) = sample_json sample ++ flat_map next_sample_json
 abbrev pub array_json : List Sample → List ℕ
 array_json samples = codes "[" ++ each_json samples ++ codes "]"
 
+-- {"buckets":[..],"sums":[..],"counts":[..]}
+abbrev pub spread_json : Spread → List ℕ
+spread_json spread =
+    codes "{\"buckets\":" ++ array_json spread.buckets.items ++ codes ",\"sums\":" ++ array_json spread.sums.items ++ codes ",\"counts\":" ++ array_json spread.counts.items ++ codes "}"
+
 abbrev pub samples_json : Samples → List ℕ
 samples_json (One amount) = amount_text amount
 samples_json (Each samples) = array_json samples.items
+samples_json (Times spread) = spread_json spread
 
 -- "NAME":NUMBERS
 abbrev pub family_json : Family → List ℕ

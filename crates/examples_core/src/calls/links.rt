@@ -137,7 +137,7 @@ impl Link {
             bulk: 0,
             dialect,
         };
-        match self.calls.begin(call, &mut self.asked) {
+        match self.calls.begin(call, 7_000, &mut self.asked) {
             Ok(()) => "sent",
             Err(_call) => "not sent",
         }
