@@ -92,6 +92,7 @@ mcgate serve --listen a:1 --config c --log-json => serve - fail-limit 3 log info
 mcgate serve --listen a:1 --config c --log-level all => refused, told
 mcgate tell d drain => tell d drain
 mcgate tell d where k => tell d where k
+mcgate tell d log warn => tell d log warn
 mcgate serve --listen a:1 --config c --server-dialect auto => serve - fail-limit 3 auto
 mcgate serve --listen a:1 --config c --server-dialect classic => serve - fail-limit 3 classic
 mcgate serve --listen a:1 --config c --server-dialect meta => serve - fail-limit 3 meta
@@ -124,6 +125,9 @@ mcgate cache --listen a:1 --capacity 0 => refused, told
 mcgate cache --listen a:1 --capacity 4294967296 => refused, told
 mcgate cache --listen a:1 --capacity 5 --memory-mb 0 => refused, told
 mcgate tell d => refused, told
+mcgate tell d log => refused, told
+mcgate tell d log all => refused, told
+mcgate tell d drain k => refused, told
 mcgate check f g => refused, told
 mcgate loopback --any => refused, told
 mcgate replay --any --any => refused, told
@@ -261,8 +265,8 @@ fn change_words(change: SlotsChange<'_>) -> &'static str {
 
 fn push_tell(out: &mut String, job: &TellJob<'_>) -> Result<(), AllocError> {
     write!(out, "tell {} {}", job.path, job.word)?;
-    if let Some(key) = job.key {
-        write!(out, " {key}")?;
+    if let Some(more) = job.more {
+        write!(out, " {more}")?;
     }
     Ok(())
 }

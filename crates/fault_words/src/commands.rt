@@ -204,7 +204,8 @@ impl Command {
                 "mcgate slots [--add HOST:PORT | --remove HOST:PORT] [--pool NAME] [--after FILE ..] [FILE]"
             }
             Command::Plan => "mcgate plan [--opened WORD] [--new-servers WORD] OLD NEW",
-            Command::Tell => "mcgate tell PATH drain | reload | status | servers | where KEY",
+            Command::Tell =>
+                "mcgate tell PATH drain | reload | status | servers | log LEVEL | where KEY",
             Command::Help => "mcgate help [COMMAND]",
         }
     }

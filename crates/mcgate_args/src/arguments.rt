@@ -126,7 +126,7 @@ usage: mcgate check [--explain | --dot] [--history HISTORY] [FILE]
                                      print where keys live in the tree of a configuration
        mcgate serve --config FILE --listen HOST:PORT [--any]
                                      serve a configuration that the gate accepts, between clients and servers
-       mcgate tell PATH WORD         tell a running serve --control PATH: drain, reload, status, servers, where KEY
+       mcgate tell PATH WORD         tell a running serve --control PATH: drain, reload, status, servers, log LEVEL, where KEY
        mcgate history FILE           print what serve --history FILE remembers
        mcgate slots [--add ADDR | --remove ADDR] [--pool NAME] [--after FILE ..] [FILE]
                                      print a configuration with a table of slots in a pool, of a server more or less
