@@ -15,7 +15,7 @@ use mcgate_check::RunFault;
 use mcgate_check::checking::{check_refused, print_fault};
 use mcgate_check::status::{BAD_INPUT, DONE, REFUSED};
 use route_json::{Config, ConfigFault, Servers, read_config, read_config_after};
-use script_text::printer::write_config_fault;
+use script_events::text::printer::write_config_fault;
 use std::alloc::{AllocError, Global};
 use std::io;
 use std::io::Write;
