@@ -8,7 +8,7 @@ ghost use Rattle.mcgate_args.specs.Fleets.{AddsRead, AreRead, ChecksAlone, Check
 use crate::fleets::lines::{
     write_copying, write_fleet, write_many_files, write_many_places, write_pair_gap,
 };
-use core_fleets::gates::judging::{FleetFault, judge_fleet};
+use core_accepted::fleets::gates::judging::{FleetFault, judge_fleet};
 use gate_check::judge;
 use gate_check::reloading::MOST_GENERATIONS;
 use mcgate_check::RunFault;
