@@ -4,9 +4,9 @@ use examples_tables::tables::unfolded;
 use examples_tables::tellers::{Teller, wrong};
 use std::alloc::{AllocError, Global};
 use std::test::Fail;
-use watch_control::answers::{Verdict, put_answer, read_answer};
-use watch_control::exchange::Exchange;
-use watch_control::requests::{Request, request_of};
+use watch_admin::control::answers::{Verdict, put_answer, read_answer};
+use watch_admin::control::exchange::Exchange;
+use watch_admin::control::requests::{Request, request_of};
 
 // Bytes, and what they ask for.
 fn requests() -> &'static str {

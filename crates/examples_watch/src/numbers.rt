@@ -3,13 +3,13 @@
 use std::alloc::{AllocError, Global};
 use std::io;
 use std::test::Fail;
-use watch_text::families::Family;
-use watch_text::json::write_json;
-use watch_text::numbers::{
+use watch_admin::families::Family;
+use watch_admin::json::write_json;
+use watch_admin::numbers::{
     ClientNumbers, CommandNumbers, ConfigNumbers, FailureNumbers, Numbers, ProcessNumbers,
     ServerNumbers, families_of,
 };
-use watch_text::prometheus::write_prometheus;
+use watch_admin::prometheus::write_prometheus;
 
 fn metrics() -> &'static str {
     r#"# HELP mcgate_build_info The version that runs.

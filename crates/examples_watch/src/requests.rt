@@ -5,9 +5,9 @@ use examples_tables::tellers::{Teller, wrong};
 use std::alloc::{AllocError, Global};
 use std::io;
 use std::test::Fail;
-use watch_http::answers::{write_page, write_refusal};
-use watch_http::exchange::{Asking, Exchange};
-use watch_http::request::{Asked, Page, Refusal, what_is_asked};
+use watch_admin::http::answers::{write_page, write_refusal};
+use watch_admin::http::exchange::{Asking, Exchange};
+use watch_admin::http::request::{Asked, Page, Refusal, what_is_asked};
 
 // Bytes, and what they ask for, or the status of a refusal.
 fn requests() -> &'static str {

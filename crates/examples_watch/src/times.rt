@@ -3,7 +3,7 @@
 use examples_tables::tellers::{Teller, wrong};
 use std::alloc::{AllocError, Global};
 use std::test::Fail;
-use watch_text::times::Moment;
+use watch_admin::times::Moment;
 
 fn moments() -> &'static str {
     "0 => 1970-01-01T00:00:00.000Z
