@@ -23,7 +23,7 @@ with_one false None tally = record tally { others = one_more tally.others }
 abbrev pub with_ended : Note → OpTally → OpTally
 with_ended note tally = with_one note.acknowledged note.from tally
 
--- how many of these are less than the number that goes before them all
+-- the place of the first of these limits that a time doesn't pass, or the one after them all
 abbrev pub place_among : List ℕ → ℕ → ℕ
 place_among [] micros = 0
 place_among (most ∷ limits) micros = if nat_lt most micros then place_among limits micros + 1 else 0

@@ -7,4 +7,3 @@ mod times;
 
 pub use calls::{LateCall, LateRead, LinkCalls, Next, SentCall, fail_call};
 pub use sending::send_ask;
-pub use times::CallTimes;

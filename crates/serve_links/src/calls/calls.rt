@@ -381,7 +381,7 @@ impl LinkCalls {
     }
 
     // The first call had this outcome: whose it was.
-    #[tactic(auto, using(crate::proofs::CallOrder::popped, crate::proofs::CallOrder::fits_popped))]
+    #[tactic(auto, using(crate::proofs::CallOrder::popped, crate::proofs::CallOrder::fits_popped, crate::proofs::Counted::counts_first, crate::proofs::Counted::counts_none))]
     fn settle_first(&mut self, core: &mut ServedCore, outcome: Outcome) -> Option<usize>
         requires { FitsFirst self.old.sent.items core.old.core outcome }
         ensures settles { SettlesFirst self.old.sent.items core.old outcome result self.new.sent.items core.new }

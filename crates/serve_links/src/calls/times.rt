@@ -51,6 +51,7 @@ impl CallTimes {
     }
 
     // How long the first of those that are out has taken, where the bytes that came last answer it. It is out no more.
+    #[tactic(auto, using(crate::proofs::Counted::took_first, crate::proofs::Counted::took_none))]
     fn end_first(&mut self) -> u64
         ensures took { result ≡ took self.old.went.items self.old.came }
         ensures tally { self.new.tally ≡ self.old.tally }
