@@ -1,5 +1,5 @@
 -- What is counted of commands that ended, and of calls that were settled. Source: mcgate's own.
-use Rattle.std.specs.Prelude.{◌≡◌, ℕ, ◌+◌, ◌-◌, ◌^◌, Option, Some, None, Bool, true, false, List, [], ◌∷◌, if◌then◌else◌, nat_lt, min, slice_index, slice_set}
+use Rattle.std.specs.Prelude.{ℕ, ◌+◌, ◌-◌, ◌^◌, Option, Some, None, Bool, true, false, List, [], ◌∷◌, if◌then◌else◌, nat_lt, min, slice_index, slice_set}
 use Rattle.mc_types.specs.declared.call.Outcome.{Outcome}
 use Rattle.mc_types.specs.declared.call.Outcome.TheVariants.{Answered, Failed}
 use Rattle.core_proxy.specs.declared.note.Note.{Note}

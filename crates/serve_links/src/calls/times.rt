@@ -1,6 +1,7 @@
 //! When the calls of one server went out that are out, and what has become of those that aren't any more.
 
-ghost use Rattle.std.specs.Prelude.{◌≡◌, ◌<◌, OnOk, deque_len, deque_capacity};
+ghost use Rattle.std.specs.Prelude.{◌≡◌, ◌<◌, OnOk};
+ghost use Rattle.std.specs.VecDeque.{deque_len, deque_capacity};
 ghost use Rattle.serve_links.specs.Counting.{took, with_outcome};
 
 use crate::tally::CallTally;
