@@ -11,7 +11,7 @@ use mc_types::limits::SCRIPT_CLIENTS;
 use route_json::Config;
 use route_json::addresses::Servers;
 use script_events::{Event, Output, PIECE_CUT, Reload, Script};
-use serve_proxy::{Beginnings, ProxyEnd, ServerDialect, Settings, text_at};
+use serve_proxy::{Beginning, Beginnings, ProxyEnd, ServerDialect, Settings, text_at};
 use serve_wire::Wire;
 use serve_wire::sockets::Sockets;
 use std::alloc::{AllocError, Global};
@@ -68,7 +68,7 @@ fn listen<R: Net + Clock + AllocGlobal>(rt: &R, servers: &Servers) -> io::Result
 
 // One command of a client at a time, each key for one command alone, and one call: so calls are made in the order in which a run of the script makes them, each as the client wrote it. No call is ever late, and
 // no server is held back.
-fn settings() -> Settings {
+fn settings(flushes_new: bool) -> Settings {
     Settings {
         clients: SCRIPT_CLIENTS,
         client_window: 1,
@@ -82,7 +82,19 @@ fn settings() -> Settings {
         give_up_ms: None,
         polls: None,
         server_dialect: ServerDialect::Classic,
-        flushes_new: false,
+        flushes_new,
+    }
+}
+
+// How servers began: of those that a reload brings nothing is left where they are emptied first.
+fn begun(flushes_new: bool) -> Beginnings {
+    if flushes_new {
+        Beginnings {
+            opened: Beginning::Any,
+            added: Beginning::Own,
+        }
+    } else {
+        Beginnings::any()
     }
 }
 
@@ -120,23 +132,25 @@ fn push_output(place: usize, bytes: Vec<u8>, shown: &mut Vec<Entry>) -> Result<(
 }
 
 impl Ends {
-    /// A proxy over an accepted configuration and so many servers, which hold nothing. Each listens at a port that the system picks.
+    /// A proxy over an accepted configuration and so many servers, which hold nothing. Each listens at a port that the system picks. Those that a reload
+    /// brings are emptied by `flush_all` before their first call, or none is.
     pub fn open<R: Net + Clock + AllocGlobal>(
         rt: &R,
         accepted: Accepted,
         servers: usize,
+        flushes_new: bool,
     ) -> io::Result<Ends> {
         let alloc = rt.alloc();
-        let servers = ServerEnds::listen(rt, alloc, servers, any_port())?;
+        let servers = ServerEnds::listen(rt, alloc, servers, any_port(), flushes_new)?;
         let addresses = servers.addresses()?;
         let wire = listen(rt, &addresses)?;
         let mut proxy = ProxyEnd::new(
             alloc,
             wire,
             accepted,
-            Beginnings::any(),
+            begun(flushes_new),
             &addresses,
-            settings(),
+            settings(flushes_new),
         )?;
         proxy.poll_in_rounds();
         Ends::of(alloc, proxy, servers)
