@@ -68,7 +68,7 @@ fn listen<R: Net + Clock + AllocGlobal>(rt: &R, servers: &Servers) -> io::Result
 
 // One command of a client at a time, each key for one command alone, and one call: so calls are made in the order in which a run of the script makes them, each as the client wrote it. No call is ever late, and
 // no server is held back.
-fn settings(flushes_new: bool) -> Settings {
+fn settings() -> Settings {
     Settings {
         clients: SCRIPT_CLIENTS,
         client_window: 1,
@@ -82,7 +82,7 @@ fn settings(flushes_new: bool) -> Settings {
         give_up_ms: None,
         polls: None,
         server_dialect: ServerDialect::Classic,
-        flushes_new,
+        flushes_new: false,
     }
 }
 
@@ -95,6 +95,13 @@ fn begun(flushes_new: bool) -> Beginnings {
         }
     } else {
         Beginnings::any()
+    }
+}
+
+// Servers behind the first so many are emptied before their first call: each has its link from the beginning, also where a reload brings it.
+fn empty_new(proxy: &mut ProxyEnd<Sockets>, first: usize, servers: usize) {
+    for at in first..servers {
+        proxy.empty_first(at);
     }
 }
 
@@ -144,15 +151,19 @@ impl Ends {
         let servers = ServerEnds::listen(rt, alloc, servers, any_port(), flushes_new)?;
         let addresses = servers.addresses()?;
         let wire = listen(rt, &addresses)?;
+        let first = accepted.config().servers().len();
         let mut proxy = ProxyEnd::new(
             alloc,
             wire,
             accepted,
             begun(flushes_new),
             &addresses,
-            settings(flushes_new),
+            settings(),
         )?;
         proxy.poll_in_rounds();
+        if flushes_new {
+            empty_new(&mut proxy, first, addresses.len());
+        }
         Ends::of(alloc, proxy, servers)
     }
 
