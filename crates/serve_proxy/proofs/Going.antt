@@ -435,8 +435,8 @@ sent_clients {h} {ls} at call core cs cs' keeps =
     let g : AllGo IsSending (record { core = core; history = h; clients = cs; links = ls }) (record { core = core; history = h; clients = cs'; links = ls }) = stays core (record { quiet = λ d. untouched d h; clients = keeps; links = refl }) in
     record { steps = []; kinds = tt; walks = refl; agree = λ past was. (g.agree past was.0, was.1, was.2, was.3); texts = refl }
 
--- nor does it matter when it is said to have begun
-pub sent_renewed : {Is : Step → Type 0} {a : AnEnd} (at : ℕ) (call call' : SentCall) → call' ≡ record call { since = call'.since } → AllGoFrom (AgreesSent at call) (AgreesSent at call') Is a a
+-- nor does it matter when it is said to have begun, or what is expected of it
+pub sent_renewed : {Is : Step → Type 0} {a : AnEnd} (at : ℕ) (call call' : SentCall) → call' ≡ record call { since = call'.since; bulk = call'.bulk } → AllGoFrom (AgreesSent at call) (AgreesSent at call') Is a a
 sent_renewed {a = a} at call call' is = record { steps = []; kinds = tt; walks = refl; agree = λ past was. subst (λ c. AgreesSent at c past a) (sym is) was; texts = refl }
 
 pub agree_told : (h : List Event) (input output input' output' : ℕ → List ℕ) (cs : Clients) → ((j : ℕ) → (input' j ≡ input j) × (output' j ≡ output j)) → AllAgree h input output cs → AllAgree h input' output' cs

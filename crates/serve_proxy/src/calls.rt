@@ -59,11 +59,12 @@ fn send_looked<W: Wire, N: Net>(
     sockets.links.mark_output(at)
 }
 
-// However long the call waited, it has half of a call's time for its answer at least.
-fn renewed(call: SentCall, time: u64, call_ms: u64) -> SentCall
-    ensures { result ≡ record call { since = result.since } }
+// However long the call waited, it has half of a call's time for its answer at least, of which so many bytes are expected by now.
+fn renewed(call: SentCall, bulk: usize, time: u64, call_ms: u64) -> SentCall
+    ensures { result ≡ record call { since = result.since; bulk = result.bulk } }
 {
     let mut call = call;
+    call.bulk = bulk;
     call.since = call.since.max(time.saturating_sub(call_ms / 2));
     call
 }
@@ -150,7 +151,7 @@ fn begin_next<W: Wire>(
 ) -> Result<bool, AllocError>
     ensures ends { AllFailOn W.history core.old sockets.old core.new sockets.new }
 {
-    match sockets.links.next_waiting(at) {
+    match sockets.links.next_waiting(at, &sockets.clients) {
         None => Ok(false),
         Some(call) => begin_waited(core, sockets, at, call),
     }
@@ -166,7 +167,8 @@ fn begin_waited<W: Wire>(
     ensures ends { AllSendFrom (AgreesSent at call) W.history core.old sockets.old core.new sockets.new }
 {
     sockets.clients.end_waiting(call.client);
-    let call = renewed(call, sockets.time, sockets.links.settings.call_ms);
+    let bulk = sockets.bulk_of(call.client, at, &call.ticket);
+    let call = renewed(call, bulk, sockets.time, sockets.links.settings.call_ms);
     begin_call(core, sockets, at, call)?;
     Ok(true)
 }

@@ -503,11 +503,11 @@ impl Links {
     }
 
     /// Of the calls that wait for it the first that may go out.
-    pub fn next_waiting(&mut self, at: usize) -> Option<SentCall>
+    pub fn next_waiting(&mut self, at: usize, clients: &serve_clients::Clients) -> Option<SentCall>
         ensures call { MatchOption result (lines_of self.new.all.items ≡ lines_of self.old.all.items) (λ call. LinksGive at call self.old.all.items self.new.all.items) }
     {
         let places = self.settings.places;
-        self.all.get_mut(at)?.next_to_go(places)
+        self.all.get_mut(at)?.next_to_go(places, clients)
     }
 
     /// The first of the calls that wait for it, if that has waited too long to go out, or none goes out for now.
