@@ -1,5 +1,4 @@
 //! Worked examples of what a running proxy tells, and is told: requests, answers, and numbers as texts.
-#![tactic(auto)]
 
 #[cfg(test)]
 mod control;
