@@ -45,8 +45,8 @@ use std::net::{Net, SocketAddr, ToSocketAddrs};
 use std::rt::{Clock, Files};
 use std::time::{Duration, Instant};
 use watch_admin::control::answers::Verdict;
-use watch_admin::control::callers::PLACES;
 use watch_admin::control::requests::{Request, request_of};
+use watch_admin::places::PLACES;
 
 /// The first address that a text names, or why it names none.
 pub fn resolve<N: Net>(net: &N, text: &str) -> io::Result<SocketAddr> {

@@ -16,12 +16,13 @@ use std::time::Instant;
 use watch_admin::families::Amount;
 use watch_admin::http::home::home_text;
 use watch_admin::http::request::Page;
-use watch_admin::http::visitors::{PLACES, Visitors};
+use watch_admin::http::visitors::Visitors;
 use watch_admin::json::write_json;
 use watch_admin::numbers::{
     ClientNumbers, CommandNumbers, ConfigNumbers, FailureNumbers, Numbers, ProcessNumbers,
     ServerNumbers, SpanNumbers, families_of,
 };
+use watch_admin::places::PLACES;
 use watch_admin::prometheus::write_prometheus;
 
 /// What is counted of a proxy that runs, besides what its end counts.
