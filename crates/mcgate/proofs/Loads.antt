@@ -13,11 +13,9 @@ use Rattle.serve_wire.specs.declared.sockets.sockets.Sockets.{Sockets}
 use Rattle.serve_links.specs.CoreSteps.{Step, Opened, NotOpened, Fed, Polled, Stopped, Settled, Gave, Closed, LeftLine, Broke, Loaded, Linked, Asked, Greeted, Spelled, Late, CameLate, Lost, Walks, AreOf, IsOfTurn}
 use Rattle.serve_links.specs.Story.{AnEnd, Agrees, AgreesLosing, AllGoFrom, texts_of}
 use Rattle.serve_links.proofs.LinkGoes.{losing}
-use Rattle.serve_links.specs.Called.{TellsCalls}
-use Rattle.serve_links.proofs.Called.{walks_tell_calls}
 use Rattle.serve_links.proofs.Walked.{walks_keep_since}
 use Rattle.serve_proxy.specs.declared.proxy.ProxyEnd.{ProxyEnd}
-use Rattle.serve_proxy.specs.Beginning.{limits_by, LoadStops}
+use Rattle.serve_proxy.specs.Beginning.{LoadStops}
 use Rattle.serve_proxy.specs.Ends.{Stay, AllGoOr, AllGrowFrom, AllGrow, IsLoadOf, HasNoConns}
 use Rattle.serve_proxy.proofs.Going.{still, and_then, stays, same_core}
 use Rattle.serve_proxy.proofs.Linking.{or_any}
@@ -157,11 +155,6 @@ has_freshly : (servable : Servable) (begun : Beginnings) (settings : Settings) (
 has_freshly (servables.Accepted accepted) begun settings steps a b begins walks fresh = (begins.config, begins.last, walks_are_fresh steps a b walks fresh begins.config begun ([], begins.word))
 has_freshly (servables.Unchecked configuration) begun settings steps a b begins walks fresh = tt
 
--- its first core has no call out
-begins_uncalled : (servable : Servable) (begun : Beginnings) (settings : Settings) (core : ServedCore) → BeginsBy servable begun settings core → TellsCalls [] core
-begins_uncalled (servables.Accepted accepted) begun settings core begins = walks_tell_calls.begins begins.config.tree (limits_by settings) core begins.core_is
-begins_uncalled (servables.Unchecked configuration) begun settings core begins = walks_tell_calls.begins configuration.tree (limits_by settings) core begins.core_is
-
 pub has_served :
     {A E : Type 0} (servable : Servable) (begun : Beginnings) (settings : Settings) (ended : Result A E) (first last : ProxyEnd Sockets) → BeginsServing servable begun settings first → ServesTo ended first last → LogsAreFresh last.core.value
     → HasServed servable begun settings ended last
@@ -171,7 +164,6 @@ has_served servable begun settings ended first last begins g fresh = record {
   serves = g;
   agrees = subst (λ l. AgreesTo ended l (proxy_of last)) (append-nil g.steps) (g.agree [] begins.agrees);
   fresh = has_freshly servable begun (record settings { sharing = sharing_for begins.core.0 }) g.steps first.core.value last.core.value begins.core.2 g.walks fresh;
-  calls = (walks_tell_calls.goes_on g.steps [] first.core.value last.core.value (begins_uncalled servable begun (record settings { sharing = sharing_for begins.core.0 }) first.core.value begins.core.2) g.walks).1;
 }
 
 -- also where servers apply late what had failed
