@@ -10,8 +10,8 @@ use Rattle.cache_server.specs.declared.item.Entry.{Entry}
 use Rattle.cache_server.specs.declared.decision.Decision.{Decision}
 use Rattle.cache_server.specs.Contents.{held}
 use Rattle.cache_server.specs.Table.{where_absent, where_held, decided, settled, decided_in, changed, left_by, meta_answer, classic_answer, answer_in}
-use Rattle.wire_meta_gets.specs.Form.{is_retrieval, wanted, meta_form}
-use Rattle.wire_meta_gets.specs.Reading.{SaysSame}
+use Rattle.wire_stream.specs.Form.{is_retrieval, wanted, meta_form}
+use Rattle.wire_stream.specs.Reading.{SaysSame}
 use Rattle.cache_tcp.specs.Alike.{MetaGetsAreServedAlike}
 
 absent_alike : (dialect : Dialect) (op : Op) (now stamp : ℕ) (ask : Ask) → shows_values dialect op ≡ true → where_absent now stamp (meta_form ask) op ≡ where_absent now stamp ask op

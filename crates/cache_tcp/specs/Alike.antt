@@ -4,8 +4,8 @@ use Rattle.mc_types.specs.declared.ask.Ask.{Ask}
 use Rattle.mc_types.specs.declared.answer.Answer.{Answer}
 use Rattle.cache_server.specs.Contents.{Contents}
 use Rattle.cache_server.specs.Table.{Serves}
-use Rattle.wire_meta_gets.specs.Form.{is_retrieval, meta_form}
-use Rattle.wire_meta_gets.specs.Reading.{SaysSame}
+use Rattle.wire_stream.specs.Form.{is_retrieval, meta_form}
+use Rattle.wire_stream.specs.Reading.{SaysSame}
 
 -- whatever the server holds: where it serves the form, it may serve the get with the same item found and the same contents left, and the answer says the same
 abbrev pub MetaGetsAreServedAlike : Type 0

@@ -1,8 +1,10 @@
 //! The core that is served, with the gate's word on its trees where the gate was asked: then, whatever its clients and servers
-//! do, no reply shows what an acknowledged delete of its key hides.
+//! do, no reply shows what an acknowledged delete of its key hides. Laws of several such cores before the same servers are in
+//! [`fleets`].
 #![tactic(auto)]
 
 pub mod beginnings;
+pub mod fleets;
 pub mod generations;
 pub mod laws;
 pub mod loading;

@@ -1,4 +1,4 @@
-//! Worked examples of the program: inputs, and its arguments up to its exit status. They stand above the crates that they show,
+//! Worked examples of the program: inputs, its arguments up to its exit status, and what it tells as it runs. They stand above the crates that they show,
 //! so that a change of an example proves the example alone.
 #![tactic(auto)]
 
@@ -11,3 +11,4 @@ mod program_ends;
 #[cfg(test)]
 mod slots;
 mod verdicts;
+mod watch;

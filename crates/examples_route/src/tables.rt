@@ -1,8 +1,8 @@
 //! Worked tables of slots: what becomes of them when a server is added or taken out, and of short lists.
 
 use examples_tables::tellers::{Teller, halves, wrong};
+use gate_plan::slots::{Change, rewritten, table_of};
 use mc_types::ServerId;
-use route_slots::{Change, rewritten, table_of};
 use std::alloc::{AllocError, Global};
 use std::test::Fail;
 

@@ -3,9 +3,9 @@
 use mc_types::{Key, ServerId};
 use route_json::Config;
 use script_events::servers::ScriptServers;
+use script_events::text::printer::{write_outputs, write_report};
 use script_events::{DriveFault, Event, Loss, Manner, Report, Script, Transcript, first_bad_event};
 use script_run::drive_stepped;
-use script_text::printer::{write_outputs, write_report};
 use std::alloc::{AllocError, Global};
 use std::io::Write;
 use std::test::Fail;

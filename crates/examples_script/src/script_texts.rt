@@ -4,16 +4,18 @@ use examples_tables::tables::{expanded, unfolded};
 use examples_tables::tellers::{Teller, halves, wrong};
 use mc_types::{Key, ServerId};
 use route_json::{Config, ConfigFault};
+use script_events::text::configured::{ConfiguredScript, ScriptFault};
+use script_events::text::escapes::unescape;
+use script_events::text::event::read_event;
+use script_events::text::fault::LineFault;
+use script_events::text::front::front_of;
+use script_events::text::laws::escapes_are_read_back;
+use script_events::text::printer::{
+    write_bad_line, write_config_fault, write_outputs, write_report,
+};
+use script_events::text::reader::{read_events, read_script};
+use script_events::text::words::{cut, number_under};
 use script_events::{Event, Loss, Manner, Output, Reload, Report};
-use script_text::configured::{ConfiguredScript, ScriptFault};
-use script_text::escapes::unescape;
-use script_text::event::read_event;
-use script_text::fault::LineFault;
-use script_text::front::front_of;
-use script_text::laws::escapes_are_read_back;
-use script_text::printer::{write_bad_line, write_config_fault, write_outputs, write_report};
-use script_text::reader::{read_events, read_script};
-use script_text::words::{cut, number_under};
 use std::alloc::{AllocError, Global};
 use std::test::Fail;
 use text_words::escapes::Escaped;

@@ -2,10 +2,10 @@
 
 use examples_tables::tables::{same, sides};
 use route_json::Config;
-use script_text::configured::{ConfiguredScript, ScriptFault};
-use script_text::lines::laws::scripts_are_read_back;
-use script_text::lines::write_script;
-use script_text::reader::read_events;
+use script_events::text::configured::{ConfiguredScript, ScriptFault};
+use script_events::text::lines::laws::scripts_are_read_back;
+use script_events::text::lines::write_script;
+use script_events::text::reader::read_events;
 use std::alloc::Global;
 use std::test::Fail;
 

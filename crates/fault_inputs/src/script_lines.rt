@@ -6,7 +6,7 @@ use crate::place::{Place, Source};
 use crate::scan::is_json;
 use fault_words::script::trouble::Trouble;
 use fault_words::script::{BadLine, Wrong};
-use script_text::front::front_of;
+use script_events::text::front::front_of;
 use std::alloc::{AllocError, Global};
 
 // Whether the second line begins as no line of a script does, but as one of a JSON.

@@ -8,9 +8,9 @@ use Rattle.text_words.specs.Number.{number_below}
 use Rattle.mc_types.specs.Fault.{read_key}
 use Rattle.mc_types.specs.declared.key.KeyFault.{KeyFault}
 use Rattle.script_events.specs.Scripted.{Cut}
-use Rattle.script_text.specs.Escapes.{unescaped}
-use Rattle.script_text.specs.Lines.{cut, Parts}
-use Rattle.script_text.specs.Events.{◌>>=◌, client_said, server_said, turn_said, count_said, manner_said, key_said, sent_said, piece_said, add_said, result_said, hold_said, fail_said, item_loss_said, restart_loss_said, loss_said, at_said, moment_said, said_after}
+use Rattle.script_events.specs.Escapes.{unescaped}
+use Rattle.script_events.specs.Lines.{cut, Parts}
+use Rattle.script_events.specs.Events.{◌>>=◌, client_said, server_said, turn_said, count_said, manner_said, key_said, sent_said, piece_said, add_said, result_said, hold_said, fail_said, item_loss_said, restart_loss_said, loss_said, at_said, moment_said, said_after}
 use Rattle.fault_words.specs.declared.script.trouble.Form.{Form}
 use Rattle.fault_words.specs.declared.script.trouble.Form.TheVariants as forms
 use Rattle.fault_words.specs.declared.script.trouble.Number.TheVariants as numbers

@@ -3,9 +3,9 @@ use Rattle.std.proofs.Common.{◌≡◌, ℕ, List, length, map, Option, Ok, sym
 use Rattle.route_json.specs.Configuration.{Configuration}
 use Rattle.script_events.specs.declared.script.Reload.{Reload}
 use Rattle.script_events.specs.Scripted.{Scripted, scripted_of}
-use Rattle.script_text.specs.declared.meaning.Reading.{Reading}
-use Rattle.script_text.specs.Read.{ReadsLines}
-use Rattle.script_text.specs.Script.{first_unreadable, servers_known, told_from, events_said, lines_said, servers_said, bad_event_line, either, bad_line}
+use Rattle.script_events.specs.declared.text.meaning.Reading.{Reading}
+use Rattle.script_events.specs.Read.{ReadsLines}
+use Rattle.script_events.specs.Told.{first_unreadable, servers_known, told_from, events_said, lines_said, servers_said, bad_event_line, either, bad_line}
 use Rattle.fault_words.specs.Finding.{bytes_said}
 use Rattle.fault_words.specs.Misfits.{bytes_before_bad}
 

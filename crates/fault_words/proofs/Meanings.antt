@@ -9,10 +9,10 @@ use Rattle.route_json.specs.Configs.{read_after}
 use Rattle.route_json.specs.Configuration.{Configuration}
 use Rattle.route_json.specs.Servers.{Addresses}
 use Rattle.script_events.specs.Scripted.{Scripted}
-use Rattle.script_text.specs.Events.{event_said}
-use Rattle.script_text.specs.FirstLine.{WhyNot, read_or_fault}
-use Rattle.script_text.specs.Lines.{Parts, cut}
-use Rattle.script_text.specs.Script.{Meaning, Nothing, said_or_not, loads_or_not, reload_said, load_or_event}
+use Rattle.script_events.specs.Events.{event_said}
+use Rattle.script_events.specs.FirstLine.{WhyNot, read_or_fault}
+use Rattle.script_events.specs.Lines.{Parts, cut}
+use Rattle.script_events.specs.Told.{Meaning, Nothing, said_or_not, loads_or_not, reload_said, load_or_event}
 use Rattle.fault_words.specs.Troubles.{Trouble, NoConfiguration, form_of, named_trouble, line_trouble, trouble_in}
 use Rattle.fault_words.specs.Laws.{IsEither, GoesWith, EachLineGoesWithItsTrouble}
 use Rattle.fault_words.proofs.Either.{each_line_is_either}

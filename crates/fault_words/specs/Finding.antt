@@ -2,10 +2,10 @@
 use Rattle.std.specs.Prelude.{◌≡◌, ℕ, List, [], ◌∷◌, Option, Some, None, Result, Ok, Err}
 use Rattle.route_json.specs.Configuration.{Configuration}
 use Rattle.script_events.specs.Scripted.{Scripted}
-use Rattle.script_text.specs.Events.{event_said}
-use Rattle.script_text.specs.FirstLine.{WhyNot, first_said}
-use Rattle.script_text.specs.Lines.{lines_of}
-use Rattle.script_text.specs.Script.{Told, told_from, events_said, bad_line, servers_said}
+use Rattle.script_events.specs.Events.{event_said}
+use Rattle.script_events.specs.FirstLine.{WhyNot, first_said}
+use Rattle.script_events.specs.Lines.{lines_of}
+use Rattle.script_events.specs.Told.{Told, told_from, events_said, bad_line, servers_said}
 use Rattle.fault_words.specs.Lines.{line_numbered}
 use Rattle.fault_words.specs.Misfits.{misfit_of, bytes_before_bad}
 use Rattle.fault_words.specs.Troubles.{trouble_in, trouble_of}

@@ -1,8 +1,8 @@
 -- A line says an event, or has a trouble. Source: mcgate's own.
 use Rattle.std.specs.Prelude.{◌≡◌, ℕ, List, Option, Some, None, IsSome}
 use Rattle.route_json.specs.Servers.{Addresses}
-use Rattle.script_text.specs.Events.{event_said}
-use Rattle.script_text.specs.Script.{Meaning, Nothing, Unreadable, Says, Loads, line_means}
+use Rattle.script_events.specs.Events.{event_said}
+use Rattle.script_events.specs.Told.{Meaning, Nothing, Unreadable, Says, Loads, line_means}
 use Rattle.fault_words.specs.Troubles.{Trouble, NoConfiguration, trouble_in}
 
 -- one of the two is there, and the other isn't

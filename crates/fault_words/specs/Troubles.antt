@@ -4,9 +4,9 @@ use Rattle.std.specs.Str.{bytes_eq}
 use Rattle.text_words.specs.Number.{number_below}
 use Rattle.mc_types.specs.Fault.{read_key}
 use Rattle.mc_types.specs.declared.key.KeyFault.{KeyFault}
-use Rattle.script_text.specs.Escapes.{unescaped}
-use Rattle.script_text.specs.Lines.{cut, Parts}
-use Rattle.script_text.specs.Events.{client_said, server_said, turn_said, count_said}
+use Rattle.script_events.specs.Escapes.{unescaped}
+use Rattle.script_events.specs.Lines.{cut, Parts}
+use Rattle.script_events.specs.Events.{client_said, server_said, turn_said, count_said}
 use Rattle.fault_words.specs.declared.script.trouble.Form.{Form}
 use Rattle.fault_words.specs.declared.script.trouble.Form.TheVariants as forms
 use Rattle.fault_words.specs.declared.script.trouble.Number.{Number}

@@ -1,2 +1,4 @@
 pub mod Faults
 pub mod Verdicts
+pub mod Residues
+pub mod Repeated

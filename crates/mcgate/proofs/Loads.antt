@@ -30,8 +30,8 @@ use Rattle.core_accepted.specs.Begun.{any_begun}
 use Rattle.core_accepted.specs.Known.{first_of}
 use Rattle.core_accepted.specs.Logs.{TreesAreSound, IsAcceptedSince}
 use Rattle.core_accepted.proofs.Keeping.{since_are_fresh}
-use Rattle.core_fleets.specs.LateCores.{EveryLateLogIsFresh}
-use Rattle.core_fleets.proofs.LateCores.{late_core}
+use Rattle.core_accepted.specs.LateCores.{EveryLateLogIsFresh}
+use Rattle.core_accepted.proofs.LateCores.{late_core}
 use Rattle.serve_proxy.specs.LogsGoOn.{LogsAreFresh}
 use Rattle.mcgate.specs.declared.serve.Servable.{Servable}
 use Rattle.mcgate.specs.declared.serve.Servable.TheVariants as servables

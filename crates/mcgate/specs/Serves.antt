@@ -19,7 +19,7 @@ use Rattle.serve_proxy.specs.Beginning.{BeginsFresh, BeginsUnchecked}
 use Rattle.core_accepted.specs.declared.beginnings.Beginnings.{Beginnings}
 use Rattle.core_accepted.specs.Begun.{any_begun}
 use Rattle.core_accepted.specs.Logs.{IsAcceptedSince, EveryLogSinceIsFresh}
-use Rattle.core_fleets.specs.LateCores.{EveryLateLogIsFresh}
+use Rattle.core_accepted.specs.LateCores.{EveryLateLogIsFresh}
 use Rattle.serve_proxy.specs.LogsGoOn.{LogsGoFreshly}
 use Rattle.mcgate.specs.Sharing.{sharing_for}
 use Rattle.mcgate.specs.declared.serve.Servable.{Servable}

@@ -7,9 +7,9 @@ use std::net::Net;
 use std::os::fd::RawFd;
 use std::rt::{Clock, Files};
 use std::time::Instant;
-use watch_control::answers::Verdict;
-use watch_control::callers::Callers;
-use watch_control::paths::listen_at;
+use watch_admin::control::answers::Verdict;
+use watch_admin::control::callers::Callers;
+use watch_admin::control::paths::listen_at;
 
 // Only the user that it runs as may tell it anything.
 const MODE: u32 = 0o600;

@@ -4,8 +4,8 @@ use crate::lines::Lines;
 use libc::types::rlimit;
 use libc::{RLIMIT_NOFILE, getrlimit};
 use mcgate_args::serve_arguments::ServeJob;
-use watch_control::callers::PLACES as CALLERS;
-use watch_http::visitors::PLACES;
+use watch_admin::control::callers::PLACES as CALLERS;
+use watch_admin::http::visitors::PLACES;
 
 // So many descriptors are kept for what is neither a client nor a server of the configuration: the standard ones, the listener, what it
 // waits with, the file that is read again, and servers that a reload brings.

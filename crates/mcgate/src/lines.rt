@@ -8,8 +8,8 @@ use std::alloc::{AllocError, Global};
 use std::fmt::Display;
 use std::rt::Clock;
 use std::time::{SystemTime, UNIX_EPOCH};
-use watch_text::quoted::Quoted;
-use watch_text::times::Moment;
+use watch_admin::quoted::Quoted;
+use watch_admin::times::Moment;
 
 // An output of the program.
 #[derive(Clone, Copy)]

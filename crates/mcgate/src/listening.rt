@@ -7,7 +7,7 @@ use std::io;
 use std::net::Net;
 use std::os::fd::{AsFd, OwnedFd};
 use std::rt::Files;
-use watch_control::paths::listen_at;
+use watch_admin::control::paths::listen_at;
 
 /// What a process was given when it began.
 pub trait Given {

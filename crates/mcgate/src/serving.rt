@@ -42,9 +42,9 @@ use std::io::{ErrorKind, Write};
 use std::net::{Net, SocketAddr, ToSocketAddrs};
 use std::rt::{Clock, Files};
 use std::time::{Duration, Instant};
-use watch_control::answers::Verdict;
-use watch_control::callers::PLACES;
-use watch_control::requests::{Request, request_of};
+use watch_admin::control::answers::Verdict;
+use watch_admin::control::callers::PLACES;
+use watch_admin::control::requests::{Request, request_of};
 
 /// The first address that a text names, or why it names none.
 pub fn resolve<N: Net>(net: &N, text: &str) -> io::Result<SocketAddr> {

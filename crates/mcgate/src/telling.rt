@@ -8,8 +8,8 @@ use std::io;
 use std::io::{Read, Write};
 use std::net::Net;
 use std::os::unix::net::UnixStream;
-use watch_control::answers::read_answer;
-use watch_control::requests::{Request, request_of};
+use watch_admin::control::answers::read_answer;
+use watch_admin::control::requests::{Request, request_of};
 
 // The line that says it, without its end.
 fn line_of(alloc: Global, job: &TellJob<'_>) -> Result<String, AllocError> {

@@ -13,15 +13,15 @@ use std::net::{Net, SocketAddr};
 use std::os::fd::RawFd;
 use std::rt::{Clock, Files};
 use std::time::Instant;
-use watch_http::request::Page;
-use watch_http::visitors::{PLACES, Visitors};
-use watch_text::families::Family;
-use watch_text::json::write_json;
-use watch_text::numbers::{
+use watch_admin::families::Family;
+use watch_admin::http::request::Page;
+use watch_admin::http::visitors::{PLACES, Visitors};
+use watch_admin::json::write_json;
+use watch_admin::numbers::{
     ClientNumbers, CommandNumbers, ConfigNumbers, FailureNumbers, Numbers, ProcessNumbers,
     ServerNumbers, families_of,
 };
-use watch_text::prometheus::write_prometheus;
+use watch_admin::prometheus::write_prometheus;
 
 /// What is counted of a proxy that runs, besides what its end counts.
 #[derive(Clone, Copy)]

@@ -2,7 +2,7 @@
 use Rattle.std.specs.Prelude.{◌≡◌, ℕ, List, Option, None, Result, Ok, Err, String, string_bytes}
 use Rattle.std.specs.declared.alloc.Global.{Global}
 use Rattle.route_json.specs.Configuration.{Configuration}
-use Rattle.script_text.specs.Lines.{lines_of}
+use Rattle.script_events.specs.Lines.{lines_of}
 use Rattle.fault_words.specs.Finding.{IsWrong, FindsIn}
 use Rattle.fault_words.specs.declared.script.finding.BadLine.{BadLine}
 use Rattle.mcgate_args.specs.declared.arguments.Task.{Task}

@@ -13,10 +13,10 @@ use Rattle.gate_check.specs.declared.gap.Reason.{Reason}
 use Rattle.gate_check.specs.declared.reloading.TheConstants.{MOST_GENERATIONS}
 use Rattle.gate_check.specs.Gate.{IsCertified}
 use Rattle.gate_check.specs.Sound.{trees_of}
-use Rattle.core_fleets.specs.declared.gates.judging.FleetFault.{FleetFault}
-use Rattle.core_fleets.specs.declared.gates.judging.FleetFault.TheVariants as faults
-use Rattle.core_fleets.specs.FleetGate.{AreSideBySide, IsFleetFault}
-use Rattle.script_text.specs.Printed.{config_fault_line}
+use Rattle.core_accepted.specs.declared.fleets.gates.judging.FleetFault.{FleetFault}
+use Rattle.core_accepted.specs.declared.fleets.gates.judging.FleetFault.TheVariants as faults
+use Rattle.core_accepted.specs.FleetGate.{AreSideBySide, IsFleetFault}
+use Rattle.script_events.specs.Printed.{config_fault_line}
 use Rattle.mcgate_check.specs.declared.reporting.Form.TheVariants.{Lines}
 use Rattle.mcgate_check.specs.Checking.{ChecksRefused}
 use Rattle.mcgate_check.specs.Reporting.{Checks}

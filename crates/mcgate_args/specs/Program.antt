@@ -7,7 +7,7 @@ use Rattle.route_json.specs.Configs.{read_or}
 use Rattle.route_json.specs.Configuration.{Configuration}
 use Rattle.mcgate_check.specs.Checking.{PrintsFault}
 use Rattle.mcgate_check.specs.Reporting.{Checks}
-use Rattle.script_text.specs.Script.{told}
+use Rattle.script_events.specs.Told.{told}
 use Rattle.mcgate_replay.specs.Replay.{Replays, Overran, IsBrokenOff as IsCutShort}
 use Rattle.mcgate_args.specs.declared.arguments.Task.{Task}
 use Rattle.mcgate_args.specs.declared.arguments.Task.TheVariants as tasks

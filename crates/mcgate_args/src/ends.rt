@@ -1,7 +1,7 @@
 //! How the program ends: what it prints on which stream, and its exit statuses.
 
 ghost use Rattle.std.specs.Prelude.{◌≡◌, ◌≤◌, Ok, option_map};
-ghost use Rattle.script_text.specs.Script.{told_over};
+ghost use Rattle.script_events.specs.Told.{told_over};
 ghost use Rattle.std.specs.IoError.{error_kind};
 ghost use Rattle.mcgate_args.specs.Program.{Answers, Runs, AnswersInput, RunsBy, AnswersBy, NeverOverruns, SaysNothing, Declines, GivesConfig, ReadsConfig};
 ghost use Rattle.mcgate_replay.specs.Replay.{ReplaysOver, Overran, IsBrokenOff as IsCutShort};

@@ -10,9 +10,9 @@ use Rattle.gate_check.specs.Gate.{IsJudged}
 use Rattle.script_events.specs.declared.script.Script.{Script}
 use Rattle.script_events.specs.Scripted.{Scripted, scripted_of}
 use Rattle.mcgate_check.specs.Refusals.{IsRefusalRun, IsRealGap, MayLack}
-use Rattle.script_text.specs.LineLaws.{HaveLines, HaveWidths, AreReadBack}
-use Rattle.script_text.proofs.LinesReadBack.{scripts_are_read_back}
-use Rattle.script_text.proofs.Widths.{IsWide, have_widths}
+use Rattle.script_events.specs.LineLaws.{HaveLines, HaveWidths, AreReadBack}
+use Rattle.script_events.proofs.LinesReadBack.{scripts_are_read_back}
+use Rattle.script_events.proofs.Widths.{IsWide, have_widths}
 use Rattle.mcgate_check.specs.Checking.{ShowsReason, IsFoundFor, run_lines}
 use Rattle.mcgate_check.proofs.RunLines.{run_has_lines}
 

@@ -16,9 +16,9 @@ use Rattle.gate_check.specs.Gate.{IsCertified, IsJudged}
 use Rattle.script_events.specs.declared.script.Script.{Script}
 use Rattle.script_events.specs.Scripted.{Scripted, scripted_of}
 use Rattle.mcgate_check.specs.Refusals.{IsRefusalRun, MayLack}
-use Rattle.script_text.specs.Printed.{config_fault_line}
-use Rattle.script_text.specs.ScriptLines.{script_lines}
-use Rattle.script_text.specs.LineLaws.{AreReadBack}
+use Rattle.script_events.specs.Printed.{config_fault_line}
+use Rattle.script_events.specs.ScriptLines.{script_lines}
+use Rattle.script_events.specs.LineLaws.{AreReadBack}
 use Rattle.mcgate_check.specs.Verdict.{accepted_line, refusal_line}
 use Rattle.mcgate_check.specs.declared.status.RunFault.{RunFault}
 use Rattle.mcgate_check.specs.declared.status.RunFault.TheVariants.{NoMemory, Writer, TooManyCalls}

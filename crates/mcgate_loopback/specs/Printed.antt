@@ -3,7 +3,7 @@ use Rattle.std.specs.Prelude.{ℕ, List, [], ◌++◌, codes, decimal, flat_map,
 use Rattle.script_events.specs.declared.script.Reload.{Reload}
 use Rattle.script_events.specs.Scripted.{shown_by}
 use Rattle.gate_check.specs.declared.reloading.ReloadFault.{ReloadFault}
-use Rattle.script_text.specs.Printed.{shown_line}
+use Rattle.script_events.specs.Printed.{shown_line}
 use Rattle.mcgate_check.specs.Reloads.{loaded_line, kept_line}
 use Rattle.mcgate_loopback.specs.declared.ends.Counts.{Counts}
 use Rattle.mcgate_loopback.specs.declared.entries.Entry.{Entry}

@@ -8,11 +8,11 @@ use Rattle.gate_check.specs.Gate.{IsCertified}
 use Rattle.script_events.specs.declared.script.Reload.{Reload}
 use Rattle.script_events.specs.Scripted.{Scripted, scripted_of}
 use Rattle.script_events.specs.Bad.{first_bad}
-use Rattle.script_text.specs.FirstLine.{WhyNot, TellsFault}
-use Rattle.script_text.specs.Script.{Told, told, bad_line, bad_event_line, servers_known, ReadsScript}
-use Rattle.script_text.specs.declared.configured.ConfiguredScript.{ConfiguredScript}
-use Rattle.script_text.specs.declared.configured.ScriptFault.{ScriptFault}
-use Rattle.script_text.specs.Printed.{bad_line_line, config_fault_line}
+use Rattle.script_events.specs.FirstLine.{WhyNot, TellsFault}
+use Rattle.script_events.specs.Told.{Told, told, bad_line, bad_event_line, servers_known, ReadsScript}
+use Rattle.script_events.specs.declared.text.configured.ConfiguredScript.{ConfiguredScript}
+use Rattle.script_events.specs.declared.text.configured.ScriptFault.{ScriptFault}
+use Rattle.script_events.specs.Printed.{bad_line_line, config_fault_line}
 use Rattle.mcgate_check.specs.Checking.{PrintsRefused}
 use Rattle.mcgate_check.specs.declared.status.RunFault.{RunFault}
 use Rattle.mcgate_check.specs.declared.status.RunFault.TheVariants.{NoMemory, Writer, TooManyCalls}

@@ -3,7 +3,7 @@
 ghost use Rattle.std.specs.Prelude.{OnOk, slice_get};
 ghost use Rattle.std.specs.Io.KnownBytes.{Appends};
 ghost use Rattle.script_events.specs.Scripted.{shown_by};
-ghost use Rattle.script_text.specs.Printed.{shown_line};
+ghost use Rattle.script_events.specs.Printed.{shown_line};
 ghost use Rattle.mcgate_loopback.specs.Printed.{entry_line, entry_lines, kept_line_of};
 
 use gate_check::ReloadFault;

@@ -7,11 +7,11 @@ use Rattle.std.proofs.lemmas.List.{length-map, take_all, drop_all, take-map, dro
 use Rattle.std.proofs.lemmas.Option.{slice_get-get_or, slice_get_within}
 use Rattle.route_json.specs.Configuration.{Configuration}
 use Rattle.route_json.specs.Servers.{Addresses}
-use Rattle.script_text.specs.FirstLine.{WhyNot}
-use Rattle.script_text.specs.Printed.{shown_lines}
-use Rattle.script_text.specs.Events.{◌>>=◌}
-use Rattle.script_text.specs.Script.{Told, bad_line, bad_event_line, either, servers_said, events_said, lines_said, servers_known, AreChainedFrom, IsScriptOf, ReadsScript, Numbered}
-use Rattle.script_text.specs.declared.configured.ConfiguredScript.{ConfiguredScript}
+use Rattle.script_events.specs.FirstLine.{WhyNot}
+use Rattle.script_events.specs.Printed.{shown_lines}
+use Rattle.script_events.specs.Events.{◌>>=◌}
+use Rattle.script_events.specs.Told.{Told, bad_line, bad_event_line, either, servers_said, events_said, lines_said, servers_known, AreChainedFrom, IsScriptOf, ReadsScript, Numbered}
+use Rattle.script_events.specs.declared.text.configured.ConfiguredScript.{ConfiguredScript}
 use Rattle.script_events.specs.declared.script.Output.{Output}
 use Rattle.script_events.specs.Reloads.{AreInOrder}
 use Rattle.script_events.specs.declared.script.Reload.{Reload}
@@ -23,7 +23,7 @@ use Rattle.script_events.specs.Bad.{first_bad}
 use Rattle.gate_check.specs.Gate.{IsCertified}
 use Rattle.gate_check.specs.Sound.{IsLast, AreGenerations, trees_of}
 use Rattle.gate_check.specs.Reload.{AreKept}
-use Rattle.script_text.specs.declared.configured.ScriptFault.{ScriptFault}
+use Rattle.script_events.specs.declared.text.configured.ScriptFault.{ScriptFault}
 use Rattle.script_run.specs.declared.accepted.judging.Loading.{Loading}
 use Rattle.script_run.specs.Reloads.{InUse, AreChained, AreJudged, Judges, is_refused}
 use Rattle.mcgate_check.specs.Checking.{PrintsRefused, StopsUnwritten}

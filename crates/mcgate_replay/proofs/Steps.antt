@@ -4,8 +4,8 @@ use Rattle.std.specs.Prelude.{IfOk, IfErr, OnOk}
 use Rattle.std.specs.Io.KnownBytes.{Appends}
 use Rattle.std.proofs.lemmas.List.{length-map, length-replicate}
 use Rattle.route_json.specs.Configuration.{Configuration}
-use Rattle.script_text.specs.Printed.{report_line}
-use Rattle.script_text.specs.declared.configured.ConfiguredScript.{ConfiguredScript}
+use Rattle.script_events.specs.Printed.{report_line}
+use Rattle.script_events.specs.declared.text.configured.ConfiguredScript.{ConfiguredScript}
 use Rattle.cache_server.specs.Contents.{empty}
 use Rattle.script_events.specs.Limits.{capacity}
 use Rattle.script_events.specs.Servers.{IsNew, count_of}

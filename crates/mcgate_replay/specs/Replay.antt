@@ -21,12 +21,12 @@ use Rattle.script_run.specs.Driving.{DrivesStepped, StepsPart, AreSpentIn, AreMa
 use Rattle.script_run.specs.declared.accepted.judging.Loading.{Loading}
 use Rattle.script_run.specs.declared.accepted.judging.Loading.TheVariants.{Loaded, Refused}
 use Rattle.script_run.specs.Reloads.{Judges, is_refused}
-use Rattle.script_text.specs.FirstLine.{WhyNot, TellsFault}
-use Rattle.script_text.specs.Events.{◌>>=◌}
-use Rattle.script_text.specs.Script.{Told, told, told_over, bad_line, bad_event_line, either, events_said, lines_said, servers_known, AreChainedFrom, ReadsScript}
-use Rattle.script_text.specs.declared.configured.ConfiguredScript.{ConfiguredScript}
-use Rattle.script_text.specs.declared.configured.ScriptFault.{ScriptFault}
-use Rattle.script_text.specs.Printed.{shown_lines, report_line, bad_line_line, config_fault_line}
+use Rattle.script_events.specs.FirstLine.{WhyNot, TellsFault}
+use Rattle.script_events.specs.Events.{◌>>=◌}
+use Rattle.script_events.specs.Told.{Told, told, told_over, bad_line, bad_event_line, either, events_said, lines_said, servers_known, AreChainedFrom, ReadsScript}
+use Rattle.script_events.specs.declared.text.configured.ConfiguredScript.{ConfiguredScript}
+use Rattle.script_events.specs.declared.text.configured.ScriptFault.{ScriptFault}
+use Rattle.script_events.specs.Printed.{shown_lines, report_line, bad_line_line, config_fault_line}
 use Rattle.script_events.specs.Bad.{first_bad}
 use Rattle.mcgate_check.specs.Checking.{PrintsRefused}
 use Rattle.mcgate_check.specs.Reloads.{loaded_line, unchecked_line, kept_line}

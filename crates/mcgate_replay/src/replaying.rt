@@ -2,7 +2,7 @@
 
 ghost use Rattle.std.specs.Prelude.{◌≡◌, ◌≤◌, ◌<◌, Ok, Some, None, IfOk, IfErr, IfSome, MatchOption, length};
 ghost use Rattle.script_events.specs.Bad.{first_bad};
-ghost use Rattle.script_text.specs.Script.{either, told, told_over};
+ghost use Rattle.script_events.specs.Told.{either, told, told_over};
 ghost use Rattle.mcgate_replay.specs.Growing.{first_excluded, excluded_by};
 ghost use Rattle.mcgate_replay.specs.declared.judging.Judging.TheVariants.{Asked, Begun};
 ghost use Rattle.mcgate_replay.specs.Replay.{Replays, ReplaysOver, IsReading, ReplaysRead, BreaksReadOff, RunsScript, RunsGood, BreaksTreeOff, BreaksScriptOff, HasReloads, IsBrokenOff, Overran, BreaksOff, servers_of, events_of, reloads_of};
@@ -17,9 +17,9 @@ use mcgate_check::checking::print_refused;
 use mcgate_check::status::{BAD_INPUT, answer_of};
 use route_json::Config;
 use script_events::first_bad_event;
-use script_text::configured::{ConfiguredScript, ScriptFault};
-use script_text::printer::{write_bad_line, write_config_fault};
-use script_text::reader::{read_events, read_script};
+use script_events::text::configured::{ConfiguredScript, ScriptFault};
+use script_events::text::printer::{write_bad_line, write_config_fault};
+use script_events::text::reader::{read_events, read_script};
 use std::alloc::Global;
 use std::io::Write;
 

@@ -13,9 +13,9 @@ use gate_check::Accepted;
 use mcgate_check::RunFault;
 use script_events::Transcript;
 use script_events::servers::ScriptServers;
+use script_events::text::configured::ConfiguredScript;
 use script_run::accepted::{drive_judged, judge_reloads};
 use script_run::drive_stepped;
-use script_text::configured::ConfiguredScript;
 use std::alloc::Global;
 use std::io::Write;
 

@@ -5,16 +5,16 @@ ghost use Rattle.std.specs.Io.KnownBytes.{Appends};
 ghost use Rattle.mcgate_check.specs.declared.status.RunFault.TheVariants.{Writer};
 ghost use Rattle.mcgate_check.specs.Reloads.{unchecked_line};
 ghost use Rattle.script_events.specs.Scripted.{shown_by, transcript_of};
-ghost use Rattle.script_text.specs.Printed.{shown_lines};
+ghost use Rattle.script_events.specs.Printed.{shown_lines};
 ghost use Rattle.mcgate_replay.specs.Replay.{loading_line, load_line, transcript_lines, run_fault_of, Wrote, BrokeOff};
 
 use mcgate_check::RunFault;
 use mcgate_check::reload_lines::{write_kept, write_loaded, write_unchecked};
 use mcgate_check::status::DONE;
 use route_json::Servers;
+use script_events::text::printer::{write_outputs, write_report};
 use script_events::{DriveFault, Output, Reload, Report, Transcript};
 use script_run::accepted::Loading;
-use script_text::printer::{write_outputs, write_report};
 use std::io;
 use std::io::Write;
 

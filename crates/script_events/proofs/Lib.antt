@@ -8,3 +8,11 @@ pub mod Steps
 pub mod BadEvents
 pub mod Due
 pub mod Quiet
+pub mod EscapeLemmas
+pub mod LineLemmas
+pub mod Further
+pub mod Loads
+pub mod ReadBack
+pub mod WordCuts
+pub mod LinesReadBack
+pub mod Widths

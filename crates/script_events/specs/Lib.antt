@@ -10,3 +10,16 @@ pub mod Scripted
 pub mod Bad
 pub mod Opening
 pub mod Reloads
+pub mod Escapes
+pub mod Reads
+pub mod Lines
+pub mod Events
+pub mod Seen
+pub mod LinesAfter
+pub mod FirstLine
+pub mod Told
+pub mod Read
+pub mod Printed
+pub mod Laws
+pub mod ScriptLines
+pub mod LineLaws

@@ -7,7 +7,7 @@ use Rattle.mc_types.specs.declared.ask.Dialect.TheVariants.{Classic, Meta}
 use Rattle.mc_types.specs.declared.answer.Answer.{Answer}
 use Rattle.mc_types.specs.declared.call.Outcome.TheVariants.{Answered}
 use Rattle.wire_answers.proofs.ReadLemmas.{spelled_within}
-use Rattle.wire_meta_gets.specs.Form.{in_meta}
+use Rattle.wire_stream.specs.Form.{in_meta}
 use Rattle.serve_wire.proofs.Steps.{equal}
 use Rattle.core_proxy.specs.Settles as of_calls
 use Rattle.core_accepted.specs.declared.served.ServedCore.{ServedCore}

@@ -12,8 +12,8 @@ use Rattle.wire_answers.specs.Laws.{SpelledAnswersFit}
 use Rattle.wire_answers.specs.Reading.{Reads}
 use Rattle.wire_answers.specs.declared.reader.AnswerRead.{AnswerRead}
 use Rattle.wire_answers.specs.declared.reader.AnswerRead.TheVariants as reads
-use Rattle.wire_meta_gets.specs.Form.{is_retrieval, meta_form}
-use Rattle.wire_meta_gets.specs.Reading.{ReadsInMeta}
+use Rattle.wire_stream.specs.Form.{is_retrieval, meta_form}
+use Rattle.wire_stream.specs.Reading.{ReadsInMeta}
 use Rattle.route_job.specs.Rest.{ask_under}
 use Rattle.core_commands.specs.declared.command.Command.{Command}
 use Rattle.core_proxy.specs.declared.proxy.Core.{Core}

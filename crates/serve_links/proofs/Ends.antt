@@ -6,9 +6,9 @@ use Rattle.std.proofs.lemmas.Slice.Eq.{bytes_eq-Decides}
 use Rattle.std.proofs.Math.Seq.{take-append-add}
 use Rattle.text_words.specs.Line.{LF}
 use Rattle.mc_types.specs.declared.ask.Dialect.{Dialect}
-use Rattle.wire_meta_gets.specs.Learning.{IsDialectLine, TellsDialect}
-use Rattle.wire_meta_gets.specs.declared.dialect.DialectRead.{DialectRead}
-use Rattle.wire_meta_gets.specs.declared.dialect.DialectRead.TheVariants as reads
+use Rattle.wire_stream.specs.Learning.{IsDialectLine, TellsDialect}
+use Rattle.wire_stream.specs.declared.meta_gets.dialect.DialectRead.{DialectRead}
+use Rattle.wire_stream.specs.declared.meta_gets.dialect.DialectRead.TheVariants as reads
 use Rattle.serve_wire.specs.declared.conn.conn.Conn.{Conn}
 use Rattle.serve_links.specs.declared.link.Link.{Link}
 use Rattle.serve_links.specs.Dialects.{IsGreeting, flushed_of, Greets, ReadsDialect, ReadsGreeting, four_more}

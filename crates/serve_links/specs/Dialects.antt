@@ -1,15 +1,15 @@
--- What a server is asked in each dialect, and what its answers say. Source: mcgate's own; that a server is asked for classic gets in the meta dialect is the form of `wire_meta_gets`.
+-- What a server is asked in each dialect, and what its answers say. Source: mcgate's own; that a server is asked for classic gets in the meta dialect is the form of `wire_stream::meta_gets`.
 use Rattle.std.specs.Prelude.{◌≡◌, ℕ, ◌+◌, ◌<◌, ◌≤◌, Bool, true, false, List, [], ◌++◌, Option, None, Some, codes, length, take}
 use Rattle.mc_types.specs.declared.ask.Ask.{Ask}
 use Rattle.mc_types.specs.declared.ask.Dialect.{Dialect}
 use Rattle.mc_types.specs.declared.ask.Dialect.TheVariants.{Classic, Meta}
 use Rattle.mc_types.specs.declared.answer.Answer.{Answer}
 use Rattle.wire_answers.specs.Reading.{Spells, IsCut}
-use Rattle.wire_meta_gets.specs.Form.{in_meta}
-use Rattle.wire_meta_gets.specs.Learning.{IsDialectLine}
-use Rattle.wire_meta_gets.specs.Reading.{SpellsInMeta}
-use Rattle.wire_meta_gets.specs.declared.dialect.DialectRead.{DialectRead}
-use Rattle.wire_meta_gets.specs.declared.dialect.DialectRead.TheVariants as reads
+use Rattle.wire_stream.specs.Form.{in_meta}
+use Rattle.wire_stream.specs.Learning.{IsDialectLine}
+use Rattle.wire_stream.specs.Reading.{SpellsInMeta}
+use Rattle.wire_stream.specs.declared.meta_gets.dialect.DialectRead.{DialectRead}
+use Rattle.wire_stream.specs.declared.meta_gets.dialect.DialectRead.TheVariants as reads
 use Rattle.serve_links.specs.declared.settings.Greeting.{Greeting}
 use Rattle.serve_links.specs.declared.settings.ServerDialect.{ServerDialect}
 use Rattle.serve_links.specs.declared.settings.ServerDialect.TheVariants as asks

@@ -8,7 +8,7 @@ use crate::settings::{Greeting, ServerDialect};
 use bytes::BytesMut;
 use mc_types::Dialect;
 use std::alloc::AllocError;
-use wire_meta_gets::{DialectRead, read_dialect};
+use wire_stream::meta_gets::{DialectRead, read_dialect};
 
 // In which dialect it is asked from now on, by how it is asked for that.
 fn read_told(dialect: ServerDialect, bytes: &[u8]) -> DialectRead

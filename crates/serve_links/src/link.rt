@@ -21,7 +21,7 @@ use serve_wire::{Connected, Ready, Wire};
 use std::alloc::{AllocError, AllocFailed, Global};
 use std::collections::VecDeque;
 use std::net::Net;
-use wire_meta_gets::{DialectRead, write_noop};
+use wire_stream::meta_gets::{DialectRead, write_noop};
 
 // An answer is shorter than what is held at most. No further call goes out while so much is to be sent.
 const LIMITS: Limits = Limits {

@@ -11,3 +11,7 @@ pub mod Shorter
 pub mod Fronts
 pub mod ConnectionRequests
 pub mod Passing
+pub mod Forms
+pub mod Answers
+pub mod Lines
+pub mod Hits

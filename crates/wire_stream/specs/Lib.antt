@@ -11,3 +11,9 @@ pub mod TextProtocol
 pub mod ClientStreams
 pub mod Fronts
 pub mod Steps
+pub mod Form
+pub mod Reading
+pub mod Learning
+pub mod Kept
+pub mod Usual
+pub mod MetaLaws

@@ -1,6 +1,6 @@
 //! Memcached's text protocol in both its dialects, in one place: one client's stream of requests, mixed as it likes, and what
 //! it is shown for them ([`stream`], [`replies`]), and the requests and answers themselves, which are read and written on
-//! both sides of the proxy.
+//! both sides of the proxy. What a client asks as a classic get, a server may be asked in the meta dialect ([`meta_gets`]).
 //!
 //! | | from a client | to a server | from a server | to a client |
 //! |---|---|---|---|---|
@@ -10,6 +10,7 @@
 
 pub mod connection;
 pub mod laws;
+pub mod meta_gets;
 pub mod replies;
 pub mod requests;
 pub mod sending;

@@ -10,10 +10,10 @@ use examples_tables::tellers::wrong;
 use mc_types::{Ask, Dialect, SpareBodies};
 use std::alloc::{AllocError, Global};
 use std::test::Fail;
-use wire_meta_gets::{
+use wire_stream::Received;
+use wire_stream::meta_gets::{
     DialectRead, MetaForms, read_dialect, read_in_meta, write_in_meta, write_noop,
 };
-use wire_stream::Received;
 
 // Requests, and the form in which a server is asked; and what its answers are read as.
 fn table() -> &'static str {

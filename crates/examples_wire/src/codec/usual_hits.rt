@@ -8,8 +8,8 @@ use examples_tables::tellers::wrong;
 use mc_types::{Ask, SpareBodies};
 use std::alloc::{AllocError, Global};
 use std::test::Fail;
-use wire_meta_gets::{is_plain_get, read_hit, usual_hit, write_get};
 use wire_stream::Received;
+use wire_stream::meta_gets::{is_plain_get, read_hit, usual_hit, write_get};
 
 // Hits as servers spell them.
 fn table() -> &'static str {

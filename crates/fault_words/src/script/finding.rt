@@ -1,10 +1,10 @@
 //! The first bad line of a script, and what is wrong with it.
 
 ghost use Rattle.std.specs.Prelude.{◌≡◌, ◌+◌, ◌<◌, ◌^◌, IfOk, IfSome, length, map, option_map};
-ghost use Rattle.script_text.specs.LinesAfter.{lines_after};
+ghost use Rattle.script_events.specs.LinesAfter.{lines_after};
 ghost use Rattle.script_events.specs.Scripted.{scripted_of};
-ghost use Rattle.script_text.specs.Script.{either, bad_event_line};
-ghost use Rattle.script_text.specs.Lines.{lines_of};
+ghost use Rattle.script_events.specs.Told.{either, bad_event_line};
+ghost use Rattle.script_events.specs.Lines.{lines_of};
 ghost use Rattle.fault_words.specs.Finding.{IsWrongLine, IsWrong, FindsIn};
 ghost use Rattle.fault_words.specs.Lines.{line_numbered};
 ghost use Rattle.fault_words.specs.Misfits.{bytes_before_bad};
@@ -13,13 +13,13 @@ use crate::script::lines::line_numbered;
 use crate::script::misfit::{Misfit, bytes_before_bad, misfit_of};
 use crate::script::trouble::{Halt, Trouble, check_line};
 use route_json::Config;
+use script_events::text::configured::{ScriptFault, servers_known};
+use script_events::text::event::read_event;
+use script_events::text::fault::LineFault;
+use script_events::text::front::front_of;
+use script_events::text::meaning::Reading;
+use script_events::text::reader::{read_first, read_further};
 use script_events::{Script, first_bad_event};
-use script_text::configured::{ScriptFault, servers_known};
-use script_text::event::read_event;
-use script_text::fault::LineFault;
-use script_text::front::front_of;
-use script_text::meaning::Reading;
-use script_text::reader::{read_first, read_further};
 use std::alloc::{AllocError, Global};
 
 /// What is wrong with a line.

@@ -1,10 +1,10 @@
 //! The line of a text that has a number.
 
 ghost use Rattle.std.specs.Prelude.{◌≡◌, ◌+◌, ◌<◌, ◌^◌, length};
-ghost use Rattle.script_text.specs.LinesAfter.{lines_after};
+ghost use Rattle.script_events.specs.LinesAfter.{lines_after};
 ghost use Rattle.fault_words.specs.Lines.{line_numbered};
 
-use script_text::front::front_of;
+use script_events::text::front::front_of;
 
 /// The line of this number among lines after so many others; an empty one where there is none.
 pub fn line_numbered(above: usize, further: Option<&str>, number: usize) -> &str

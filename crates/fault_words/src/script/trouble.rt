@@ -2,13 +2,13 @@
 
 ghost use Rattle.std.specs.Prelude.{◌≡◌};
 ghost use Rattle.mc_types.specs.Fault.{read_key};
-ghost use Rattle.script_text.specs.Lines.{cut};
+ghost use Rattle.script_events.specs.Lines.{cut};
 ghost use Rattle.fault_words.specs.Troubles.{number_said, number_trouble, text_trouble, key_bytes_trouble, key_trouble, sent_trouble, hold_trouble, cut_trouble, manner_trouble, fail_trouble, item_loss_trouble, loss_trouble, at_trouble, form_trouble, trouble_in, Finds};
 
 use mc_types::{Key, KeyFault, SCRIPT_CLIENTS};
-use script_text::escapes::unescape;
-use script_text::fault::LineFault;
-use script_text::words::{cut, number_under};
+use script_events::text::escapes::unescape;
+use script_events::text::fault::LineFault;
+use script_events::text::words::{cut, number_under};
 use std::alloc::Global;
 
 /// The lines of a script by their words: the events, and the reload.
@@ -268,7 +268,7 @@ fn check_form(alloc: Global, form: Form, text: &[u8]) -> Result<(), Halt<'_>>
 /// That a line says an event, or else the first of its parts that can't be read. Of a line `reload JSON` that is the JSON: whether it
 /// is a configuration isn't asked here.
 ///
-/// `Ok` comes exactly where [`script_text::event::read_event`] reads an event, unless memory was refused.
+/// `Ok` comes exactly where [`script_events::text::event::read_event`] reads an event, unless memory was refused.
 pub fn check_line(alloc: Global, line: &[u8]) -> Result<(), Halt<'_>>
     ensures { Finds (trouble_in line.now) result }
 {

@@ -8,14 +8,14 @@ ghost use Rattle.mcgate_args.specs.Fleets.{AddsRead, AreRead, ChecksAlone, Check
 use crate::fleets::lines::{
     write_copying, write_fleet, write_many_files, write_many_places, write_pair_gap,
 };
-use core_fleets::gates::judging::{FleetFault, judge_fleet};
+use core_accepted::fleets::gates::judging::{FleetFault, judge_fleet};
 use gate_check::judge;
 use gate_check::reloading::MOST_GENERATIONS;
 use mcgate_check::RunFault;
 use mcgate_check::checking::{check_refused, print_fault};
 use mcgate_check::status::{BAD_INPUT, DONE, REFUSED};
 use route_json::{Config, ConfigFault, Servers, read_config, read_config_after};
-use script_text::printer::write_config_fault;
+use script_events::text::printer::write_config_fault;
 use std::alloc::{AllocError, Global};
 use std::io;
 use std::io::Write;

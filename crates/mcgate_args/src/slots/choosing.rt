@@ -3,11 +3,11 @@
 use crate::slots::arguments::SlotsChange;
 use crate::slots::fault::SlotsFault;
 use gate_gaps::{ConfigPool, read_pools};
+use gate_plan::slots::{Change, rewritten, table_of};
 use mc_types::ServerId;
 use route_json::addresses::is_server_name;
 use route_json::addresses::servers::MAX_SERVERS;
 use route_json::{ConfigFault, Servers, read_config_after};
-use route_slots::{Change, rewritten, table_of};
 use std::alloc::{AllocError, Global};
 
 /// The list of a pool and its slots.

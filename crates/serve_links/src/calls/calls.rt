@@ -5,7 +5,7 @@ ghost use Rattle.mc_types.specs.Asks.{IsAsk};
 ghost use Rattle.wire_stream.specs.Spelling.{spelling_of};
 ghost use Rattle.wire_parts.specs.Sending.{bytes_of};
 ghost use Rattle.mc_types.specs.declared.ask.Dialect.TheVariants.{Meta};
-ghost use Rattle.wire_meta_gets.specs.Usual.{IsUsualTo};
+ghost use Rattle.wire_stream.specs.Usual.{IsUsualTo};
 ghost use Rattle.serve_links.specs.Dialects.{asked_in};
 ghost use Rattle.core_accepted.specs.Results.{IsSettled};
 ghost use Rattle.serve_links.specs.Calls.{IsReadFor, IsReadNext, IsFirstLate, IsReadLate, first_asked, FitsFirst, SettlesFirst, SettlesNext};
@@ -20,11 +20,11 @@ use mc_types::{Ask, Dialect, Op, Outcome, SharedAsk, SpareBodies, is_ask};
 use std::alloc::{AllocError, Global};
 use std::collections::VecDeque;
 use wire_answers::laws::spelled_answers_fit;
-use wire_meta_gets::form::is_retrieval;
-use wire_meta_gets::{
+use wire_parts::to_send::SendBuffer;
+use wire_stream::meta_gets::form::is_retrieval;
+use wire_stream::meta_gets::{
     MetaForms, UsualHit, is_plain_get, read_hit, read_in_meta, usual_hit, write_get, write_in_meta,
 };
-use wire_parts::to_send::SendBuffer;
 use wire_stream::{AnswerRead, Received, read_received};
 
 // A get is bulk of whose answer more bytes than these are expected.

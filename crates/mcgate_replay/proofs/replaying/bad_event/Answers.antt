@@ -1,5 +1,5 @@
 use Rattle.std.proofs.Common.{ℕ, Some, map, sym, ap, ◌∙◌}
-use Rattle.script_text.specs.Script.{either}
+use Rattle.script_events.specs.Told.{either}
 use Rattle.script_events.specs.Bad.{first_bad}
 use Rattle.script_events.specs.Scripted.{scripted_of}
 use Rattle.mcgate_replay.specs.Growing.{excluded_by}

@@ -2,8 +2,8 @@ use Rattle.std.proofs.Common.{◌≡◌, ℕ, ◌+◌, List, length, map, Some, 
 use Rattle.std.specs.Prelude.{option_map}
 use Rattle.route_json.specs.Servers.{Addresses}
 use Rattle.script_events.specs.Scripted.{scripted_of}
-use Rattle.script_text.specs.LinesAfter.{lines_after}
-use Rattle.script_text.specs.Script.{servers_known, told_from, servers_said, bad_event_line, either, bad_line}
+use Rattle.script_events.specs.LinesAfter.{lines_after}
+use Rattle.script_events.specs.Told.{servers_known, told_from, servers_said, bad_event_line, either, bad_line}
 use Rattle.fault_words.specs.declared.script.finding.LinePlace.{LinePlace}
 use Rattle.fault_words.specs.Finding.{IsWrongLine, bytes_said}
 use Rattle.fault_words.specs.Lines.{line_numbered}

@@ -1,5 +1,5 @@
 use Rattle.std.proofs.Common.{◌≡◌, ◌+◌, ◌^◌, ◌<◌, length}
-use Rattle.script_text.specs.LinesAfter.{lines_after}
+use Rattle.script_events.specs.LinesAfter.{lines_after}
 use Rattle.fault_words.specs.Lines.{line_numbered}
 use Rattle.fault_words.proofs.script.lines.line_numbered.Given as goal
 

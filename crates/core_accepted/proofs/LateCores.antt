@@ -1,0 +1,93 @@
+-- The log of a core is a run of one proxy, whose calls servers may apply late.
+use Rattle.std.proofs.Common.{◌≡◌, ℕ, Bool, true, false, cond, if◌then◌else◌, List, [], ◌∷◌, Option, Some, inl, ⊎_elim, refl, sym, ap, ◌∙◌, subst, nat_eq, nat_lt}
+use Rattle.std.proofs.lemmas.Bool.{eqb-true}
+use Rattle.mc_types.specs.declared.ask.Ask.{Ask}
+use Rattle.mc_types.specs.declared.answer.Answer.{Answer}
+use Rattle.fresh_runs.specs.Run.{Call}
+use Rattle.fresh_runs.specs.Cover.{IsCovered}
+use Rattle.fresh_runs.specs.Sharing.{Event, Begins, Calls, Replies, Breaks, Turns, Restarts}
+use Rattle.route_tree.specs.Route.{Route, IsTree}
+use Rattle.route_tree.specs.Each.{Each}
+use Rattle.route_tree.specs.Plan.{Plan}
+use Rattle.route_tree.specs.At.{tree_at}
+use Rattle.route_tree.proofs.Parts.{each_at}
+use Rattle.gate_check.specs.Sound.{AreSound, AreLoaded, trees_of}
+use Rattle.gate_check.proofs.Placing.{sound_is_covered}
+use Rattle.gate_growth.specs.Grown.{AreSoundSince}
+use Rattle.gate_growth.specs.Pages.{is_any}
+use Rattle.gate_growth.proofs.Since.{arbitrary_is_today}
+use Rattle.core_proxy.specs.Claims.{bars_by}
+use Rattle.core_accepted.specs.declared.served.ServedCore.{ServedCore}
+use Rattle.core_accepted.specs.declared.beginnings.Beginnings.{Beginnings}
+use Rattle.core_accepted.specs.Begun.{any_begun}
+use Rattle.core_accepted.specs.Known.{Known, is_arbitrary}
+use Rattle.core_accepted.specs.Logs.{MayBeLoaded, TreesAreSound, IsAccepted}
+use Rattle.core_accepted.proofs.Keeping as keeping
+use Rattle.core_accepted.specs.Pipes.{moments_of}
+use Rattle.core_accepted.specs.Late.{seen}
+use Rattle.core_accepted.specs.Parts.{Own, part}
+use Rattle.core_accepted.specs.Rollout.{words_by}
+use Rattle.core_accepted.specs.LateCores.{only_proxy, only_line, EveryLateLogIsFresh}
+use Rattle.core_accepted.proofs.Parts.{part_laws}
+use Rattle.core_accepted.proofs.FleetsFresh.{one_fresh}
+use Rattle.core_accepted.proofs.Owns.{led_owns}
+
+-- no other proxy does anything
+none_else : (p : ℕ) → nat_eq 0 p ≡ false → (events : List Event) → part only_proxy p events ≡ []
+none_else p other [] = refl
+none_else p other (Begins number ask ∷ past) = ap (λ b. cond b (Begins number ask ∷ part only_proxy p past) (part only_proxy p past)) other ∙ none_else p other past
+none_else p other (Calls number server ask origin end ∷ past) = ap (λ b. cond b (Calls number server ask origin end ∷ part only_proxy p past) (part only_proxy p past)) other ∙ none_else p other past
+none_else p other (Replies number key reply from ∷ past) = ap (λ b. cond b (Replies number key reply from ∷ part only_proxy p past) (part only_proxy p past)) other ∙ none_else p other past
+none_else p other (Breaks number ∷ past) = ap (λ b. cond b (Breaks number ∷ part only_proxy p past) (part only_proxy p past)) other ∙ none_else p other past
+none_else p other (Turns server key turned ∷ past) = none_else p other past
+none_else p other (Restarts server ∷ past) = none_else p other past
+
+one_does : (words : ℕ → Ask → List Call → Answer → Option ℕ → Type 0) (Bars : ℕ → Ask → ℕ → Ask → Type 0) (events : List Event) → Own words Bars (part only_proxy 0 events) → (p : ℕ) (b : Bool) → nat_eq 0 p ≡ b → Own words Bars (part only_proxy p events)
+one_does words Bars events mine p true same = subst (λ q. Own words Bars (part only_proxy q events)) (eqb-true 0 p same) mine
+one_does words Bars events mine p false other = subst (Own words Bars) (sym (none_else p other events)) tt
+
+-- each server may have held anything at first
+any_either : (c : Bool) → is_any (if c then any_begun.opened else any_begun.added) ≡ true
+any_either true = refl
+any_either false = refl
+
+all_arbitrary : (known : Known) → known.begun ≡ any_begun → (s : ℕ) → is_arbitrary known s ≡ true
+all_arbitrary known any s = ap (λ (x : Beginnings). is_any (if nat_lt s known.founders then x.opened else x.added)) any ∙ any_either (nat_lt s known.founders)
+
+since_all : (known : Known) → known.begun ≡ any_begun → AreSoundSince (is_arbitrary known) (trees_of known.configs) → AreSoundSince (λ _. true) (trees_of known.configs)
+since_all known any since i j a b le ga gb place among server taken =
+    ⊎_elim (λ clear. inl clear) (λ other. absurd (no (sym (all_arbitrary known any server) ∙ other.1))) (since i j a b le ga gb place among server taken)
+  where
+    no : true ≡ false → ⊥
+    no e = cc
+
+-- by the trees of a list, where later commands have no earlier one
+covered : (trees : List Route) → Each IsTree trees → AreSound trees → (tree : ℕ → Route) → AreLoaded trees tree → IsCovered (words_by tree)
+covered trees are sound tree loaded =
+    sound_is_covered tree
+    (λ n. each_at IsTree trees (loaded.generation n) (tree n) are (loaded.loaded n))
+    (λ n m lt. sound (loaded.generation n) (loaded.generation m) (tree n) (tree m) (loaded.rising n m lt) (loaded.loaded n) (loaded.loaded m))
+
+module _ (served : ServedCore) (known : Known) (word : served.accepted ≡ Some known) (are : Each IsTree (trees_of known.configs)) (sound : AreSound (trees_of known.configs)) where
+  pub late_logs : EveryLateLogIsFresh served
+  late_logs opening steps core order =
+      let tree = core.led.tree in
+      let at : ℕ → List ℕ → Plan = λ n key. tree_at (tree n) key in
+      let rule = served.core.limits.sharing in
+      let words = words_by tree in
+      let Bars : ℕ → Ask → ℕ → Ask → Type 0 = bars_by rule at in
+      let laws = part_laws words Bars in
+      let loaded : AreLoaded (trees_of known.configs) tree = subst (λ (w : Option Known). MayBeLoaded w tree) word core.led.loaded in
+      let mine : Own words Bars (part only_proxy 0 (seen (moments_of steps))) =
+      laws.changes _ _ core.changes
+      (led_owns served core.believes core.log core.led (λ n. n) tree Bars (λ n. ◌≡◌ {A = ℕ} n n) (λ n is. refl)
+      (λ n m ask client one other b. subst (λ (a : ℕ → List ℕ → Plan). bars_by rule a n ask m client) (sym core.led.plain) b) (λ n ask e. refl)) in
+      let own : (p : ℕ) → Own words Bars (part only_proxy p (seen (moments_of steps))) = λ p. one_does words Bars (seen (moments_of steps)) mine p (nat_eq 0 p) refl in
+      one_fresh words Bars (covered (trees_of known.configs) are sound tree loaded) (keeping.copies rule at) opening steps
+      (laws.steps only_proxy (λ number other ask client b. refl) only_line opening steps (record { parts = record { own = own; rise = core.rise; serves = core.serves }; order = order }))
+
+pub late_core : (served : ServedCore) → TreesAreSound served → IsAccepted served → EveryLateLogIsFresh served
+late_core served sound is =
+    let known = is.0 in
+    let trees = sound known is.1 in
+    late_logs served known is.1 trees.0 ((arbitrary_is_today (trees_of known.configs) trees.0).0 (since_all known is.2 trees.1))

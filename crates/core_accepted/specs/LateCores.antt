@@ -1,0 +1,32 @@
+-- One proxy's core on accepted trees, before servers that apply its calls in their order, however late. Source: mcgate's own.
+use Rattle.std.specs.Prelude.{ℕ, List, Option}
+use Rattle.mc_types.specs.Items.{Item}
+use Rattle.fresh_runs.specs.Overlap.{Entry, run_of}
+use Rattle.core_proxy.specs.CoreState.{dialect}
+use Rattle.core_accepted.specs.declared.served.ServedCore.{ServedCore}
+use Rattle.core_accepted.specs.Logs.{MayHaveLed}
+use Rattle.core_accepted.specs.Late.{Moment, seen, IsFreshBy, WasOver}
+use Rattle.core_accepted.specs.Pipes.{Step, moments_of}
+use Rattle.core_accepted.specs.Parts.{AreChanges, part, NumbersRise, Serves, AreInOrder}
+
+-- all commands are of one proxy, which has one connection to each server
+abbrev pub only_proxy : ℕ → ℕ
+only_proxy number = 0
+
+abbrev pub only_line : ℕ → ℕ → ℕ
+only_line number server = 0
+
+-- a log that may have led to the core, and how it stands in what happened at the servers: it is the same by the order in which they applied its calls, whatever became of those that failed; and servers do as memcached does, and nobody else writes them
+pub record IsCoreOf (served : ServedCore) (opening : ℕ → List ℕ → Option Item) (moments : List Moment) : Type 0 where
+  -- what the log says that servers held at first
+  pub believes : ℕ → List ℕ → Option Item
+  pub log : List (Entry dialect)
+  pub led : MayHaveLed believes log served
+  pub changes : AreChanges (run_of log) (part only_proxy 0 (seen moments))
+  pub rise : NumbersRise (seen moments)
+  pub serves : Serves opening moments
+
+-- where what is sent over a connection is applied in order, however late: a command that begins after a delete of its key was acknowledged shows no item of a store that was over when the delete began
+abbrev pub EveryLateLogIsFresh : ServedCore → Type 0
+EveryLateLogIsFresh served =
+    (opening : ℕ → List ℕ → Option Item) (steps : List Step) → IsCoreOf served opening (moments_of steps) → AreInOrder only_line steps → IsFreshBy opening WasOver (moments_of steps)

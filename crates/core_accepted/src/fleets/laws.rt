@@ -1,0 +1,36 @@
+//! The laws of a fleet of cores, and of one.
+
+ghost use Rattle.core_accepted.specs.Logs.{IsAccepted};
+ghost use Rattle.core_accepted.specs.LateCores.{EveryLateLogIsFresh};
+ghost use Rattle.core_accepted.specs.Cores.{FleetOfCoresIsFresh, LateFleetOfCoresIsFresh, StickyFleetOfCoresIsFresh};
+
+use crate::ServedCore;
+use crate::laws::accepted_trees_are_sound;
+
+/// Any number of cores, on trees that cover one another as far as they may be in use together and copy nothing, before the same
+/// servers, which only they write, and where a store that failed was applied before or never is: whatever they and the servers
+/// do, a command that begins at any of them after a delete of its key was acknowledged at any of them shows no item of a store
+/// that was over when the delete began.
+pub fn fleet_of_cores_is_fresh()
+    ensures { FleetOfCoresIsFresh }
+{}
+
+/// The same, but for stores that had failed over another connection than the delete's, where servers apply what came over a
+/// connection in order, however late.
+pub fn late_fleet_of_cores_is_fresh()
+    ensures { LateFleetOfCoresIsFresh }
+{}
+
+/// The same with regard to all stores, where each key has its connections.
+pub fn sticky_fleet_of_cores_is_fresh()
+    ensures { StickyFleetOfCoresIsFresh }
+{}
+
+/// One core on trees that the gate accepted, whose reads may copy, before servers which only it writes, and which apply what comes over its
+/// connection in order, however late, also what had failed: whatever it and they do, a command that begins after a delete of its key was
+/// acknowledged shows no item of a store that was over when the delete began.
+pub fn late_core_is_fresh(core: &ServedCore)
+    ensures { IsAccepted core.now → EveryLateLogIsFresh core.now }
+{
+    accepted_trees_are_sound(core);
+}

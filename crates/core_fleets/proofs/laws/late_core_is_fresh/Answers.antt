@@ -1,5 +1,0 @@
-use Rattle.core_fleets.proofs.LateCores.{late_core}
-use Rattle.core_fleets.proofs.laws.late_core_is_fresh.Goals as goal
-
-pub returns : goal.returns
-returns c = late_core c.args.core.now c.accepted_trees_are_sound.ensures

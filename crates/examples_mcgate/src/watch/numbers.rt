@@ -1,0 +1,177 @@
+//! Numbers of a proxy, and the texts that tell them.
+
+use std::alloc::{AllocError, Global};
+use std::io;
+use std::test::Fail;
+use watch_admin::families::Family;
+use watch_admin::json::write_json;
+use watch_admin::numbers::{
+    ClientNumbers, CommandNumbers, ConfigNumbers, FailureNumbers, Numbers, ProcessNumbers,
+    ServerNumbers, families_of,
+};
+use watch_admin::prometheus::write_prometheus;
+
+fn metrics() -> &'static str {
+    r#"# HELP mcgate_build_info The version that runs.
+# TYPE mcgate_build_info gauge
+mcgate_build_info{version="1"} 1
+# HELP mcgate_uptime_seconds For how long it has run.
+# TYPE mcgate_uptime_seconds gauge
+mcgate_uptime_seconds 61.005
+# HELP mcgate_cpu_seconds_total Processor time that it used.
+# TYPE mcgate_cpu_seconds_total counter
+mcgate_cpu_seconds_total 0.120
+# HELP mcgate_resident_memory_bytes Memory in use.
+# TYPE mcgate_resident_memory_bytes gauge
+mcgate_resident_memory_bytes 4096
+# HELP mcgate_lost_lines_total Lines that could not be written to its outputs.
+# TYPE mcgate_lost_lines_total counter
+mcgate_lost_lines_total 1
+# HELP mcgate_generation The configuration in use.
+# TYPE mcgate_generation gauge
+mcgate_generation 2
+# HELP mcgate_reloads_total New texts of its file, by what became of them.
+# TYPE mcgate_reloads_total counter
+mcgate_reloads_total{verdict="accepted"} 3
+mcgate_reloads_total{verdict="unchanged"} 4
+mcgate_reloads_total{verdict="refused"} 5
+# HELP mcgate_clients Clients that are there.
+# TYPE mcgate_clients gauge
+mcgate_clients 6
+# HELP mcgate_client_connections_total Clients that came; those refused were too many.
+# TYPE mcgate_client_connections_total counter
+mcgate_client_connections_total{verdict="accepted"} 7
+mcgate_client_connections_total{verdict="refused"} 8
+# HELP mcgate_slow_clients_closed_total Clients that were closed, as they took too little.
+# TYPE mcgate_slow_clients_closed_total counter
+mcgate_slow_clients_closed_total 9
+# HELP mcgate_client_bytes_total Bytes that came from clients, and that there were to send to them.
+# TYPE mcgate_client_bytes_total counter
+mcgate_client_bytes_total{direction="in"} 10
+mcgate_client_bytes_total{direction="out"} 18446744073709551615
+# HELP mcgate_commands_total Commands that have ended, one for each key: with an item in the reply, as an acknowledged delete, or otherwise.
+# TYPE mcgate_commands_total counter
+mcgate_commands_total{op="get",reply="item"} 11
+mcgate_commands_total{op="get",reply="acknowledged"} 12
+mcgate_commands_total{op="get",reply="other"} 13
+# HELP mcgate_server_up 1 where a connection to the server stands.
+# TYPE mcgate_server_up gauge
+mcgate_server_up{server="\"a\\:1?"} 1
+# HELP mcgate_server_connections_total Connections to the server that stood.
+# TYPE mcgate_server_connections_total counter
+mcgate_server_connections_total{server="\"a\\:1?"} 14
+# HELP mcgate_server_calls_out Calls at the server that wait for its answer.
+# TYPE mcgate_server_calls_out gauge
+mcgate_server_calls_out{server="\"a\\:1?"} 15
+# HELP mcgate_server_failures_total Failures of the link to the server, by cause.
+# TYPE mcgate_server_failures_total counter
+mcgate_server_failures_total{server="\"a\\:1?",cause="closed"} 16
+# HELP mcgate_scrapes_total Requests for these numbers that were answered before.
+# TYPE mcgate_scrapes_total counter
+mcgate_scrapes_total 17
+"#
+}
+
+fn stats() -> &'static str {
+    r#"{"mcgate_build_info":[{"version":"1","value":1}],
+"mcgate_uptime_seconds":61.005,
+"mcgate_cpu_seconds_total":0.120,
+"mcgate_resident_memory_bytes":4096,
+"mcgate_lost_lines_total":1,
+"mcgate_generation":2,
+"mcgate_reloads_total":[{"verdict":"accepted","value":3},{"verdict":"unchanged","value":4},{"verdict":"refused","value":5}],
+"mcgate_clients":6,
+"mcgate_client_connections_total":[{"verdict":"accepted","value":7},{"verdict":"refused","value":8}],
+"mcgate_slow_clients_closed_total":9,
+"mcgate_client_bytes_total":[{"direction":"in","value":10},{"direction":"out","value":18446744073709551615}],
+"mcgate_commands_total":[{"op":"get","reply":"item","value":11},{"op":"get","reply":"acknowledged","value":12},{"op":"get","reply":"other","value":13}],
+"mcgate_server_up":[{"server":"\"a\\:1?","value":1}],
+"mcgate_server_connections_total":[{"server":"\"a\\:1?","value":14}],
+"mcgate_server_calls_out":[{"server":"\"a\\:1?","value":15}],
+"mcgate_server_failures_total":[{"server":"\"a\\:1?","cause":"closed","value":16}],
+"mcgate_scrapes_total":17}
+"#
+}
+
+fn process(alloc: Global) -> Result<ProcessNumbers, AllocError> {
+    Ok(ProcessNumbers {
+        version: String::from_str(alloc, "1")?,
+        uptime_ms: 61_005,
+        processor_ms: 120,
+        resident_bytes: 4_096,
+        lost_lines: 1,
+    })
+}
+
+fn commands(alloc: Global) -> Result<Vec<CommandNumbers>, AllocError> {
+    let mut commands = Vec::new(alloc);
+    commands.push(CommandNumbers {
+        op: "get",
+        items: 11,
+        acknowledged: 12,
+        others: 13,
+    })?;
+    Ok(commands)
+}
+
+fn servers(alloc: Global) -> Result<Vec<ServerNumbers>, AllocError> {
+    let mut failures = Vec::new(alloc);
+    failures.push(FailureNumbers {
+        cause: "closed",
+        count: 16,
+    })?;
+    let mut servers = Vec::new(alloc);
+    servers.push(ServerNumbers {
+        text: String::from_str(alloc, "\"a\\:1\n")?,
+        is_up: true,
+        connections: 14,
+        calls_out: 15,
+        failures,
+    })?;
+    Ok(servers)
+}
+
+fn families(alloc: Global) -> Result<Vec<Family>, AllocError> {
+    let numbers = Numbers {
+        process: process(alloc)?,
+        config: ConfigNumbers {
+            generation: 2,
+            accepted: 3,
+            unchanged: 4,
+            refused: 5,
+        },
+        clients: ClientNumbers {
+            connected: 6,
+            accepted: 7,
+            refused: 8,
+            closed_slow: 9,
+            read_bytes: 10,
+            sent_bytes: u64::MAX,
+        },
+        commands: commands(alloc)?,
+        servers: servers(alloc)?,
+        scrapes: 17,
+    };
+    families_of(alloc, &numbers)
+}
+
+fn metrics_of(alloc: Global) -> io::Result<Vec<u8>> {
+    let mut text = Vec::new(alloc);
+    write_prometheus(families(alloc)?.as_slice(), &mut text)?;
+    Ok(text)
+}
+
+fn stats_of(alloc: Global) -> io::Result<Vec<u8>> {
+    let mut text = Vec::new(alloc);
+    write_json(families(alloc)?.as_slice(), &mut text)?;
+    Ok(text)
+}
+
+#[test]
+fn numbers_as_texts(rt: HostRuntime) -> Result<(), Fail> {
+    let text = metrics_of(rt.alloc())?;
+    assert!(rt; text.as_slice() == metrics().as_bytes());
+    let text = stats_of(rt.alloc())?;
+    assert!(rt; text.as_slice() == stats().as_bytes());
+    Ok(())
+}

@@ -1,2 +1,0 @@
-pub mod Residues
-pub mod Repeated

@@ -1,5 +1,0 @@
-use Rattle.route_slots.proofs.Residues.{ApartBelow}
-use Rattle.route_slots.proofs.earlier.has_residue.Given as goal
-
-abbrev pub invariant-loop-at : goal.invariant-loop-at
-invariant-loop-at l = ApartBelow l.slots l.server l.slot l.modulus l.at

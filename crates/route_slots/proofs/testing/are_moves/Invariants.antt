@@ -1,7 +1,0 @@
-use Rattle.std.proofs.Common.{ℕ, ◌<◌, length, map}
-use Rattle.route_slots.specs.Slots.{MayBecome}
-use Rattle.route_slots.proofs.Residues.{AtSlot}
-use Rattle.route_slots.proofs.testing.are_moves.Given as goal
-
-abbrev pub invariant-loop-slot : goal.invariant-loop-slot
-invariant-loop-slot l = (q : ℕ) → q < l.slot → AtSlot l.old l.new (MayBecome l.change l.others (map (λ v. v.items) l.earlier) (length l.old)) q

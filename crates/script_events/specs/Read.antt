@@ -1,0 +1,22 @@
+-- What the reader's own types stand for.
+use Rattle.std.specs.Prelude.{◌≡◌, ℕ, List, map}
+use Rattle.route_json.specs.Servers.{Addresses}
+use Rattle.script_events.specs.Scripted.{scripted_of}
+use Rattle.script_events.specs.Told.{Meaning, Nothing, Unreadable, Says, Loads, Numbered, numbered, first_unreadable, loaded}
+use Rattle.script_events.specs.declared.text.meaning.Meaning as read
+use Rattle.script_events.specs.declared.text.meaning.Meaning.TheVariants as m
+use Rattle.script_events.specs.declared.text.meaning.Reading.{Reading}
+
+-- what a line was read as
+abbrev pub meaning_of : read.Meaning → Meaning
+meaning_of m.Nothing = Nothing
+meaning_of (m.Says event) = Says (scripted_of event)
+meaning_of m.Unreadable = Unreadable
+meaning_of (m.Loads config) = Loads config
+
+-- what was read of lines over the servers known, of which the first has this number
+pub record ReadsLines (used : Addresses) (first : ℕ) (lines : List (List ℕ)) (r : Reading) : Type 0 where
+  pub events : map scripted_of r.events.items ≡ map (λ (x : Numbered). x.event) (numbered used first lines)
+  pub numbers : r.lines.items ≡ map (λ (x : Numbered). x.line) (numbered used first lines)
+  pub reloads : r.reloads.items ≡ loaded used 0 lines
+  pub unreadable : r.unreadable ≡ first_unreadable used first lines

@@ -1,5 +1,0 @@
-use Rattle.script_text.proofs.ReadBack.{escapes_are_read_back}
-use Rattle.script_text.proofs.laws.escapes_are_read_back.Goals as goal
-
-pub returns : goal.returns
-returns c = escapes_are_read_back

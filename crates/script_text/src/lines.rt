@@ -1,6 +1,0 @@
-//! Scripts as lines of text: what is written here is read by `script_text`.
-
-pub mod laws;
-pub mod writing;
-
-pub use writing::write_script;

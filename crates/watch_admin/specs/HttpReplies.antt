@@ -1,0 +1,65 @@
+-- The bytes of answers. Source: RFC 9110, sections 8, 10.2.1 and 15, and RFC 9112, section 4; Prometheus' media type.
+use Rattle.std.specs.Prelude.{◌≡◌, ℕ, ◌⊎◌, List, [], ◌++◌, length, codes, decimal}
+use Rattle.watch_admin.specs.declared.http.request.Page.{Page}
+use Rattle.watch_admin.specs.declared.http.request.Page.TheVariants.{Metrics, Stats}
+use Rattle.watch_admin.specs.declared.http.request.Refusal.{Refusal}
+use Rattle.watch_admin.specs.declared.http.request.Refusal.TheVariants.{Bad, NotFound, NotAllowed, TooLarge}
+use Rattle.watch_admin.specs.declared.http.request.Asked.TheVariants.{For, Refused}
+use Rattle.watch_admin.specs.HttpRequests.{Asks}
+
+abbrev pub kind_of : Page → List ℕ
+kind_of Metrics = codes "text/plain; version=0.0.4; charset=utf-8"
+kind_of Stats = codes "application/json"
+
+abbrev pub words_of : Refusal → List ℕ
+words_of Bad = codes "400 Bad Request"
+words_of NotFound = codes "404 Not Found"
+words_of NotAllowed = codes "405 Method Not Allowed"
+words_of TooLarge = codes "431 Request Header Fields Too Large"
+
+-- only a refused method has a field of its own: which one is allowed
+abbrev pub field_of : Refusal → List ℕ
+field_of Bad = []
+field_of NotFound = []
+field_of NotAllowed = codes "Allow: GET\r\n"
+field_of TooLarge = []
+
+unfoldable pub status_line : List ℕ → List ℕ
+status_line words = codes "HTTP/1.1 " ++ words ++ codes "\r\n"
+
+unfoldable pub kind_line : List ℕ → List ℕ
+kind_line kind = codes "Content-Type: " ++ kind ++ codes "\r\n"
+
+unfoldable pub length_line : ℕ → List ℕ
+length_line count = codes "Content-Length: " ++ decimal count ++ codes "\r\n"
+
+-- the connection is closed after the answer; and the end of the head
+unfoldable pub close_lines : List ℕ
+close_lines = codes "Connection: close\r\n\r\n"
+
+unfoldable pub front_text : List ℕ → List ℕ → List ℕ → List ℕ
+front_text words fields kind = status_line words ++ fields ++ kind_line kind
+
+unfoldable pub body_text : List ℕ → List ℕ
+body_text body = length_line (length body) ++ close_lines ++ body
+
+-- an answer of this status, with its fields, and a body of this kind
+unfoldable pub answer_text : List ℕ → List ℕ → List ℕ → List ℕ → List ℕ
+answer_text words fields kind body = front_text words fields kind ++ body_text body
+
+abbrev pub page_text : Page → List ℕ → List ℕ
+page_text page body = answer_text (codes "200 OK") [] (kind_of page) body
+
+-- the body is the status
+abbrev pub refusal_text : Refusal → List ℕ
+refusal_text refusal = answer_text (words_of refusal) (field_of refusal) (codes "text/plain") (words_of refusal)
+
+abbrev pub PageAnswers : List ℕ → List ℕ → Type 0
+PageAnswers came answer = (page : Page) × (body : List ℕ) × Asks came (For page) × (answer ≡ page_text page body)
+
+abbrev pub RefusalAnswers : List ℕ → List ℕ → Type 0
+RefusalAnswers came answer = (refusal : Refusal) × Asks came (Refused refusal) × (answer ≡ refusal_text refusal)
+
+-- to these bytes of a client this answers: the page that they ask for, with some body, or why there is none
+abbrev pub Answers : List ℕ → List ℕ → Type 0
+Answers came answer = PageAnswers came answer ⊎ RefusalAnswers came answer

@@ -1,0 +1,10 @@
+pub mod Quoted
+pub mod Families
+pub mod Prometheus
+pub mod Json
+pub mod HttpRequests
+pub mod HttpReplies
+pub mod HttpExchanges
+pub mod ControlRequests
+pub mod ControlAnswers
+pub mod ControlExchanges

@@ -1,0 +1,57 @@
+-- Families in Prometheus' text format, version 0.0.4. Source: that format.
+use Rattle.std.specs.Prelude.{ℕ, List, [], ◌∷◌, ◌++◌, codes, flat_map, string_bytes}
+use Rattle.watch_admin.specs.declared.families.Amount.{Amount}
+use Rattle.watch_admin.specs.declared.families.Label.{Label}
+use Rattle.watch_admin.specs.declared.families.Sample.{Sample}
+use Rattle.watch_admin.specs.declared.families.Samples.{Samples}
+use Rattle.watch_admin.specs.declared.families.Samples.TheVariants.{One, Each}
+use Rattle.watch_admin.specs.declared.families.Family.{Family}
+use Rattle.watch_admin.specs.Families.{amount_text, kind_text}
+use Rattle.watch_admin.specs.Quoted.{quoted}
+
+-- NAME="VALUE"
+abbrev pub label_text : Label → List ℕ
+label_text label = label.name.now ++ codes "=" ++ quoted (string_bytes label.value)
+
+abbrev pub next_label_text : Label → List ℕ
+next_label_text label = codes "," ++ label_text label
+
+-- labels with a comma between two
+abbrev pub labels_text : List Label → List ℕ
+labels_text [] = []
+labels_text (label ∷ labels) = label_text label ++ flat_map next_label_text labels
+
+abbrev pub front_text : List ℕ → List ℕ
+front_text name = name ++ codes "{"
+
+abbrev pub end_text : Amount → List ℕ
+end_text amount = codes "} " ++ amount_text amount ++ codes "\n"
+
+-- NAME{LABELS} AMOUNT
+abbrev pub sample_text : List ℕ → Sample → List ℕ
+sample_text name sample = front_text name ++ labels_text sample.labels.items ++ end_text sample.amount
+
+abbrev pub each_text : List ℕ → List Sample → List ℕ
+each_text name samples = flat_map (sample_text name) samples
+
+-- NAME AMOUNT
+abbrev pub one_text : List ℕ → Amount → List ℕ
+one_text name amount = name ++ codes " " ++ amount_text amount ++ codes "\n"
+
+abbrev pub samples_text : List ℕ → Samples → List ℕ
+samples_text name (One amount) = one_text name amount
+samples_text name (Each samples) = each_text name samples.items
+
+-- # HELP NAME HELP
+abbrev pub help_text : Family → List ℕ
+help_text family = codes "# HELP " ++ family.name.now ++ codes " " ++ family.help.now ++ codes "\n"
+
+-- # TYPE NAME KIND
+abbrev pub type_text : Family → List ℕ
+type_text family = codes "# TYPE " ++ family.name.now ++ codes " " ++ kind_text family.kind ++ codes "\n"
+
+abbrev pub family_text : Family → List ℕ
+family_text family = help_text family ++ type_text family ++ samples_text family.name.now family.samples
+
+abbrev pub families_text : List Family → List ℕ
+families_text families = flat_map family_text families

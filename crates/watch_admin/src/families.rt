@@ -1,0 +1,91 @@
+//! Families of numbers.
+
+ghost use Rattle.std.specs.Prelude.{Some};
+ghost use Rattle.watch_admin.specs.Families.{amount_text, kind_text};
+
+use std::fmt;
+use std::fmt::Display;
+
+/// A number.
+#[derive(Clone, Copy, PartialEq, Eq)]
+pub enum Amount {
+    /// So many of what the family counts.
+    Count(u64),
+    /// So many milliseconds, told in seconds.
+    Millis(u64),
+}
+
+/// What becomes of a number.
+#[derive(Clone, Copy, PartialEq, Eq)]
+pub enum Kind {
+    /// It grows while the program runs.
+    Counter,
+    /// It goes up and down.
+    Gauge,
+}
+
+/// What tells a number from others of its family.
+#[derive(Drop)]
+pub struct Label {
+    /// Letters and `_`.
+    pub name: &'static str,
+    pub value: String,
+}
+
+/// A number that has labels.
+#[derive(Drop)]
+pub struct Sample {
+    /// One or more.
+    pub labels: Vec<Label>,
+    pub amount: Amount,
+}
+
+/// The numbers of a family.
+#[derive(Drop)]
+pub enum Samples {
+    /// The only one, without a label.
+    One(Amount),
+    /// Those that have labels, which are of the same names.
+    Each(Vec<Sample>),
+}
+
+/// Numbers that tell of one thing.
+#[derive(Drop)]
+pub struct Family {
+    /// Letters and `_`.
+    pub name: &'static str,
+    pub kind: Kind,
+    /// What they tell, in a line without a backslash.
+    pub help: &'static str,
+    pub samples: Samples,
+}
+
+/// The digits of a number; milliseconds are told in seconds, to the third place after the point.
+impl Display for Amount {
+    ghost output = { λ a. Some (amount_text a) };
+
+    fn fmt<W: fmt::Write>(&self, f: &mut fmt::Formatter<W>) -> fmt::Result {
+        match *self {
+            Amount::Count(count) => write!(f, "{count}"),
+            Amount::Millis(millis) => {
+                let seconds = millis / 1000;
+                let tenths = millis / 100 % 10;
+                let hundredths = millis / 10 % 10;
+                let thousandths = millis % 10;
+                write!(f, "{seconds}.{tenths}{hundredths}{thousandths}")
+            }
+        }
+    }
+}
+
+/// `counter` or `gauge`.
+impl Display for Kind {
+    ghost output = { λ k. Some (kind_text k) };
+
+    fn fmt<W: fmt::Write>(&self, f: &mut fmt::Formatter<W>) -> fmt::Result {
+        match *self {
+            Kind::Counter => f.write_str("counter"),
+            Kind::Gauge => f.write_str("gauge"),
+        }
+    }
+}

@@ -1,0 +1,142 @@
+//! A client's request and its answer.
+
+ghost use Rattle.std.specs.Prelude.{◌≡◌, ◌≤◌, ◌+◌, [], ◌++◌, IfOk, length, drop};
+ghost use Rattle.watch_admin.specs.declared.http.request.Asked.TheVariants.{Unfinished, For, Refused};
+ghost use Rattle.watch_admin.specs.HttpRequests.{Asks};
+ghost use Rattle.watch_admin.specs.HttpReplies.{page_text, Answers};
+
+use crate::http::answers::{write_page, write_refusal};
+use crate::http::request::{Asked, MOST_BYTES, Page, Refusal, what_is_asked};
+use std::alloc::Global;
+use std::io;
+
+/// A client that has sent no whole request.
+#[derive(Drop)]
+pub struct Asking {
+    came: Vec<u8>,
+    ghost asks: { ∥ Asks came.items Unfinished ∥₁ },
+}
+
+/// A client that waits for a page.
+#[derive(Drop)]
+pub struct Waiting {
+    came: Vec<u8>,
+    pub page: Page,
+    ghost asks: { ∥ Asks came.items (For page) ∥₁ },
+}
+
+/// A client that is sent an answer.
+#[derive(Drop)]
+pub struct Answering {
+    came: Vec<u8>,
+    answer: Vec<u8>,
+    sent: usize,
+    ghost answers: { ∥ Answers came.items answer.items ∥₁ },
+    ghost within: { sent ≤ length answer.items },
+}
+
+/// Where a client stands.
+#[derive(Drop)]
+pub enum Exchange {
+    Asking(Asking),
+    Waiting(Waiting),
+    Answering(Answering),
+    /// All was sent to it. What it sends is dropped, until it closes.
+    Lingering,
+}
+
+impl Exchange {
+    ghost use Rattle.watch_admin.specs.HttpExchanges.{Holds};
+
+    // Bytes that ask for no page are answered at once.
+    fn refused(alloc: Global, came: Vec<u8>, refusal: Refusal) -> io::Result<Exchange>
+        requires { Asks came.items (Refused refusal) }
+        ensures { IfOk result (λ exchange. Holds exchange came.items) }
+    {
+        let mut answer = Vec::new(alloc);
+        write_refusal(refusal, &mut answer)?;
+        Ok(Exchange::Answering(Answering {
+            came,
+            answer,
+            sent: 0,
+        }))
+    }
+
+    // Where a client stands whose bytes ask for this.
+    fn of(alloc: Global, came: Vec<u8>, asked: Asked) -> io::Result<Exchange>
+        requires { Asks came.items asked }
+        ensures { IfOk result (λ exchange. Holds exchange came.items) }
+    {
+        match asked {
+            Asked::Unfinished => Ok(Exchange::Asking(Asking { came })),
+            Asked::For(page) => Ok(Exchange::Waiting(Waiting { came, page })),
+            Asked::Refused(refusal) => Exchange::refused(alloc, came, refusal),
+        }
+    }
+}
+
+impl Asking {
+    ghost use Rattle.watch_admin.specs.HttpExchanges.{Holds};
+
+    /// A client that has sent nothing.
+    pub fn new(alloc: Global) -> Asking
+        ensures { result.came.items ≡ [] }
+    {
+        Asking {
+            came: Vec::new(alloc),
+        }
+    }
+
+    /// So many bytes of it may be taken.
+    pub fn room(&self) -> usize
+        ensures { length self.now.came.items + result ≡ MOST_BYTES }
+    {
+        MOST_BYTES - self.came.len()
+    }
+
+    /// These bytes came of it. The only error is that memory was refused.
+    pub fn take(self, alloc: Global, bytes: &[u8]) -> io::Result<Exchange>
+        requires { length self.came.items + length bytes.now ≤ MOST_BYTES }
+        ensures { IfOk result (λ exchange. Holds exchange (self.came.items ++ bytes.now)) }
+    {
+        let mut came = self.came;
+        came.extend_from_slice(bytes)?;
+        let asked = what_is_asked(came.as_slice());
+        Exchange::of(alloc, came, asked)
+    }
+}
+
+impl Waiting {
+    /// It is answered by this body of its page. The only error is that memory was refused.
+    pub fn answer(self, alloc: Global, body: &[u8]) -> io::Result<Answering>
+        ensures came { IfOk result (λ answering. answering.came ≡ self.came) }
+        ensures answer { IfOk result (λ answering. answering.answer.items ≡ page_text self.page body.now) }
+        ensures sent { IfOk result (λ answering. answering.sent ≡ 0) }
+    {
+        let mut answer = Vec::new(alloc);
+        write_page(self.page, body, &mut answer)?;
+        Ok(Answering {
+            came: self.came,
+            answer,
+            sent: 0,
+        })
+    }
+}
+
+impl Answering {
+    /// What is left to send to it.
+    pub fn rest(&self) -> &[u8]
+        ensures { result.now ≡ drop self.now.sent self.now.answer.items }
+    {
+        &self.answer[self.sent..]
+    }
+
+    /// It took so many bytes of that.
+    pub fn advance(&mut self, count: usize)
+        requires { count ≤ length (drop self.old.sent self.old.answer.items) }
+        ensures sent { self.new.sent ≡ self.old.sent + count }
+        ensures answer { self.new.answer ≡ self.old.answer }
+    {
+        self.sent += count;
+    }
+}

@@ -1,0 +1,94 @@
+//! What a request asks for.
+
+ghost use Rattle.std.specs.Prelude.{codes};
+ghost use Rattle.httparse.specs.Grammar.{HasNoRequest};
+ghost use Rattle.watch_admin.specs.HttpRequests.{Asks, AsksBy};
+
+use httparse::spans::{EMPTY_HEADER_SPAN, parse_request};
+use httparse::{Error, Status};
+
+/// A page that there is.
+#[derive(Clone, Copy, PartialEq, Eq)]
+pub enum Page {
+    /// `/metrics`: the numbers in Prometheus' text format.
+    Metrics,
+    /// `/stats.json`: the same in JSON.
+    Stats,
+}
+
+/// Why a request is answered by no page.
+#[derive(Clone, Copy, PartialEq, Eq)]
+pub enum Refusal {
+    /// It is none.
+    Bad,
+    /// There is no such page.
+    NotFound,
+    /// Its method isn't GET.
+    NotAllowed,
+    /// Its head is too long, or has too many fields.
+    TooLarge,
+}
+
+/// What the bytes of a client ask for.
+#[derive(Clone, Copy, PartialEq, Eq)]
+pub enum Asked {
+    /// More bytes may make them a request.
+    Unfinished,
+    For(Page),
+    Refused(Refusal),
+}
+
+/// A request's head has fewer bytes.
+pub const MOST_BYTES: usize = 8_192;
+
+/// A request has no more fields.
+pub const MOST_FIELDS: usize = 64;
+
+// What a GET of this path asks for.
+fn page_at(path: &[u8]) -> Asked
+    ensures { AsksBy (codes "GET") path.now result }
+{
+    if path == b"/metrics".as_slice() {
+        Asked::For(Page::Metrics)
+    } else if path == b"/stats.json".as_slice() {
+        Asked::For(Page::Stats)
+    } else {
+        Asked::Refused(Refusal::NotFound)
+    }
+}
+
+// What a request of this method and path asks for.
+fn asked_by(method: &[u8], path: &[u8]) -> Asked
+    ensures { AsksBy method.now path.now result }
+{
+    if method == b"GET".as_slice() {
+        page_at(path)
+    } else {
+        Asked::Refused(Refusal::NotAllowed)
+    }
+}
+
+// What bytes ask for that are no request so far.
+fn unfinished(bytes: &[u8]) -> Asked
+    requires { HasNoRequest bytes.now }
+    ensures { Asks bytes.now result }
+{
+    if bytes.len() < MOST_BYTES {
+        Asked::Unfinished
+    } else {
+        Asked::Refused(Refusal::TooLarge)
+    }
+}
+
+/// What the bytes that a client has sent so far ask for.
+pub fn what_is_asked(bytes: &[u8]) -> Asked
+    ensures { Asks bytes.now result }
+{
+    let mut headers = [EMPTY_HEADER_SPAN; MOST_FIELDS];
+    match parse_request(bytes, &mut headers) {
+        Ok(Status::Complete(head)) => asked_by(head.method.of(bytes), head.path.of(bytes)),
+        Ok(Status::Partial) => unfinished(bytes),
+        Err(Error::TooManyHeaders) => Asked::Refused(Refusal::TooLarge),
+        Err(_) => Asked::Refused(Refusal::Bad),
+    }
+}

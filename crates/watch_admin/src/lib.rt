@@ -1,0 +1,12 @@
+//! What a running proxy tells of itself, families of numbers in Prometheus' text format and in JSON, which it answers over
+//! HTTP ([`http`]); and what it is told on its control socket ([`control`]).
+#![tactic(auto)]
+
+pub mod control;
+pub mod families;
+pub mod http;
+pub mod json;
+pub mod numbers;
+pub mod prometheus;
+pub mod quoted;
+pub mod times;

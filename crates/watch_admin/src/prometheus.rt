@@ -1,0 +1,110 @@
+//! Families in Prometheus' text format.
+
+ghost use Rattle.std.specs.Prelude.{OnOk};
+ghost use Rattle.std.specs.Io.KnownBytes.{Appends};
+ghost use Rattle.watch_admin.specs.Prometheus.{label_text, labels_text, front_text, end_text, sample_text, each_text, one_text, samples_text, help_text, type_text, family_text, families_text};
+
+use crate::families::{Amount, Family, Label, Sample, Samples};
+use crate::quoted::Quoted;
+use std::io;
+use std::io::Write;
+
+// Writes `NAME="VALUE"`.
+fn write_label<W: Write>(label: &Label, out: &mut W) -> io::Result<()>
+    ensures { OnOk result (Appends (W.contents out.old) (W.contents out.new) (label_text label.now)) }
+{
+    let value = Quoted(label.value.as_str());
+    write!(out, "{}={value}", label.name)
+}
+
+// Writes `NAME="VALUE",NAME="VALUE"`.
+fn write_labels<W: Write>(labels: &[Label], out: &mut W) -> io::Result<()>
+    ensures { OnOk result (Appends (W.contents out.old) (W.contents out.new) (labels_text labels.now)) }
+{
+    let Some((first, rest)) = labels.split_first() else {
+        return Ok(());
+    };
+    write_label(first, out)?;
+    for label in rest {
+        write!(out, ",")?;
+        write_label(label, out)?;
+    }
+    Ok(())
+}
+
+fn write_front<W: Write>(name: &str, out: &mut W) -> io::Result<()>
+    ensures { OnOk result (Appends (W.contents out.old) (W.contents out.new) (front_text name.now)) }
+{
+    write!(out, "{name}{{")
+}
+
+fn write_amount<W: Write>(amount: Amount, out: &mut W) -> io::Result<()>
+    ensures { OnOk result (Appends (W.contents out.old) (W.contents out.new) (end_text amount)) }
+{
+    writeln!(out, "}} {amount}")
+}
+
+// Writes `NAME{LABELS} AMOUNT`.
+fn write_sample<W: Write>(name: &str, sample: &Sample, out: &mut W) -> io::Result<()>
+    ensures { OnOk result (Appends (W.contents out.old) (W.contents out.new) (sample_text name.now sample.now)) }
+{
+    write_front(name, out)?;
+    write_labels(sample.labels.as_slice(), out)?;
+    write_amount(sample.amount, out)
+}
+
+fn write_each<W: Write>(name: &str, samples: &[Sample], out: &mut W) -> io::Result<()>
+    ensures { OnOk result (Appends (W.contents out.old) (W.contents out.new) (each_text name.now samples.now)) }
+{
+    for sample in samples {
+        write_sample(name, sample, out)?;
+    }
+    Ok(())
+}
+
+fn write_one<W: Write>(name: &str, amount: Amount, out: &mut W) -> io::Result<()>
+    ensures { OnOk result (Appends (W.contents out.old) (W.contents out.new) (one_text name.now amount)) }
+{
+    writeln!(out, "{name} {amount}")
+}
+
+fn write_samples<W: Write>(name: &str, samples: &Samples, out: &mut W) -> io::Result<()>
+    ensures { OnOk result (Appends (W.contents out.old) (W.contents out.new) (samples_text name.now samples.now)) }
+{
+    match samples {
+        Samples::One(amount) => write_one(name, *amount, out),
+        Samples::Each(samples) => write_each(name, samples.as_slice(), out),
+    }
+}
+
+// Writes the line of what a family tells.
+fn write_help<W: Write>(family: &Family, out: &mut W) -> io::Result<()>
+    ensures { OnOk result (Appends (W.contents out.old) (W.contents out.new) (help_text family.now)) }
+{
+    writeln!(out, "# HELP {} {}", family.name, family.help)
+}
+
+// Writes the line of its kind.
+fn write_kind<W: Write>(family: &Family, out: &mut W) -> io::Result<()>
+    ensures { OnOk result (Appends (W.contents out.old) (W.contents out.new) (type_text family.now)) }
+{
+    writeln!(out, "# TYPE {} {}", family.name, family.kind)
+}
+
+fn write_family<W: Write>(family: &Family, out: &mut W) -> io::Result<()>
+    ensures { OnOk result (Appends (W.contents out.old) (W.contents out.new) (family_text family.now)) }
+{
+    write_help(family, out)?;
+    write_kind(family, out)?;
+    write_samples(family.name, &family.samples, out)
+}
+
+/// Writes families in Prometheus' text format, version 0.0.4: of each its help, its type, and a line for each number.
+pub fn write_prometheus<W: Write>(families: &[Family], out: &mut W) -> io::Result<()>
+    ensures { OnOk result (Appends (W.contents out.old) (W.contents out.new) (families_text families.now)) }
+{
+    for family in families {
+        write_family(family, out)?;
+    }
+    Ok(())
+}

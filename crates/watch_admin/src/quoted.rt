@@ -1,0 +1,56 @@
+//! A text within quotation marks.
+
+ghost use Rattle.std.specs.Prelude.{◌++◌, Some, codes};
+ghost use Rattle.watch_admin.specs.Quoted.{quoted_byte, quoted_bytes, quoted};
+
+use std::fmt;
+use std::fmt::Display;
+
+#[derive(Drop)]
+struct QuotedByte(u8);
+
+impl Display for QuotedByte {
+    ghost output = { λ b. Some (quoted_byte b.0) };
+
+    fn fmt<W: fmt::Write>(&self, f: &mut fmt::Formatter<W>) -> fmt::Result {
+        let byte = self.0;
+        if byte == 34 {
+            f.write_str("\\\"")
+        } else if byte == 92 {
+            f.write_str("\\\\")
+        } else if 31 < byte && byte < 127 {
+            f.write_char(byte as char)
+        } else {
+            f.write_str("?")
+        }
+    }
+}
+
+#[derive(Drop)]
+struct QuotedBytes<'a>(&'a [u8]);
+
+impl Display for QuotedBytes<'_> {
+    ghost output = { λ t. Some (quoted_bytes t.0.now) };
+
+    fn fmt<W: fmt::Write>(&self, f: &mut fmt::Formatter<W>) -> fmt::Result {
+        for byte in self.0 {
+            QuotedByte(*byte).fmt(f)?;
+        }
+        Ok(())
+    }
+}
+
+/// A text within quotation marks, which JSON and Prometheus' text format read alike: a quotation mark and a backslash have a backslash
+/// before them, and a byte that isn't in 32..=126 is a `?`. No text of a server has such bytes.
+#[derive(Drop)]
+pub struct Quoted<'a>(pub &'a str);
+
+impl Display for Quoted<'_> {
+    ghost output = { λ t. Some (quoted t.0.now) };
+
+    fn fmt<W: fmt::Write>(&self, f: &mut fmt::Formatter<W>) -> fmt::Result {
+        f.write_str("\"")?;
+        QuotedBytes(self.0.as_bytes()).fmt(f)?;
+        f.write_str("\"")
+    }
+}

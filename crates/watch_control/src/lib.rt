@@ -1,8 +1,0 @@
-//! How a running proxy is told things: what a line on its control socket asks for, the bytes that answer it, and those who ask.
-#![tactic(auto)]
-
-pub mod answers;
-pub mod callers;
-pub mod exchange;
-pub mod paths;
-pub mod requests;

@@ -1,5 +1,0 @@
-use Rattle.watch_http.proofs.Kept.{none_came}
-use Rattle.watch_http.proofs.exchange.Asking.new.Goals as goal
-
-pub invariant_of-result : goal.invariant_of-result
-invariant_of-result c = record { asks = none_came c.new.result.items c.new.ensures.items }

@@ -1,9 +1,0 @@
-use Rattle.std.proofs.Common.{arith}
-use Rattle.watch_http.proofs.Kept.{page_answers}
-use Rattle.watch_http.proofs.exchange.Waiting.answer.Goals as goal
-
-pub invariant_of-result : goal.invariant_of-result
-invariant_of-result c = record {
-  answers = page_answers c.args.self.came.items c.new-answer.result.items c.write_page.new.out.items c.args.body.now c.args.self.page c.args.self.asks c.new-answer.ensures.items c.in_ok-write_page.ensures;
-  within = omega arith;
-}

@@ -1,4 +1,0 @@
-pub mod Quoted
-pub mod Families
-pub mod Prometheus
-pub mod Json

@@ -1,4 +1,0 @@
-pub mod Forms
-pub mod Answers
-pub mod Lines
-pub mod Hits
