@@ -30,7 +30,7 @@ use Rattle.serve_links.specs.Settled.{SettlesSome}
 use Rattle.serve_links.specs.Talks.{SaidAsk, Talk, Apart, Ending, left_by, first_talk, with_ask, greeted, given_up, talk_in, AreDue, AreCalled, IsOrderly, IsOfServer}
 use Rattle.serve_links.specs.Called.{TellsCalls}
 use Rattle.serve_links.proofs.Called.{walks_tell_calls}
-use Rattle.serve_links.specs.Story.{said_asks, said_late, MayGo, MayAllGo, TalkAgrees, Unused, ConnAgrees, LineAgrees, LineLost, LineFails, ShowsWhy, WasShown, AreShown, LineCalled, LineState, line_of, KeepsOthers, LeavesCalls, LineGoesFrom, LineGoes, AnEnd, Agrees}
+use Rattle.serve_links.specs.Story.{said_asks, said_late, MayGo, MayAllGo, TalkAgrees, Unused, ConnAgrees, LineAgrees, LineLost, LineFails, ShowsWhy, WasShown, AreShown, LineCalled, LineState, line_of, KeepsOthers, LeavesCalls, LineGoesFrom, LineGoes}
 use Rattle.serve_links.proofs.Talking.{calls_later, one_more, IsPlain, plain_talk, AreOut, sent_out, waiting_out, FailsInOrder, fail_in_order}
 use Rattle.serve_links.proofs.Due.{due_stays, called_stays, leaves_twice, due_last, called_last, due_behind, due_taken, SentGone, sent_gone, waiting_gone, AskedOne, asked_one}
 use Rattle.serve_links.proofs.Walked.{walked, of_both}
