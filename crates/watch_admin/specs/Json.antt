@@ -31,10 +31,14 @@ each_json (sample ∷ samples) = sample_json sample ++ flat_map next_sample_json
 abbrev pub array_json : List Sample → List ℕ
 array_json samples = codes "[" ++ each_json samples ++ codes "]"
 
+-- FRONT"NAME":[..]
+abbrev pub part_json : List ℕ → List ℕ → List Sample → List ℕ
+part_json front name samples = front ++ quoted name ++ codes ":" ++ array_json samples
+
 -- {"buckets":[..],"sums":[..],"counts":[..]}
 abbrev pub spread_json : Spread → List ℕ
 spread_json spread =
-    codes "{\"buckets\":" ++ array_json spread.buckets.items ++ codes ",\"sums\":" ++ array_json spread.sums.items ++ codes ",\"counts\":" ++ array_json spread.counts.items ++ codes "}"
+    part_json (codes "{") (codes "buckets") spread.buckets.items ++ part_json (codes ",") (codes "sums") spread.sums.items ++ part_json (codes ",") (codes "counts") spread.counts.items ++ codes "}"
 
 abbrev pub samples_json : Samples → List ℕ
 samples_json (One amount) = amount_text amount
