@@ -31,14 +31,18 @@ each_json (sample ∷ samples) = sample_json sample ++ flat_map next_sample_json
 abbrev pub array_json : List Sample → List ℕ
 array_json samples = codes "[" ++ each_json samples ++ codes "]"
 
--- FRONT"NAME":[..]
-abbrev pub part_json : List ℕ → List ℕ → List Sample → List ℕ
-part_json front name samples = front ++ quoted name ++ codes ":" ++ array_json samples
+unfoldable pub buckets_json : Spread → List ℕ
+buckets_json spread = codes "{\"le\":" ++ array_json spread.buckets.items
 
--- {"buckets":[..],"sums":[..],"counts":[..]}
+unfoldable pub sums_json : Spread → List ℕ
+sums_json spread = codes ",\"sum\":" ++ array_json spread.sums.items
+
+unfoldable pub counts_json : Spread → List ℕ
+counts_json spread = codes ",\"n\":" ++ array_json spread.counts.items ++ codes "}"
+
+-- {"le":[..],"sum":[..],"n":[..]}
 abbrev pub spread_json : Spread → List ℕ
-spread_json spread =
-    part_json (codes "{") (codes "buckets") spread.buckets.items ++ part_json (codes ",") (codes "sums") spread.sums.items ++ part_json (codes ",") (codes "counts") spread.counts.items ++ codes "}"
+spread_json spread = buckets_json spread ++ sums_json spread ++ counts_json spread
 
 abbrev pub samples_json : Samples → List ℕ
 samples_json (One amount) = amount_text amount
