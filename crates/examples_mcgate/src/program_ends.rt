@@ -76,6 +76,7 @@ mcgate cache --capacity 4294967295 --turns 7 --listen a:1 => cache 4294967295 tu
 mcgate cache --listen a:1 --capacity 5 --memory-mb 6 => cache 5 memory-mb 6
 mcgate loopback => loopback of standard input
 mcgate loopback f => loopback of f
+mcgate loopback --flush-all f => emptied loopback of f
 mcgate serve --listen a:1 --config c => serve - fail-limit 3 auto
 mcgate serve --any --listen a:1 --config c --reload-every 4 --reload-ms 5 --fail-limit 6 => serve any reload-every 4 reload-ms 5 fail-limit 6 auto
 mcgate serve --listen a:1 --config c --history h => serve - after h fail-limit 3 auto
@@ -315,7 +316,10 @@ fn push_job(out: &mut String, job: &Job<'_>) -> Result<(), AllocError> {
         }
         Job::Where { file, keys } => write!(out, "where {} in {file}", keys.len())?,
         Job::Certify { file } => write!(out, "certify of {}", file_word(file))?,
-        Job::Loopback { file } => write!(out, "loopback of {}", file_word(file))?,
+        Job::Loopback { file, flushes_new } => {
+            let emptied = if *flushes_new { "emptied " } else { "" };
+            write!(out, "{emptied}loopback of {}", file_word(file))?;
+        }
         Job::Cache(job) => {
             write!(out, "cache {}", job.settings.capacity)?;
             push_number(out, "memory-mb", job.memory_mb)?;

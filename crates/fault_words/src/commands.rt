@@ -198,7 +198,7 @@ impl Command {
             }
             Command::Cache =>
                 "mcgate cache --listen HOST:PORT --capacity C [--memory-mb N] [--flush-all] [--turns N]",
-            Command::Loopback => "mcgate loopback [SCRIPT]",
+            Command::Loopback => "mcgate loopback [--flush-all] [SCRIPT]",
             Command::History => "mcgate history FILE",
             Command::Slots => {
                 "mcgate slots [--add HOST:PORT | --remove HOST:PORT] [--pool NAME] [--after FILE ..] [FILE]"
@@ -220,11 +220,8 @@ impl Command {
             Command::Serve => &SERVE_FLAGS,
             Command::Cache => &CACHE_FLAGS,
             Command::Slots => &["help", "add", "remove", "pool", "after"],
-            Command::Certify
-            | Command::Loopback
-            | Command::History
-            | Command::Tell
-            | Command::Help => &["help"],
+            Command::Loopback => &["help", "flush-all"],
+            Command::Certify | Command::History | Command::Tell | Command::Help => &["help"],
         }
     }
 
