@@ -31,10 +31,18 @@ each_json (sample ∷ samples) = sample_json sample ++ flat_map next_sample_json
 abbrev pub array_json : List Sample → List ℕ
 array_json samples = codes "[" ++ each_json samples ++ codes "]"
 
--- {"buckets":[..],"sums":[..],"counts":[..]}
+unfoldable pub buckets_json : Spread → List ℕ
+buckets_json spread = codes "{\"le\":" ++ array_json spread.buckets.items
+
+unfoldable pub sums_json : Spread → List ℕ
+sums_json spread = codes ",\"sum\":" ++ array_json spread.sums.items
+
+unfoldable pub counts_json : Spread → List ℕ
+counts_json spread = codes ",\"n\":" ++ array_json spread.counts.items ++ codes "}"
+
+-- {"le":[..],"sum":[..],"n":[..]}
 abbrev pub spread_json : Spread → List ℕ
-spread_json spread =
-    codes "{\"buckets\":" ++ array_json spread.buckets.items ++ codes ",\"sums\":" ++ array_json spread.sums.items ++ codes ",\"counts\":" ++ array_json spread.counts.items ++ codes "}"
+spread_json spread = buckets_json spread ++ sums_json spread ++ counts_json spread
 
 abbrev pub samples_json : Samples → List ℕ
 samples_json (One amount) = amount_text amount

@@ -2,7 +2,7 @@
 
 ghost use Rattle.std.specs.Prelude.{OnOk};
 ghost use Rattle.std.specs.Io.KnownBytes.{Appends};
-ghost use Rattle.watch_admin.specs.Json.{label_json, labels_json, sample_json, each_json, array_json, spread_json, samples_json, family_json, families_json, object_json};
+ghost use Rattle.watch_admin.specs.Json.{label_json, labels_json, sample_json, each_json, array_json, buckets_json, sums_json, counts_json, spread_json, samples_json, family_json, families_json, object_json};
 
 use crate::families::{Family, Label, Sample, Samples, Spread};
 use crate::quoted::Quoted;
@@ -60,17 +60,41 @@ fn write_array<W: Write>(samples: &[Sample], out: &mut W) -> io::Result<()>
     write!(out, "]")
 }
 
-// Writes `{"buckets":[..],"sums":[..],"counts":[..]}`.
+// Writes `{"le":[..]`.
+#[tactic(auto, unfolding(crate::specs::Json::buckets_json))]
+fn write_buckets<W: Write>(spread: &Spread, out: &mut W) -> io::Result<()>
+    ensures { OnOk result (Appends (W.contents out.old) (W.contents out.new) (buckets_json spread.now)) }
+{
+    write!(out, "{{\"le\":")?;
+    write_array(spread.buckets.as_slice(), out)
+}
+
+// Writes `,"sum":[..]`.
+#[tactic(auto, unfolding(crate::specs::Json::sums_json))]
+fn write_sums<W: Write>(spread: &Spread, out: &mut W) -> io::Result<()>
+    ensures { OnOk result (Appends (W.contents out.old) (W.contents out.new) (sums_json spread.now)) }
+{
+    write!(out, ",\"sum\":")?;
+    write_array(spread.sums.as_slice(), out)
+}
+
+// Writes `,"n":[..]}`.
+#[tactic(auto, unfolding(crate::specs::Json::counts_json))]
+fn write_counts<W: Write>(spread: &Spread, out: &mut W) -> io::Result<()>
+    ensures { OnOk result (Appends (W.contents out.old) (W.contents out.new) (counts_json spread.now)) }
+{
+    write!(out, ",\"n\":")?;
+    write_array(spread.counts.as_slice(), out)?;
+    write!(out, "}}")
+}
+
+// Writes `{"le":[..],"sum":[..],"n":[..]}`.
 fn write_spread<W: Write>(spread: &Spread, out: &mut W) -> io::Result<()>
     ensures { OnOk result (Appends (W.contents out.old) (W.contents out.new) (spread_json spread.now)) }
 {
-    write!(out, "{{\"buckets\":")?;
-    write_array(spread.buckets.as_slice(), out)?;
-    write!(out, ",\"sums\":")?;
-    write_array(spread.sums.as_slice(), out)?;
-    write!(out, ",\"counts\":")?;
-    write_array(spread.counts.as_slice(), out)?;
-    write!(out, "}}")
+    write_buckets(spread, out)?;
+    write_sums(spread, out)?;
+    write_counts(spread, out)
 }
 
 fn write_samples<W: Write>(samples: &Samples, out: &mut W) -> io::Result<()>

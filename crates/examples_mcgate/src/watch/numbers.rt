@@ -104,7 +104,7 @@ fn stats() -> &'static str {
 "mcgate_server_calls_out":[{"server":"\"a\\:1?","value":15}],
 "mcgate_server_failures_total":[{"server":"\"a\\:1?","cause":"closed","value":16}],
 "mcgate_server_calls_total":[{"server":"\"a\\:1?","outcome":"answered","value":18},{"server":"\"a\\:1?","outcome":"failed","value":19}],
-"mcgate_server_call_seconds":{"buckets":[{"server":"\"a\\:1?","le":"0.0001","value":10},{"server":"\"a\\:1?","le":"+Inf","value":18}],"sums":[{"server":"\"a\\:1?","value":3.004050}],"counts":[{"server":"\"a\\:1?","value":18}]},
+"mcgate_server_call_seconds":{"le":[{"server":"\"a\\:1?","le":"0.0001","value":10},{"server":"\"a\\:1?","le":"+Inf","value":18}],"sum":[{"server":"\"a\\:1?","value":3.004050}],"n":[{"server":"\"a\\:1?","value":18}]},
 "mcgate_scrapes_total":17}
 "#
 }

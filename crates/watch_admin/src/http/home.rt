@@ -79,7 +79,7 @@ function state(now, server) {
 }
 
 function spans(now, then, server) {
-  const of = it => (it.mcgate_server_call_seconds || {buckets: []}).buckets.filter(row => row.server === server);
+  const of = it => (it.mcgate_server_call_seconds || {le: []}).le.filter(row => row.server === server);
   const old = of(then);
   return of(now).map((row, place) => ({le: row.le, value: row.value - (old[place] ? old[place].value : 0)}));
 }
