@@ -105,7 +105,7 @@ turns {at} {core} {core'} {h} x y c call rest was same draining text waiting awa
     settles : (past : List Step) → LineAgrees at past h x → IsOrderly (Late at call.ticket.number ∷ past) → MaySettle call.ticket.number (Late at call.ticket.number ∷ past)
     settles past a o =
         let left : (talk_in (Late at call.ticket.number ∷ past) at).out ≡ said_asks rest =
-            ap (λ b. (if b then turned_late (talk_in past at) else talk_in past at).out) (equal at) ∙ ap behind ((a.conn c was).out_is ∙ ap said_asks sent) in
+        ap (λ b. (if b then turned_late (talk_in past at) else talk_in past at).out) (equal at) ∙ ap behind ((a.conn c was).out_is ∙ ap said_asks sent) in
         record {
           call = (at, call.ticket.ask);
           is_out = (called past a).0;

@@ -896,8 +896,8 @@ line_fails {why} {at} {core} {core'} {h} x y mid sent waiting had none draining 
   walks = walked w.steps f.steps core mid core' f.walks w.walks;
   agrees = λ past o tells a. (
     subst IsOrderly (sym (append_assoc w.steps f.steps past))
-    (w.orderly (f.steps ++ past) (waiting_out (f.steps ++ past) at waiting.0 y.waiting.items (after_sent past a).due) (ap (λ (t : Talk). t.out) (plain_talk f.steps (failed_own at f.steps f.kinds).1 past at) ∙ a.none_out had)
-    (f.orderly past (sent_out past at sent.0 y.calls.sent.items (called past a)) (a.none_out had) o)),
+        (w.orderly (f.steps ++ past) (waiting_out (f.steps ++ past) at waiting.0 y.waiting.items (after_sent past a).due) (ap (λ (t : Talk). t.out) (plain_talk f.steps (failed_own at f.steps f.kinds).1 past at) ∙ a.none_out had)
+        (f.orderly past (sent_out past at sent.0 y.calls.sent.items (called past a)) (a.none_out had) o)),
     has_none at ((w.steps ++ f.steps) ++ past) h y none (calls_later (w.steps ++ f.steps) past at y.waiting.items (last_called past at waiting.0 y.waiting.items (subst (λ l. MayAllGo past at l) waiting.1 a.waiting)))
         (left past a).due
         (ap (λ (t : Talk). t.out) (plain_talk (w.steps ++ f.steps) own.1 past at) ∙ a.none_out had)
