@@ -79,7 +79,7 @@ opens, fails or comes back.
   --polls N              after so many reads of a server in a row without a whole answer its calls have failed; without it, any number
   --stall-ms N           a client that takes nothing for so many milliseconds, while more than 1 MiB is to be sent to it, is closed, 10000
   --memory-mb N          where more than so many MiB are to be sent to all clients, the client to which most are is closed, 1024
-  --metrics HOST:PORT    answers there over HTTP what it counts: /metrics in Prometheus' text format, /stats.json in JSON
+  --metrics HOST:PORT    answers there over HTTP what it counts: / for people, /metrics in Prometheus' text format, /stats.json in JSON
   --control PATH         it is told things there by mcgate tell: to drain, to reload, and what it counts
   --drain-ms N           when it is told to drain it ends after so many milliseconds at most, 10000
   --log-level WORD       each line on standard error begins with a time and a level, and those of WORD and more urgent ones are told:
