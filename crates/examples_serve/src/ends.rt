@@ -300,7 +300,7 @@ impl<'a> TurnedEnds<'a> {
         }
         self.turn_until(calls, false)?;
         if let Some(mut proxy) = self.proxy.take() {
-            proxy.end_turns()?;
+            proxy.end_turns();
             self.ended = Some(proxy);
         }
         Ok(())

@@ -1,7 +1,6 @@
 -- How an end begins, a turn and a load as what may be done to it, and what its core stays.
-use Rattle.std.proofs.Common.{◌≡◌, ℕ, Bool, true, false, List, [], ◌∷◌, Result, Ok, Err, refl, sym, ap, subst, append-nil, Option, Some, None, ◌++◌, ◌∙◌, ⊎_elim, inl, inr, ◌⊎◌}
+use Rattle.std.proofs.Common.{◌≡◌, ℕ, Bool, true, false, List, [], ◌∷◌, Result, Ok, Err, refl, sym, ap, subst, append-nil, Option, ◌++◌, ◌∙◌, ⊎_elim, inl, inr, ◌⊎◌, Some, None}
 use Rattle.std.specs.Prelude.{IfOk, IsTrue}
-use Rattle.std.specs.Result.{IsErr}
 use Rattle.route_json.specs.Servers.{Addresses}
 use Rattle.route_json.specs.Configuration.{Configuration}
 use Rattle.route_tree.specs.Route.{Route}
@@ -11,14 +10,12 @@ use Rattle.serve_links.specs.declared.settings.Settings.{Settings}
 use Rattle.serve_wire.specs.Events.{Event}
 use Rattle.serve_wire.specs.declared.sockets.sockets.Sockets.{Sockets}
 use Rattle.serve_links.specs.CoreSteps.{Step, Opened, NotOpened, Fed, Polled, Stopped, Settled, Gave, Closed, LeftLine, Broke, Loaded, Linked, Asked, Greeted, Spelled, Late, CameLate, Lost, Walks, AreOf, IsOfTurn}
-use Rattle.serve_links.specs.Story.{AnEnd, Agrees, AgreesLosing, AllGoFrom, texts_of}
-use Rattle.serve_links.proofs.LinkGoes.{losing}
+use Rattle.serve_links.specs.Story.{AnEnd, Agrees, AllGoFrom, texts_of}
 use Rattle.serve_links.proofs.Walked.{walks_keep_since}
 use Rattle.serve_proxy.specs.declared.proxy.ProxyEnd.{ProxyEnd}
 use Rattle.serve_proxy.specs.Beginning.{LoadStops}
-use Rattle.serve_proxy.specs.Ends.{Stay, AllGoOr, AllGrowFrom, AllGrow, IsLoadOf, HasNoConns}
+use Rattle.serve_proxy.specs.Ends.{Stay, AllGoOn, AllGrowFrom, AllGrow, IsLoadOf, HasNoConns}
 use Rattle.serve_proxy.proofs.Going.{still, and_then, stays, same_core}
-use Rattle.serve_proxy.proofs.Linking.{or_any}
 use Rattle.serve_proxy.proofs.Growing.{grows}
 use Rattle.serve_proxy.proofs.LogWalks.{walks_are_fresh}
 use Rattle.serve_proxy.proofs.Staying.{stay_still}
@@ -39,7 +36,7 @@ use Rattle.mcgate.specs.Sharing.{sharing_for}
 use Rattle.mcgate.specs.declared.serving.Serving.{Serving}
 use Rattle.mcgate.specs.declared.remembering.Kept.{Kept}
 use Rattle.mcgate.specs.Remembers.{StandsIn, StandsIfLoaded}
-use Rattle.mcgate.specs.Serves.{HasTree, HasServers, BeginsBy, Begins, BeginsServing, SaysAfter, IsServed, history_of, proxy_of, Serves, AgreesTo, ServesTo, GoFreshly, HasServed, StaysFresh}
+use Rattle.mcgate.specs.Serves.{HasTree, HasServers, BeginsBy, Begins, BeginsServing, SaysAfter, IsServed, history_of, proxy_of, Serves, GoFreshly, HasServed, StaysFresh}
 
 false_true : false ≡ true → ⊥
 false_true e = cc
@@ -98,15 +95,6 @@ begins_serving servable begun settings servers end (Err fault) is begins agrees 
 pub turned : {P Q : List Step → AnEnd → Type 0} {a b : AnEnd} → AllGoFrom P Q IsOfTurn a b → AllGrowFrom P Q IsServed a b
 turned g = grows (record { steps = g.steps; kinds = each_of_turn g.steps g.kinds; walks = g.walks; agree = g.agree; texts = g.texts })
 
--- what came of it
-pub to_err : {A E : Type 0} (r : Result A E) (old new : ProxyEnd Sockets) → IsErr r → AllGrowFrom Agrees AgreesLosing IsServed (proxy_of old) (proxy_of new) → ServesTo r old new
-to_err (Ok done) old new is g = absurd (false_true is)
-to_err (Err fault) old new is g = g
-
-pub to_any : {A E : Type 0} (r : Result A E) (old new : ProxyEnd Sockets) → Serves old new → ServesTo r old new
-to_any (Ok done) old new g = g
-to_any (Err fault) old new g = record { steps = g.steps; kinds = g.kinds; walks = g.walks; agree = λ past was. losing 0 (g.steps ++ past) (proxy_of new) (g.agree past was); texts = g.texts }
-
 -- nothing is done with the core, nor on any connection
 pub stood : {Is : Step → Type 0} (old new : ProxyEnd Sockets) → new.core ≡ old.core → Stay history_of old.sockets new.sockets → AllGrow Is (proxy_of old) (proxy_of new)
 stood old new core ends = grows (and_then (stays old.core.value ends) (same_core (ap (λ c. c.value) core)))
@@ -118,11 +106,11 @@ same_end old new same = subst (λ x. Serves old x) (sym same) (stood old old ref
 pub serves_still : (end : ProxyEnd Sockets) → Serves end end
 serves_still end = same_end end end refl
 
-pub goes_still : {A E : Type 0} (r : Result A E) (end : ProxyEnd Sockets) → AllGoOr r history_of end.core.value end.sockets end.core.value end.sockets
-goes_still r end = or_any history_of end.core.value end.sockets end.core.value end.sockets r still
+pub goes_still : (end : ProxyEnd Sockets) → AllGoOn history_of end.core.value end.sockets end.core.value end.sockets
+goes_still end = still
 
-pub from_end : {A E : Type 0} (r : Result A E) (old mid new : ProxyEnd Sockets) → mid ≡ old → ServesTo r mid new → ServesTo r old new
-from_end r old mid new same g = subst (λ x. ServesTo r x new) same g
+pub from_end : (old mid new : ProxyEnd Sockets) → mid ≡ old → Serves mid new → Serves old new
+from_end old mid new same g = subst (λ x. Serves x new) same g
 
 -- it wasn't loaded
 pub not_loaded : (old mid new : ServedCore) (configuration : Configuration) (fault : LoadFault) → mid ≡ old → LoadStops mid configuration fault new → (fault ≡ Refused NoMemory → ⊥) → new ≡ old
@@ -156,13 +144,13 @@ has_freshly (servables.Accepted accepted) begun settings steps a b begins walks 
 has_freshly (servables.Unchecked configuration) begun settings steps a b begins walks fresh = tt
 
 pub has_served :
-    {A E : Type 0} (servable : Servable) (begun : Beginnings) (settings : Settings) (ended : Result A E) (first last : ProxyEnd Sockets) → BeginsServing servable begun settings first → ServesTo ended first last → LogsAreFresh last.core.value
-    → HasServed servable begun settings ended last
-has_served servable begun settings ended first last begins g fresh = record {
+    (servable : Servable) (begun : Beginnings) (settings : Settings) (first last : ProxyEnd Sockets) → BeginsServing servable begun settings first → Serves first last → LogsAreFresh last.core.value
+    → HasServed servable begun settings last
+has_served servable begun settings first last begins g fresh = record {
   first = first;
   begins = begins;
   serves = g;
-  agrees = subst (λ l. AgreesTo ended l (proxy_of last)) (append-nil g.steps) (g.agree [] begins.agrees);
+  agrees = subst (λ l. Agrees l (proxy_of last)) (append-nil g.steps) (g.agree [] begins.agrees);
   fresh = has_freshly servable begun (record settings { sharing = sharing_for begins.core.0 }) g.steps first.core.value last.core.value begins.core.2 g.walks fresh;
 }
 
@@ -178,7 +166,7 @@ by_kind (servables.Accepted accepted) begun settings steps a b begins walks fres
 by_kind (servables.Unchecked configuration) begun settings steps a b begins walks fresh sound = tt
 
 pub stays_fresh :
-    {A E : Type 0} (servable : Servable) (begun : Beginnings) (settings : Settings) (ended : Result A E) (end : ProxyEnd Sockets) → HasServed servable begun settings ended end → LogsAreFresh end.core.value
+    (servable : Servable) (begun : Beginnings) (settings : Settings) (end : ProxyEnd Sockets) → HasServed servable begun settings end → LogsAreFresh end.core.value
     → TreesAreSound end.core.value → StaysFresh servable begun end.core.value
-stays_fresh servable begun settings ended end served fresh sound =
+stays_fresh servable begun settings end served fresh sound =
     by_kind servable begun (record settings { sharing = sharing_for served.begins.core.0 }) served.serves.steps served.first.core.value end.core.value served.begins.core.2 served.serves.walks fresh sound

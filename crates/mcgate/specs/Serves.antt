@@ -1,5 +1,5 @@
 -- How a proxy that serves begins, and how its core and the ends of clients and servers go on. Source: mcgate's own.
-use Rattle.std.specs.Prelude.{◌≡◌, ℕ, ◌⊎◌, List, [], IsSome, Result, Ok, Err}
+use Rattle.std.specs.Prelude.{◌≡◌, ℕ, ◌⊎◌, List, [], IsSome, Ok}
 use Rattle.serde_json.specs.Read.{read}
 use Rattle.route_json.specs.Servers.{Addresses}
 use Rattle.route_json.specs.Configs.{read_after}
@@ -12,9 +12,9 @@ use Rattle.serve_links.specs.declared.settings.Settings.{Settings}
 use Rattle.serve_wire.specs.Events.{Event}
 use Rattle.serve_wire.specs.declared.sockets.sockets.Sockets.{Sockets}
 use Rattle.serve_links.specs.CoreSteps.{Step, Opened, NotOpened, Fed, Polled, Stopped, Settled, Gave, Closed, LeftLine, Broke, Loaded, Linked, Asked, Greeted, Spelled, Late, CameLate, Lost}
-use Rattle.serve_links.specs.Story.{AnEnd, Agrees, AgreesLosing, texts_of}
+use Rattle.serve_links.specs.Story.{AnEnd, Agrees, texts_of}
 use Rattle.serve_proxy.specs.declared.proxy.ProxyEnd.{ProxyEnd}
-use Rattle.serve_proxy.specs.Ends.{end_of, AllGrowFrom, AllGrow}
+use Rattle.serve_proxy.specs.Ends.{end_of, AllGrow}
 use Rattle.serve_proxy.specs.Beginning.{BeginsFresh, BeginsUnchecked}
 use Rattle.core_accepted.specs.declared.beginnings.Beginnings.{Beginnings}
 use Rattle.core_accepted.specs.Begun.{any_begun}
@@ -84,15 +84,6 @@ MayLoad configuration old new = (new ≡ old) ⊎ ((generation : ℕ) × IsLoade
 abbrev pub MayLoadText : Addresses → List ℕ → ServedCore → ServedCore → Type 0
 MayLoadText servers text old new = (new ≡ old) ⊎ ((configuration : Configuration) × SaysAfter servers text configuration × MayLoad configuration old new)
 
--- the ends agree with these calls; only where it ended with a fault, what one link holds may be lost
-abbrev pub AgreesTo : {A E : Type 0} → Result A E → List Step → AnEnd → Type 0
-AgreesTo (Ok done) = Agrees
-AgreesTo (Err fault) = AgreesLosing
-
--- turns and such loads, one after another, that ended so, and the ends of clients and servers go on with them
-abbrev pub ServesTo : {A E : Type 0} → Result A E → ProxyEnd Sockets → ProxyEnd Sockets → Type 0
-ServesTo ended old new = AllGrowFrom Agrees (AgreesTo ended) IsServed (proxy_of old) (proxy_of new)
-
 -- these are its servers: of configurations that the gate accepted, those of the last one
 abbrev pub HasServers : Servable → Addresses → Type 0
 HasServers (servables.Accepted accepted) servers = (configuration : Configuration) × IsLast accepted configuration × (servers ≡ configuration.servers)
@@ -109,12 +100,12 @@ abbrev pub GoFreshly : Servable → Beginnings → List Step → ServedCore → 
 GoFreshly (servables.Accepted accepted) begun steps first last = (configuration : Configuration) × IsLast accepted configuration × LogsGoFreshly configuration begun steps first last
 GoFreshly (servables.Unchecked configuration) begun steps first last = Unit {0}
 
--- an end that began so was served, and that ended so: turns and loads alone led to what it is, the ends of its clients and its links agree with them, and each log goes on by them freshly
-pub record HasServed {A E : Type 0} (servable : Servable) (begun : Beginnings) (settings : Settings) (ended : Result A E) (end : ProxyEnd Sockets) : Type 0 where
+-- an end that began so was served: turns and loads alone led to what it is, the ends of its clients and its links agree with them, and each log goes on by them freshly
+pub record HasServed (servable : Servable) (begun : Beginnings) (settings : Settings) (end : ProxyEnd Sockets) : Type 0 where
   pub first : ProxyEnd Sockets
   pub begins : BeginsServing servable begun settings first
-  pub serves : ServesTo ended first end
-  pub agrees : AgreesTo ended serves.steps (proxy_of end)
+  pub serves : Serves first end
+  pub agrees : Agrees serves.steps (proxy_of end)
   pub fresh : GoFreshly servable begun serves.steps first.core.value end.core.value
 
 -- where the gate accepted what is served, the core is one on its configuration and others that it accepted after it, and each log that may have led to it is fresh, if servers began so; and if they may have held anything, also where they apply calls that had failed late, but in the order of their connections

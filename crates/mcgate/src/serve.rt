@@ -283,7 +283,7 @@ pub fn serve_to_end<R: Files + Input + Net + Clock + AllocGlobal + Print + Eprin
     watching: Option<Watching>,
     controlling: Option<Controlling>,
 ) -> io::Result<(Serving, Result<u8, Stop>)>
-    ensures served { IfOk result (λ ended. HasServed servable job.now.begun job.now.settings ended.1 ended.0.end) }
+    ensures served { IfOk result (λ ended. HasServed servable job.now.begun job.now.settings ended.0.end) }
     ensures fresh { IfOk result (λ ended. StaysFresh servable job.now.begun ended.0.end.core.value) }
 {
     let mut serving = start(rt, job, servable, started, lines, watching, controlling)?;

@@ -5,10 +5,10 @@ ghost use Rattle.serve_wire.specs.Events.{looks_up};
 ghost use Rattle.serve_links.specs.Story.{HasHappened};
 ghost use Rattle.core_accepted.specs.declared.loading.LoadFault.TheVariants.{Refused};
 ghost use Rattle.gate_check.specs.declared.reloading.ReloadFault.TheVariants.{NoMemory};
-ghost use Rattle.serve_proxy.specs.Ends.{Stay, AllGoOr, AllGrow, IsLoadOf};
+ghost use Rattle.serve_proxy.specs.Ends.{Stay, AllGoOn, AllGrow, IsLoadOf};
 ghost use Rattle.core_accepted.specs.Logs.{TreesAreSound};
 ghost use Rattle.serve_proxy.specs.LogsGoOn.{LogsAreFresh};
-ghost use Rattle.mcgate.specs.Serves.{SaysAfter, history_of, proxy_of, Serves, ServesTo, MayLoad, MayLoadText};
+ghost use Rattle.mcgate.specs.Serves.{SaysAfter, history_of, proxy_of, Serves, MayLoad, MayLoadText};
 ghost use Rattle.mcgate.specs.Remembers.{StandsIn, StandsIfLoaded};
 ghost use Rattle.mcgate.specs.LooksUp.{AreLookedUp};
 
@@ -279,7 +279,7 @@ impl Serving {
         rt: &R,
         job: &ServeJob<'_>,
     ) -> Result<u8, Stop>
-        ensures ends { ServesTo result self.old.end self.new.end }
+        ensures ends { Serves self.old.end self.new.end }
     {
         self.tell_start(rt, job)?;
         self.run(rt, job)
@@ -396,12 +396,12 @@ impl Serving {
         rt: &R,
         job: &ServeJob<'_>,
     ) -> Result<u8, Stop>
-        ensures ends { ServesTo result self.old.end self.new.end }
+        ensures ends { Serves self.old.end self.new.end }
     {
         self.end.bound_clients(job.stall_ms, job.memory);
         self.begin_emptying(rt, job)?;
         self.run_turns(rt, job)?;
-        self.end_all(rt)
+        Ok(self.end_all(rt))
     }
 
     // As many turns as are asked, or until it has drained.
@@ -410,7 +410,7 @@ impl Serving {
         rt: &R,
         job: &ServeJob<'_>,
     ) -> Result<(), Stop>
-        ensures ends { ServesTo result self.old.end self.new.end }
+        ensures ends { Serves self.old.end self.new.end }
     {
         for _ in 0..job.turns.map_or(u64::MAX, u64::from) {
             self.turn(rt, job)?;
@@ -443,12 +443,12 @@ impl Serving {
 
     // What is done after the last one.
     #[tactic(auto, using(crate::proofs::Loads::serves_still))]
-    fn end_all<R: Files + AllocGlobal + Eprint>(&mut self, rt: &R) -> Result<u8, Stop>
+    fn end_all<R: Files + AllocGlobal + Eprint>(&mut self, rt: &R) -> u8
         ensures ends { Serves self.old.end self.new.end }
     {
-        self.end.end_turns()?;
+        self.end.end_turns();
         self.end_controlling(rt);
-        Ok(DONE)
+        DONE
     }
 
     // Those of whom the run before didn't know it are emptied before their first call.
@@ -543,7 +543,7 @@ impl Serving {
     // One turn, which doesn't wait longer than that.
     #[tactic(auto, using(crate::proofs::Loads::goes_still))]
     fn turn<R: Net + Clock>(&mut self, rt: &R, job: &ServeJob<'_>) -> io::Result<()>
-        ensures ends { AllGoOr result history_of self.old.end.core.value self.old.end.sockets self.new.end.core.value self.new.end.sockets }
+        ensures ends { AllGoOn history_of self.old.end.core.value self.old.end.sockets self.new.end.core.value self.new.end.sockets }
     {
         self.turns = self.turns.saturating_add(1);
         match self.most_wait(rt, job)? {
@@ -910,7 +910,7 @@ impl Serving {
         if rest == 0 || self.end.clients() == 0 {
             return Ok(true);
         }
-        self.end.end_quiet()?;
+        self.end.end_quiet();
         Ok(false)
     }
 

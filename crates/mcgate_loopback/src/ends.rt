@@ -258,7 +258,7 @@ impl Ends {
     // The call that is out at the server has its result, and all that can be done without another is done.
     fn make_call<R: Net + Clock>(&mut self, rt: &R, server: usize) -> io::Result<()> {
         if self.servers.make_call(server)? {
-            self.proxy.drop_link(server)?;
+            self.proxy.drop_link(server);
         }
         self.turn_until_still(rt, None)
     }

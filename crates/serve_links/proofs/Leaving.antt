@@ -1,7 +1,6 @@
 -- What is settled of the bytes that a link holds, and what is left of them.
-use Rattle.std.proofs.Common.{◌≡◌, ℕ, ◌≤◌, min, List, [], ◌∷◌, ◌++◌, length, take, drop, Result, Ok, Err, refl, sym, subst, ap, ◌∙◌, inr, append_assoc, arith}
+use Rattle.std.proofs.Common.{◌≡◌, ℕ, ◌≤◌, min, List, [], ◌∷◌, ◌++◌, length, take, drop, refl, sym, subst, ap, ◌∙◌, inr, append_assoc, arith}
 use Rattle.std.proofs.lemmas.List.{append-nil, drop_min, take-append-drop}
-use Rattle.std.specs.Prelude.{IfOk}
 use Rattle.mc_types.specs.declared.answer.Answer.{Answer}
 use Rattle.core_accepted.specs.declared.served.ServedCore.{ServedCore}
 use Rattle.serve_links.specs.declared.calls.calls.SentCall.{SentCall}
@@ -132,8 +131,3 @@ cut_apart count held front rest f r = sym (take-append-drop count held) ∙ ap (
 -- a number that is cut above the length
 pub drop_few : (k most : ℕ) (bytes : List ℕ) → length bytes ≤ most → drop (min k most) bytes ≡ drop k bytes
 drop_few k most bytes h = let e : min (min k most) (length bytes) ≡ min k (length bytes) = omega arith in sym (drop_min (min k most) bytes) ∙ ap (λ (n : ℕ). drop n bytes) e ∙ drop_min k bytes
-
--- of a result that came
-pub if_ok : {A E : Type 0} (r : Result A E) (P Q : A → Type 0) → ((x : A) → P x → Q x) → IfOk r P → IfOk r Q
-if_ok (Ok x) P Q f p = f x p
-if_ok (Err e) P Q f p = tt

@@ -16,6 +16,7 @@ use crate::news::{Cause, LinkNews};
 use crate::settings::{Greeting, ServerDialect, Settings};
 use crate::tally::LinkTally;
 use mc_types::Dialect;
+use serve_clients::Clients;
 use serve_wire::conn::{Conn, Got, Limits};
 use serve_wire::{Connected, Ready, Wire};
 use std::alloc::{AllocError, AllocFailed, Global};
@@ -398,11 +399,21 @@ impl Link {
         self.waiting.pop_front()
     }
 
+    // Whether a call that waits has room: by what is known of its client now, where its answer was expected to be bulk.
+    fn has_room_now(&self, call: &SentCall, clients: &Clients) -> bool {
+        if self.calls.has_room_for(call.bulk) {
+            return true;
+        }
+        let expects = clients.expects(call.client);
+        let bulk = self.calls.bulk_of(call.ticket.ask.get(), expects);
+        bulk < call.bulk && self.calls.has_room_for(bulk)
+    }
+
     // The place of the first that may go out: those that are bulk may have no room.
-    fn place_to_go(&self) -> Option<usize> {
+    fn place_to_go(&self, clients: &Clients) -> Option<usize> {
         let mut place = 0usize;
         for call in self.waiting.iter() {
-            if self.calls.has_room_for(call.bulk) {
+            if self.has_room_now(call, clients) {
                 return Some(place);
             }
             place = place.saturating_add(1);
@@ -412,14 +423,14 @@ impl Link {
 
     /// Of the calls that wait the first that may go out now.
     #[tactic(auto, using(crate::proofs::Taking::taken))]
-    pub fn next_to_go(&mut self, places: usize) -> Option<SentCall>
+    pub fn next_to_go(&mut self, places: usize, clients: &Clients) -> Option<SentCall>
         ensures waiting { MatchOption result (self.new.waiting.items ≡ self.old.waiting.items) (λ call. IsTaken self.old.waiting.items call self.new.waiting.items) }
         ensures rest { self.new ≡ record self.old { waiting = self.new.waiting } }
     {
         if !self.takes_calls(places) {
             return None;
         }
-        let place = self.place_to_go()?;
+        let place = self.place_to_go(clients)?;
         self.waiting.remove(place)
     }
 

@@ -1,6 +1,6 @@
 //! The outcomes of a link's calls, for the core and the clients: answers settle them, or they fail.
 
-ghost use Rattle.std.specs.Prelude.{◌≡◌, ◌≢◌, ◌⊎◌, ℕ, List, true, ◌++◌, [], drop, None, IfSome, IfOk, OnOk};
+ghost use Rattle.std.specs.Prelude.{◌≡◌, ◌≢◌, ◌⊎◌, ℕ, List, true, ◌++◌, [], drop, None, IfSome};
 ghost use Rattle.serve_wire.specs.Ends.{HoldsAnew};
 ghost use Rattle.serve_clients.specs.Agrees.{KeepsEnds};
 ghost use Rattle.serve_links.specs.Calls.{SettlesNext};
@@ -19,7 +19,6 @@ use bytes::Bytes;
 use core_accepted::ServedCore;
 use serve_clients::Clients;
 use serve_wire::conn::Conn;
-use std::alloc::AllocError;
 use wire_stream::{CUT_FROM, Received, SHARED_FROM, large_len};
 
 // Where so many bytes or more are held, long data share them.
@@ -29,69 +28,55 @@ const MUCH_HELD: usize = 16_384;
 const ROOM_AFTER: usize = 147_456;
 
 // The calls that are out on a link have failed.
-fn fail_sent(
-    calls: &mut LinkCalls,
-    core: &mut ServedCore,
-    clients: &mut Clients,
-) -> Result<(), AllocError>
+fn fail_sent(calls: &mut LinkCalls, core: &mut ServedCore, clients: &mut Clients)
     ensures core { Fails core.old core.new }
-    ensures none { OnOk result (calls.new.sent.items ≡ []) }
-    ensures all { OnOk result (AllFail calls.old.sent.items core.old core.new) }
+    ensures none { calls.new.sent.items ≡ [] }
+    ensures all { AllFail calls.old.sent.items core.old core.new }
     ensures first { FailsTo calls.old.sent.items calls.new.sent.items core.old core.new }
     ensures ends { KeepsEnds clients.old clients.new }
 {
     for _ in 0..calls.len() {
         let Some(client) = calls.fail_next(core) else {
-            return Ok(());
+            return;
         };
         clients.mark_settled(client);
     }
-    Ok(())
 }
 
 // The calls that wait for the link have failed.
-fn fail_waiting(
-    link: &mut Link,
-    core: &mut ServedCore,
-    clients: &mut Clients,
-) -> Result<(), AllocError>
+fn fail_waiting(link: &mut Link, core: &mut ServedCore, clients: &mut Clients)
     requires { link.old.conn ≡ None }
     ensures core { Fails core.old core.new }
-    ensures none { OnOk result (link.new.waiting.items ≡ []) }
-    ensures all { OnOk result (AllFail link.old.waiting.items core.old core.new) }
+    ensures none { link.new.waiting.items ≡ [] }
+    ensures all { AllFail link.old.waiting.items core.old core.new }
     ensures first { FailsTo link.old.waiting.items link.new.waiting.items core.old core.new }
     ensures rest { link.new ≡ record link.old { waiting = link.new.waiting } }
     ensures ends { KeepsEnds clients.old clients.new }
 {
     for _ in 0..link.waiting() {
         let Some(call) = link.next_waiting() else {
-            return Ok(());
+            return;
         };
         let client = call.client;
         fail_call(core, call.ticket);
         clients.end_waiting(client);
         clients.mark_settled(client);
     }
-    Ok(())
 }
 
 /// All calls of the link, which has no connection, have failed: those that are out, and then those that wait.
-pub fn fail_all(
-    link: &mut Link,
-    core: &mut ServedCore,
-    clients: &mut Clients,
-) -> Result<(), AllocError>
+pub fn fail_all(link: &mut Link, core: &mut ServedCore, clients: &mut Clients)
     requires { link.old.conn ≡ None }
     ensures core { Fails core.old core.new }
-    ensures down { OnOk result (IsDown link.new) }
-    ensures all { OnOk result (AllFail (link.old.calls.sent.items ++ link.old.waiting.items) core.old core.new) }
+    ensures down { IsDown link.new }
+    ensures all { AllFail (link.old.calls.sent.items ++ link.old.waiting.items) core.old core.new }
     ensures closed { link.new.conn ≡ None }
     ensures draining { link.new.draining ≡ link.old.draining }
     ensures text { link.new.text ≡ link.old.text }
     ensures first { (mid : ServedCore) × FailsTo link.old.calls.sent.items link.new.calls.sent.items core.old mid × FailsTo link.old.waiting.items link.new.waiting.items mid core.new }
     ensures ends { KeepsEnds clients.old clients.new }
 {
-    fail_sent(&mut link.calls, core, clients)?;
+    fail_sent(&mut link.calls, core, clients);
     fail_waiting(link, core, clients)
 }
 
@@ -102,35 +87,29 @@ pub fn fail_late(
     clients: &mut Clients,
     now: u64,
     settings: &Settings,
-) -> Result<(), AllocError>
+)
     ensures goes { (at : ℕ) (h : List Event) → LineGoes IsSending at core.old h link.old core.new h link.new }
     ensures late { HasLate settings.now.call_ms now link.old ⊎ ((link.new ≡ link.old) × (core.new ≡ core.old)) }
     ensures ends { KeepsEnds clients.old clients.new }
 {
     if !link.has_late(now, settings) {
-        return Ok(());
+        return;
     }
     fail_all_late(link, core, clients, now)
 }
 
 // The calls that are out on the link have failed, and keep their places.
-fn fail_all_late(
-    link: &mut Link,
-    core: &mut ServedCore,
-    clients: &mut Clients,
-    now: u64,
-) -> Result<(), AllocError>
+fn fail_all_late(link: &mut Link, core: &mut ServedCore, clients: &mut Clients, now: u64)
     ensures goes { (at : ℕ) (h : List Event) → LineGoes IsSending at core.old h link.old core.new h link.new }
     ensures ends { KeepsEnds clients.old clients.new }
 {
     link.turn_late(now);
     for _ in 0..link.calls.len() {
-        let Some(client) = link.fail_late(core)? else {
-            return Ok(());
+        let Ok(Some(client)) = link.fail_late(core) else {
+            return;
         };
         clients.mark_settled(client);
     }
-    Ok(())
 }
 
 /// What came of the answers that a link holds.
@@ -248,10 +227,10 @@ fn settle_in(
     is_freed: &mut bool,
     received: &Received,
     stops: Stops,
-) -> Result<(usize, HeldStop), AllocError>
+) -> (usize, HeldStop)
     ensures core { GoesBy IsSettlement core.old core.new }
-    ensures left { IfOk result (λ did. did.1 ≡ HeldStop.More → HoldsNoAnswer calls.new.sent.items (drop did.0 received.now) core.new) }
-    ensures settled { IfOk result (λ did. SettlesSome calls.old.sent.items received.now core.old calls.new.sent.items (drop did.0 received.now) core.new) }
+    ensures left { result.1 ≡ HeldStop.More → HoldsNoAnswer calls.new.sent.items (drop result.0 received.now) core.new }
+    ensures settled { SettlesSome calls.old.sent.items received.now core.old calls.new.sent.items (drop result.0 received.now) core.new }
     ensures front { SettlesFront calls.old.sent.items received.now core.old calls.new.sent.items core.new }
     ensures ends { KeepsEnds clients.old clients.new }
 {
@@ -260,10 +239,10 @@ fn settle_in(
     for _ in 0..held.len() {
         let rest = rest_of(held, used);
         if rest.is_empty() {
-            return Ok((used, HeldStop::More));
+            return (used, HeldStop::More);
         }
         if let Some(stop) = front_stop(stops, rest) {
-            return Ok((used, stop));
+            return (used, stop);
         }
         let is_get = calls.awaits_get();
         match settle_at(calls, core, received, used) {
@@ -272,15 +251,15 @@ fn settle_in(
                 *is_freed = true;
                 clients.mark_answered(client, is_get, len);
             }
-            Next::More => return Ok((used, HeldStop::More)),
-            Next::Foreign => return Ok((used, HeldStop::Foreign)),
+            Next::More => return (used, HeldStop::More),
+            Next::Foreign => return (used, HeldStop::Foreign),
         }
     }
     // No answer is empty, so nothing is left here.
     if used < held.len() {
-        return Ok((used, HeldStop::Foreign));
+        return (used, HeldStop::Foreign);
     }
-    Ok((used, HeldStop::More))
+    (used, HeldStop::More)
 }
 
 // The same in bytes that aren't shared.
@@ -291,10 +270,10 @@ fn settle_here(
     is_freed: &mut bool,
     held: &[u8],
     stops: Stops,
-) -> Result<(usize, HeldStop), AllocError>
+) -> (usize, HeldStop)
     ensures core { GoesBy IsSettlement core.old core.new }
-    ensures left { IfOk result (λ did. did.1 ≡ HeldStop.More → HoldsNoAnswer calls.new.sent.items (drop did.0 held.now) core.new) }
-    ensures settled { IfOk result (λ did. SettlesSome calls.old.sent.items held.now core.old calls.new.sent.items (drop did.0 held.now) core.new) }
+    ensures left { result.1 ≡ HeldStop.More → HoldsNoAnswer calls.new.sent.items (drop result.0 held.now) core.new }
+    ensures settled { SettlesSome calls.old.sent.items held.now core.old calls.new.sent.items (drop result.0 held.now) core.new }
     ensures front { SettlesFront calls.old.sent.items held.now core.old calls.new.sent.items core.new }
     ensures ends { KeepsEnds clients.old clients.new }
 {
@@ -315,10 +294,10 @@ fn settle_cut(
     clients: &mut Clients,
     is_freed: &mut bool,
     front: &Bytes,
-) -> Result<(usize, HeldStop), AllocError>
+) -> (usize, HeldStop)
     ensures core { GoesBy IsSettlement core.old core.new }
-    ensures left { IfOk result (λ did. did.1 ≡ HeldStop.More → HoldsNoAnswer calls.new.sent.items (drop did.0 front.now) core.new) }
-    ensures settled { IfOk result (λ did. SettlesSome calls.old.sent.items front.now core.old calls.new.sent.items (drop did.0 front.now) core.new) }
+    ensures left { result.1 ≡ HeldStop.More → HoldsNoAnswer calls.new.sent.items (drop result.0 front.now) core.new }
+    ensures settled { SettlesSome calls.old.sent.items front.now core.old calls.new.sent.items (drop result.0 front.now) core.new }
     ensures front { SettlesFront calls.old.sent.items front.now core.old calls.new.sent.items core.new }
     ensures ends { KeepsEnds clients.old clients.new }
 {
@@ -339,10 +318,10 @@ fn settle_copied(
     clients: &mut Clients,
     is_freed: &mut bool,
     conn: &mut Conn,
-) -> Result<HeldFront, AllocError>
+) -> HeldFront
     ensures core { GoesBy IsSettlement core.old core.new }
-    ensures left { IfOk result (λ front. front ≡ HeldFront.More → HoldsNoAnswer calls.new.sent.items conn.new.held.items core.new) }
-    ensures settled { IfOk result (λ front. front ≢ HeldFront.Foreign → SettlesSome calls.old.sent.items conn.old.held.items core.old calls.new.sent.items conn.new.held.items core.new) }
+    ensures left { result ≡ HeldFront.More → HoldsNoAnswer calls.new.sent.items conn.new.held.items core.new }
+    ensures settled { result ≢ HeldFront.Foreign → SettlesSome calls.old.sent.items conn.old.held.items core.old calls.new.sent.items conn.new.held.items core.new }
     ensures front { SettlesFront calls.old.sent.items conn.old.held.items core.old calls.new.sent.items core.new }
     ensures ends { KeepsEnds clients.old clients.new }
     ensures rest { HoldsAnew conn.old conn.new }
@@ -353,10 +332,10 @@ fn settle_copied(
             conn.use_up(used);
             *is_freed = true;
             clients.mark_answered(client, is_get, used);
-            Ok(HeldFront::Settled)
+            HeldFront::Settled
         }
-        Next::More => Ok(HeldFront::More),
-        Next::Foreign => Ok(HeldFront::Foreign),
+        Next::More => HeldFront::More,
+        Next::Foreign => HeldFront::Foreign,
     }
 }
 
@@ -387,21 +366,21 @@ fn settle_long(
     clients: &mut Clients,
     is_freed: &mut bool,
     conn: &mut Conn,
-) -> Result<(bool, HeldFront), AllocError>
+) -> (bool, HeldFront)
     ensures core { GoesBy IsSettlement core.old core.new }
-    ensures left { IfOk result (λ did. did.1 ≡ HeldFront.More → HoldsNoAnswer calls.new.sent.items conn.new.held.items core.new) }
-    ensures settled { IfOk result (λ did. did.1 ≢ HeldFront.Foreign → SettlesSome calls.old.sent.items conn.old.held.items core.old calls.new.sent.items conn.new.held.items core.new) }
+    ensures left { result.1 ≡ HeldFront.More → HoldsNoAnswer calls.new.sent.items conn.new.held.items core.new }
+    ensures settled { result.1 ≢ HeldFront.Foreign → SettlesSome calls.old.sent.items conn.old.held.items core.old calls.new.sent.items conn.new.held.items core.new }
     ensures front { SettlesFront calls.old.sent.items conn.old.held.items core.old calls.new.sent.items core.new }
     ensures ends { KeepsEnds clients.old clients.new }
     ensures rest { HoldsAnew conn.old conn.new }
 {
     let Ok(front) = conn.held.freeze_to(conn.held.len()) else {
-        let front = settle_copied(calls, core, clients, is_freed, conn)?;
-        return Ok((false, front));
+        let front = settle_copied(calls, core, clients, is_freed, conn);
+        return (false, front);
     };
-    let (used, stop) = settle_cut(calls, core, clients, is_freed, &front)?;
+    let (used, stop) = settle_cut(calls, core, clients, is_freed, &front);
     let is_kept = hold_rest(conn, &front, used);
-    Ok((used > 0, front_after(stop, is_kept)))
+    (used > 0, front_after(stop, is_kept))
 }
 
 // How many bytes the answer took that was settled, if one was.
@@ -442,10 +421,10 @@ fn settle_large(
     is_freed: &mut bool,
     conn: &mut Conn,
     len: usize,
-) -> Result<HeldFront, AllocError>
+) -> HeldFront
     ensures core { GoesBy IsSettlement core.old core.new }
-    ensures left { IfOk result (λ front. front ≡ HeldFront.More → HoldsNoAnswer calls.new.sent.items conn.new.held.items core.new) }
-    ensures settled { IfOk result (λ front. front ≢ HeldFront.Foreign → SettlesSome calls.old.sent.items conn.old.held.items core.old calls.new.sent.items conn.new.held.items core.new) }
+    ensures left { result ≡ HeldFront.More → HoldsNoAnswer calls.new.sent.items conn.new.held.items core.new }
+    ensures settled { result ≢ HeldFront.Foreign → SettlesSome calls.old.sent.items conn.old.held.items core.old calls.new.sent.items conn.new.held.items core.new }
     ensures front { SettlesFront calls.old.sent.items conn.old.held.items core.old calls.new.sent.items core.new }
     ensures ends { KeepsEnds clients.old clients.new }
     ensures rest { HoldsAnew conn.old conn.new }
@@ -460,13 +439,13 @@ fn settle_large(
             *is_freed = true;
             clients.mark_answered(client, is_get, used);
             if is_kept {
-                Ok(HeldFront::Settled)
+                HeldFront::Settled
             } else {
-                Ok(HeldFront::Foreign)
+                HeldFront::Foreign
             }
         }
         (Next::More, true) => settle_copied(calls, core, clients, is_freed, conn),
-        _ => Ok(HeldFront::Foreign),
+        _ => HeldFront::Foreign,
     }
 }
 
@@ -478,23 +457,23 @@ fn settle_stop(
     is_freed: &mut bool,
     conn: &mut Conn,
     stop: HeldStop,
-) -> Result<(bool, HeldFront), AllocError>
+) -> (bool, HeldFront)
     requires { stop ≡ HeldStop.More → HoldsNoAnswer calls.old.sent.items conn.old.held.items core.old }
     ensures core { GoesBy IsSettlement core.old core.new }
-    ensures left { IfOk result (λ did. did.1 ≡ HeldFront.More → HoldsNoAnswer calls.new.sent.items conn.new.held.items core.new) }
-    ensures settled { IfOk result (λ did. did.1 ≢ HeldFront.Foreign → SettlesSome calls.old.sent.items conn.old.held.items core.old calls.new.sent.items conn.new.held.items core.new) }
+    ensures left { result.1 ≡ HeldFront.More → HoldsNoAnswer calls.new.sent.items conn.new.held.items core.new }
+    ensures settled { result.1 ≢ HeldFront.Foreign → SettlesSome calls.old.sent.items conn.old.held.items core.old calls.new.sent.items conn.new.held.items core.new }
     ensures front { SettlesFront calls.old.sent.items conn.old.held.items core.old calls.new.sent.items core.new }
     ensures ends { KeepsEnds clients.old clients.new }
     ensures rest { HoldsAnew conn.old conn.new }
 {
     match stop {
-        HeldStop::More => Ok((false, HeldFront::More)),
-        HeldStop::Foreign => Ok((false, HeldFront::Foreign)),
+        HeldStop::More => (false, HeldFront::More),
+        HeldStop::Foreign => (false, HeldFront::Foreign),
         HeldStop::Long => settle_long(calls, core, clients, is_freed, conn),
-        HeldStop::Large(len) => match settle_large(calls, core, clients, is_freed, conn, len) {
-            Ok(front) => Ok((false, front)),
-            Err(refused) => Err(refused),
-        },
+        HeldStop::Large(len) => {
+            let front = settle_large(calls, core, clients, is_freed, conn, len);
+            (false, front)
+        }
     }
 }
 
@@ -506,18 +485,18 @@ fn settle_some(
     is_freed: &mut bool,
     conn: &mut Conn,
     stops: Stops,
-) -> Result<(bool, HeldFront), AllocError>
+) -> (bool, HeldFront)
     ensures core { GoesBy IsSettlement core.old core.new }
-    ensures left { IfOk result (λ did. did.1 ≡ HeldFront.More → HoldsNoAnswer calls.new.sent.items conn.new.held.items core.new) }
-    ensures settled { IfOk result (λ did. did.1 ≢ HeldFront.Foreign → SettlesSome calls.old.sent.items conn.old.held.items core.old calls.new.sent.items conn.new.held.items core.new) }
+    ensures left { result.1 ≡ HeldFront.More → HoldsNoAnswer calls.new.sent.items conn.new.held.items core.new }
+    ensures settled { result.1 ≢ HeldFront.Foreign → SettlesSome calls.old.sent.items conn.old.held.items core.old calls.new.sent.items conn.new.held.items core.new }
     ensures front { SettlesFront calls.old.sent.items conn.old.held.items core.old calls.new.sent.items core.new }
     ensures ends { KeepsEnds clients.old clients.new }
     ensures rest { HoldsAnew conn.old conn.new }
 {
-    let (used, stop) = settle_here(calls, core, clients, is_freed, conn.held.as_slice(), stops)?;
+    let (used, stop) = settle_here(calls, core, clients, is_freed, conn.held.as_slice(), stops);
     conn.use_up(used);
-    let (others, front) = settle_stop(calls, core, clients, is_freed, conn, stop)?;
-    Ok((used > 0 || others, front))
+    let (others, front) = settle_stop(calls, core, clients, is_freed, conn, stop);
+    (used > 0 || others, front)
 }
 
 // At which answers settling stops: sharing long data is worth its cost where much is held, and what was cut off before must be gone.
@@ -556,10 +535,10 @@ pub fn settle_held(
     clients: &mut Clients,
     is_freed: &mut bool,
     conn: &mut Conn,
-) -> Result<HeldAnswers, AllocError>
+) -> HeldAnswers
     ensures core { GoesBy IsSettlement core.old core.new }
-    ensures left { IfOk result (λ answers. answers.is_kept ≡ true → HoldsNoAnswer calls.new.sent.items conn.new.held.items core.new) }
-    ensures settled { IfOk result (λ answers. answers.is_kept ≡ true → SettlesSome calls.old.sent.items conn.old.held.items core.old calls.new.sent.items conn.new.held.items core.new) }
+    ensures left { result.is_kept ≡ true → HoldsNoAnswer calls.new.sent.items conn.new.held.items core.new }
+    ensures settled { result.is_kept ≡ true → SettlesSome calls.old.sent.items conn.old.held.items core.old calls.new.sent.items conn.new.held.items core.new }
     ensures front { SettlesFront calls.old.sent.items conn.old.held.items core.old calls.new.sent.items core.new }
     ensures ends { KeepsEnds clients.old clients.new }
     ensures rest { HoldsAnew conn.old conn.new }
@@ -567,18 +546,14 @@ pub fn settle_held(
     let stops = stops_for(calls, conn);
     let mut has_settled = false;
     for _ in 0..conn.held.len() {
-        let (others, front) = settle_some(calls, core, clients, is_freed, conn, stops)?;
+        let (others, front) = settle_some(calls, core, clients, is_freed, conn, stops);
         match front {
             HeldFront::Settled => has_settled = true,
-            HeldFront::More => return Ok(told(has_settled || others, true, conn.held.as_slice())),
-            HeldFront::Foreign => return Ok(told(
-                has_settled || others,
-                false,
-                conn.held.as_slice(),
-            )),
+            HeldFront::More => return told(has_settled || others, true, conn.held.as_slice()),
+            HeldFront::Foreign => return told(has_settled || others, false, conn.held.as_slice()),
         }
     }
     // Nothing is held here either.
     let is_kept = conn.held.is_empty();
-    Ok(told(has_settled, is_kept, conn.held.as_slice()))
+    told(has_settled, is_kept, conn.held.as_slice())
 }

@@ -1,8 +1,7 @@
 -- Links that are given up for what their connections show.
-use Rattle.std.proofs.Common.{◌≡◌, ◌≢◌, ℕ, ◌<◌, Bool, true, false, List, [], ◌∷◌, ◌++◌, length, get_or, Option, Some, None, Result, Ok, Err, inl, refl, sym, ap, ◌∙◌, subst}
+use Rattle.std.proofs.Common.{◌≡◌, ◌≢◌, ℕ, ◌<◌, Bool, true, false, List, [], ◌∷◌, ◌++◌, length, get_or, Option, Some, None, inl, refl, sym, ◌∙◌, subst, ap}
 use Rattle.std.proofs.Math.ListN.{set}
 use Rattle.std.specs.Prelude.{IfSome, slice_get}
-use Rattle.std.specs.Result.{IsErr}
 use Rattle.mc_types.specs.declared.call.Outcome.TheVariants.{Failed}
 use Rattle.serve_wire.specs.Events.{Event}
 use Rattle.serve_wire.specs.declared.conn.conn.Conn.{Conn}
@@ -18,13 +17,13 @@ use Rattle.serve_links.specs.declared.link.Link.{Link}
 use Rattle.serve_links.specs.declared.news.Cause.{Cause}
 use Rattle.serve_links.specs.declared.news.Cause.TheVariants as causes
 use Rattle.serve_links.specs.Links.{vain_cause}
-use Rattle.serve_links.specs.CoreSteps.{Step, Opened, NotOpened, Fed, Polled, Stopped, Settled, Gave, Closed, LeftLine, Broke, Loaded, Linked, Asked, Greeted, Spelled, Late, CameLate, Lost, Walks, AreOf, GoesBy, IsOfTurn, IsGivingUp, IsSending, Fails}
+use Rattle.serve_links.specs.CoreSteps.{Step, Opened, NotOpened, Fed, Polled, Stopped, Settled, Gave, Closed, LeftLine, Broke, Loaded, Linked, Asked, Greeted, Spelled, Late, CameLate, Lost, Walks, AreOf, IsOfTurn, IsGivingUp, IsSending, Fails, GoesBy}
 use Rattle.serve_links.specs.Talks.{SaidAsk, talk_in}
-use Rattle.serve_links.specs.Story.{said_asks, said_late, line_of, LineAgrees, LineLost, LineFails, ShowsWhy, LineGoesFrom, AnEnd, Agrees, AgreesBut, AllGoFrom}
+use Rattle.serve_links.specs.Story.{said_asks, said_late, line_of, LineAgrees, LineLost, LineFails, LineGoesFrom, AnEnd, Agrees, AgreesBut, AllGoFrom, ShowsWhy}
 use Rattle.serve_links.proofs.LinkGoes.{as_failing, line_between, line_keeps}
 use Rattle.serve_links.proofs.Story.{go_between, all_but, but_all}
 use Rattle.serve_proxy.specs.declared.sockets.Sockets.{Sockets}
-use Rattle.serve_proxy.specs.Ends.{end_of, over_by, over_of, idle_cause, broken_unless, AwaitsLateAt, LineUnless, LineStandsUnless, EndsGoFrom, AgreesUnless, AllGoOn, AllGoUnless, AllGoFromUnless}
+use Rattle.serve_proxy.specs.Ends.{end_of, over_by, over_of, idle_cause, broken_unless, AwaitsLateAt, LineUnless, LineStandsUnless, EndsGoFrom, AgreesUnless, AllGoOn, AllGoUnless}
 use Rattle.serve_proxy.proofs.Going.{and_then, stays, line_lends}
 use Rattle.serve_proxy.proofs.Staying.{stay_clients}
 use Rattle.serve_proxy.proofs.Linking.{but_clients}
@@ -182,29 +181,15 @@ fails_of why (Spelled at number ask answer bytes ∷ steps) a b kinds walks = ab
 
 -- ---- what came of a read
 
--- it stopped
-pub unless_err :
-    {W E : Type 0} {P : List Step → AnEnd → Type 0} (history : W → List Event) (at : ℕ) (core : ServedCore) (s : Sockets W) (core' : ServedCore) (s' : Sockets W) (r : Result (Option Cause) E) → IsErr r
-    → AllGoFrom P (AgreesBut LineLost at) IsOfTurn (end_of history core s) (end_of history core' s') → AllGoFromUnless P at r history core s core' s'
-unless_err history at core s core' s' (Ok cause) is lost = absurd (false_true is)
-unless_err history at core s core' s' (Err refused) is lost = lost
-
 -- where there is a cause, and where there is none
 pub unless_some :
-    {W : Type 0} (history : W → List Event) (at : ℕ) (core : ServedCore) (s : Sockets W) (core' : ServedCore) (s' : Sockets W) (v : Option Cause) (cause : Cause) → v ≡ Some cause → AllGoUnless {E = Unit {0}} at (Ok v) history core s core' s'
+    {W : Type 0} (history : W → List Event) (at : ℕ) (core : ServedCore) (s : Sockets W) (core' : ServedCore) (s' : Sockets W) (v : Option Cause) (cause : Cause) → v ≡ Some cause → AllGoUnless at v history core s core' s'
     → AllGoFrom Agrees (AgreesBut (LineFails (Some cause)) at) IsOfTurn (end_of history core s) (end_of history core' s')
-unless_some history at core s core' s' v cause is did = subst (λ o. AllGoUnless {E = Unit {0}} at (Ok o) history core s core' s') is did
+unless_some history at core s core' s' v cause is did = subst (λ o. AllGoUnless at o history core s core' s') is did
 
 pub unless_none :
-    {W : Type 0} (history : W → List Event) (at : ℕ) (core : ServedCore) (s : Sockets W) (core' : ServedCore) (s' : Sockets W) (v : Option Cause) → v ≡ None → AllGoUnless {E = Unit {0}} at (Ok v) history core s core' s' → AllGoOn history core s core' s'
-unless_none history at core s core' s' v is did = subst (λ o. AllGoUnless {E = Unit {0}} at (Ok o) history core s core' s') is did
-
--- and before
-pub unless_after :
-    {W E : Type 0} {P Q : List Step → AnEnd → Type 0} (history : W → List Event) (at : ℕ) (core : ServedCore) (s : Sockets W) (m : ServedCore) (sm : Sockets W) (core' : ServedCore) (s' : Sockets W) (r : Result (Option Cause) E)
-    → AllGoFrom P Q IsOfTurn (end_of history core s) (end_of history m sm) → AllGoFromUnless Q at r history m sm core' s' → AllGoFromUnless P at r history core s core' s'
-unless_after history at core s m sm core' s' (Ok cause) first later = and_then first later
-unless_after history at core s m sm core' s' (Err refused) first later = and_then first later
+    {W : Type 0} (history : W → List Event) (at : ℕ) (core : ServedCore) (s : Sockets W) (core' : ServedCore) (s' : Sockets W) (v : Option Cause) → v ≡ None → AllGoUnless at v history core s core' s' → AllGoOn history core s core' s'
+unless_none history at core s core' s' v is did = subst (λ o. AllGoUnless at o history core s core' s') is did
 
 -- a read gave this
 pub read_some :
@@ -240,8 +225,3 @@ as_before = record { steps = []; kinds = tt; walks = refl; agree = λ past was. 
 -- a read gave what it is known to have given
 pub given_by : {Q : List Step → AnEnd → Type 0} {Is : Step → Type 0} {a b : AnEnd} (at : ℕ) (gave what : Got) → gave ≡ what → AllGoFrom (AgreesUnless at (over_by what)) Q Is a b → AllGoFrom (AgreesUnless at (over_by gave)) Q Is a b
 given_by {Q} {Is} {a} {b} at gave what is did = subst (λ w. AllGoFrom (AgreesUnless at (over_by w)) Q Is a b) (sym is) did
-
-pub given_then :
-    {W E : Type 0} (history : W → List Event) (at : ℕ) (core : ServedCore) (s : Sockets W) (core' : ServedCore) (s' : Sockets W) (r : Result (Option Cause) E) (gave what : Got) → gave ≡ what
-    → AllGoFromUnless (AgreesUnless at (over_by what)) at r history core s core' s' → AllGoFromUnless (AgreesUnless at (over_by gave)) at r history core s core' s'
-given_then history at core s core' s' r gave what is did = subst (λ w. AllGoFromUnless (AgreesUnless at (over_by w)) at r history core s core' s') (sym is) did

@@ -37,7 +37,7 @@ use Rattle.serve_links.specs.Called.{TellsCalls, GiveOnce}
 use Rattle.serve_links.specs.Talks.{Talk, IsNotAmong, AreDue, MaySettle, IsOrderly, IsOfClients}
 use Rattle.serve_links.proofs.Called.{given_besides, walks_tell_calls}
 use Rattle.serve_links.specs.Pieces.{FeedsHeld}
-use Rattle.serve_links.specs.Story.{fed_in, gave_in, is_open_in, is_broken_in, AgreesWith, IsTold, AreTold, TellsNone, HasOrHad, said_asks, StayOut, IsInHand, LineState, line_of, LineAgrees, LineLost, LineCalled, LinesAgree, OneGoes, LineGoesFrom, LineGoes, AnEnd, Agrees, AgreesGiven, AgreesBut, AgreesCalled, AgreesDue, AgreesLosing, AllGoFrom, AllGo, texts_of, AgreesSent}
+use Rattle.serve_links.specs.Story.{fed_in, gave_in, is_open_in, is_broken_in, AgreesWith, IsTold, AreTold, TellsNone, HasOrHad, said_asks, StayOut, IsInHand, LineState, line_of, LineAgrees, LineCalled, LinesAgree, OneGoes, LineGoesFrom, LineGoes, AnEnd, Agrees, AgreesGiven, AgreesBut, AgreesCalled, AgreesDue, AllGoFrom, AllGo, texts_of, AgreesSent}
 use Rattle.serve_links.proofs.Reading.{breaks_now}
 use Rattle.serve_links.proofs.Talking.{IsPlain, plain_talk, clients_orderly}
 use Rattle.serve_links.proofs.Story.{one_agrees, at_told, each_told, all_told, same_told, had_stays, one_of_all, line_among, line_stays_by, line_stays, unlinked_stays, all_still, from_then, go_between, all_but, but_all}
@@ -45,7 +45,7 @@ use Rattle.serve_links.proofs.Showing.{plain_unlost, none_since, shown_since, sh
 use Rattle.serve_links.proofs.Shutting.{shut_quiet}
 use Rattle.serve_links.proofs.Due.{due_out, keeps_settled, hand_gone, due_nowhere, clients_stay, one_due, one_apart}
 use Rattle.core_accepted.specs.Results.{IsSettled}
-use Rattle.serve_links.proofs.LinkGoes.{same_line, as_lost, losing}
+use Rattle.serve_links.proofs.LinkGoes.{same_line}
 use Rattle.serve_links.proofs.Walked.{walked, of_both}
 use Rattle.serve_proxy.specs.Ends.{lines_of, IsClosing, OneGives, EndsStay, EndsGoFrom, EndsGo, LineStands}
 use Rattle.serve_proxy.proofs.Conns.{conns_kept}
@@ -421,20 +421,6 @@ sending g = record { steps = g.steps; kinds = fails_send g.steps g.kinds; walks 
 pub giving_up : {P Q : List Step → AnEnd → Type 0} {cause : Cause} {a b : AnEnd} → AllGoFrom P Q (IsGivingUp (Some cause)) a b → AllGoFrom P Q IsSending a b
 giving_up {cause = cause} g = record { steps = g.steps; kinds = gives_up_send cause g.steps g.kinds; walks = g.walks; agree = g.agree; texts = g.texts }
 
--- where all agree, what one link holds may be said to be lost
-pub may_lose : {P : List Step → AnEnd → Type 0} {Is : Step → Type 0} {a b : AnEnd} → AllGoFrom P Agrees Is a b → AllGoFrom P AgreesLosing Is a b
-may_lose {b = b} g = go_between (λ past was. was) (λ past was. losing 0 past b was) g
-
-pub lost_some : {P : List Step → AnEnd → Type 0} {Is : Step → Type 0} {a b : AnEnd} (at : ℕ) → AllGoFrom P (AgreesBut LineLost at) Is a b → AllGoFrom P AgreesLosing Is a b
-lost_some at g = go_between (λ past was. was) (λ past was. (at, was)) g
-
-losing_at : (at : ℕ) (past : List Step) (x : AnEnd) → Agrees past x → AgreesBut LineLost at past x
-losing_at at past x a =
-    record { orderly = a.orderly; calls = a.calls; clients = a.clients; told = a.told; links = λ j link other there. a.links j link there; this = λ link there. as_lost at past x.history link (a.links at link there); gone = a.gone; shown = a.shown; shut = a.shut; unlinked = a.unlinked }
-
-pub may_lose_at : {P : List Step → AnEnd → Type 0} {Is : Step → Type 0} {a b : AnEnd} (at : ℕ) → AllGoFrom P Agrees Is a b → AllGoFrom P (AgreesBut LineLost at) Is a b
-may_lose_at {b = b} at g = go_between (λ past was. was) (λ past was. losing_at at past b was) g
-
 -- what is handed a call goes on without it
 pub without_call : {Q : List Step → AnEnd → Type 0} {Is : Step → Type 0} {a b : AnEnd} (number at : ℕ) (ask : Ask) → AllGoFrom Agrees Q Is a b → AllGoFrom (AgreesCalled number at ask) Q Is a b
 without_call number at ask g = go_between (λ past was. was.0) (λ past was. was) g
@@ -452,8 +438,8 @@ sent_clients {h} {ls} at call core cs cs' keeps =
     let g : AllGo IsSending (record { core = core; history = h; clients = cs; links = ls }) (record { core = core; history = h; clients = cs'; links = ls }) = stays core (record { quiet = λ d. untouched d h; clients = keeps; links = refl }) in
     record { steps = []; kinds = tt; walks = refl; agree = λ past was. (g.agree past was.0, was.1, was.2, was.3); texts = refl }
 
--- nor does it matter when it is said to have begun
-pub sent_renewed : {Is : Step → Type 0} {a : AnEnd} (at : ℕ) (call call' : SentCall) → call' ≡ record call { since = call'.since } → AllGoFrom (AgreesSent at call) (AgreesSent at call') Is a a
+-- nor does it matter when it is said to have begun, or what is expected of it
+pub sent_renewed : {Is : Step → Type 0} {a : AnEnd} (at : ℕ) (call call' : SentCall) → call' ≡ record call { since = call'.since; bulk = call'.bulk } → AllGoFrom (AgreesSent at call) (AgreesSent at call') Is a a
 sent_renewed {a = a} at call call' is = record { steps = []; kinds = tt; walks = refl; agree = λ past was. subst (λ c. AgreesSent at c past a) (sym is) was; texts = refl }
 
 pub agree_told : (h : List Event) (input output input' output' : ℕ → List ℕ) (cs : Clients) → ((j : ℕ) → (input' j ≡ input j) × (output' j ≡ output j)) → AllAgree h input output cs → AllAgree h input' output' cs
@@ -632,13 +618,6 @@ pub line_goes_on :
     → AllGo Is (record { core = a; history = h; clients = cs; links = links }) (record { core = b; history = h'; clients = cs; links = set links at y })
 line_goes_on {h = h} {h' = h'} {cs = cs} {a = a} {b = b} links at x y within was g =
     go_between (λ past was. all_but at past (record { core = a; history = h; clients = cs; links = links }) was) (λ past was. but_all at past (record { core = b; history = h'; clients = cs; links = set links at y }) was) (line_lends links at x y within was g)
-
--- or what it holds may be lost
-pub line_goes_but :
-    {Is : Step → Type 0} {h h' : List Event} {cs : Clients} {a b : ServedCore} (links : List Link) (at : ℕ) (x y : Link) → at < length links → x ≡ get_or links at x → LineGoesFrom LineAgrees LineLost Is at a h x b h' y
-    → AllGoFrom Agrees (AgreesBut LineLost at) Is (record { core = a; history = h; clients = cs; links = links }) (record { core = b; history = h'; clients = cs; links = set links at y })
-line_goes_but {h = h} {h' = h'} {cs = cs} {a = a} {b = b} links at x y within was g =
-    go_between (λ past was. all_but at past (record { core = a; history = h; clients = cs; links = links }) was) (λ past was. was) (line_lends links at x y within was g)
 
 -- it took over a call
 pub line_took :

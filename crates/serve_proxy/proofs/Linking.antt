@@ -1,10 +1,9 @@
 -- What is done at one link, by what its own functions say, and how that goes on among all.
-use Rattle.std.proofs.Common.{◌≡◌, ℕ, ◌<◌, zero, suc, Bool, true, false, List, [], ◌∷◌, ◌++◌, length, get_or, Option, Some, None, Result, Ok, Err, ◌⊎◌, inl, inr, refl, sym, ap, ◌∙◌, subst, arith}
+use Rattle.mc_types.specs.declared.ask.Ask.{Ask}
+use Rattle.std.proofs.Common.{◌≡◌, ℕ, ◌<◌, zero, suc, false, List, [], ◌∷◌, ◌++◌, length, get_or, Option, Some, None, Result, Ok, ◌⊎◌, inl, inr, refl, sym, ap, ◌∙◌, subst, arith, Bool}
 use Rattle.std.proofs.Math.ListN.{set}
 use Rattle.std.specs.Prelude.{MatchOption, IfOk, IsSome, slice_get}
 use Rattle.std.specs.Option.{option_map}
-use Rattle.std.specs.Result.{IsErr}
-use Rattle.mc_types.specs.declared.ask.Ask.{Ask}
 use Rattle.mc_types.specs.declared.ask.Dialect.{Dialect}
 use Rattle.mc_types.specs.declared.ask.Dialect.TheVariants.{Classic}
 use Rattle.wire_parts.specs.Sending.{bytes_of}
@@ -30,7 +29,7 @@ use Rattle.serve_links.specs.declared.settings.Greeting.{Greeting}
 use Rattle.serve_links.specs.declared.link.Opening.{Opening}
 use Rattle.serve_links.specs.declared.link.Opening.TheVariants as opening
 use Rattle.serve_links.specs.declared.link.Link.{Link}
-use Rattle.serve_links.specs.CoreSteps.{Step, Polled, Does, IsOfTurn, GoesOn}
+use Rattle.serve_links.specs.CoreSteps.{Step, Polled, Does, IsOfTurn}
 use Rattle.serve_links.specs.Dialects.{asked_in, awaits_flush}
 use Rattle.serve_links.specs.Settled.{SettlesSome, SettlesFront}
 use Rattle.serve_links.specs.Lateness.{HasLate, HasLateAt}
@@ -43,9 +42,8 @@ use Rattle.serve_links.proofs.LinkGoes.{as_lost, line_between, line_settles, lin
 use Rattle.serve_links.proofs.Story.{go_between}
 use Rattle.serve_links.proofs.Due.{one_due, one_apart}
 use Rattle.serve_links.proofs.Shutting.{shut_quiet}
-use Rattle.serve_proxy.specs.Ends.{lines_of, LinksTake, LinksGive, LineTakes, IsOpenAt, AsksIn, AllGoOn, AllGoLosing, AllGoOr}
-use Rattle.serve_proxy.specs.declared.sockets.Sockets.{Sockets}
-use Rattle.serve_proxy.proofs.Going.{and_then, core_of, may_lose, line_took, line_gave, had_quiet, numbers_kept, told_kept, set_here}
+use Rattle.serve_proxy.specs.Ends.{lines_of, LinksTake, LinksGive, LineTakes, IsOpenAt, AsksIn}
+use Rattle.serve_proxy.proofs.Going.{line_took, line_gave, had_quiet, numbers_kept, told_kept, set_here}
 use Rattle.std.proofs.lemmas.Option.{slice_get_read}
 use Rattle.serve_proxy.proofs.Staying.{line_lent}
 
@@ -202,24 +200,6 @@ settled_some {core = core} {core' = core'} x y c d sent was off alone is text wa
     line_loses x y c d s.0 was is off alone text waiting awaits speaks late (ap (λ (z : Conn). z.number) holds) (ap (λ (z : Conn). bytes_of z.unsent) holds)
     (subst (λ (l : List SentCall). SettlesSome x.calls.sent.items c.held.items core l s.0 core') (sym same) s.1)
 
--- ---- what came of a read
-
-false_true : false ≡ true → ⊥
-false_true e = cc
-
--- it stopped
-pub or_err :
-    {W A E : Type 0} (history : W → List Event) (core : ServedCore) (s : Sockets W) (core' : ServedCore) (s' : Sockets W) (r : Result A E) → IsErr r → AllGoLosing history core s core' s' → AllGoOr r history core s core' s'
-or_err history core s core' s' (Ok done) is lost = absurd (false_true is)
-or_err history core s core' s' (Err refused) is lost = lost
-
--- and before
-pub then_or :
-    {W A E : Type 0} (history : W → List Event) (core : ServedCore) (s : Sockets W) (m : ServedCore) (sm : Sockets W) (core' : ServedCore) (s' : Sockets W) (r : Result A E) → AllGoOn history core s m sm
-    → AllGoOr r history m sm core' s' → AllGoOr r history core s core' s'
-then_or history core s m sm core' s' (Ok done) first later = and_then first later
-then_or history core s m sm core' s' (Err refused) first later = and_then first later
-
 -- clients have the ends that they had, while what one link holds may be lost
 pub but_clients :
     {This : ℕ → List Step → List Event → Link → Type 0} {P : List Step → AnEnd → Type 0} {Is : Step → Type 0} {a : AnEnd} {core : ServedCore} {h : List Event} {ls : List Link} (at : ℕ) (cs cs' : Clients)
@@ -246,21 +226,6 @@ pub nowhere : (links : List Link) (at : ℕ) → (at < length links → ⊥) →
 nowhere [] at none = refl
 nowhere (link ∷ links) zero none = absurd (none (omega arith))
 nowhere (link ∷ links) (suc at) none = nowhere links at (λ within. none (omega arith))
-
--- whatever came of what was done
-pub or_any :
-    {W A E : Type 0} (history : W → List Event) (core : ServedCore) (s : Sockets W) (core' : ServedCore) (s' : Sockets W) (r : Result A E) → AllGoOn history core s core' s' → AllGoOr r history core s core' s'
-or_any history core s core' s' (Ok done) did = did
-or_any history core s core' s' (Err refused) did = may_lose did
-
-pub or_core :
-    {W A E : Type 0} (history : W → List Event) (core : ServedCore) (s : Sockets W) (core' : ServedCore) (s' : Sockets W) (r : Result A E) → AllGoOr r history core s core' s' → GoesOn core core'
-or_core history core s core' s' (Ok done) did = core_of did
-or_core history core s core' s' (Err refused) did = core_of did
-
-pub or_from :
-    {W A E : Type 0} (history : W → List Event) (core x : ServedCore) (s : Sockets W) (core' : ServedCore) (s' : Sockets W) (r : Result A E) → x ≡ core → AllGoOr r history x s core' s' → AllGoOr r history core s core' s'
-or_from history core x s core' s' r same did = subst (λ y. AllGoOr r history y s core' s') same did
 
 -- the link at this place
 pub link_there : (links read : List Link) (at : ℕ) (x : Link) → read ≡ links → at < length read → x ≡ get_or read at x → slice_get links at ≡ Some x

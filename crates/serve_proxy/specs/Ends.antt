@@ -1,5 +1,5 @@
 -- What a proxy's end has on its wire, and how that stays or goes on. Source: mcgate's own.
-use Rattle.std.specs.Prelude.{Bool, ◌≡◌, ◌≢◌, ℕ, List, [], ◌∷◌, ◌++◌, Option, Some, None, Result, Ok, Err, true, false, ◌⊎◌, IfSome, map as each, slice_get, IsSome, MatchOption}
+use Rattle.std.specs.Prelude.{Bool, ◌≡◌, ◌≢◌, ℕ, List, [], ◌∷◌, ◌++◌, Option, Some, None, true, false, ◌⊎◌, IfSome, map as each, slice_get, IsSome, MatchOption}
 use Rattle.wire_parts.specs.Sending.{bytes_of}
 use Rattle.mc_types.specs.declared.ask.Dialect.{Dialect}
 use Rattle.mc_types.specs.declared.ask.Dialect.TheVariants.{Classic}
@@ -21,7 +21,7 @@ use Rattle.serve_wire.specs.declared.conn.conn.Got.{Got}
 use Rattle.serve_wire.specs.declared.conn.conn.Got.TheVariants as got
 use Rattle.serve_proxy.specs.declared.sockets.Sockets.{Sockets}
 use Rattle.serve_links.specs.Talks.{Standing, left_by}
-use Rattle.serve_links.specs.Story.{LineState, line_of, LineAgrees, LineLost, LineFails, LineCalled, LineGoesFrom, LineGoes, OneGoes, AnEnd, Agrees, AgreesGiven, AgreesBut, AgreesCalled, AgreesSent, AgreesLosing, AllGoFrom, AllGo, texts_of}
+use Rattle.serve_links.specs.Story.{LineState, line_of, LineAgrees, LineFails, LineCalled, LineGoesFrom, LineGoes, OneGoes, AnEnd, Agrees, AgreesGiven, AgreesBut, AgreesCalled, AgreesSent, AllGoFrom, AllGo, texts_of}
 
 -- what each link has to do with its connection and its calls
 abbrev pub lines_of : List Link → List LineState
@@ -109,12 +109,9 @@ broken_unless false = Some causes.Broken
 abbrev pub LineTakes : SentCall → Link → Link → Type 0
 LineTakes call old new = (at : ℕ) (h : List Event) (core : ServedCore) → LineGoesFrom (LineCalled call) LineAgrees IsSending at core h old core h new
 
--- wherever it stands, a link's end goes on by calls of the core, or is to be given up then for a cause; or so that what it holds may be lost
+-- wherever it stands, a link's end goes on by calls of the core, or is to be given up then for a cause
 abbrev pub LineGoesUnless : Option Cause → ServedCore → Link → ServedCore → Link → Type 0
 LineGoesUnless cause core old core' new = (at : ℕ) (h : List Event) → LineGoesFrom LineAgrees (LineUnless cause) IsOfTurn at core h old core' h new
-
-abbrev pub LineGoesLosing : ServedCore → Link → ServedCore → Link → Type 0
-LineGoesLosing core old core' new = (at : ℕ) (h : List Event) → LineGoesFrom LineAgrees LineLost IsOfTurn at core h old core' h new
 
 -- of all but a core the ends are as they were
 abbrev pub Stay : {W : Type 0} → (W → List Event) → Sockets W → Sockets W → Type 0
@@ -160,27 +157,13 @@ AllGiveUp at cause history core sockets core' sockets' = AllSendFrom (AgreesBut 
 abbrev pub AllDrop : {W : Type 0} → (W → List Event) → ServedCore → Sockets W → ServedCore → Sockets W → Type 0
 AllDrop history core sockets core' sockets' = AllGo (IsGivingUp None) (end_of history core sockets) (end_of history core' sockets')
 
--- the core goes on by calls of it alone, and the ends with it, but that what the link at this place holds may be lost
-abbrev pub AllGoBut : {W : Type 0} → ℕ → (W → List Event) → ServedCore → Sockets W → ServedCore → Sockets W → Type 0
-AllGoBut at history core sockets core' sockets' = AllGoFrom Agrees (AgreesBut LineLost at) IsOfTurn (end_of history core sockets) (end_of history core' sockets')
-
--- or what some link holds
-abbrev pub AllGoLosing : {W : Type 0} → (W → List Event) → ServedCore → Sockets W → ServedCore → Sockets W → Type 0
-AllGoLosing history core sockets core' sockets' = AllGoFrom Agrees AgreesLosing IsOfTurn (end_of history core sockets) (end_of history core' sockets')
-
--- the ends go on; only where it stopped, as memory was refused, what one link holds may be lost
-abbrev pub AllGoOr : {W A E : Type 0} → Result A E → (W → List Event) → ServedCore → Sockets W → ServedCore → Sockets W → Type 0
-AllGoOr (Ok done) history core sockets core' sockets' = AllGoOn history core sockets core' sockets'
-AllGoOr (Err refused) history core sockets core' sockets' = AllGoLosing history core sockets core' sockets'
-
--- from where this holds the ends go on; only where the link at this place is to be given up for a cause, or it stopped, what that link holds may be lost
-abbrev pub AllGoFromUnless : {W E : Type 0} → (Before : List Step → AnEnd → Type 0) → ℕ → Result (Option Cause) E → (W → List Event) → ServedCore → Sockets W → ServedCore → Sockets W → Type 0
-AllGoFromUnless Before at (Ok cause) history core sockets core' sockets' = AllGoFrom Before (AgreesUnless at cause) IsOfTurn (end_of history core sockets) (end_of history core' sockets')
-AllGoFromUnless Before at (Err refused) history core sockets core' sockets' = AllGoFrom Before (AgreesBut LineLost at) IsOfTurn (end_of history core sockets) (end_of history core' sockets')
+-- from where this holds the ends go on; only where the link at this place is to be given up for a cause, what that link holds may be lost
+abbrev pub AllGoFromUnless : {W : Type 0} → (Before : List Step → AnEnd → Type 0) → ℕ → Option Cause → (W → List Event) → ServedCore → Sockets W → ServedCore → Sockets W → Type 0
+AllGoFromUnless Before at cause history core sockets core' sockets' = AllGoFrom Before (AgreesUnless at cause) IsOfTurn (end_of history core sockets) (end_of history core' sockets')
 
 -- the same where all agree before
-abbrev pub AllGoUnless : {W E : Type 0} → ℕ → Result (Option Cause) E → (W → List Event) → ServedCore → Sockets W → ServedCore → Sockets W → Type 0
-AllGoUnless at r history core sockets core' sockets' = AllGoFromUnless Agrees at r history core sockets core' sockets'
+abbrev pub AllGoUnless : {W : Type 0} → ℕ → Option Cause → (W → List Event) → ServedCore → Sockets W → ServedCore → Sockets W → Type 0
+AllGoUnless at cause history core sockets core' sockets' = AllGoFromUnless Agrees at cause history core sockets core' sockets'
 
 -- a peer was just accepted by this new connection, and all go on from before that
 abbrev pub AllGoAccepted : {W : Type 0} → (W → List Event) → (conn : ℕ) → ServedCore → Sockets W → ServedCore → Sockets W → Type 0

@@ -1,9 +1,9 @@
 //! Links are read, and whole answers settle the calls that are out.
 
-ghost use Rattle.std.specs.Prelude.{◌≡◌, ℕ, [], None, IfOk};
+ghost use Rattle.std.specs.Prelude.{◌≡◌, ℕ, [], None};
 ghost use Rattle.serve_clients.specs.Agrees.{KeepsEnds};
 ghost use Rattle.serve_links.specs.Story.{line_of};
-ghost use Rattle.serve_proxy.specs.Ends.{LineStandsUnless, LineGoesUnless, LineGoesLosing, over_by, over_of, AgreesUnless, Stay, GoAloneUnless, AllFailOn, AllGoOr, AllGoUnless, AllGoFromUnless};
+ghost use Rattle.serve_proxy.specs.Ends.{LineStandsUnless, LineGoesUnless, over_by, over_of, AgreesUnless, Stay, GoAloneUnless, AllFailOn, AllGoOn, AllGoUnless, AllGoFromUnless};
 
 use crate::calls::begin_settled;
 use crate::failing::fail_link;
@@ -13,67 +13,52 @@ use serve_clients::Clients;
 use serve_links::{Cause, KEPT_ROOM, LateEnd, Link, settle_held, vain};
 use serve_wire::Wire;
 use serve_wire::conn::Got;
-use std::alloc::AllocError;
-use std::io;
 
 /// Links that are ready are read.
-pub fn read_links<W: Wire>(core: &mut ServedCore, sockets: &mut Sockets<W>) -> io::Result<()>
-    ensures ends { AllGoOr result W.history core.old sockets.old core.new sockets.new }
+pub fn read_links<W: Wire>(core: &mut ServedCore, sockets: &mut Sockets<W>)
+    ensures ends { AllGoOn W.history core.old sockets.old core.new sockets.new }
 {
     let links = sockets.work.take(&mut sockets.links.ready);
     for at in links.as_slice() {
         sockets.links.end_ready(*at);
-        serve_link(core, sockets, *at)?;
+        serve_link(core, sockets, *at);
     }
     sockets.work.end(links);
-    Ok(())
 }
 
 /// The link is read, and fails where it has failed by that. So is the connection whose end is awaited.
-pub fn serve_link<W: Wire>(
-    core: &mut ServedCore,
-    sockets: &mut Sockets<W>,
-    at: usize,
-) -> io::Result<()>
-    ensures ends { AllGoOr result W.history core.old sockets.old core.new sockets.new }
+pub fn serve_link<W: Wire>(core: &mut ServedCore, sockets: &mut Sockets<W>, at: usize)
+    ensures ends { AllGoOn W.history core.old sockets.old core.new sockets.new }
 {
-    sockets.drain(at)?;
+    sockets.drain(at);
     serve_used(core, sockets, at)
 }
 
 // The same of the connection in use.
-fn serve_used<W: Wire>(core: &mut ServedCore, sockets: &mut Sockets<W>, at: usize) -> io::Result<()>
-    ensures ends { AllGoOr result W.history core.old sockets.old core.new sockets.new }
+fn serve_used<W: Wire>(core: &mut ServedCore, sockets: &mut Sockets<W>, at: usize)
+    ensures ends { AllGoOn W.history core.old sockets.old core.new sockets.new }
 {
-    match read_link(core, sockets, at)? {
-        Some(cause) => Ok(fail_link(core, sockets, at, cause)?),
-        None => Ok(go_on_with(core, sockets, at)?),
+    match read_link(core, sockets, at) {
+        Some(cause) => fail_link(core, sockets, at, cause),
+        None => go_on_with(core, sockets, at),
     }
 }
 
 // Calls that waited go out in the places of those that were settled, and what is left is read.
-fn go_on_with<W: Wire>(
-    core: &mut ServedCore,
-    sockets: &mut Sockets<W>,
-    at: usize,
-) -> Result<(), AllocError>
+fn go_on_with<W: Wire>(core: &mut ServedCore, sockets: &mut Sockets<W>, at: usize)
     ensures ends { AllFailOn W.history core.old sockets.old core.new sockets.new }
 {
-    begin_settled(core, sockets, at)?;
+    begin_settled(core, sockets, at);
     sockets.links.mark_rest(at)
 }
 
 // One read, and all whole answers are settled. Why the link fails by that, if it does.
-fn read_link<W: Wire>(
-    core: &mut ServedCore,
-    sockets: &mut Sockets<W>,
-    at: usize,
-) -> io::Result<Option<Cause>>
+fn read_link<W: Wire>(core: &mut ServedCore, sockets: &mut Sockets<W>, at: usize) -> Option<Cause>
     ensures ends { AllGoUnless at result W.history core.old sockets.old core.new sockets.new }
 {
     match sockets.read_link_once(at) {
         Some(got) => settle_read(core, sockets, at, got),
-        None => Ok(None),
+        None => None,
     }
 }
 
@@ -83,7 +68,7 @@ fn settle_read<W: Wire>(
     sockets: &mut Sockets<W>,
     at: usize,
     got: Got,
-) -> io::Result<Option<Cause>>
+) -> Option<Cause>
     ensures ends { AllGoFromUnless (AgreesUnless at (over_by got)) at result W.history core.old sockets.old core.new sockets.new }
 {
     match got {
@@ -91,10 +76,10 @@ fn settle_read<W: Wire>(
             sockets.note_came(at);
             learn_and_settle(core, sockets, at)
         }
-        Got::Nothing => Ok(sockets.read_in_vain(at)),
-        Got::Full => Ok(Some(Cause::Foreign)),
-        Got::Ended => Ok(Some(Cause::Closed)),
-        Got::Failed => Ok(Some(Cause::Broken)),
+        Got::Nothing => sockets.read_in_vain(at),
+        Got::Full => Some(Cause::Foreign),
+        Got::Ended => Some(Cause::Closed),
+        Got::Failed => Some(Cause::Broken),
     }
 }
 
@@ -103,20 +88,20 @@ fn learn_and_settle<W: Wire>(
     core: &mut ServedCore,
     sockets: &mut Sockets<W>,
     at: usize,
-) -> io::Result<Option<Cause>>
+) -> Option<Cause>
     ensures ends { AllGoUnless at result W.history core.old sockets.old core.new sockets.new }
 {
     let polls = sockets.links.settings.polls;
     let Some(link) = sockets.links.all.get_mut(at) else {
-        return Ok(None);
+        return None;
     };
-    Ok(settle_line(
+    settle_line(
         link,
         core,
         &mut sockets.clients,
         &mut sockets.is_freed,
         polls,
-    )?)
+    )
 }
 
 // The same of the link alone.
@@ -126,19 +111,18 @@ fn settle_line(
     clients: &mut Clients,
     is_freed: &mut bool,
     polls: Option<u32>,
-) -> Result<Option<Cause>, AllocError>
-    ensures goes { IfOk result (λ cause. LineGoesUnless cause core.old link.old core.new link.new) }
-    ensures lost { LineGoesLosing core.old link.old core.new link.new }
+) -> Option<Cause>
+    ensures goes { LineGoesUnless result core.old link.old core.new link.new }
     ensures ends { KeepsEnds clients.old clients.new }
 {
     if !link.awaits_greeting() {
         return settle_after_late(link, core, clients, is_freed, false, polls);
     }
     if !link.learn() {
-        return Ok(Some(Cause::Foreign));
+        return Some(Cause::Foreign);
     }
     if link.awaits_greeting() {
-        return Ok(vain(link.has_read(false, polls)));
+        return vain(link.has_read(false, polls));
     }
     settle_after_late(link, core, clients, is_freed, true, polls)
 }
@@ -151,10 +135,9 @@ fn settle_after_late(
     is_freed: &mut bool,
     has_answered: bool,
     polls: Option<u32>,
-) -> Result<Option<Cause>, AllocError>
+) -> Option<Cause>
     requires { link.old.awaits_dialect ≡ None }
-    ensures goes { IfOk result (λ cause. LineGoesUnless cause core.old link.old core.new link.new) }
-    ensures lost { LineGoesLosing core.old link.old core.new link.new }
+    ensures goes { LineGoesUnless result core.old link.old core.new link.new }
     ensures ends { KeepsEnds clients.old clients.new }
 {
     if !link.awaits_late() {
@@ -162,8 +145,8 @@ fn settle_after_late(
     }
     match link.throw_late() {
         LateEnd::Over => settle_all(link, core, clients, is_freed, true, polls),
-        LateEnd::More => Ok(None),
-        LateEnd::Foreign => Ok(Some(Cause::Foreign)),
+        LateEnd::More => None,
+        LateEnd::Foreign => Some(Cause::Foreign),
     }
 }
 
@@ -175,23 +158,22 @@ fn settle_all(
     is_freed: &mut bool,
     has_answered: bool,
     polls: Option<u32>,
-) -> Result<Option<Cause>, AllocError>
+) -> Option<Cause>
     requires told { link.old.awaits_dialect ≡ None }
     requires alone { link.old.late.items ≡ [] }
-    ensures goes { IfOk result (λ cause. LineGoesUnless cause core.old link.old core.new link.new) }
-    ensures lost { LineGoesLosing core.old link.old core.new link.new }
+    ensures goes { LineGoesUnless result core.old link.old core.new link.new }
     ensures ends { KeepsEnds clients.old clients.new }
 {
     let Some(conn) = link.conn.as_mut() else {
-        return Ok(None);
+        return None;
     };
-    let answers = settle_held(&mut link.calls, core, clients, is_freed, conn)?;
+    let answers = settle_held(&mut link.calls, core, clients, is_freed, conn);
     link.awaited = answers.awaited;
     let has_failed = link.has_read(has_answered || answers.has_settled, polls);
     if !answers.is_kept {
-        return Ok(Some(Cause::Foreign));
+        return Some(Cause::Foreign);
     }
-    Ok(vain(has_failed))
+    vain(has_failed)
 }
 
 impl<W: Wire> Sockets<W> {

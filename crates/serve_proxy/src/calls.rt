@@ -10,7 +10,6 @@ use core_accepted::ServedCore;
 use core_proxy::Ticket;
 use serve_links::calls::{SentCall, fail_call};
 use serve_wire::Wire;
-use std::alloc::AllocError;
 use std::net::Net;
 
 /// The call is written to its server's link or waits for it, or has failed. Where nothing is out there, what came over the link's
@@ -21,10 +20,10 @@ pub fn send_call<W: Wire, N: Net>(
     sockets: &mut Sockets<W>,
     id: usize,
     ticket: Ticket,
-) -> Result<(), AllocError>
+)
     ensures ends { AllSendFrom (AgreesTicket ticket) W.history core.old sockets.old core.new sockets.new }
 {
-    look_at_idle(core, sockets, ticket.server.number() as usize)?;
+    look_at_idle(core, sockets, ticket.server.number() as usize);
     send_looked(net, core, sockets, id, ticket)
 }
 
@@ -35,7 +34,7 @@ fn send_looked<W: Wire, N: Net>(
     sockets: &mut Sockets<W>,
     id: usize,
     ticket: Ticket,
-) -> Result<(), AllocError>
+)
     ensures ends { AllSendFrom (AgreesTicket ticket) W.history core.old sockets.old core.new sockets.new }
 {
     let at = ticket.server.number() as usize;
@@ -55,15 +54,16 @@ fn send_looked<W: Wire, N: Net>(
     if sockets.links.is_full(at, bulk) {
         return let_wait(core, sockets, at, call);
     }
-    begin_call(core, sockets, at, call)?;
+    begin_call(core, sockets, at, call);
     sockets.links.mark_output(at)
 }
 
-// However long the call waited, it has half of a call's time for its answer at least.
-fn renewed(call: SentCall, time: u64, call_ms: u64) -> SentCall
-    ensures { result ≡ record call { since = result.since } }
+// However long the call waited, it has half of a call's time for its answer at least, of which so many bytes are expected by now.
+fn renewed(call: SentCall, bulk: usize, time: u64, call_ms: u64) -> SentCall
+    ensures { result ≡ record call { since = result.since; bulk = result.bulk } }
 {
     let mut call = call;
+    call.bulk = bulk;
     call.since = call.since.max(time.saturating_sub(call_ms / 2));
     call
 }
@@ -77,81 +77,56 @@ impl<W: Wire> Sockets<W> {
 }
 
 // The call waits until its server takes more, or has failed. Until then none of its client's commands begins.
-fn let_wait<W: Wire>(
-    core: &mut ServedCore,
-    sockets: &mut Sockets<W>,
-    at: usize,
-    call: SentCall,
-) -> Result<(), AllocError>
+fn let_wait<W: Wire>(core: &mut ServedCore, sockets: &mut Sockets<W>, at: usize, call: SentCall)
     ensures ends { AllSendFrom (AgreesSent at call) W.history core.old sockets.old core.new sockets.new }
 {
     let client = call.client;
     match sockets.links.let_wait(at, call) {
         Ok(()) => {
             sockets.clients.mark_waiting(client);
-            Ok(())
         }
         Err(call) => refuse_call(core, sockets, client, call.ticket),
     }
 }
 
 // The call is written to its server's link, or has failed.
-fn begin_call<W: Wire>(
-    core: &mut ServedCore,
-    sockets: &mut Sockets<W>,
-    at: usize,
-    call: SentCall,
-) -> Result<(), AllocError>
+fn begin_call<W: Wire>(core: &mut ServedCore, sockets: &mut Sockets<W>, at: usize, call: SentCall)
     ensures ends { AllSendFrom (AgreesSent at call) W.history core.old sockets.old core.new sockets.new }
 {
     match sockets.links.write_call(at, call) {
-        Ok(()) => Ok(()),
+        Ok(()) => {}
         Err(call) => refuse_call(core, sockets, call.client, call.ticket),
     }
 }
 
 // The call has failed, and never went out.
-fn refuse_call<W: Wire>(
-    core: &mut ServedCore,
-    sockets: &mut Sockets<W>,
-    id: usize,
-    ticket: Ticket,
-) -> Result<(), AllocError>
+fn refuse_call<W: Wire>(core: &mut ServedCore, sockets: &mut Sockets<W>, id: usize, ticket: Ticket)
     ensures ends { AllSendFrom (AgreesDue ticket.number) W.history core.old sockets.old core.new sockets.new }
 {
     fail_call(core, ticket);
     sockets.clients.mark_settled(id);
-    Ok(())
 }
 
 /// Calls that waited are written to the link, up to a backlog. Whether one was.
-pub fn begin_waiting<W: Wire>(
-    core: &mut ServedCore,
-    sockets: &mut Sockets<W>,
-    at: usize,
-) -> Result<bool, AllocError>
+pub fn begin_waiting<W: Wire>(core: &mut ServedCore, sockets: &mut Sockets<W>, at: usize) -> bool
     ensures ends { AllFailOn W.history core.old sockets.old core.new sockets.new }
 {
     let mut has_begun = false;
     for _ in 0..sockets.links.waiting(at) {
-        if !begin_next(core, sockets, at)? {
-            return Ok(has_begun);
+        if !begin_next(core, sockets, at) {
+            return has_begun;
         }
         has_begun = true;
     }
-    Ok(has_begun)
+    has_begun
 }
 
 // The first call that waits is written to the link, if it may go out. Whether it did.
-fn begin_next<W: Wire>(
-    core: &mut ServedCore,
-    sockets: &mut Sockets<W>,
-    at: usize,
-) -> Result<bool, AllocError>
+fn begin_next<W: Wire>(core: &mut ServedCore, sockets: &mut Sockets<W>, at: usize) -> bool
     ensures ends { AllFailOn W.history core.old sockets.old core.new sockets.new }
 {
-    match sockets.links.next_waiting(at) {
-        None => Ok(false),
+    match sockets.links.next_waiting(at, &sockets.clients) {
+        None => false,
         Some(call) => begin_waited(core, sockets, at, call),
     }
 }
@@ -162,41 +137,33 @@ fn begin_waited<W: Wire>(
     sockets: &mut Sockets<W>,
     at: usize,
     call: SentCall,
-) -> Result<bool, AllocError>
+) -> bool
     ensures ends { AllSendFrom (AgreesSent at call) W.history core.old sockets.old core.new sockets.new }
 {
     sockets.clients.end_waiting(call.client);
-    let call = renewed(call, sockets.time, sockets.links.settings.call_ms);
-    begin_call(core, sockets, at, call)?;
-    Ok(true)
+    let bulk = sockets.bulk_of(call.client, at, &call.ticket);
+    let call = renewed(call, bulk, sockets.time, sockets.links.settings.call_ms);
+    begin_call(core, sockets, at, call);
+    true
 }
 
 /// Calls that have waited too long for the link fail, who waited longest first. The link stays as it is.
-pub fn fail_waited<W: Wire>(
-    core: &mut ServedCore,
-    sockets: &mut Sockets<W>,
-    at: usize,
-) -> Result<(), AllocError>
+pub fn fail_waited<W: Wire>(core: &mut ServedCore, sockets: &mut Sockets<W>, at: usize)
     ensures ends { AllFailOn W.history core.old sockets.old core.new sockets.new }
 {
     for _ in 0..sockets.links.waiting(at) {
-        if !fail_next(core, sockets, at)? {
-            return Ok(());
+        if !fail_next(core, sockets, at) {
+            return;
         }
     }
-    Ok(())
 }
 
 // The first call that waits has failed, if it has waited too long. Whether it has.
-fn fail_next<W: Wire>(
-    core: &mut ServedCore,
-    sockets: &mut Sockets<W>,
-    at: usize,
-) -> Result<bool, AllocError>
+fn fail_next<W: Wire>(core: &mut ServedCore, sockets: &mut Sockets<W>, at: usize) -> bool
     ensures ends { AllFailOn W.history core.old sockets.old core.new sockets.new }
 {
     match sockets.links.next_too_late(at) {
-        None => Ok(false),
+        None => false,
         Some(call) => refuse_waited(core, sockets, at, call),
     }
 }
@@ -207,27 +174,22 @@ fn refuse_waited<W: Wire>(
     sockets: &mut Sockets<W>,
     at: usize,
     call: SentCall,
-) -> Result<bool, AllocError>
+) -> bool
     ensures ends { AllSendFrom (AgreesSent at call) W.history core.old sockets.old core.new sockets.new }
 {
     sockets.clients.end_waiting(call.client);
-    refuse_call(core, sockets, call.client, call.ticket)?;
-    Ok(true)
+    refuse_call(core, sockets, call.client, call.ticket);
+    true
 }
 
 /// Calls that waited for the link go out as far as it takes them, where one was settled or the link stands.
-pub fn begin_settled<W: Wire>(
-    core: &mut ServedCore,
-    sockets: &mut Sockets<W>,
-    at: usize,
-) -> Result<(), AllocError>
+pub fn begin_settled<W: Wire>(core: &mut ServedCore, sockets: &mut Sockets<W>, at: usize)
     ensures ends { AllFailOn W.history core.old sockets.old core.new sockets.new }
 {
     if sockets.links.waiting(at) == 0 {
-        return Ok(());
+        return;
     }
-    if begin_waiting(core, sockets, at)? {
+    if begin_waiting(core, sockets, at) {
         return sockets.links.mark_output(at);
     }
-    Ok(())
 }

@@ -13,7 +13,6 @@ use crate::sockets::{Sockets, close_if_any};
 use serve_clients::Client;
 use serve_links::IDLE_ROOM;
 use serve_wire::Wire;
-use std::alloc::AllocError;
 
 /// What a client's polls ended with.
 #[derive(Clone, Copy, PartialEq, Eq)]
@@ -156,25 +155,24 @@ impl<W: Wire> Sockets<W> {
     }
 
     /// What its polls ended with, and what may be done for it, is noted.
-    pub fn mark_rest(&mut self, id: usize, rest: Rest) -> Result<(), AllocError>
+    pub fn mark_rest(&mut self, id: usize, rest: Rest)
         ensures ends { Stay W.history self.old self.new }
     {
         // Who was served has room that it may not need for long.
         self.rooms.note(false, true, self.time);
         self.note_held(id);
         let is_more = self.note_rest(id, rest);
-        self.mark_busy_if(id, rest == Rest::Busy)?;
-        self.mark_ready_if(id, is_more)
+        self.mark_busy_if(id, rest == Rest::Busy);
+        self.mark_ready_if(id, is_more);
     }
 
     // A command of it waits for a key or a server, if it is so.
-    fn mark_busy_if(&mut self, id: usize, is_busy: bool) -> Result<(), AllocError>
+    fn mark_busy_if(&mut self, id: usize, is_busy: bool)
         ensures ends { Stay W.history self.old self.new }
     {
         if is_busy {
             self.clients.mark_busy(id);
         }
-        Ok(())
     }
 
     // The same of its end alone: whether more may be done for it.
@@ -189,13 +187,12 @@ impl<W: Wire> Sockets<W> {
     }
 
     /// It is to be served, if it is so.
-    pub fn mark_ready_if(&mut self, id: usize, is_more: bool) -> Result<(), AllocError>
+    pub fn mark_ready_if(&mut self, id: usize, is_more: bool)
         ensures ends { Stay W.history self.old self.new }
     {
         if is_more {
             self.clients.mark_ready(id);
         }
-        Ok(())
     }
 
     /// Whether what is to be sent to it is held back in this turn. In rounds all is sent as it comes.

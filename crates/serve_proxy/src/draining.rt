@@ -9,35 +9,29 @@ use crate::showing::give_back_client;
 use crate::sockets::Sockets;
 use core_accepted::ServedCore;
 use serve_wire::Wire;
-use std::io;
 
 /// Nothing more is read of clients of which nothing is under way. Each of them is closed by the next turn.
-pub fn end_quiet<W: Wire>(core: &mut ServedCore, sockets: &mut Sockets<W>) -> io::Result<()>
+pub fn end_quiet<W: Wire>(core: &mut ServedCore, sockets: &mut Sockets<W>)
     ensures ends { AllGoOn W.history core.old sockets.old core.new sockets.new }
 {
     for id in 0..sockets.clients.len() {
-        end_if_quiet(core, sockets, id)?;
+        end_if_quiet(core, sockets, id);
     }
-    Ok(())
 }
 
 // The same of this one.
-fn end_if_quiet<W: Wire>(
-    core: &mut ServedCore,
-    sockets: &mut Sockets<W>,
-    id: usize,
-) -> io::Result<()>
+fn end_if_quiet<W: Wire>(core: &mut ServedCore, sockets: &mut Sockets<W>, id: usize)
     ensures ends { AllGoOn W.history core.old sockets.old core.new sockets.new }
 {
-    let is_done = give_back_client(core, sockets, id)?;
+    let is_done = give_back_client(core, sockets, id);
     if !is_done {
-        return Ok(());
+        return;
     }
     if !sockets.is_quiet(id) {
-        return Ok(());
+        return;
     }
     sockets.end_client(id);
-    Ok(sockets.mark_ready_if(id, true)?)
+    sockets.mark_ready_if(id, true)
 }
 
 impl<W: Wire> Sockets<W> {

@@ -1,11 +1,11 @@
 //! Links fail: their connections broke, brought what is no answer, or took too long.
 
-ghost use Rattle.std.specs.Prelude.{◌≡◌, ◌⊎◌, ℕ, OnOk};
+ghost use Rattle.std.specs.Prelude.{◌≡◌, ◌⊎◌, ℕ};
 ghost use Rattle.serve_wire.specs.Events.{time};
 ghost use Rattle.serve_links.specs.Lateness.{HasLateAt, IsConnectLateAt};
 ghost use Rattle.serve_links.specs.Links.{IsDownAt, IsClosedAt};
 ghost use Rattle.serve_links.specs.Talks.{Apart, Ending};
-ghost use Rattle.serve_proxy.specs.Ends.{idle_cause, GoAlone, GoAloneUnless, LineStands, AllFailOn, AllGiveUp, AllLeave, AllGoOr};
+ghost use Rattle.serve_proxy.specs.Ends.{idle_cause, GoAlone, GoAloneUnless, LineStands, AllFailOn, AllGiveUp, AllLeave, AllGoOn};
 
 use crate::answers::{read_line, serve_link};
 use crate::calls::fail_waited;
@@ -14,8 +14,6 @@ use core_accepted::ServedCore;
 use serve_links::{Cause, Lateness, Link, fail_all, fail_late as fail_out};
 use serve_wire::Wire;
 use serve_wire::conn::Got;
-use std::alloc::AllocError;
-use std::io;
 
 // So many reads at most are made at once of a connection whose end is awaited.
 const DRAIN_READS: usize = 64;
@@ -24,32 +22,22 @@ const DRAIN_READS: usize = 64;
 const LATE_READS: usize = 1_024;
 
 /// The link's calls have all failed, and no connection is in use. One that can't be kept is closed once its end has come.
-pub fn fail_link<W: Wire>(
-    core: &mut ServedCore,
-    sockets: &mut Sockets<W>,
-    at: usize,
-    cause: Cause,
-) -> Result<(), AllocError>
+pub fn fail_link<W: Wire>(core: &mut ServedCore, sockets: &mut Sockets<W>, at: usize, cause: Cause)
     ensures ends { AllGiveUp at cause W.history core.old sockets.old core.new sockets.new }
 {
     if !cause.drains() {
         return shut_link(core, sockets, at, cause);
     }
-    drain_link(core, sockets, at, cause)?;
+    drain_link(core, sockets, at, cause);
     sockets.drain_now(at)
 }
 
 // The link's calls have all failed, and its connection, which can't be kept, is used no more: nothing more is sent over it.
-fn drain_link<W: Wire>(
-    core: &mut ServedCore,
-    sockets: &mut Sockets<W>,
-    at: usize,
-    cause: Cause,
-) -> Result<(), AllocError>
+fn drain_link<W: Wire>(core: &mut ServedCore, sockets: &mut Sockets<W>, at: usize, cause: Cause)
     ensures ends { AllLeave Ending at W.history core.old sockets.old core.new sockets.new }
 {
     match sockets.links.all.get_mut(at) {
-        None => Ok(()),
+        None => {}
         Some(link) => {
             let drained = link.drain(cause, sockets.time, &sockets.links.settings);
             shut_if_any(&mut sockets.wire, drained);
@@ -61,18 +49,13 @@ fn drain_link<W: Wire>(
 }
 
 /// The link's calls have all failed, and its connection was closed.
-pub fn shut_link<W: Wire>(
-    core: &mut ServedCore,
-    sockets: &mut Sockets<W>,
-    at: usize,
-    cause: Cause,
-) -> Result<(), AllocError>
+pub fn shut_link<W: Wire>(core: &mut ServedCore, sockets: &mut Sockets<W>, at: usize, cause: Cause)
     ensures ends { AllLeave Apart at W.history core.old sockets.old core.new sockets.new }
-    ensures down { OnOk result (IsDownAt at sockets.new.links.all.items) }
+    ensures down { IsDownAt at sockets.new.links.all.items }
     ensures closed { IsClosedAt at sockets.new.links.all.items }
 {
     match sockets.links.all.get_mut(at) {
-        None => Ok(()),
+        None => {}
         Some(link) => {
             let closed = link.close(cause, sockets.time, &sockets.links.settings);
             close_if_any(&mut sockets.wire, closed);
@@ -85,56 +68,42 @@ pub fn shut_link<W: Wire>(
 
 /// What came over the link's connection while no call was out is no answer, and a connection that has ended takes no call: the link fails by
 /// either before a call goes out, so that the call goes to a new connection.
-pub fn look_at_idle<W: Wire>(
-    core: &mut ServedCore,
-    sockets: &mut Sockets<W>,
-    at: usize,
-) -> Result<(), AllocError>
+pub fn look_at_idle<W: Wire>(core: &mut ServedCore, sockets: &mut Sockets<W>, at: usize)
     ensures ends { AllFailOn W.history core.old sockets.old core.new sockets.new }
 {
     match sockets.read_idle(at) {
         Some(cause) => fail_link(core, sockets, at, cause),
-        None => Ok(()),
+        None => {}
     }
 }
 
 /// Links whose connections have taken too long fail, if one may have, and so do calls that have, with all others of their links. What has come over them is read and settled before: the system was asked for it
 /// after the clock was looked at, and had nothing.
-pub fn fail_late<W: Wire>(core: &mut ServedCore, sockets: &mut Sockets<W>) -> io::Result<()>
-    ensures ends { AllGoOr result W.history core.old sockets.old core.new sockets.new }
+pub fn fail_late<W: Wire>(core: &mut ServedCore, sockets: &mut Sockets<W>)
+    ensures ends { AllGoOn W.history core.old sockets.old core.new sockets.new }
 {
     sockets.links.look(sockets.time);
     if !sockets.links.may_be_late(sockets.time) {
-        return Ok(());
+        return;
     }
     for at in 0..sockets.links.all.len() {
-        fail_if_late(core, sockets, at)?;
+        fail_if_late(core, sockets, at);
     }
     sockets.links.note_limits();
-    Ok(())
 }
 
-fn fail_if_late<W: Wire>(
-    core: &mut ServedCore,
-    sockets: &mut Sockets<W>,
-    at: usize,
-) -> io::Result<()>
-    ensures ends { AllGoOr result W.history core.old sockets.old core.new sockets.new }
+fn fail_if_late<W: Wire>(core: &mut ServedCore, sockets: &mut Sockets<W>, at: usize)
+    ensures ends { AllGoOn W.history core.old sockets.old core.new sockets.new }
 {
-    read_late(core, sockets, at)?;
+    read_late(core, sockets, at);
     match sockets.lateness(at) {
-        Some(late) => Ok(fail_by(core, sockets, at, late)?),
-        None => Ok(fail_waited(core, sockets, at)?),
+        Some(late) => fail_by(core, sockets, at, late),
+        None => fail_waited(core, sockets, at),
     }
 }
 
 // What the link has waited for has taken too long.
-fn fail_by<W: Wire>(
-    core: &mut ServedCore,
-    sockets: &mut Sockets<W>,
-    at: usize,
-    late: Lateness,
-) -> Result<(), AllocError>
+fn fail_by<W: Wire>(core: &mut ServedCore, sockets: &mut Sockets<W>, at: usize, late: Lateness)
     ensures ends { AllFailOn W.history core.old sockets.old core.new sockets.new }
 {
     match late {
@@ -145,99 +114,80 @@ fn fail_by<W: Wire>(
 }
 
 // The link's late answers didn't come for too long, or not the end of its connection: that is kept no longer.
-fn give_up<W: Wire>(
-    core: &mut ServedCore,
-    sockets: &mut Sockets<W>,
-    at: usize,
-) -> Result<(), AllocError>
+fn give_up<W: Wire>(core: &mut ServedCore, sockets: &mut Sockets<W>, at: usize)
     ensures ends { AllFailOn W.history core.old sockets.old core.new sockets.new }
 {
     sockets.stop_draining(at);
     if !sockets.links.awaits_late(at) {
-        return Ok(());
+        return;
     }
     fail_link(core, sockets, at, Cause::AnswerLate)
 }
 
 // If the link's connection has taken too long to stand, by what the clock showed last, it is given up.
-fn fail_unconnected<W: Wire>(
-    core: &mut ServedCore,
-    sockets: &mut Sockets<W>,
-    at: usize,
-) -> Result<(), AllocError>
+fn fail_unconnected<W: Wire>(core: &mut ServedCore, sockets: &mut Sockets<W>, at: usize)
     ensures ends { AllFailOn W.history core.old sockets.old core.new sockets.new }
     ensures late { IsConnectLateAt at sockets.old.links.settings.connect_ms (time (W.history sockets.old.wire)) sockets.old.links.all.items ⊎ ((sockets.new ≡ sockets.old) × (core.new ≡ core.old)) }
 {
     let now = sockets.wire.last_millis();
     if !sockets.links.is_connect_late(at, now) {
-        return Ok(());
+        return;
     }
     fail_link(core, sockets, at, Cause::ConnectLate)
 }
 
 // The link's calls have all failed. Those that are out keep their places, so that their answers meet no other calls; until these have come, further
 // calls fail at once.
-fn fail_calls<W: Wire>(
-    core: &mut ServedCore,
-    sockets: &mut Sockets<W>,
-    at: usize,
-) -> Result<(), AllocError>
+fn fail_calls<W: Wire>(core: &mut ServedCore, sockets: &mut Sockets<W>, at: usize)
     ensures ends { AllFailOn W.history core.old sockets.old core.new sockets.new }
 {
-    fail_sent(core, sockets, at)?;
+    fail_sent(core, sockets, at);
     fail_waited(core, sockets, at)
 }
 
 // If one of those that are out is late by what the clock showed last, they have.
-fn fail_sent<W: Wire>(
-    core: &mut ServedCore,
-    sockets: &mut Sockets<W>,
-    at: usize,
-) -> Result<(), AllocError>
+fn fail_sent<W: Wire>(core: &mut ServedCore, sockets: &mut Sockets<W>, at: usize)
     ensures ends { AllFailOn W.history core.old sockets.old core.new sockets.new }
     ensures late { HasLateAt at sockets.old.links.settings.call_ms (time (W.history sockets.old.wire)) sockets.old.links.all.items ⊎ (core.new ≡ core.old) }
 {
     let now = sockets.wire.last_millis();
     match sockets.links.all.get_mut(at) {
-        None => Ok(()),
+        None => {}
         Some(link) => {
             sockets.links.has_news = true;
             sockets.is_freed = true;
-            // (where memory is refused those that are left fail in the next turn)
-            let _ = fail_out(
+            fail_out(
                 link,
                 core,
                 &mut sockets.clients,
                 now,
                 &sockets.links.settings,
             );
-            Ok(())
         }
     }
 }
 
 // What has come over a link that is late is read, until it is late no longer or nothing more is there.
-fn read_late<W: Wire>(core: &mut ServedCore, sockets: &mut Sockets<W>, at: usize) -> io::Result<()>
-    ensures ends { AllGoOr result W.history core.old sockets.old core.new sockets.new }
+fn read_late<W: Wire>(core: &mut ServedCore, sockets: &mut Sockets<W>, at: usize)
+    ensures ends { AllGoOn W.history core.old sockets.old core.new sockets.new }
 {
     for _ in 0..LATE_READS {
         if sockets.lateness(at).is_none() {
-            return Ok(());
+            return;
         }
-        look_again(core, sockets, at)?;
+        look_again(core, sockets, at);
         if !sockets.links.may_have_more(at) {
-            return Ok(());
+            return;
         }
     }
-    Ok(())
 }
 
 // The system is asked whether the link's connection stands, or for what has come over it, though it told of nothing.
-fn look_again<W: Wire>(core: &mut ServedCore, sockets: &mut Sockets<W>, at: usize) -> io::Result<()>
-    ensures ends { AllGoOr result W.history core.old sockets.old core.new sockets.new }
+fn look_again<W: Wire>(core: &mut ServedCore, sockets: &mut Sockets<W>, at: usize)
+    ensures ends { AllGoOn W.history core.old sockets.old core.new sockets.new }
 {
-    if sockets.links.look_again(&sockets.wire, at)? {
-        return Ok(());
+    if sockets.links.look_again(&sockets.wire, at) {
+        return;
     }
     serve_link(core, sockets, at)
 }
@@ -313,23 +263,22 @@ impl<W: Wire> Sockets<W> {
     }
 
     /// What has come over the link's connection whose end is awaited is thrown away, if it has one. Where more may be there it is to be read again.
-    pub fn drain(&mut self, at: usize) -> Result<(), AllocError>
+    pub fn drain(&mut self, at: usize)
         ensures ends { GoAlone W.history self.old self.new }
     {
         if self.drain_once(at) {
-            return self.links.mark_ready(at);
+            self.links.mark_ready(at);
         }
-        Ok(())
     }
 
     // The same of a connection that was just given up: its end may be there at once.
-    fn drain_now(&mut self, at: usize) -> Result<(), AllocError>
+    fn drain_now(&mut self, at: usize)
         ensures ends { GoAlone W.history self.old self.new }
     {
         for _ in 0..DRAIN_READS {
             if !self.drain_once(at) {
                 self.links.note_limit(at);
-                return Ok(());
+                return;
             }
         }
         self.links.note_limit(at);

@@ -277,14 +277,14 @@ impl Links {
     }
 
     /// What the system told of a link.
-    pub fn note(&mut self, at: usize, told: Ready) -> Result<(), AllocError>
+    pub fn note(&mut self, at: usize, told: Ready)
         ensures lines { lines_of self.new.all.items ≡ lines_of self.old.all.items }
     {
         let Some(link) = self.all.get_mut(at) else {
-            return Ok(());
+            return;
         };
         let Some(is_news) = note_told(link, told) else {
-            return Ok(());
+            return;
         };
         self.note_news(at, is_news);
         self.mark_told(at, told)
@@ -300,20 +300,19 @@ impl Links {
     }
 
     // It is to be read and written, where that was told.
-    fn mark_told(&mut self, at: usize, told: Ready) -> Result<(), AllocError>
+    fn mark_told(&mut self, at: usize, told: Ready)
         ensures lines { lines_of self.new.all.items ≡ lines_of self.old.all.items }
     {
         if told.reads {
-            self.mark_ready(at)?;
+            self.mark_ready(at);
         }
         if told.writes {
-            return self.mark_output(at);
+            self.mark_output(at);
         }
-        Ok(())
     }
 
     /// It is to be read.
-    pub fn mark_ready(&mut self, at: usize) -> Result<(), AllocError>
+    pub fn mark_ready(&mut self, at: usize)
         ensures lines { lines_of self.new.all.items ≡ lines_of self.old.all.items }
     {
         if let Some(link) = self.all.get_mut(at) {
@@ -322,7 +321,6 @@ impl Links {
                 list(&mut self.ready, at, &mut self.is_short);
             }
         }
-        Ok(())
     }
 
     /// It stands no longer among those that are ready.
@@ -335,7 +333,7 @@ impl Links {
     }
 
     /// It has something to send.
-    pub fn mark_output(&mut self, at: usize) -> Result<(), AllocError>
+    pub fn mark_output(&mut self, at: usize)
         ensures lines { lines_of self.new.all.items ≡ lines_of self.old.all.items }
     {
         if let Some(link) = self.all.get_mut(at) {
@@ -344,7 +342,6 @@ impl Links {
                 list(&mut self.with_output, at, &mut self.is_short);
             }
         }
-        Ok(())
     }
 
     /// Where one may be missing in a list, all that are marked are listed anew, as far as memory is there for that.
@@ -396,13 +393,12 @@ impl Links {
     }
 
     /// It is to be read again, where that may give more.
-    pub fn mark_rest(&mut self, at: usize) -> Result<(), AllocError>
+    pub fn mark_rest(&mut self, at: usize)
         ensures lines { lines_of self.new.all.items ≡ lines_of self.old.all.items }
     {
         if self.may_have_more(at) {
-            return self.mark_ready(at);
+            self.mark_ready(at);
         }
-        Ok(())
     }
 
     /// The link's connection stands, which is news.
@@ -415,19 +411,19 @@ impl Links {
 
     /// The system is asked whether the link's connection stands, though it told of nothing: whether it does, which is news, and it is to
     /// be read and written. Where it stood before, it is to be read at once.
-    pub fn look_again<W: Wire>(&mut self, wire: &W, at: usize) -> Result<bool, AllocError>
+    pub fn look_again<W: Wire>(&mut self, wire: &W, at: usize) -> bool
         ensures lines { lines_of self.new.all.items ≡ lines_of self.old.all.items }
     {
         let Some(link) = self.all.get_mut(at) else {
-            return Ok(false);
+            return false;
         };
         if !look_at(link, wire) {
-            return Ok(false);
+            return false;
         }
         self.has_stood(at);
-        self.mark_output(at)?;
-        self.mark_ready(at)?;
-        Ok(true)
+        self.mark_output(at);
+        self.mark_ready(at);
+        true
     }
 
     /// Whether a call may go out on the link: it has a connection, or one could be begun, and it isn't held back.
@@ -503,11 +499,11 @@ impl Links {
     }
 
     /// Of the calls that wait for it the first that may go out.
-    pub fn next_waiting(&mut self, at: usize) -> Option<SentCall>
+    pub fn next_waiting(&mut self, at: usize, clients: &serve_clients::Clients) -> Option<SentCall>
         ensures call { MatchOption result (lines_of self.new.all.items ≡ lines_of self.old.all.items) (λ call. LinksGive at call self.old.all.items self.new.all.items) }
     {
         let places = self.settings.places;
-        self.all.get_mut(at)?.next_to_go(places)
+        self.all.get_mut(at)?.next_to_go(places, clients)
     }
 
     /// The first of the calls that wait for it, if that has waited too long to go out, or none goes out for now.

@@ -1,13 +1,13 @@
 //! The proxy's end, and its turns: what is ready is read, what was asked goes to the links and what was answered to the
 //! clients, and then each end that has something to send is written once.
 
-ghost use Rattle.std.specs.Prelude.{◌≡◌, ◌↔◌, [], ◌∷◌, ◌++◌, drop, length, true, IsTrue, IfOk, IfErr, OnOk};
+ghost use Rattle.std.specs.Prelude.{◌≡◌, ◌↔◌, [], ◌∷◌, ◌++◌, drop, length, true, IsTrue, IfOk, IfErr, OnOk, OnErr};
 ghost use Rattle.core_accepted.specs.Loading.{IsLoaded};
 ghost use Rattle.serve_wire.specs.Events.{looks_up};
 ghost use Rattle.serve_links.specs.CoreSteps.{GoesOn, Fails};
 ghost use Rattle.serve_links.specs.Links.{IsDownAt, IsClosedAt};
 ghost use Rattle.serve_links.specs.Story.{Agrees, texts_of};
-ghost use Rattle.serve_proxy.specs.Ends.{Stay, end_of, AllGoOn, AllGoOr, AllDrop, AllLoad, HasNoConns};
+ghost use Rattle.serve_proxy.specs.Ends.{Stay, end_of, AllGoOn, AllDrop, AllLoad, HasNoConns};
 ghost use Rattle.core_accepted.specs.Logs.{TreesAreSound};
 ghost use Rattle.serve_proxy.specs.LogsGoOn.{LogsAreFresh};
 ghost use Rattle.serve_proxy.specs.Stillness.{IsStill};
@@ -54,29 +54,31 @@ fn run_turn<W: Wire, R: Net + Clock>(
     sockets: &mut Sockets<W>,
     limit: Option<Duration>,
 ) -> io::Result<()>
-    ensures ends { AllGoOr result W.history core.old sockets.old core.new sockets.new }
+    ensures ends { AllGoOn W.history core.old sockets.old core.new sockets.new }
+    ensures refused { OnErr result (core.new ≡ core.old) }
 {
     // Something is waited for, and what is ready is noted.
     sockets.wait(rt, limit)?;
     sockets.list_again();
     // Room that nothing needed for a while goes back.
-    give_back_room(core, sockets)?;
+    give_back_room(core, sockets);
     // Clients come.
     accept_ready(core, sockets);
     // Clients are read, and their calls go out.
-    serve_asks(rt, core, sockets)?;
+    serve_asks(rt, core, sockets);
     // Servers are read, and their answers settle calls.
-    read_links(core, sockets)?;
+    read_links(core, sockets);
     // Calls fail that have taken too long.
-    fail_late(core, sockets)?;
+    fail_late(core, sockets);
     // Clients go on whose calls were settled, and those that waited for a key or a server.
-    serve_all(rt, core, sockets)?;
+    serve_all(rt, core, sockets);
     // Calls go out.
-    send_links(core, sockets)?;
+    send_links(core, sockets);
     // Replies go out.
-    send_clients(core, sockets)?;
+    send_clients(core, sockets);
     // Clients are closed that take too little.
-    close_slow(core, sockets)
+    close_slow(core, sockets);
+    Ok(())
 }
 
 impl<W: Wire + Drop> ProxyEnd<W> {
@@ -229,8 +231,8 @@ impl<W: Wire> ProxyEnd<W> {
     }
 
     /// Nothing more is read of clients of which nothing is under way: all that came of them is done, and all replies were sent. Each of them is
-    /// closed by the next turn. An error comes where memory was refused.
-    pub fn end_quiet(&mut self) -> io::Result<()>
+    /// closed by the next turn.
+    pub fn end_quiet(&mut self)
         ensures core { GoesOn self.old.core.value self.new.core.value }
         ensures ends { AllGoOn W.history self.old.core.value self.old.sockets self.new.core.value self.new.sockets }
     {
@@ -270,19 +272,23 @@ impl<W: Wire> ProxyEnd<W> {
     }
 
     /// The connection to a server is closed, and what came over it is never read: the calls that are out on it have failed.
-    pub fn drop_link(&mut self, server: usize) -> Result<(), AllocError>
+    pub fn drop_link(&mut self, server: usize)
         ensures core { Fails self.old.core.value self.new.core.value }
         ensures ends { AllDrop W.history self.old.core.value self.old.sockets self.new.core.value self.new.sockets }
-        ensures down { OnOk result (IsDownAt server self.new.sockets.links.all.items) }
+        ensures down { IsDownAt server self.new.sockets.links.all.items }
         ensures closed { IsClosedAt server self.new.sockets.links.all.items }
     {
         shut_link(self.core.as_mut(), &mut self.sockets, server, Cause::Broken)
     }
 
     /// One turn: a wait until something is ready or late, and then all that is ready is done.
+    ///
+    /// The only error is the system's, of its clock or of the wait: nothing was done then. Where memory is refused for what is done, a client
+    /// is closed or its commands fail, and others go on.
     pub fn turn<R: Net + Clock>(&mut self, rt: &R) -> io::Result<()>
         ensures core { GoesOn self.old.core.value self.new.core.value }
-        ensures ends { AllGoOr result W.history self.old.core.value self.old.sockets self.new.core.value self.new.sockets }
+        ensures ends { AllGoOn W.history self.old.core.value self.old.sockets self.new.core.value self.new.sockets }
+        ensures refused { OnErr result (self.new.core ≡ self.old.core) }
     {
         let limit = self.sockets.wait_limit(rt)?;
         run_turn(rt, self.core.as_mut(), &mut self.sockets, limit)
@@ -291,7 +297,8 @@ impl<W: Wire> ProxyEnd<W> {
     /// The same, but it waits this long at most, so that several ends can be turned in one thread.
     pub fn turn_within<R: Net + Clock>(&mut self, rt: &R, most: Duration) -> io::Result<()>
         ensures core { GoesOn self.old.core.value self.new.core.value }
-        ensures ends { AllGoOr result W.history self.old.core.value self.old.sockets self.new.core.value self.new.sockets }
+        ensures ends { AllGoOn W.history self.old.core.value self.old.sockets self.new.core.value self.new.sockets }
+        ensures refused { OnErr result (self.new.core ≡ self.old.core) }
     {
         let limit = self.sockets.wait_limit(rt)?;
         let limit = Some(at_most(limit, most));
@@ -299,7 +306,7 @@ impl<W: Wire> ProxyEnd<W> {
     }
 
     /// What was held back goes to its clients, as far as they take it: for whoever turns it no more.
-    pub fn end_turns(&mut self) -> io::Result<()>
+    pub fn end_turns(&mut self)
         ensures core { GoesOn self.old.core.value self.new.core.value }
         ensures ends { AllGoOn W.history self.old.core.value self.old.sockets self.new.core.value self.new.sockets }
     {

@@ -11,34 +11,23 @@ use core_accepted::ServedCore;
 use serve_links::{Cause, KEPT_ROOM, Link, has_spare, send_once};
 use serve_wire::Wire;
 use serve_wire::conn::send;
-use std::alloc::AllocError;
-use std::io;
 
 // So many times at most a link is written and calls that waited for it go out, in one turn.
 const LINK_SENDS: usize = 64;
 
 /// Links that have something to send are written.
-pub fn send_links<W: Wire>(
-    core: &mut ServedCore,
-    sockets: &mut Sockets<W>,
-) -> Result<(), AllocError>
+pub fn send_links<W: Wire>(core: &mut ServedCore, sockets: &mut Sockets<W>)
     ensures ends { AllFailOn W.history core.old sockets.old core.new sockets.new }
 {
     let links = sockets.work.take(&mut sockets.links.with_output);
     for at in links.as_slice() {
-        let sent = send_link(core, sockets, *at);
+        send_link(core, sockets, *at);
         sockets.links.note_limit(*at);
-        sent?;
     }
     sockets.work.end(links);
-    Ok(())
 }
 
-fn send_link<W: Wire>(
-    core: &mut ServedCore,
-    sockets: &mut Sockets<W>,
-    at: usize,
-) -> Result<(), AllocError>
+fn send_link<W: Wire>(core: &mut ServedCore, sockets: &mut Sockets<W>, at: usize)
     ensures ends { AllFailOn W.history core.old sockets.old core.new sockets.new }
 {
     sockets.links.end_output(at);
@@ -46,30 +35,25 @@ fn send_link<W: Wire>(
         if !sockets.send_unsent(at) {
             return fail_link(core, sockets, at, Cause::Broken);
         }
-        if !begin_waiting(core, sockets, at)? {
-            return Ok(());
+        if !begin_waiting(core, sockets, at) {
+            return;
         }
     }
     sockets.links.mark_output(at)
 }
 
 /// Clients that have something to send are written.
-pub fn send_clients<W: Wire>(core: &mut ServedCore, sockets: &mut Sockets<W>) -> io::Result<()>
+pub fn send_clients<W: Wire>(core: &mut ServedCore, sockets: &mut Sockets<W>)
     ensures ends { AllGoOn W.history core.old sockets.old core.new sockets.new }
 {
     let ids = sockets.work.take(&mut sockets.clients.with_output);
     for id in ids.as_slice() {
-        send_client(core, sockets, *id)?;
+        send_client(core, sockets, *id);
     }
     sockets.work.end(ids);
-    Ok(())
 }
 
-fn send_client<W: Wire>(
-    core: &mut ServedCore,
-    sockets: &mut Sockets<W>,
-    id: usize,
-) -> io::Result<()>
+fn send_client<W: Wire>(core: &mut ServedCore, sockets: &mut Sockets<W>, id: usize)
     ensures ends { AllGoOn W.history core.old sockets.old core.new sockets.new }
 {
     if sockets.holds_back(id) {
@@ -77,11 +61,10 @@ fn send_client<W: Wire>(
     }
     let (is_more, has_spare) = write_client(core, sockets, id);
     sockets.note_held(id);
-    sockets.mark_ready_if(id, is_more)?;
+    sockets.mark_ready_if(id, is_more);
     if has_spare {
         return take_rooms(core, sockets, id);
     }
-    Ok(())
 }
 
 /// The client is written, if it is there: whether it is to be served for that, and whether it has spare room then.
@@ -102,11 +85,10 @@ pub fn write_client<W: Wire>(core: &ServedCore, sockets: &mut Sockets<W>, id: us
 
 impl<W: Wire> Sockets<W> {
     // The client has something to send in the next turn too.
-    fn hold_back(&mut self, id: usize) -> io::Result<()>
+    fn hold_back(&mut self, id: usize)
         ensures ends { Stay W.history self.old self.new }
     {
         self.clients.hold_back(id);
-        Ok(())
     }
 
     // What is to be sent to the server goes out, as far as it is taken. Whether the link stands still.

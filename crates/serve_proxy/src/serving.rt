@@ -21,48 +21,34 @@ use core_proxy::{CoreFault, Poll as Polled};
 use serve_clients::{Client, Clients};
 use serve_links::{Tally, feed_held, read_once, show};
 use serve_wire::Wire;
-use std::alloc::AllocError;
-use std::io;
 use std::net::Net;
 
 /// What clients ask goes out before answers are read, so that servers work on it while replies are shown, and their answers are mostly
 /// whole when they are read. In rounds all comes in its own order.
-pub fn serve_asks<W: Wire, N: Net>(
-    net: &N,
-    core: &mut ServedCore,
-    sockets: &mut Sockets<W>,
-) -> io::Result<()>
+pub fn serve_asks<W: Wire, N: Net>(net: &N, core: &mut ServedCore, sockets: &mut Sockets<W>)
     ensures ends { AllGoOn W.history core.old sockets.old core.new sockets.new }
 {
     if sockets.in_rounds {
-        return Ok(());
+        return;
     }
-    serve_ready(net, core, sockets)?;
-    Ok(send_links(core, sockets)?)
+    serve_ready(net, core, sockets);
+    send_links(core, sockets)
 }
 
 /// Clients are served, in rounds or not.
-pub fn serve_all<W: Wire, N: Net>(
-    net: &N,
-    core: &mut ServedCore,
-    sockets: &mut Sockets<W>,
-) -> io::Result<()>
+pub fn serve_all<W: Wire, N: Net>(net: &N, core: &mut ServedCore, sockets: &mut Sockets<W>)
     ensures ends { AllGoOn W.history core.old sockets.old core.new sockets.new }
 {
     if sockets.in_rounds {
         return serve_round(net, core, sockets);
     }
     // (who waits longest takes what became free, before those whose calls were just settled go on)
-    serve_busy(net, core, sockets)?;
+    serve_busy(net, core, sockets);
     serve_ready(net, core, sockets)
 }
 
 // Clients that are ready.
-fn serve_ready<W: Wire, N: Net>(
-    net: &N,
-    core: &mut ServedCore,
-    sockets: &mut Sockets<W>,
-) -> io::Result<()>
+fn serve_ready<W: Wire, N: Net>(net: &N, core: &mut ServedCore, sockets: &mut Sockets<W>)
     ensures ends { AllGoOn W.history core.old sockets.old core.new sockets.new }
 {
     let ids = sockets.work.take(&mut sockets.clients.ready);
@@ -70,24 +56,19 @@ fn serve_ready<W: Wire, N: Net>(
 }
 
 // Clients that wait for a key or a server, if one became free.
-fn serve_busy<W: Wire, N: Net>(
-    net: &N,
-    core: &mut ServedCore,
-    sockets: &mut Sockets<W>,
-) -> io::Result<()>
+fn serve_busy<W: Wire, N: Net>(net: &N, core: &mut ServedCore, sockets: &mut Sockets<W>)
     ensures ends { AllGoOn W.history core.old sockets.old core.new sockets.new }
 {
     if !sockets.is_freed {
-        return Ok(());
+        return;
     }
     sockets.is_freed = false;
     let ids = sockets.work.take(&mut sockets.clients.busy);
     for id in ids.as_slice() {
         let _ = sockets.clients.end_busy(*id);
-        serve_client(net, core, sockets, *id)?;
+        serve_client(net, core, sockets, *id);
     }
     sockets.work.end(ids);
-    Ok(())
 }
 
 // Those that wait for a key or a server are put behind these. Those for which memory was refused are listed again in the next turn.
@@ -100,11 +81,7 @@ fn add_busy(clients: &mut Clients, ids: &mut Vec<usize>)
 }
 
 // A round: all that are ready, and all that wait for a key or a server.
-fn serve_round<W: Wire, N: Net>(
-    net: &N,
-    core: &mut ServedCore,
-    sockets: &mut Sockets<W>,
-) -> io::Result<()>
+fn serve_round<W: Wire, N: Net>(net: &N, core: &mut ServedCore, sockets: &mut Sockets<W>)
     ensures ends { AllGoOn W.history core.old sockets.old core.new sockets.new }
 {
     sockets.is_freed = false;
@@ -120,15 +97,14 @@ fn serve_list<W: Wire, N: Net>(
     core: &mut ServedCore,
     sockets: &mut Sockets<W>,
     ids: Vec<usize>,
-) -> io::Result<()>
+)
     ensures ends { AllGoOn W.history core.old sockets.old core.new sockets.new }
 {
     for id in ids.as_slice() {
         sockets.clients.end_ready(*id);
-        serve_client(net, core, sockets, *id)?;
+        serve_client(net, core, sockets, *id);
     }
     sockets.work.end(ids);
-    Ok(())
 }
 
 fn serve_client<W: Wire, N: Net>(
@@ -136,15 +112,15 @@ fn serve_client<W: Wire, N: Net>(
     core: &mut ServedCore,
     sockets: &mut Sockets<W>,
     id: usize,
-) -> io::Result<()>
+)
     ensures ends { AllGoOn W.history core.old sockets.old core.new sockets.new }
 {
     read_client(core, sockets, id);
-    let is_lent = lend_room(core, sockets, id)?;
-    let rest = poll_client(net, core, sockets, id)?;
-    show_lent(core, sockets, id, is_lent)?;
+    let is_lent = lend_room(core, sockets, id);
+    let rest = poll_client(net, core, sockets, id);
+    show_lent(core, sockets, id, is_lent);
     close_client(core, sockets, id, rest);
-    Ok(sockets.mark_rest(id, rest)?)
+    sockets.mark_rest(id, rest)
 }
 
 // One read of the client, and what it holds is given to the core.
@@ -199,20 +175,20 @@ fn poll_client<W: Wire, N: Net>(
     core: &mut ServedCore,
     sockets: &mut Sockets<W>,
     id: usize,
-) -> Result<Rest, AllocError>
+) -> Rest
     ensures ends { AllGoOn W.history core.old sockets.old core.new sockets.new }
 {
     for _ in 0..sockets.polls() {
         if !sockets.may_go_on(id) {
             leave_line(core, sockets, id);
-            return Ok(sockets.rest_of(id));
+            return sockets.rest_of(id);
         }
-        match poll_once(net, core, sockets, id)? {
+        match poll_once(net, core, sockets, id) {
             Rest::More => {}
-            rest => return Ok(rest),
+            rest => return rest,
         }
     }
-    Ok(Rest::More)
+    Rest::More
 }
 
 // Nobody waits behind a client that isn't polled until it has taken what it was sent.
@@ -230,36 +206,36 @@ fn poll_once<W: Wire, N: Net>(
     core: &mut ServedCore,
     sockets: &mut Sockets<W>,
     id: usize,
-) -> Result<Rest, AllocError>
+) -> Rest
     ensures ends { AllGoOn W.history core.old sockets.old core.new sockets.new }
 {
     match core.poll(id) {
         Ok(Polled::Call(ticket)) => {
             sockets.note_called(id);
-            send_call(net, core, sockets, id, ticket)?;
-            Ok(Rest::More)
+            send_call(net, core, sockets, id, ticket);
+            Rest::More
         }
         Ok(Polled::Did(note)) => {
             sockets.note_went_on(id);
             sockets.tally.note_command(&note);
             sockets.is_freed = true;
-            Ok(Rest::More)
+            Rest::More
         }
         Ok(Polled::Own) | Ok(Polled::Refused) => {
             sockets.note_passed(id);
-            Ok(Rest::More)
+            Rest::More
         }
-        Ok(Polled::Idle) => Ok(Rest::Idle),
-        Ok(Polled::Waiting) => Ok(Rest::Waiting),
-        Ok(Polled::Queued) | Ok(Polled::Busy) => Ok(Rest::Busy),
+        Ok(Polled::Idle) => Rest::Idle,
+        Ok(Polled::Waiting) => Rest::Waiting,
+        Ok(Polled::Queued) | Ok(Polled::Busy) => Rest::Busy,
         Err(CoreFault::NoMemory) => {
             sockets.is_freed = true;
             sockets.end_client(id);
-            Ok(Rest::More)
+            Rest::More
         }
         Err(_) => {
             sockets.end_client(id);
-            Ok(Rest::Idle)
+            Rest::Idle
         }
     }
 }

@@ -12,19 +12,14 @@ use core_proxy::CoreFault;
 use serve_clients::Client;
 use serve_links::{KEPT_ROOM, show};
 use serve_wire::Wire;
-use std::io;
 use wire_parts::to_send::SendBuffer;
 
 /// What the core has for the client goes after what is to be sent.
-pub fn show_client<W: Wire>(
-    core: &mut ServedCore,
-    sockets: &mut Sockets<W>,
-    id: usize,
-) -> io::Result<()>
+pub fn show_client<W: Wire>(core: &mut ServedCore, sockets: &mut Sockets<W>, id: usize)
     ensures ends { AllGoOn W.history core.old sockets.old core.new sockets.new }
 {
     let Some(client) = sockets.clients.get_mut(id) else {
-        return Ok(());
+        return;
     };
     let shown = show_end(core, id, client);
     sockets.note_shown(id, shown)
@@ -50,41 +45,36 @@ fn show_end(core: &mut ServedCore, id: usize, client: &mut Client) -> usize
 
 impl<W: Wire> Sockets<W> {
     // So many bytes more are to be sent to the client.
-    fn note_shown(&mut self, id: usize, count: usize) -> io::Result<()>
+    fn note_shown(&mut self, id: usize, count: usize)
         ensures ends { Stay W.history self.old self.new }
     {
         if count == 0 {
-            return Ok(());
+            return;
         }
         self.tally.note_shown(count);
         self.rooms.note(count > KEPT_ROOM, false, self.time);
         self.clients.mark_output(id);
-        Ok(())
     }
 }
 
 /// The core writes the replies to the client into a spare buffer, if one is there: it has the room that large ones want. Whether one is.
-pub fn lend_room<W: Wire>(
-    core: &mut ServedCore,
-    sockets: &mut Sockets<W>,
-    id: usize,
-) -> io::Result<bool>
+pub fn lend_room<W: Wire>(core: &mut ServedCore, sockets: &mut Sockets<W>, id: usize) -> bool
     ensures ends { AllGoOn W.history core.old sockets.old core.new sockets.new }
 {
     if !sockets.rooms.has_spare() {
-        return Ok(false);
+        return false;
     }
     if !sockets.has_settled(id) {
-        return Ok(false);
+        return false;
     }
     // What the core has for the client now is shown first, so that what it gives for the spare buffer is room alone.
-    show_client(core, sockets, id)?;
+    show_client(core, sockets, id);
     match sockets.rooms.take_spare() {
         Some(spare) => {
             exchange_room(core, sockets, id, spare);
-            Ok(true)
+            true
         }
-        None => Ok(false),
+        None => false,
     }
 }
 
@@ -128,18 +118,12 @@ fn exchange_end(core: &mut ServedCore, id: usize, client: &mut Client, buffer: &
 }
 
 /// What was done for the client is shown to it, and the core keeps no room that was lent.
-pub fn show_lent<W: Wire>(
-    core: &mut ServedCore,
-    sockets: &mut Sockets<W>,
-    id: usize,
-    is_lent: bool,
-) -> io::Result<()>
+pub fn show_lent<W: Wire>(core: &mut ServedCore, sockets: &mut Sockets<W>, id: usize, is_lent: bool)
     ensures ends { AllGoOn W.history core.old sockets.old core.new sockets.new }
 {
-    show_client(core, sockets, id)?;
+    show_client(core, sockets, id);
     end_lent(core, sockets, id, is_lent);
     sockets.take_room(id);
-    Ok(())
 }
 
 // The core gets other room for the client, if some was lent.
@@ -154,60 +138,50 @@ fn end_lent<W: Wire>(core: &mut ServedCore, sockets: &mut Sockets<W>, id: usize,
 
 /// A client that has nothing to send keeps no large room for it, and neither does the core, whose room goes to the client's end with what is
 /// shown.
-pub fn take_rooms<W: Wire>(
-    core: &mut ServedCore,
-    sockets: &mut Sockets<W>,
-    id: usize,
-) -> io::Result<()>
+pub fn take_rooms<W: Wire>(core: &mut ServedCore, sockets: &mut Sockets<W>, id: usize)
     ensures ends { AllGoOn W.history core.old sockets.old core.new sockets.new }
 {
     sockets.take_room(id);
-    show_client(core, sockets, id)?;
+    show_client(core, sockets, id);
     sockets.take_room(id);
-    Ok(())
 }
 
 /// Where nothing large came for a while, the room that was for it goes back, and so does what clients that wait for nothing have.
-pub fn give_back_room<W: Wire>(core: &mut ServedCore, sockets: &mut Sockets<W>) -> io::Result<()>
+pub fn give_back_room<W: Wire>(core: &mut ServedCore, sockets: &mut Sockets<W>)
     ensures ends { AllGoOn W.history core.old sockets.old core.new sockets.new }
 {
     if !sockets.rooms.are_due(sockets.time) {
-        return Ok(());
+        return;
     }
     sockets.rooms.clear();
     let has_room = sockets.links.give_back();
-    let is_held = give_back_clients(core, sockets)?;
+    let is_held = give_back_clients(core, sockets);
     sockets.rooms.note(false, has_room || is_held, sockets.time);
-    Ok(())
 }
 
 // Room of all clients goes back. Whether something that one of them sent isn't done.
-fn give_back_clients<W: Wire>(core: &mut ServedCore, sockets: &mut Sockets<W>) -> io::Result<bool>
+fn give_back_clients<W: Wire>(core: &mut ServedCore, sockets: &mut Sockets<W>) -> bool
     ensures ends { AllGoOn W.history core.old sockets.old core.new sockets.new }
 {
     let mut is_held = false;
     for id in 0..sockets.clients.len() {
-        if !give_back_client(core, sockets, id)? {
+        if !give_back_client(core, sockets, id) {
             is_held = true;
         }
     }
-    Ok(is_held)
+    is_held
 }
 
 /// The room for what is to be sent to a client goes back where nothing is, and the core's for what it sent where all is done: whether all
 /// is.
-pub fn give_back_client<W: Wire>(
-    core: &mut ServedCore,
-    sockets: &mut Sockets<W>,
-    id: usize,
-) -> io::Result<bool>
+pub fn give_back_client<W: Wire>(core: &mut ServedCore, sockets: &mut Sockets<W>, id: usize) -> bool
     ensures ends { AllGoOn W.history core.old sockets.old core.new sockets.new }
 {
     sockets.give_back_end(id);
     // What the core has for it, mostly room alone, goes to its end.
-    show_client(core, sockets, id)?;
+    show_client(core, sockets, id);
     sockets.give_back_end(id);
     let is_done = core.give_back_room(id);
     sockets.end_input_if(id, is_done);
-    Ok(is_done)
+    is_done
 }

@@ -14,7 +14,7 @@ use crate::worklist::Worklist;
 use serve_clients::Clients;
 use serve_links::Tally;
 use serve_wire::{Report, Wire};
-use std::alloc::{AllocError, Global};
+use std::alloc::Global;
 use std::io;
 use std::rt::Clock;
 use std::time::Duration;
@@ -152,7 +152,7 @@ impl<W: Wire> Sockets<W> {
     {
         let count = self.wire.wait(limit)?;
         for at in 0..count {
-            self.note_report(at)?;
+            self.note_report(at);
         }
         self.look(clock)
     }
@@ -166,28 +166,22 @@ impl<W: Wire> Sockets<W> {
     }
 
     // What was told by this report of the last wait.
-    fn note_report(&mut self, at: usize) -> Result<(), AllocError>
+    fn note_report(&mut self, at: usize)
         ensures ends { Stay W.history self.old self.new }
     {
         match self.wire.report(at) {
             Some(report) => self.note(report),
-            None => Ok(()),
+            None => {}
         }
     }
 
     // What was told.
-    fn note(&mut self, report: Report) -> Result<(), AllocError>
+    fn note(&mut self, report: Report)
         ensures ends { Stay W.history self.old self.new }
     {
         match report {
-            Report::Listener => {
-                self.accepting = Accepting::Now;
-                Ok(())
-            }
-            Report::Client(id, told) => {
-                self.clients.note(id, told);
-                Ok(())
-            }
+            Report::Listener => self.accepting = Accepting::Now,
+            Report::Client(id, told) => self.clients.note(id, told),
             Report::Server(at, told) => self.links.note(at, told),
         }
     }

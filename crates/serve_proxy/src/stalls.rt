@@ -15,7 +15,6 @@ use core_accepted::ServedCore;
 use serve_clients::Client;
 use serve_wire::Wire;
 use std::alloc::{AllocError, Global};
-use std::io;
 
 // More bytes than these are much.
 const MUCH: usize = 1_048_576;
@@ -234,35 +233,33 @@ impl Stalls {
 }
 
 /// After all clients were written, those that have stalled are broken off, and those for which most is held, if too much is for all.
-pub fn close_slow<W: Wire>(core: &ServedCore, sockets: &mut Sockets<W>) -> io::Result<()>
+pub fn close_slow<W: Wire>(core: &ServedCore, sockets: &mut Sockets<W>)
     ensures ends { AllGoOn W.history core.now sockets.old core.now sockets.new }
 {
-    end_stalled(core, sockets)?;
-    shed(core, sockets)?;
-    Ok(())
+    end_stalled(core, sockets);
+    shed(core, sockets);
 }
 
 // Where more bytes are held for all clients than may be, the client for which most are is broken off, until no more are than that; and once where
 // memory was refused for what a server sent.
-fn shed<W: Wire>(core: &ServedCore, sockets: &mut Sockets<W>) -> Result<(), AllocError>
+fn shed<W: Wire>(core: &ServedCore, sockets: &mut Sockets<W>)
     ensures ends { AllGoOn W.history core.now sockets.old core.now sockets.new }
 {
     for _ in 0..sockets.clients.len() {
         if !sockets.stalls.has_too_much() {
-            return Ok(());
+            return;
         }
-        shed_one(core, sockets)?;
+        shed_one(core, sockets);
     }
-    Ok(())
 }
 
 // The client for which most is held is broken off.
-fn shed_one<W: Wire>(core: &ServedCore, sockets: &mut Sockets<W>) -> Result<(), AllocError>
+fn shed_one<W: Wire>(core: &ServedCore, sockets: &mut Sockets<W>)
     ensures ends { AllGoOn W.history core.now sockets.old core.now sockets.new }
     ensures only { OnlyMost sockets.old.clients sockets.new.clients }
 {
     let Some(id) = sockets.greatest() else {
-        return Ok(());
+        return;
     };
     sockets.break_client(id);
     sockets.note_held(id);
@@ -281,53 +278,37 @@ fn greater(best: Option<(usize, usize)>, id: usize, count: usize) -> Option<(usi
 }
 
 // Clients that have stalled are broken off, if one may have.
-fn end_stalled<W: Wire>(core: &ServedCore, sockets: &mut Sockets<W>) -> Result<(), AllocError>
+fn end_stalled<W: Wire>(core: &ServedCore, sockets: &mut Sockets<W>)
     ensures ends { AllGoOn W.history core.now sockets.old core.now sockets.new }
 {
     if !sockets.stalls.may_be_late(sockets.time) {
-        return Ok(());
+        return;
     }
     sockets.stalls.late_from = None;
     for id in 0..sockets.clients.len() {
-        end_if_stalled(core, sockets, id)?;
+        end_if_stalled(core, sockets, id);
     }
-    Ok(())
 }
 
-fn end_if_stalled<W: Wire>(
-    core: &ServedCore,
-    sockets: &mut Sockets<W>,
-    id: usize,
-) -> Result<(), AllocError>
+fn end_if_stalled<W: Wire>(core: &ServedCore, sockets: &mut Sockets<W>, id: usize)
     ensures ends { AllGoOn W.history core.now sockets.old core.now sockets.new }
 {
     let may_have = sockets.may_have_stalled(id);
-    write_again_if(core, sockets, id, may_have)?;
+    write_again_if(core, sockets, id, may_have);
     sockets.note_later(id);
-    Ok(())
 }
 
-fn write_again_if<W: Wire>(
-    core: &ServedCore,
-    sockets: &mut Sockets<W>,
-    id: usize,
-    is_so: bool,
-) -> Result<(), AllocError>
+fn write_again_if<W: Wire>(core: &ServedCore, sockets: &mut Sockets<W>, id: usize, is_so: bool)
     ensures ends { AllGoOn W.history core.now sockets.old core.now sockets.new }
 {
     if is_so {
         return write_again(core, sockets, id);
     }
-    Ok(())
 }
 
 // The client is written once more, as it may take something that the system didn't tell of before the clock was looked at. If it takes
 // nothing still it is broken off.
-fn write_again<W: Wire>(
-    core: &ServedCore,
-    sockets: &mut Sockets<W>,
-    id: usize,
-) -> Result<(), AllocError>
+fn write_again<W: Wire>(core: &ServedCore, sockets: &mut Sockets<W>, id: usize)
     ensures ends { AllGoOn W.history core.now sockets.old core.now sockets.new }
 {
     let (is_more, _) = write_client(core, sockets, id);

@@ -3,20 +3,17 @@ use Rattle.serve_links.specs.Links.{FailsTo}
 use Rattle.serve_links.specs.declared.link.Link.{Link}
 use Rattle.serve_clients.proofs.Agreeing.{keeps_twice}
 use Rattle.serve_links.proofs.Walked.{then}
-use Rattle.serve_links.proofs.Failing.{on_ok, all_then, none_failed}
+use Rattle.serve_links.proofs.Failing.{all_then}
 use Rattle.serve_links.proofs.outcomes.fail_all.Goals as goal
 
 pub returns-clause-core : goal.returns-clause-core
 returns-clause-core c = then c.fail_sent.ensures.core c.fail_waiting.ensures.core
 
 pub returns-clause-all : goal.returns-clause-all
-returns-clause-all c = on_ok c.fail_waiting.result _ _ (λ f. all_then c.args.link.now.calls.sent.items c.args.link.now.waiting.items c.args.core.now c.fail_sent.new.core c.fail_waiting.new.core c.in_ok-fail_sent.ensures.all f) c.fail_waiting.ensures.all
+returns-clause-all c = all_then c.args.link.now.calls.sent.items c.args.link.now.waiting.items c.args.core.now c.fail_sent.new.core c.fail_waiting.new.core c.fail_sent.ensures.all c.fail_waiting.ensures.all
 
 pub returns-clause-ends : goal.returns-clause-ends
 returns-clause-ends c = keeps_twice c.args.clients.now c.fail_sent.new.clients c.fail_waiting.new.clients c.fail_sent.ensures.ends c.fail_waiting.ensures.ends
-
-pub returns-in_err-fail_sent-clause-first : goal.returns-in_err-fail_sent-clause-first
-returns-in_err-fail_sent-clause-first c = (c.fail_sent.new.core, c.fail_sent.ensures.first, none_failed c.args.link.now.waiting.items c.fail_sent.new.core)
 
 pub returns-clause-first : goal.returns-clause-first
 returns-clause-first c = (

@@ -13,14 +13,11 @@ loop-preserved c = record {
   ends = keeps_twice c.args.clients.now c.loop.clients c.mark_settled.new.self c.loop.invariant.ends c.mark_settled.ensures.ends;
 }
 
-pub returns-in_err-client-clause-goes : goal.returns-in_err-client-clause-goes
-returns-in_err-client-clause-goes c = λ at h. line_then (c.loop.invariant.goes at h) (c.in_err-client.ensures.goes at h)
-
-pub returns-in_err-client-clause-ends : goal.returns-in_err-client-clause-ends
-returns-in_err-client-clause-ends c = c.loop.invariant.ends
-
 pub returns-in_default-clause-goes : goal.returns-in_default-clause-goes
 returns-in_default-clause-goes c = λ at h. line_then (c.loop.invariant.goes at h) (c.fail_late.ensures.goes at h)
+
+pub returns-in_default-2-clause-goes : goal.returns-in_default-2-clause-goes
+returns-in_default-2-clause-goes c = λ at h. line_then (c.loop.invariant.goes at h) (c.fail_late.ensures.goes at h)
 
 pub returns-in_default-clause-ends : goal.returns-in_default-clause-ends
 returns-in_default-clause-ends c = c.loop.invariant.ends

@@ -15,47 +15,35 @@ loop-init c = record {
 
 pub loop-preserved : goal.loop-preserved
 loop-preserved c = record {
-  core = then c.loop.invariant.core c.settle_some.ensures.core;
-  settled = both c.loop.invariant.settled (c.in_ok-others.ensures.settled (λ foreign. absurd cc));
-  ends = keeps_twice c.args.clients.now c.loop.clients c.settle_some.new.clients c.loop.invariant.ends c.settle_some.ensures.ends;
-  rest = anew_twice c.args.conn.now c.loop.conn c.settle_some.new.conn c.loop.invariant.rest c.settle_some.ensures.rest;
+  core = then c.loop.invariant.core c.settle_some-others.ensures.core;
+  settled = both c.loop.invariant.settled (c.settle_some-others.ensures.settled (λ foreign. absurd cc));
+  ends = keeps_twice c.args.clients.now c.loop.clients c.settle_some-others.new.clients c.loop.invariant.ends c.settle_some-others.ensures.ends;
+  rest = anew_twice c.args.conn.now c.loop.conn c.settle_some-others.new.conn c.loop.invariant.rest c.settle_some-others.ensures.rest;
 }
 
-pub returns-in_err-others-clause-core : goal.returns-in_err-others-clause-core
-returns-in_err-others-clause-core c = then c.loop.invariant.core c.settle_some.ensures.core
-
 pub returns-in-More-clause-core : goal.returns-in-More-clause-core
-returns-in-More-clause-core c = then c.loop.invariant.core c.settle_some.ensures.core
+returns-in-More-clause-core c = then c.loop.invariant.core c.settle_some-others.ensures.core
 
 pub returns-in-Foreign-clause-core : goal.returns-in-Foreign-clause-core
-returns-in-Foreign-clause-core c = then c.loop.invariant.core c.settle_some.ensures.core
+returns-in-Foreign-clause-core c = then c.loop.invariant.core c.settle_some-others.ensures.core
 
 pub returns-in-More-clause-settled : goal.returns-in-More-clause-settled
-returns-in-More-clause-settled c = λ kept. both c.loop.invariant.settled (c.in_ok-others.ensures.settled (λ foreign. absurd cc))
-
-pub returns-in_err-others-clause-ends : goal.returns-in_err-others-clause-ends
-returns-in_err-others-clause-ends c = keeps_twice c.args.clients.now c.loop.clients c.settle_some.new.clients c.loop.invariant.ends c.settle_some.ensures.ends
-
-pub returns-in_err-others-clause-rest : goal.returns-in_err-others-clause-rest
-returns-in_err-others-clause-rest c = anew_twice c.args.conn.now c.loop.conn c.settle_some.new.conn c.loop.invariant.rest c.settle_some.ensures.rest
+returns-in-More-clause-settled c = λ kept. both c.loop.invariant.settled (c.settle_some-others.ensures.settled (λ foreign. absurd cc))
 
 pub returns-in-More-clause-ends : goal.returns-in-More-clause-ends
-returns-in-More-clause-ends c = keeps_twice c.args.clients.now c.loop.clients c.settle_some.new.clients c.loop.invariant.ends c.settle_some.ensures.ends
+returns-in-More-clause-ends c = keeps_twice c.args.clients.now c.loop.clients c.settle_some-others.new.clients c.loop.invariant.ends c.settle_some-others.ensures.ends
 
 pub returns-in-More-clause-rest : goal.returns-in-More-clause-rest
-returns-in-More-clause-rest c = anew_twice c.args.conn.now c.loop.conn c.settle_some.new.conn c.loop.invariant.rest c.settle_some.ensures.rest
+returns-in-More-clause-rest c = anew_twice c.args.conn.now c.loop.conn c.settle_some-others.new.conn c.loop.invariant.rest c.settle_some-others.ensures.rest
 
 pub returns-in-Foreign-clause-ends : goal.returns-in-Foreign-clause-ends
-returns-in-Foreign-clause-ends c = keeps_twice c.args.clients.now c.loop.clients c.settle_some.new.clients c.loop.invariant.ends c.settle_some.ensures.ends
+returns-in-Foreign-clause-ends c = keeps_twice c.args.clients.now c.loop.clients c.settle_some-others.new.clients c.loop.invariant.ends c.settle_some-others.ensures.ends
 
 pub returns-in-Foreign-clause-rest : goal.returns-in-Foreign-clause-rest
-returns-in-Foreign-clause-rest c = anew_twice c.args.conn.now c.loop.conn c.settle_some.new.conn c.loop.invariant.rest c.settle_some.ensures.rest
-
-pub returns-in_err-others-clause-front : goal.returns-in_err-others-clause-front
-returns-in_err-others-clause-front c = front_then c.loop.invariant.settled c.settle_some.ensures.front
+returns-in-Foreign-clause-rest c = anew_twice c.args.conn.now c.loop.conn c.settle_some-others.new.conn c.loop.invariant.rest c.settle_some-others.ensures.rest
 
 pub returns-in-More-clause-front : goal.returns-in-More-clause-front
-returns-in-More-clause-front c = front_then c.loop.invariant.settled c.settle_some.ensures.front
+returns-in-More-clause-front c = front_then c.loop.invariant.settled c.settle_some-others.ensures.front
 
 pub returns-in-Foreign-clause-front : goal.returns-in-Foreign-clause-front
-returns-in-Foreign-clause-front c = front_then c.loop.invariant.settled c.settle_some.ensures.front
+returns-in-Foreign-clause-front c = front_then c.loop.invariant.settled c.settle_some-others.ensures.front

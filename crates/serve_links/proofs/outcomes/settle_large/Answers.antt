@@ -1,6 +1,6 @@
 use Rattle.std.proofs.Common.{refl}
 use Rattle.serve_links.proofs.Walked.{then}
-use Rattle.serve_links.proofs.Leaving.{cut_apart, both, between, if_ok, front_then, front_as}
+use Rattle.serve_links.proofs.Leaving.{cut_apart, both, between, front_then, front_as}
 use Rattle.serve_links.proofs.outcomes.settle_large.Goals as goal
 
 pub returns-in-More-true-clause-core : goal.returns-in-More-true-clause-core
@@ -10,7 +10,7 @@ pub returns-in-More-true-clause-settled : goal.returns-in-More-true-clause-settl
 returns-in-More-true-clause-settled c =
     let same = cut_apart c.min-len.result c.args.conn.now.held.items c.in-Ok.front c.freeze_to.new.self.items c.in-Ok.ensures.front c.in-Ok.ensures.rest.0 in
     let first = between same refl (c.settle_shared.ensures.settled cc) in
-    if_ok c.settle_copied-in-More-true.result _ _ (λ front is came. both first (is came)) c.settle_copied-in-More-true.ensures.settled
+    λ came. both first (c.settle_copied-in-More-true.ensures.settled came)
 
 pub returns-in-More-true-clause-front : goal.returns-in-More-true-clause-front
 returns-in-More-true-clause-front c =

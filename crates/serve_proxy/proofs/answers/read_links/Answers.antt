@@ -1,16 +1,12 @@
 use Rattle.serve_proxy.proofs.Going.{still, and_then, stays}
 use Rattle.serve_proxy.proofs.Staying.{stay_links}
-use Rattle.serve_proxy.proofs.Linking.{or_err}
 use Rattle.serve_proxy.proofs.answers.read_links.Goals as goal
 
 pub loop-at-init : goal.loop-at-init
 loop-at-init g c = still
 
 pub loop-at-preserved : goal.loop-at-preserved
-loop-at-preserved g c = and_then (and_then c.loop-at.invariant (stays c.loop-at.core (stay_links _ _ _ _ c.end_ready.ensures.lines))) c.in_ok-serve_link.ensures.ends
-
-pub returns-in_err-serve_link : goal.returns-in_err-serve_link
-returns-in_err-serve_link g c = record { ends = or_err g.W.Wire.history c.args.core.now c.args.sockets.now _ _ c.from_residual.result c.from_residual.ensures.0 (and_then (and_then c.loop-at.invariant (stays c.loop-at.core (stay_links _ _ _ _ c.end_ready.ensures.lines))) c.in_err-serve_link.ensures.ends) }
+loop-at-preserved g c = and_then (and_then c.loop-at.invariant (stays c.loop-at.core (stay_links _ _ _ _ c.end_ready.ensures.lines))) c.serve_link.ensures.ends
 
 pub returns : goal.returns
 returns g c = record { ends = c.loop-at.invariant }

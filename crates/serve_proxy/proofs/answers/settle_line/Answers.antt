@@ -1,5 +1,4 @@
 use Rattle.std.proofs.Common.{refl, ap}
-use Rattle.std.proofs.lemmas.Result.{IfOk-weaker}
 use Rattle.serve_wire.proofs.Steps.{untouched}
 use Rattle.serve_links.specs.Story.{line_of}
 use Rattle.serve_links.proofs.LinkGoes.{line_then, line_learns, line_keeps}
@@ -8,12 +7,11 @@ use Rattle.serve_proxy.proofs.GivenUp.{foreign_goes, vain_goes}
 use Rattle.serve_proxy.proofs.answers.settle_line.Goals as goal
 
 pub returns-then-not-awaits_greeting : goal.returns-then-not-awaits_greeting
-returns-then-not-awaits_greeting c = record { goes = c.settle_after_late.ensures.goes; lost = c.settle_after_late.ensures.lost; ends = c.settle_after_late.ensures.ends }
+returns-then-not-awaits_greeting c = record { goes = c.settle_after_late.ensures.goes; ends = c.settle_after_late.ensures.ends }
 
 pub returns-then-not-learn : goal.returns-then-not-learn
 returns-then-not-learn c = record {
   goes = λ at h. foreign_goes (line_may_lose (line_learns c.args.link.now c.learn.new.self c.learn.result c.learn.ensures));
-  lost = λ at h. line_may_lose (line_learns c.args.link.now c.learn.new.self c.learn.result c.learn.ensures);
   ends = λ j. refl;
 }
 
@@ -22,13 +20,11 @@ returns-then-awaits_greeting c = record {
   goes = λ at h.
       vain_goes c.has_read.result c.vain.result c.vain.ensures c.has_read.ensures.failed
       (line_then (line_learns c.args.link.now c.learn.new.self c.learn.result c.learn.ensures) (line_keeps (λ d. untouched d h) (ap line_of c.has_read.ensures.rest)));
-  lost = λ at h. line_may_lose (line_then (line_learns c.args.link.now c.learn.new.self c.learn.result c.learn.ensures) (line_keeps (λ d. untouched d h) (ap line_of c.has_read.ensures.rest)));
   ends = λ j. refl;
 }
 
 pub returns : goal.returns
 returns c = record {
-  goes = IfOk-weaker c.settle_after_late-2.result _ _ (λ cause goes at h. line_then (line_learns c.args.link.now c.learn.new.self c.learn.result c.learn.ensures) (goes at h)) c.settle_after_late-2.ensures.goes;
-  lost = λ at h. line_then (line_learns c.args.link.now c.learn.new.self c.learn.result c.learn.ensures) (c.settle_after_late-2.ensures.lost at h);
+  goes = λ at h. line_then (line_learns c.args.link.now c.learn.new.self c.learn.result c.learn.ensures) (c.settle_after_late-2.ensures.goes at h);
   ends = c.settle_after_late-2.ensures.ends;
 }

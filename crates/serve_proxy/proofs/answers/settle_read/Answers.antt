@@ -3,16 +3,13 @@ use Rattle.serve_wire.specs.declared.conn.conn.Got.TheVariants as got
 use Rattle.serve_links.specs.declared.news.Cause.TheVariants as causes
 use Rattle.serve_links.specs.Story.{Agrees, AgreesBut, LineFails}
 use Rattle.serve_links.proofs.Story.{go_between}
-use Rattle.serve_proxy.proofs.Going.{failing, stays}
-use Rattle.serve_proxy.proofs.GivenUp.{as_before, foreign_at, given_by, given_then, unless_after}
+use Rattle.serve_proxy.proofs.Going.{and_then, failing, stays}
+use Rattle.serve_proxy.proofs.GivenUp.{as_before, foreign_at, given_by}
 use Rattle.serve_proxy.specs.Ends.{end_of}
 use Rattle.serve_proxy.proofs.answers.settle_read.Goals as goal
 
 pub returns-in-Bytes : goal.returns-in-Bytes
-returns-in-Bytes g c = record {
-  ends = given_then g.W.Wire.history c.args.at c.args.core.now c.args.sockets.now c.learn_and_settle.new.core c.learn_and_settle.new.sockets c.learn_and_settle.result c.args.got got.Bytes c.in-Bytes.is
-      (unless_after g.W.Wire.history c.args.at c.args.core.now c.args.sockets.now c.args.core.now c.note_came.new.self c.learn_and_settle.new.core c.learn_and_settle.new.sockets c.learn_and_settle.result (stays c.args.core.now c.note_came.ensures.ends) c.learn_and_settle.ensures.ends);
-}
+returns-in-Bytes g c = record { ends = given_by c.args.at c.args.got got.Bytes c.in-Bytes.is (and_then (stays c.args.core.now c.note_came.ensures.ends) c.learn_and_settle.ensures.ends) }
 
 pub returns-in-Nothing : goal.returns-in-Nothing
 returns-in-Nothing g c = record { ends = given_by c.args.at c.args.got got.Nothing c.in-Nothing.is (failing (c.read_in_vain.ensures.ends c.args.core.now)) }

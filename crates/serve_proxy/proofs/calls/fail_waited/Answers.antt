@@ -7,11 +7,8 @@ loop-init g c = still
 pub loop-preserved : goal.loop-preserved
 loop-preserved g c = and_then c.loop.invariant c.fail_next.ensures.ends
 
-pub returns-in_err-fail_next : goal.returns-in_err-fail_next
-returns-in_err-fail_next g c = record { ends = and_then c.loop.invariant c.fail_next.ensures.ends }
-
-pub returns-then-not-branch : goal.returns-then-not-branch
-returns-then-not-branch g c = record { ends = and_then c.loop.invariant c.fail_next.ensures.ends }
+pub returns-then-not-fail_next : goal.returns-then-not-fail_next
+returns-then-not-fail_next g c = record { ends = and_then c.loop.invariant c.fail_next.ensures.ends }
 
 pub returns : goal.returns
 returns g c = record { ends = c.loop.invariant }

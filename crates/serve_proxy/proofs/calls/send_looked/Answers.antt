@@ -17,14 +17,6 @@ returns-then-is_full g c =
           (called_at c.number-at.result call (sym c.number-at.ensures) (c.is_open.ensures.there c.if-not-is_open.false) c.dialect_of.ensures c.let_wait.ensures.ends);
     }
 
-pub returns-in_err-begin_call : goal.returns-in_err-begin_call
-returns-in_err-begin_call g c =
-    let call : SentCall = record { ticket = c.args.ticket; client = c.args.id; since = c.last_millis.result; paced = c.pace.result; bulk = c.bulk_of-bulk.result; dialect = c.dialect_of.result } in
-    record {
-      ends = and_then (still_called c.args.ticket.number c.args.ticket.server c.args.ticket.ask (c.is_open.ensures.ends c.args.sockets.now.clients c.args.core.now))
-          (called_at c.number-at.result call (sym c.number-at.ensures) (c.is_open.ensures.there c.if-not-is_open.false) c.dialect_of.ensures c.begin_call.ensures.ends);
-    }
-
 pub returns : goal.returns
 returns g c =
     let call : SentCall = record { ticket = c.args.ticket; client = c.args.id; since = c.last_millis.result; paced = c.pace.result; bulk = c.bulk_of-bulk.result; dialect = c.dialect_of.result } in

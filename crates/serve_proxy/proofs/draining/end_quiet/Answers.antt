@@ -7,8 +7,5 @@ loop-id-init g c = still
 pub loop-id-preserved : goal.loop-id-preserved
 loop-id-preserved g c = and_then c.loop-id.invariant c.end_if_quiet.ensures.ends
 
-pub returns-in_err-end_if_quiet : goal.returns-in_err-end_if_quiet
-returns-in_err-end_if_quiet g c = record { ends = and_then c.loop-id.invariant c.end_if_quiet.ensures.ends }
-
 pub returns : goal.returns
 returns g c = record { ends = c.loop-id.invariant }

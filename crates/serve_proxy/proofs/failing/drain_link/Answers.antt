@@ -1,4 +1,4 @@
-use Rattle.std.proofs.Common.{◌≡◌, ◌<◌, false, true, None, sym, ap, subst}
+use Rattle.std.proofs.Common.{◌≡◌, ◌<◌, false, true, sym, ap, subst}
 use Rattle.serve_links.specs.declared.calls.calls.LinkCalls.{LinkCalls}
 use Rattle.serve_links.proofs.Story.{but_none, go_between}
 use Rattle.serve_links.proofs.LinkGoes.{line_drains, line_fails, line_then}

@@ -1,6 +1,5 @@
 use Rattle.serve_proxy.proofs.Going.{and_then, stays}
 use Rattle.serve_proxy.proofs.Staying.{stay_links}
-use Rattle.serve_proxy.proofs.Linking.{or_err}
 use Rattle.serve_proxy.proofs.failing.fail_late.Goals as goal
 
 pub returns-then-not-may_be_late : goal.returns-then-not-may_be_late
@@ -10,10 +9,7 @@ pub loop-at-init : goal.loop-at-init
 loop-at-init g c = stays c.args.core.now (stay_links _ _ _ _ c.look.ensures.lines)
 
 pub loop-at-preserved : goal.loop-at-preserved
-loop-at-preserved g c = and_then c.loop-at.invariant c.in_ok-fail_if_late.ensures.ends
-
-pub returns-in_err-fail_if_late : goal.returns-in_err-fail_if_late
-returns-in_err-fail_if_late g c = record { ends = or_err g.W.Wire.history c.args.core.now c.args.sockets.now _ _ c.from_residual.result c.from_residual.ensures.0 (and_then c.loop-at.invariant c.in_err-fail_if_late.ensures.ends) }
+loop-at-preserved g c = and_then c.loop-at.invariant c.fail_if_late.ensures.ends
 
 pub returns : goal.returns
 returns g c = record { ends = and_then c.loop-at.invariant (stays c.loop-at.core (stay_links _ _ _ _ c.note_limits.ensures.lines)) }

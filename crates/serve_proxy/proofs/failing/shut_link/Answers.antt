@@ -2,7 +2,7 @@ use Rattle.std.proofs.Common.{◌≡◌, ◌<◌, false, true, None, sym, ap, su
 use Rattle.serve_links.specs.declared.link.Link.{Link}
 use Rattle.serve_links.specs.declared.calls.calls.LinkCalls.{LinkCalls}
 use Rattle.serve_links.specs.Links.{IsDown}
-use Rattle.serve_links.proofs.Failing.{on_ok, at_set}
+use Rattle.serve_links.proofs.Failing.{at_set}
 use Rattle.serve_links.proofs.Story.{but_none, go_between}
 use Rattle.serve_links.proofs.LinkGoes.{line_closes, line_fails, line_then}
 use Rattle.serve_proxy.specs.Ends.{end_of}
@@ -33,6 +33,6 @@ returns-in-Some g c =
           (line_closes why apart x m c.close-closed.result c.close-closed.ensures.number c.close_if_any.ensures.some c.close_if_any.ensures.none c.close-closed.ensures.conn c.close-closed.ensures.draining (ap (λ t. t.items) c.close-closed.ensures.text) (ap (λ w. w.items) c.close-closed.ensures.waiting) (ap (λ (k : LinkCalls). k.sent.items) c.close-closed.ensures.calls))
           (line_fails m y c.fail_all.ensures.first.0 c.fail_all.ensures.first.1 c.fail_all.ensures.first.2 c.close-closed.ensures.conn c.fail_all.ensures.closed c.fail_all.ensures.draining (ap (λ t. t.items) c.fail_all.ensures.text))))
           (stays c.fail_all.new.core (stay_clients _ _ _ _ c.fail_all.ensures.ends));
-      down = on_ok c.fail_all.result _ _ (λ d. at_set IsDown links c.args.at y d) c.fail_all.ensures.down;
+      down = at_set IsDown links c.args.at y c.fail_all.ensures.down;
       closed = at_set (λ (z : Link). z.conn ≡ None) links c.args.at y c.fail_all.ensures.closed;
     }

@@ -9,8 +9,5 @@ loop-id-init g c = stays c.args.core.now (stay_clients _ _ _ _ (λ j. refl))
 pub loop-id-preserved : goal.loop-id-preserved
 loop-id-preserved g c = and_then c.loop-id.invariant c.send_client.ensures.ends
 
-pub returns-in_err-send_client : goal.returns-in_err-send_client
-returns-in_err-send_client g c = record { ends = and_then c.loop-id.invariant c.send_client.ensures.ends }
-
 pub returns : goal.returns
 returns g c = record { ends = c.loop-id.invariant }

@@ -1,6 +1,3 @@
-use Rattle.std.proofs.Common.{ap}
-use Rattle.serve_wire.proofs.Steps.{untouched}
-use Rattle.serve_clients.specs.declared.clients.Client.{Client}
 use Rattle.serve_proxy.proofs.Going.{one_gives, one_kept}
 use Rattle.serve_proxy.proofs.Told.{all_sent}
 use Rattle.serve_proxy.proofs.serving.end_has_all.Goals as goal

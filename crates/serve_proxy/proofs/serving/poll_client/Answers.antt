@@ -4,9 +4,6 @@ use Rattle.serve_proxy.proofs.serving.poll_client.Goals as goal
 pub loop-init : goal.loop-init
 loop-init g c = still
 
-pub returns-in_err-rest : goal.returns-in_err-rest
-returns-in_err-rest g c = record { ends = and_then (and_then c.loop.invariant (stays c.loop.core c.may_go_on.ensures.ends)) c.poll_once.ensures.ends }
-
 pub loop-preserved : goal.loop-preserved
 loop-preserved g c = and_then (and_then c.loop.invariant (stays c.loop.core c.may_go_on.ensures.ends)) c.poll_once.ensures.ends
 

@@ -13,8 +13,5 @@ loop-id-init g c = stays c.args.core.now (stay_clients _ _ _ _ (λ j. refl))
 pub loop-id-preserved : goal.loop-id-preserved
 loop-id-preserved g c = and_then (and_then c.loop-id.invariant (stays c.loop-id.core (stay_clients _ _ _ _ (free_keeps _ c.loop-id.sockets.clients c.end_busy.new.self c.end_busy.ensures.client)))) c.serve_client.ensures.ends
 
-pub returns-in_err-serve_client : goal.returns-in_err-serve_client
-returns-in_err-serve_client g c = record { ends = and_then (and_then c.loop-id.invariant (stays c.loop-id.core (stay_clients _ _ _ _ (free_keeps _ c.loop-id.sockets.clients c.end_busy.new.self c.end_busy.ensures.client)))) c.serve_client.ensures.ends }
-
 pub returns : goal.returns
 returns g c = record { ends = c.loop-id.invariant }

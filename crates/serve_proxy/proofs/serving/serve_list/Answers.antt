@@ -9,8 +9,5 @@ loop-id-init g c = still
 pub loop-id-preserved : goal.loop-id-preserved
 loop-id-preserved g c = and_then (and_then c.loop-id.invariant (stays c.loop-id.core (stay_clients _ _ _ _ (idle_keeps _ c.loop-id.sockets.clients c.end_ready.new.self c.end_ready.ensures.client)))) c.serve_client.ensures.ends
 
-pub returns-in_err-serve_client : goal.returns-in_err-serve_client
-returns-in_err-serve_client g c = record { ends = and_then (and_then c.loop-id.invariant (stays c.loop-id.core (stay_clients _ _ _ _ (idle_keeps _ c.loop-id.sockets.clients c.end_ready.new.self c.end_ready.ensures.client)))) c.serve_client.ensures.ends }
-
 pub returns : goal.returns
 returns g c = record { ends = c.loop-id.invariant }

@@ -7,8 +7,5 @@ loop-id-init g c = still
 pub loop-id-preserved : goal.loop-id-preserved
 loop-id-preserved g c = and_then c.loop-id.invariant c.give_back_client.ensures.ends
 
-pub returns-in_err-give_back_client : goal.returns-in_err-give_back_client
-returns-in_err-give_back_client g c = record { ends = and_then c.loop-id.invariant c.give_back_client.ensures.ends }
-
 pub returns : goal.returns
 returns g c = record { ends = c.loop-id.invariant }

@@ -7,9 +7,6 @@ loop-id-init g c = still
 pub loop-id-preserved : goal.loop-id-preserved
 loop-id-preserved g c = and_then c.loop-id.invariant c.end_if_stalled.ensures.ends
 
-pub returns-in_err-end_if_stalled : goal.returns-in_err-end_if_stalled
-returns-in_err-end_if_stalled g c = record { ends = and_then c.loop-id.invariant c.end_if_stalled.ensures.ends }
-
 pub returns-then-not-may_be_late : goal.returns-then-not-may_be_late
 returns-then-not-may_be_late g c = record { ends = still }
 

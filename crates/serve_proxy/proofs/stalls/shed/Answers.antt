@@ -7,9 +7,6 @@ loop-init g c = still
 pub loop-preserved : goal.loop-preserved
 loop-preserved g c = and_then c.loop.invariant c.shed_one.ensures.ends
 
-pub returns-in_err-shed_one : goal.returns-in_err-shed_one
-returns-in_err-shed_one g c = record { ends = and_then c.loop.invariant c.shed_one.ensures.ends }
-
 pub returns-then-not-has_too_much : goal.returns-then-not-has_too_much
 returns-then-not-has_too_much g c = record { ends = c.loop.invariant }
 

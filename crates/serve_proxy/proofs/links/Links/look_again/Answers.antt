@@ -5,11 +5,5 @@ use Rattle.serve_proxy.proofs.links.Links.look_again.Goals as goal
 pub returns-then-not-look_at : goal.returns-then-not-look_at
 returns-then-not-look_at g c = record { lines = line_lent c.args.self.now.all.items c.args.at c.in-Some.link.now c.look_at.new.link c.in-Some.ensures.value c.look_at.ensures.line }
 
-pub returns-in_err-mark_output : goal.returns-in_err-mark_output
-returns-in_err-mark_output g c = record { lines = c.mark_output.ensures.lines ∙ c.has_stood.ensures.lines ∙ line_lent c.args.self.now.all.items c.args.at c.in-Some.link.now c.look_at.new.link c.in-Some.ensures.value c.look_at.ensures.line }
-
-pub returns-in_err-mark_ready : goal.returns-in_err-mark_ready
-returns-in_err-mark_ready g c = record { lines = c.mark_ready.ensures.lines ∙ c.mark_output.ensures.lines ∙ c.has_stood.ensures.lines ∙ line_lent c.args.self.now.all.items c.args.at c.in-Some.link.now c.look_at.new.link c.in-Some.ensures.value c.look_at.ensures.line }
-
 pub returns : goal.returns
 returns g c = record { lines = c.mark_ready.ensures.lines ∙ c.mark_output.ensures.lines ∙ c.has_stood.ensures.lines ∙ line_lent c.args.self.now.all.items c.args.at c.in-Some.link.now c.look_at.new.link c.in-Some.ensures.value c.look_at.ensures.line }

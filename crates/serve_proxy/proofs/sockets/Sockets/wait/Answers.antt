@@ -11,8 +11,5 @@ loop-at-init g c = stay_same _ _ _ _ c.wait.ensures
 pub loop-at-preserved : goal.loop-at-preserved
 loop-at-preserved g c = stay_then c.loop-at.invariant c.note_report.ensures.ends
 
-pub returns-in_err-note_report : goal.returns-in_err-note_report
-returns-in_err-note_report g c = record { ends = stay_then c.loop-at.invariant c.note_report.ensures.ends }
-
 pub returns : goal.returns
 returns g c = record { ends = stay_then c.loop-at.invariant c.look.ensures.ends }
