@@ -13,7 +13,7 @@ use Rattle.serve_links.specs.CoreSteps.{Step, Opened, NotOpened, Fed, Polled, St
 use Rattle.serve_links.specs.Story.{AnEnd, Agrees, AllGoFrom, texts_of}
 use Rattle.serve_links.proofs.Walked.{walks_keep_since}
 use Rattle.serve_proxy.specs.declared.proxy.ProxyEnd.{ProxyEnd}
-use Rattle.serve_proxy.specs.Beginning.{limits_by, LoadStops}
+use Rattle.serve_proxy.specs.Beginning.{LoadStops}
 use Rattle.serve_proxy.specs.Ends.{Stay, AllGoOn, AllGrowFrom, AllGrow, IsLoadOf, HasNoConns}
 use Rattle.serve_proxy.proofs.Going.{still, and_then, stays, same_core}
 use Rattle.serve_proxy.proofs.Growing.{grows}
