@@ -4,3 +4,4 @@ pub mod Steps
 pub mod Alike
 pub mod Serving
 pub mod Oldest
+pub mod Flushing

@@ -1,11 +1,12 @@
 //! One client: what it sent is served, and what that gives is to be sent to it.
 
-ghost use Rattle.std.specs.Prelude.{◌≡◌, true, false, [], ◌<◌, ◌≤◌, length, OnOk, OnErr};
+ghost use Rattle.std.specs.Prelude.{◌≡◌, true, false, [], ◌<◌, ◌≤◌, ◌++◌, ◌⊎◌, ℕ, List, length, drop, IfOk, OnOk, OnErr};
 ghost use Rattle.wire_parts.specs.declared.skip.Skip.TheVariants.{Nothing};
 ghost use Rattle.wire_parts.specs.Sending.{bytes_of};
-ghost use Rattle.wire_parts.specs.Stream.{Stands};
+ghost use Rattle.wire_parts.specs.Stream.{Stands, Closed};
 ghost use Rattle.cache_tcp.specs.Steps.{RunsOn, Stops, IsAnswered, IsWithin, at_front};
 ghost use Rattle.cache_tcp.specs.Serving.{Comes, Serves, StopsIn, IsServed, Waits};
+ghost use Rattle.cache_tcp.specs.Flushing.{flush_line, PassesIf, TakesIf};
 
 use crate::clock::Moment;
 use crate::connection::uses::Uses;
@@ -19,9 +20,8 @@ use wire_parts::to_send::SendBuffer;
 // The room of one read, in bytes.
 const READ_ROOM: usize = 16_384;
 
-const FLUSH_LINE: &[u8] = b"flush_all\r\n";
-
-const FLUSHED: &[u8] = b"OK\r\n";
+// How long the line is by which a client empties its server.
+const FLUSH_LEN: usize = 11;
 
 // An empty buffer is given back where it has more room than this, in bytes.
 const KEPT_ROOM: usize = 262_144;
@@ -62,6 +62,13 @@ fn piece_len(bytes: &[u8]) -> usize
         Some(at) => at + 1,
         None => bytes.len(),
     }
+}
+
+// Whether these bytes begin with the line by which a client empties its server.
+fn begins_flush(bytes: &[u8]) -> bool
+    ensures { result ≡ true → bytes.now ≡ flush_line ++ drop (length flush_line) bytes.now }
+{
+    bytes.starts_with(b"flush_all\r\n".as_slice())
 }
 
 // What is complete of this stream is served, up to a backlog of so many bytes.
@@ -206,6 +213,8 @@ impl<S: Read + Write + Drop> CacheClient<S> {
 
     // One read, where there may be something to read and nothing is left to serve. `false` where the client has to be dropped.
     fn read(&mut self) -> bool
+        ensures held { (self.old.served.place ≡ Closed) ⊎ ((more : List ℕ) × (self.new.conn.held.items ≡ self.old.conn.held.items ++ more)) }
+        ensures served { self.new.served ≡ self.old.served }
         ensures unsent { self.new.conn.unsent ≡ self.old.conn.unsent }
         ensures limits { self.new.conn.limits ≡ self.old.conn.limits }
     {
@@ -244,27 +253,38 @@ impl<S: Read + Write + Drop> CacheClient<S> {
         served.is_ok()
     }
 
-    // Whether what is held begins with the line, and no message is begun before it.
-    fn begins_flush(&self) -> bool {
-        !self.stopped
-            && self.served.is_between()
-            && self.conn.held.as_slice().starts_with(FLUSH_LINE)
+    /// Whether what is held begins with `flush_all`, and no message is begun before it: then the line is used up, and `OK` is to be sent.
+    /// The line counts where it comes in one piece.
+    ///
+    /// The only error is running out of memory, which changes nothing.
+    pub fn pass_flush(&mut self) -> Result<bool, AllocError>
+        ensures ok { IfOk result (λ passed. PassesIf passed self.old.served self.old.conn.held.items (bytes_of self.old.conn.unsent) self.new.conn.held.items (bytes_of self.new.conn.unsent)) }
+        ensures held { OnErr result (self.new.conn.held.items ≡ self.old.conn.held.items) }
+        ensures unsent { OnErr result (bytes_of self.new.conn.unsent ≡ bytes_of self.old.conn.unsent) }
+        ensures served { self.new.served ≡ self.old.served }
+        ensures limits { self.new.conn.limits ≡ self.old.conn.limits }
+    {
+        if !self.served.is_between() || !begins_flush(self.conn.held.as_slice()) {
+            return Ok(false);
+        }
+        self.conn.unsent.text.extend_from_slice(b"OK\r\n")?;
+        self.conn.use_held(FLUSH_LEN);
+        Ok(true)
     }
 
-    /// One read, where nothing is left to serve. Whether what it sent begins with `flush_all`: that is passed over, and `OK` is to be sent. The line
-    /// counts where it comes in one piece, and no message is begun before it.
+    /// One read, where nothing is left to serve. Whether what the client sent begins with `flush_all` then: that is used up, and `OK` is to be sent.
     ///
     /// The only error is running out of memory; then the client is to be closed.
     pub fn take_flush(&mut self) -> Result<bool, AllocError>
+        ensures ok { IfOk result (λ taken. TakesIf taken self.old.served self.old.conn.held.items (bytes_of self.old.conn.unsent) self.new.conn.held.items (bytes_of self.new.conn.unsent)) }
+        ensures unsent { OnErr result (bytes_of self.new.conn.unsent ≡ bytes_of self.old.conn.unsent) }
+        ensures served { self.new.served ≡ self.old.served }
         ensures limits { self.new.conn.limits ≡ self.old.conn.limits }
     {
-        if self.conn.has_backlog() || !self.read() || !self.begins_flush() {
+        if self.conn.has_backlog() || !self.read() {
             return Ok(false);
         }
-        self.conn.unsent.text.extend_from_slice(FLUSHED)?;
-        let used = FLUSH_LINE.len().min(self.conn.held.len());
-        self.conn.use_held(used);
-        Ok(true)
+        self.pass_flush()
     }
 
     // Whether nothing of what it sent is left to serve, or can come.

@@ -76,6 +76,7 @@ mcgate cache --capacity 4294967295 --turns 7 --listen a:1 => cache 4294967295 tu
 mcgate cache --listen a:1 --capacity 5 --memory-mb 6 => cache 5 memory-mb 6
 mcgate loopback => loopback of standard input
 mcgate loopback f => loopback of f
+mcgate loopback --flush-all f => emptied loopback of f
 mcgate serve --listen a:1 --config c => serve - fail-limit 3 auto
 mcgate serve --any --listen a:1 --config c --reload-every 4 --reload-ms 5 --fail-limit 6 => serve any reload-every 4 reload-ms 5 fail-limit 6 auto
 mcgate serve --listen a:1 --config c --history h => serve - after h fail-limit 3 auto
@@ -92,6 +93,7 @@ mcgate serve --listen a:1 --config c --log-json => serve - fail-limit 3 log info
 mcgate serve --listen a:1 --config c --log-level all => refused, told
 mcgate tell d drain => tell d drain
 mcgate tell d where k => tell d where k
+mcgate tell d log warn => tell d log warn
 mcgate serve --listen a:1 --config c --server-dialect auto => serve - fail-limit 3 auto
 mcgate serve --listen a:1 --config c --server-dialect classic => serve - fail-limit 3 classic
 mcgate serve --listen a:1 --config c --server-dialect meta => serve - fail-limit 3 meta
@@ -124,6 +126,9 @@ mcgate cache --listen a:1 --capacity 0 => refused, told
 mcgate cache --listen a:1 --capacity 4294967296 => refused, told
 mcgate cache --listen a:1 --capacity 5 --memory-mb 0 => refused, told
 mcgate tell d => refused, told
+mcgate tell d log => refused, told
+mcgate tell d log all => refused, told
+mcgate tell d drain k => refused, told
 mcgate check f g => refused, told
 mcgate loopback --any => refused, told
 mcgate replay --any --any => refused, told
@@ -261,8 +266,8 @@ fn change_words(change: SlotsChange<'_>) -> &'static str {
 
 fn push_tell(out: &mut String, job: &TellJob<'_>) -> Result<(), AllocError> {
     write!(out, "tell {} {}", job.path, job.word)?;
-    if let Some(key) = job.key {
-        write!(out, " {key}")?;
+    if let Some(more) = job.more {
+        write!(out, " {more}")?;
     }
     Ok(())
 }
@@ -311,7 +316,10 @@ fn push_job(out: &mut String, job: &Job<'_>) -> Result<(), AllocError> {
         }
         Job::Where { file, keys } => write!(out, "where {} in {file}", keys.len())?,
         Job::Certify { file } => write!(out, "certify of {}", file_word(file))?,
-        Job::Loopback { file } => write!(out, "loopback of {}", file_word(file))?,
+        Job::Loopback { file, flushes_new } => {
+            let emptied = if *flushes_new { "emptied " } else { "" };
+            write!(out, "{emptied}loopback of {}", file_word(file))?;
+        }
         Job::Cache(job) => {
             write!(out, "cache {}", job.settings.capacity)?;
             push_number(out, "memory-mb", job.memory_mb)?;

@@ -596,6 +596,13 @@ impl<'a> TurnedEnds<'a> {
         self.loaded(config, &servers)
     }
 
+    // The proxy empties the server before its first call.
+    fn empty_first(&mut self, server: usize) {
+        if let Some(proxy) = self.proxy.as_mut() {
+            proxy.empty_first(server);
+        }
+    }
+
     fn next_news(&mut self) -> Option<(usize, LinkNews)> {
         match &mut self.proxy {
             Some(proxy) => proxy.next_news(),
@@ -672,6 +679,10 @@ impl TurnedEnds<'_> {
             }
             "kill" => Ok(self.kill(at)?),
             "again" => self.begin_again(at),
+            "empty" => {
+                self.empty_first(at);
+                Ok(())
+            }
             _ => Err("no such event")?,
         }
     }
@@ -741,11 +752,11 @@ fn retried_after(retry_ms: u64) -> Settings {
     }
 }
 
-// The settings of a proxy whose connections to servers may take 20 milliseconds to stand.
+// The settings of a proxy whose connections to servers may take 200 milliseconds to stand.
 fn hasty() -> Settings {
     Settings {
         call_ms: LONG,
-        connect_ms: 20,
+        connect_ms: 200,
         ..Settings::usual()
     }
 }

@@ -11,6 +11,18 @@ connect => 0
 ask 0 get a\r\n => SERVER_ERROR call failed\r\n
 news => server 0: failed: a connection took too long to stand, 1 in a row
 
+A server that doesn't say in time that it has emptied itself.
+server
+hasty-proxy <one server>
+empty 0
+connect => 0
+send 0 get a\r\n
+accept => 1
+gets 1 => flush_all\r\nmn\r\n
+gets 0 => SERVER_ERROR call failed\r\n
+closed 1 => yes
+news => server 0: failed: a connection took too long to stand, 1 in a row
+
 What can't be an answer.
 server
 strict-proxy <one server>

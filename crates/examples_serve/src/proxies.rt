@@ -313,7 +313,7 @@ hasty-proxy <one server>
 connect => 0
 send 0 get a\r\n
 turn 2
-pause 100
+pause 400
 accept => 1
 gets 1 => mn\r\nget a\r\n
 send 1 MN\r\nEND\r\n

@@ -224,6 +224,28 @@ reload refused generation=1 server=127.0.0.1:5002 read=get delete=delete prefix=
 < 0 END\r\n
 done 2 commands 2 calls
 ----
+A reload that brings a server of which nothing is known is refused.
+<one server>
+hold 1 b 7
+reload <two servers>
+> 0 get b\r\n
+=> 0
+reload refused generation=1 server=127.0.0.1:5002 read=get delete=delete prefix= residue=1/2
+< 0 END\r\n
+done 1 commands 1 calls
+----
+It is accepted where that server is emptied before its first call, and what the first one holds is kept.
+--flush-all
+<one server>
+hold 0 a 5
+hold 1 b 7
+reload <two servers>
+> 0 get a b\r\n
+=> 0
+reload accepted generation=2
+< 0 VALUE a 0 1\r\n5\r\nEND\r\n
+done 2 commands 2 calls
+----
 Sixteen configurations are all that a run has, as in a replay.
 <A>
 reload <A>
@@ -285,10 +307,13 @@ config: bad field pools
 "
 }
 
-// What a script prints.
+// What a script prints, which may begin with a flag.
 fn printed(rt: &HostRuntime, script: &str) -> (u8, Vec<u8>) {
     let mut out = Vec::new(rt.alloc());
-    let status = run_loopback(rt, script, &mut out);
+    let status = match script.strip_prefix("--flush-all\n") {
+        Some(script) => run_loopback(rt, script, true, &mut out),
+        None => run_loopback(rt, script, false, &mut out),
+    };
     (status, out)
 }
 

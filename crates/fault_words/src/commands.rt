@@ -198,13 +198,14 @@ impl Command {
             }
             Command::Cache =>
                 "mcgate cache --listen HOST:PORT --capacity C [--memory-mb N] [--flush-all] [--turns N]",
-            Command::Loopback => "mcgate loopback [SCRIPT]",
+            Command::Loopback => "mcgate loopback [--flush-all] [SCRIPT]",
             Command::History => "mcgate history FILE",
             Command::Slots => {
                 "mcgate slots [--add HOST:PORT | --remove HOST:PORT] [--pool NAME] [--after FILE ..] [FILE]"
             }
             Command::Plan => "mcgate plan [--opened WORD] [--new-servers WORD] OLD NEW",
-            Command::Tell => "mcgate tell PATH drain | reload | status | servers | where KEY",
+            Command::Tell =>
+                "mcgate tell PATH drain | reload | status | servers | log LEVEL | where KEY",
             Command::Help => "mcgate help [COMMAND]",
         }
     }
@@ -219,11 +220,8 @@ impl Command {
             Command::Serve => &SERVE_FLAGS,
             Command::Cache => &CACHE_FLAGS,
             Command::Slots => &["help", "add", "remove", "pool", "after"],
-            Command::Certify
-            | Command::Loopback
-            | Command::History
-            | Command::Tell
-            | Command::Help => &["help"],
+            Command::Loopback => &["help", "flush-all"],
+            Command::Certify | Command::History | Command::Tell | Command::Help => &["help"],
         }
     }
 

@@ -11,8 +11,6 @@ use Rattle.serve_wire.specs.Events.{Event}
 use Rattle.serve_wire.specs.declared.sockets.sockets.Sockets.{Sockets}
 use Rattle.serve_links.specs.CoreSteps.{Step, Opened, NotOpened, Fed, Polled, Stopped, Settled, Gave, Closed, LeftLine, Broke, Loaded, Linked, Asked, Greeted, Spelled, Late, CameLate, Lost, Walks, AreOf, IsOfTurn}
 use Rattle.serve_links.specs.Story.{AnEnd, Agrees, AllGoFrom, texts_of}
-use Rattle.serve_links.specs.Called.{TellsCalls}
-use Rattle.serve_links.proofs.Called.{walks_tell_calls}
 use Rattle.serve_links.proofs.Walked.{walks_keep_since}
 use Rattle.serve_proxy.specs.declared.proxy.ProxyEnd.{ProxyEnd}
 use Rattle.serve_proxy.specs.Beginning.{limits_by, LoadStops}
@@ -145,11 +143,6 @@ has_freshly : (servable : Servable) (begun : Beginnings) (settings : Settings) (
 has_freshly (servables.Accepted accepted) begun settings steps a b begins walks fresh = (begins.config, begins.last, walks_are_fresh steps a b walks fresh begins.config begun ([], begins.word))
 has_freshly (servables.Unchecked configuration) begun settings steps a b begins walks fresh = tt
 
--- its first core has no call out
-begins_uncalled : (servable : Servable) (begun : Beginnings) (settings : Settings) (core : ServedCore) → BeginsBy servable begun settings core → TellsCalls [] core
-begins_uncalled (servables.Accepted accepted) begun settings core begins = walks_tell_calls.begins begins.config.tree (limits_by settings) core begins.core_is
-begins_uncalled (servables.Unchecked configuration) begun settings core begins = walks_tell_calls.begins configuration.tree (limits_by settings) core begins.core_is
-
 pub has_served :
     (servable : Servable) (begun : Beginnings) (settings : Settings) (first last : ProxyEnd Sockets) → BeginsServing servable begun settings first → Serves first last → LogsAreFresh last.core.value
     → HasServed servable begun settings last
@@ -159,7 +152,6 @@ has_served servable begun settings first last begins g fresh = record {
   serves = g;
   agrees = subst (λ l. Agrees l (proxy_of last)) (append-nil g.steps) (g.agree [] begins.agrees);
   fresh = has_freshly servable begun (record settings { sharing = sharing_for begins.core.0 }) g.steps first.core.value last.core.value begins.core.2 g.walks fresh;
-  calls = (walks_tell_calls.goes_on g.steps [] first.core.value last.core.value (begins_uncalled servable begun (record settings { sharing = sharing_for begins.core.0 }) first.core.value begins.core.2) g.walks).1;
 }
 
 -- also where servers apply late what had failed

@@ -12,7 +12,6 @@ use Rattle.serve_links.specs.declared.settings.Settings.{Settings}
 use Rattle.serve_wire.specs.Events.{Event}
 use Rattle.serve_wire.specs.declared.sockets.sockets.Sockets.{Sockets}
 use Rattle.serve_links.specs.CoreSteps.{Step, Opened, NotOpened, Fed, Polled, Stopped, Settled, Gave, Closed, LeftLine, Broke, Loaded, Linked, Asked, Greeted, Spelled, Late, CameLate, Lost}
-use Rattle.serve_links.specs.Called.{AreOfCalls}
 use Rattle.serve_links.specs.Story.{AnEnd, Agrees, texts_of}
 use Rattle.serve_proxy.specs.declared.proxy.ProxyEnd.{ProxyEnd}
 use Rattle.serve_proxy.specs.Ends.{end_of, AllGrow}
@@ -101,14 +100,13 @@ abbrev pub GoFreshly : Servable → Beginnings → List Step → ServedCore → 
 GoFreshly (servables.Accepted accepted) begun steps first last = (configuration : Configuration) × IsLast accepted configuration × LogsGoFreshly configuration begun steps first last
 GoFreshly (servables.Unchecked configuration) begun steps first last = Unit {0}
 
--- an end that began so was served: turns and loads alone led to what it is, the ends of its clients and its links agree with them, each log goes on by them freshly, and each answer was read for what the call asks that the core gave out last under its number
+-- an end that began so was served: turns and loads alone led to what it is, the ends of its clients and its links agree with them, and each log goes on by them freshly
 pub record HasServed (servable : Servable) (begun : Beginnings) (settings : Settings) (end : ProxyEnd Sockets) : Type 0 where
   pub first : ProxyEnd Sockets
   pub begins : BeginsServing servable begun settings first
   pub serves : Serves first end
   pub agrees : Agrees serves.steps (proxy_of end)
   pub fresh : GoFreshly servable begun serves.steps first.core.value end.core.value
-  pub calls : AreOfCalls serves.steps []
 
 -- where the gate accepted what is served, the core is one on its configuration and others that it accepted after it, and each log that may have led to it is fresh, if servers began so; and if they may have held anything, also where they apply calls that had failed late, but in the order of their connections
 abbrev pub StaysFresh : Servable → Beginnings → ServedCore → Type 0

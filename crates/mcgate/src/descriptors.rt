@@ -4,8 +4,7 @@ use crate::lines::Lines;
 use libc::types::rlimit;
 use libc::{RLIMIT_NOFILE, getrlimit};
 use mcgate_args::serve_arguments::ServeJob;
-use watch_admin::control::callers::PLACES as CALLERS;
-use watch_admin::http::visitors::PLACES;
+use watch_admin::places::PLACES;
 
 // So many descriptors are kept for what is neither a client nor a server of the configuration: the standard ones, the listener, what it
 // waits with, the file that is read again, and servers that a reload brings.
@@ -15,7 +14,7 @@ const RESERVE: usize = 16;
 const WATCHING: usize = PLACES + 2;
 
 // And so many for who tells it things, where it listens for them.
-const CONTROLLING: usize = CALLERS + 2;
+const CONTROLLING: usize = PLACES + 2;
 
 // How many descriptors the process may have open, if the system tells.
 fn most_descriptors() -> Option<usize> {

@@ -70,6 +70,12 @@ impl Lines {
         }
     }
 
+    /// From now on they have a time and a level, and those of this one and more urgent ones are written.
+    pub fn set_level(&mut self, level: Level) {
+        let json = self.log.is_some_and(|log| log.json);
+        self.log = Some(Log { level, json });
+    }
+
     /// How many were lost so far.
     pub fn lost(&self) -> u64 {
         self.lost_before.saturating_add(self.lost)

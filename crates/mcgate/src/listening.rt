@@ -1,4 +1,4 @@
-//! Where a proxy listens: at a host and a port, at a path of the machine, or on a socket that it was given.
+//! Where a proxy listens: at hosts and ports, at paths of the machine, and on a socket that it was given.
 
 use crate::serving::resolve;
 use mio::net::TcpListener;
@@ -49,8 +49,8 @@ fn given_listener<R: Given>(rt: &R) -> io::Result<TcpListener> {
     Ok(TcpListener::from_std(listener))
 }
 
-/// It listens where a text says; the file of a path gets this mode.
-pub fn listener_at<R: Files + Net + Given>(rt: &R, text: &str, mode: u32) -> io::Result<Listener> {
+// It listens where a text says; the file of a path gets this mode.
+fn listener_at<R: Files + Net + Given>(rt: &R, text: &str, mode: u32) -> io::Result<Listener> {
     match place_of(text) {
         Place::Address(address) => {
             let listener = TcpListener::bind(rt, resolve(rt, address)?)?;
@@ -58,5 +58,26 @@ pub fn listener_at<R: Files + Net + Given>(rt: &R, text: &str, mode: u32) -> io:
         }
         Place::Path(path) => Ok(Listener::Unix(listen_at(rt, path, mode)?)),
         Place::Input => Ok(Listener::Tcp(given_listener(rt)?)),
+    }
+}
+
+/// It listens at each of these places, which have a comma between two; the file of a path gets this mode.
+pub fn listeners_at<R: Files + Net + Given + AllocGlobal>(
+    rt: &R,
+    places: &str,
+    mode: u32,
+) -> io::Result<Vec<Listener>> {
+    let mut listeners = Vec::new(rt.alloc());
+    for text in places.split(',') {
+        listeners.push(listener_at(rt, text, mode)?)?;
+    }
+    Ok(listeners)
+}
+
+/// What stands after the first of these places.
+pub fn after_first(places: &str) -> &str {
+    match places.find(',') {
+        Some(at) => places.get(at..).unwrap_or(""),
+        None => "",
     }
 }

@@ -349,11 +349,12 @@ fn run_certify<R: Files + Input + AllocGlobal, W: Write>(
 fn run_loopback<R: Files + Input + AllocGlobal + Net + Clock + Eprint, W: Write>(
     rt: &R,
     file: Option<&str>,
+    flushes_new: bool,
     out: &mut W,
     details: &mut Details,
 ) -> Result<u8, Stop> {
     let input = input_of(rt, file, details);
-    let status = run_over_tcp(rt, &input, out)?;
+    let status = run_over_tcp(rt, &input, flushes_new, out)?;
     let task = Task::Replay {
         judging: Judging::Asked,
     };
@@ -553,7 +554,7 @@ fn run<R: Files + Input + AllocGlobal + Env + Net + Clock + Print + Eprint + Giv
         Job::Where { file, keys } => run_where(rt, file, &keys, out, details),
         Job::Certify { file } => run_certify(rt, file, out, details),
         Job::Slots(job) => run_slots(rt, &job, out, details),
-        Job::Loopback { file } => run_loopback(rt, file, out, details),
+        Job::Loopback { file, flushes_new } => run_loopback(rt, file, flushes_new, out, details),
         Job::Cache(job) => serve_cache(rt, job, details),
         Job::Serve(job) => run_serve(rt, job, out, details),
         Job::Tell(job) => tell(rt, &job, out, details),

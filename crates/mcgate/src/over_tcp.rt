@@ -14,11 +14,12 @@ use std::rt::Clock;
 fn loop_text<R: Net + Clock + AllocGlobal, W: Write>(
     rt: &R,
     text: &str,
+    flushes_new: bool,
     out: &mut W,
 ) -> Result<u8, Stop>
     ensures { RunsBy RunsOverTcp LoopMemoryRefused NeverOverruns text.now (W.contents out.old) (W.contents out.new) result }
 {
-    ended(run_loopback(rt, text, out))
+    ended(run_loopback(rt, text, flushes_new, out))
 }
 
 /// Runs the script of an input over TCP, or prints why it is no input. The answer and the faults are as those of
@@ -26,12 +27,13 @@ fn loop_text<R: Net + Clock + AllocGlobal, W: Write>(
 pub fn run_over_tcp<R: Net + Clock + AllocGlobal, W: Write>(
     rt: &R,
     input: &Result<String, InputFault>,
+    flushes_new: bool,
     out: &mut W,
 ) -> Result<u8, Stop>
     ensures { AnswersBy RunsOverTcp LoopMemoryRefused NeverOverruns input.now (W.contents out.old) (W.contents out.new) result }
 {
     match input {
-        Ok(text) => loop_text(rt, text.as_str(), out),
+        Ok(text) => loop_text(rt, text.as_str(), flushes_new, out),
         Err(fault) => decline(*fault, out),
     }
 }

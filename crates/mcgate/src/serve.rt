@@ -11,7 +11,7 @@ ghost use Rattle.mcgate.specs.Serves.{Begins, HasServers, BeginsServing, HasServ
 
 use crate::controlling::Controlling;
 use crate::lines::Lines;
-use crate::listening::{Given, Place, listener_at, place_of};
+use crate::listening::{Given, Place, listeners_at, place_of};
 use crate::serving::{Proxy, Serving, resolve, tell_if_unknown};
 use crate::sharing::sharing_for;
 use crate::started::Started;
@@ -143,9 +143,7 @@ fn open_wire<R: Files + Net + Clock + AllocGlobal + Given>(
 ) -> io::Result<Sockets>
     ensures { IfOk result (λ wire. history_of wire ≡ []) }
 {
-    let mut listeners = Vec::new(rt.alloc());
-    listeners.push(listener_at(rt, job.listen, job.unix_mode)?)?;
-    Sockets::listen_by(rt, listeners)
+    Sockets::listen_by(rt, listeners_at(rt, job.listen, job.unix_mode)?)
 }
 
 // The wire looks up these servers. Those that name no host are told of.
@@ -307,6 +305,20 @@ fn look_up_own<R: Net + AllocGlobal>(
     }
 }
 
+// The same of each of these places.
+fn look_up_places<R: Net + AllocGlobal>(
+    rt: &R,
+    places: &str,
+    details: &mut Details,
+) -> Result<(), Stop> {
+    for text in places.split(',') {
+        if let Place::Address(address) = place_of(text) {
+            look_up_own(rt, address, details)?;
+        }
+    }
+    Ok(())
+}
+
 // What is said where some servers' addresses aren't known.
 fn unknown_line(alloc: Global, unknown: usize, servers: usize) -> Result<String, AllocError> {
     format!(in alloc; "mcgate: of {servers} servers {unknown} have no known address")
@@ -327,9 +339,7 @@ pub fn look_up_only<R: Net + AllocGlobal + Eprint>(
         return Err(Stop::Memory);
     };
     let unknown = tell_unknown(rt, lines, &servers)?;
-    if let Place::Address(address) = place_of(job.listen) {
-        look_up_own(rt, address, details)?;
-    }
+    look_up_places(rt, job.listen, details)?;
     if let Some(metrics) = job.metrics {
         look_up_own(rt, metrics, details)?;
     }

@@ -16,6 +16,7 @@ use crate::controlling::Controlling;
 use crate::draining::Draining;
 use crate::emptying::Emptying;
 use crate::lines::Lines;
+use crate::listening::after_first;
 use crate::outages::Outages;
 use crate::remembering::{Kept, Remembering, forget, remember};
 use crate::special::is_special;
@@ -27,6 +28,7 @@ use mc_types::{Key, ServerId};
 use mcgate_args::ends::{Stop, find_in_text};
 use mcgate_args::input::text_of;
 use mcgate_args::input_text::InputFault;
+use mcgate_args::log_arguments::level_of;
 use mcgate_args::serve_arguments::ServeJob;
 use mcgate_check::reload_lines::{write_kept, write_loaded, write_unchecked};
 use mcgate_check::status::DONE;
@@ -43,8 +45,8 @@ use std::net::{Net, SocketAddr, ToSocketAddrs};
 use std::rt::{Clock, Files};
 use std::time::{Duration, Instant};
 use watch_admin::control::answers::Verdict;
-use watch_admin::control::callers::PLACES;
 use watch_admin::control::requests::{Request, request_of};
+use watch_admin::places::PLACES;
 
 /// The first address that a text names, or why it names none.
 pub fn resolve<N: Net>(net: &N, text: &str) -> io::Result<SocketAddr> {
@@ -312,8 +314,9 @@ impl Serving {
             Ok(address) => self.lines.tell(
                 rt,
                 format_args!(
-                    "mcgate: serving {} on {address}, {servers} servers, generation {generation}",
-                    job.file
+                    "mcgate: serving {} on {address}{}, {servers} servers, generation {generation}",
+                    job.file,
+                    after_first(job.listen)
                 ),
             ),
             Err(_) => self.lines.tell(
@@ -373,7 +376,8 @@ impl Serving {
         let lost_lines = self.lines.lost();
         if let Some(watching) = &mut self.watching {
             if is_woken || watching.is_due(rt) {
-                let _ = watching.turn(rt, &self.end, &self.servers, &self.seen, lost_lines);
+                let text = self.text.as_str();
+                let _ = watching.turn(rt, &self.end, &self.servers, &self.seen, lost_lines, text);
             }
         }
     }
@@ -826,6 +830,10 @@ impl Serving {
                 self.tell_where(rt, place, key);
                 Ok(())
             }
+            Request::Log(level) => {
+                self.set_level(place, level);
+                Ok(())
+            }
             Request::Unknown => {
                 self.answer(place, Verdict::Unknown, b"no such word\n");
                 Ok(())
@@ -838,6 +846,19 @@ impl Serving {
     {
         if let Some(controlling) = &mut self.controlling {
             controlling.answer(place, verdict, text);
+        }
+    }
+
+    // Lines of a level of this name and more urgent ones are written from now on.
+    fn set_level(&mut self, place: usize, name: &[u8])
+        ensures { self.new.end ≡ self.old.end }
+    {
+        match level_of(std::str::from_utf8(name).unwrap_or("")) {
+            Some(level) => {
+                self.lines.set_level(level);
+                self.answer(place, Verdict::Done, b"log level set\n");
+            }
+            None => self.answer(place, Verdict::Unknown, b"no such level\n"),
         }
     }
 

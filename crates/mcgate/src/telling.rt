@@ -13,8 +13,8 @@ use watch_admin::control::requests::{Request, request_of};
 
 // The line that says it, without its end.
 fn line_of(alloc: Global, job: &TellJob<'_>) -> Result<String, AllocError> {
-    match job.key {
-        Some(key) => format!(in alloc; "{} {key}", job.word),
+    match job.more {
+        Some(more) => format!(in alloc; "{} {more}", job.word),
         None => String::from_str(alloc, job.word),
     }
 }
@@ -31,7 +31,9 @@ fn answer_at<R: Net + AllocGlobal>(rt: &R, path: &str, line: &str) -> io::Result
 
 // What is said where there is no such word.
 fn unknown_line(alloc: Global, word: &str) -> Result<String, AllocError> {
-    format!(in alloc; "mcgate: {word} is none of drain, reload, status, servers and where KEY")
+    format!(in alloc;
+        "mcgate: {word} is none of drain, reload, status, servers, log LEVEL and where KEY"
+    )
 }
 
 // What is said where nothing answers there.

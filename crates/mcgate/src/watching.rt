@@ -4,7 +4,7 @@ use crate::serving::{Proxy, resolve};
 use gate_gaps::names::op_name;
 use mc_types::{Op, ServerId};
 use route_json::addresses::Servers;
-use serve_links::{CAUSES, Link};
+use serve_links::{CAUSES, Link, SPANS};
 use serve_proxy::text_at;
 use std::alloc::{AllocError, Global};
 use std::io;
@@ -13,14 +13,16 @@ use std::net::{Net, SocketAddr};
 use std::os::fd::RawFd;
 use std::rt::{Clock, Files};
 use std::time::Instant;
-use watch_admin::families::Family;
+use watch_admin::families::Amount;
+use watch_admin::http::home::home_text;
 use watch_admin::http::request::Page;
-use watch_admin::http::visitors::{PLACES, Visitors};
+use watch_admin::http::visitors::Visitors;
 use watch_admin::json::write_json;
 use watch_admin::numbers::{
     ClientNumbers, CommandNumbers, ConfigNumbers, FailureNumbers, Numbers, ProcessNumbers,
-    ServerNumbers, families_of,
+    ServerNumbers, SpanNumbers, families_of,
 };
+use watch_admin::places::PLACES;
 use watch_admin::prometheus::write_prometheus;
 
 /// What is counted of a proxy that runs, besides what its end counts.
@@ -131,16 +133,31 @@ fn commands_of(alloc: Global, end: &Proxy) -> Result<Vec<CommandNumbers>, AllocE
     Ok(commands)
 }
 
-// What is counted of the server of this number and text.
-fn server_of(
-    alloc: Global,
-    end: &Proxy,
-    server: usize,
-    text: &str,
-) -> Result<Option<ServerNumbers>, AllocError> {
-    let Some(link) = end.link(server) else {
-        return Ok(None);
+// The longest time at this place of those that are told apart, in seconds.
+fn most_of(alloc: Global, place: usize) -> Result<String, AllocError> {
+    let Some(micros) = SPANS.get(place) else {
+        return String::from_str(alloc, "+Inf");
     };
+    let micros = Amount::Micros(*micros);
+    let text = format!(in alloc; "{micros}")?;
+    let text = text.trim_end_matches('0').trim_end_matches('.');
+    String::from_str(alloc, text)
+}
+
+// How many answers of a server took how long.
+fn spans_of(alloc: Global, counts: &[u64]) -> Result<Vec<SpanNumbers>, AllocError> {
+    let mut spans = Vec::new(alloc);
+    for (place, count) in counts.iter().enumerate() {
+        spans.push(SpanNumbers {
+            most: most_of(alloc, place)?,
+            count: *count,
+        })?;
+    }
+    Ok(spans)
+}
+
+// How often the link of a server failed, for each cause.
+fn failures_by_cause(alloc: Global, link: &Link) -> Result<Vec<FailureNumbers>, AllocError> {
     let mut failures = Vec::new(alloc);
     failures.push(FailureNumbers {
         cause: "call_late",
@@ -152,12 +169,31 @@ fn server_of(
             count: link.tally.failed(cause),
         })?;
     }
+    Ok(failures)
+}
+
+// What is counted of the server of this number and text.
+fn server_of(
+    alloc: Global,
+    end: &Proxy,
+    server: usize,
+    text: &str,
+) -> Result<Option<ServerNumbers>, AllocError> {
+    let Some(link) = end.link(server) else {
+        return Ok(None);
+    };
+    let calls = link.calls.tally();
     Ok(Some(ServerNumbers {
         text: String::from_str(alloc, text)?,
         is_up: link.is_connected && !link.awaits_late(),
+        is_late: link.awaits_late(),
         connections: link.tally.stood,
         calls_out: link.calls.len() as u64,
-        failures,
+        failures: failures_by_cause(alloc, link)?,
+        answered: calls.answered,
+        failed: calls.failed,
+        answer_micros: calls.micros,
+        spans: spans_of(alloc, calls.spans())?,
     }))
 }
 
@@ -221,9 +257,7 @@ pub fn stats_of<R: Files + AllocGlobal>(
     seen: &Seen,
     times: Times,
 ) -> io::Result<Vec<u8>> {
-    let numbers = numbers_of(rt, end, servers, seen, times)?;
-    let families = families_of(rt.alloc(), &numbers)?;
-    body_of(rt.alloc(), Page::Stats, families.as_slice())
+    json_of(rt.alloc(), &numbers_of(rt, end, servers, seen, times)?)
 }
 
 // How a server is whose link is so.
@@ -266,13 +300,17 @@ pub fn write_servers<W: Write>(end: &Proxy, servers: &Servers, out: &mut W) -> i
     Ok(())
 }
 
-// The text of a page.
-fn body_of(alloc: Global, page: Page, families: &[Family]) -> io::Result<Vec<u8>> {
+// These numbers in Prometheus' text format.
+fn prometheus_of(alloc: Global, numbers: &Numbers) -> io::Result<Vec<u8>> {
     let mut body = Vec::new(alloc);
-    match page {
-        Page::Metrics => write_prometheus(families, &mut body)?,
-        Page::Stats => write_json(families, &mut body)?,
-    }
+    write_prometheus(families_of(alloc, numbers)?.as_slice(), &mut body)?;
+    Ok(body)
+}
+
+// The same in JSON.
+fn json_of(alloc: Global, numbers: &Numbers) -> io::Result<Vec<u8>> {
+    let mut body = Vec::new(alloc);
+    write_json(families_of(alloc, numbers)?.as_slice(), &mut body)?;
     Ok(body)
 }
 
@@ -346,13 +384,21 @@ impl Watching {
         servers: &Servers,
         seen: &Seen,
         lost_lines: u64,
+        text: &str,
     ) -> io::Result<Vec<u8>> {
-        let numbers = self.numbers(rt, end, servers, seen, lost_lines)?;
-        let families = families_of(rt.alloc(), &numbers)?;
-        body_of(rt.alloc(), page, families.as_slice())
+        let alloc = rt.alloc();
+        match page {
+            Page::Home => Ok(home_text().as_bytes().to_vec(alloc)?),
+            Page::Config => Ok(text.as_bytes().to_vec(alloc)?),
+            Page::Metrics => {
+                prometheus_of(alloc, &self.numbers(rt, end, servers, seen, lost_lines)?)
+            }
+            Page::Stats => json_of(alloc, &self.numbers(rt, end, servers, seen, lost_lines)?),
+        }
     }
 
-    /// Each of them goes on as far as it can; those that wait for a page get it. One for whose page memory is refused is closed.
+    /// Each of them goes on as far as it can; those that wait for a page get it, also of the text that says the configuration in use. One for whose
+    /// page memory is refused is closed.
     pub fn turn<R: Files + Clock + AllocGlobal>(
         &mut self,
         rt: &R,
@@ -360,6 +406,7 @@ impl Watching {
         servers: &Servers,
         seen: &Seen,
         lost_lines: u64,
+        text: &str,
     ) -> io::Result<()> {
         let now = self.uptime(rt)?;
         self.visitors.turn(now)?;
@@ -367,7 +414,7 @@ impl Watching {
             let Some((place, page)) = self.visitors.next_page() else {
                 return Ok(());
             };
-            match self.page(rt, page, end, servers, seen, lost_lines) {
+            match self.page(rt, page, end, servers, seen, lost_lines, text) {
                 Ok(body) => self.visitors.answer(place, body.as_slice()),
                 Err(_) => self.visitors.close(place),
             }

@@ -73,9 +73,10 @@ pub enum Job<'a> {
     },
     /// Print a configuration with a table of slots.
     Slots(SlotsJob<'a>),
-    /// Run a script, of a file or of standard input, over TCP.
+    /// Run a script, of a file or of standard input, over TCP, where new servers are emptied before their first call or not.
     Loopback {
         file: Option<&'a str>,
+        flushes_new: bool,
     },
     /// Be a cache server.
     Cache(CacheJob<'a>),
@@ -126,7 +127,7 @@ usage: mcgate check [--explain | --dot] [--history HISTORY] [FILE]
                                      print where keys live in the tree of a configuration
        mcgate serve --config FILE --listen HOST:PORT [--any]
                                      serve a configuration that the gate accepts, between clients and servers
-       mcgate tell PATH WORD         tell a running serve --control PATH: drain, reload, status, servers, where KEY
+       mcgate tell PATH WORD         tell a running serve --control PATH: drain, reload, status, servers, log LEVEL, where KEY
        mcgate history FILE           print what serve --history FILE remembers
        mcgate slots [--add ADDR | --remove ADDR] [--pool NAME] [--after FILE ..] [FILE]
                                      print a configuration with a table of slots in a pool, of a server more or less
@@ -449,8 +450,8 @@ fn plain_job<'a>(given: &ArgMatches<'a>) -> Job<'a> {
 /// [--with FILE ..] [FILE]`, `certify [FILE]`, `replay [--any] [--config FILE] [SCRIPT]`, `where --config FILE KEY..`, `history FILE`,
 /// `plan OLD NEW`, these but `certify`, `where` and `history` also with `--opened WORD` and `--new-servers WORD`,
 /// `tell PATH WORD [KEY]`, `slots [--add ADDR | --remove ADDR] [--pool NAME] [--after FILE ..] [FILE]`,
-/// `cache --listen HOST:PORT --capacity C [--memory-mb N] [--turns N]`, `loopback [SCRIPT]`, `serve` with its flags, or none
-/// at all after it, which is `replay`. Also `help [COMMAND]`, `-h` and `--help`, before or after a command, and `--version`.
+/// `cache --listen HOST:PORT --capacity C [--memory-mb N] [--turns N]`, `loopback [--flush-all] [SCRIPT]`, `serve` with its
+/// flags, or none at all after it, which is `replay`. Also `help [COMMAND]`, `-h` and `--help`, before or after a command, and `--version`.
 ///
 /// A KEY that is none is [`ArgumentsFault::Key`], and any other arguments are [`ArgumentsFault::Refused`].
 pub fn read_arguments<'a>(

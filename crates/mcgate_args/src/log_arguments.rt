@@ -46,14 +46,14 @@ pub struct Log {
     pub json: bool,
 }
 
-// The level of this name.
-fn level_of(word: &str) -> Result<Level, ArgumentsFault> {
+/// The level of this name.
+pub fn level_of(word: &str) -> Option<Level> {
     match word {
-        "error" => Ok(Level::Error),
-        "warn" => Ok(Level::Warn),
-        "info" => Ok(Level::Info),
-        "debug" => Ok(Level::Debug),
-        _ => Err(ArgumentsFault::Refused),
+        "error" => Some(Level::Error),
+        "warn" => Some(Level::Warn),
+        "info" => Some(Level::Info),
+        "debug" => Some(Level::Debug),
+        _ => None,
     }
 }
 
@@ -62,7 +62,7 @@ pub fn log_of(given: &ArgMatches<'_>) -> Result<Option<Log>, ArgumentsFault> {
     let json = given.get_flag("log-json");
     match given.get_str("log-level") {
         Some(word) => Ok(Some(Log {
-            level: level_of(word)?,
+            level: level_of(word).ok_or(ArgumentsFault::Refused)?,
             json,
         })),
         None if json => Ok(Some(Log {

@@ -1,10 +1,10 @@
 //! The arguments of `mcgate loopback`, and what they ask for.
 
-use crate::arguments::{Job, help_flag};
+use crate::arguments::{Job, help_flag, switch};
 use clap::{Arg, ArgMatches, Command};
 use std::alloc::{AllocError, Global};
 
-pub const LOOPBACK_HELP: &str = "usage: mcgate loopback [SCRIPT]
+pub const LOOPBACK_HELP: &str = "usage: mcgate loopback [--flush-all] [SCRIPT]
 
 Reads a script, of the file SCRIPT or of standard input: a configuration on its first line, or pool N, and then one event a line,
 or reload and a configuration, which is loaded there.
@@ -12,6 +12,8 @@ Runs it with the proxy, its clients and cache servers as ends of TCP connections
 system picks. It prints what mcgate replay prints, but no count of stale replies:
   < C TEXT               new output of client C
   done N commands M calls
+  --flush-all            servers that a reload brings are emptied by `flush_all` before all else, and judged by that, as those of
+                         mcgate serve --new-servers flush; without it that line is an ERROR
 A tree that the gate refuses isn't run, and its refused: line is printed.
 Exit status: 0 done, 1 refused by the gate, 2 bad script, 3 memory, a device or a socket failed.
 ";
@@ -21,6 +23,7 @@ pub fn loopback_command<'a>(alloc: Global) -> Result<Command<'a>, AllocError> {
     Command::new(alloc, "loopback")
         .disable_help_flag(true)
         .arg(help_flag(alloc))?
+        .arg(switch(alloc, "flush-all"))?
         .arg(Arg::new(alloc, "SCRIPT"))
 }
 
@@ -31,5 +34,6 @@ pub fn loopback_job<'a>(given: &ArgMatches<'a>) -> Job<'a> {
     }
     Job::Loopback {
         file: given.get_str("SCRIPT"),
+        flushes_new: given.get_flag("flush-all"),
     }
 }

@@ -13,7 +13,7 @@ use std::alloc::{AllocError, Global};
 pub struct ServeJob<'a> {
     /// The file of the configuration.
     pub file: &'a str,
-    /// Where to listen: a host and a port, `unix:` and a path, or `fd:0`, standard input.
+    /// Where to listen: a host and a port, `unix:` and a path, or `fd:0`, standard input; or several of these with a comma between two.
     pub listen: &'a str,
     /// The mode of the file at that path.
     pub unix_mode: u32,
@@ -66,6 +66,7 @@ Reads a configuration in JSON, of FILE, and asks the gate. A tree that it accept
 to the configuration's servers, at their addresses. Lines on standard error tell when it listens, and when a server's connection
 opens, fails or comes back.
   --listen unix:PATH     clients of this machine connect at PATH; --listen fd:0: to the socket that standard input is, which listens
+                         several places with a comma between two: --listen HOST:PORT,unix:PATH
   --unix-mode WORD       who may connect at PATH: 600, the user that it runs as, 660, its group too, or 666, everybody; 600
   --clients N            at most so many clients at once, 1024 where it is left out
   --client-window N      at most so many commands of one client without a shown reply, 32

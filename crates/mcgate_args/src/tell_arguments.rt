@@ -1,6 +1,7 @@
 //! The arguments of `mcgate tell`, and what they ask for.
 
 use crate::arguments::{ArgumentsFault, Job, help_flag};
+use crate::log_arguments::level_of;
 use clap::{Arg, ArgMatches, Command};
 use mc_types::Key;
 use std::alloc::{AllocError, Global};
@@ -11,17 +12,18 @@ pub struct TellJob<'a> {
     /// The path of the control socket.
     pub path: &'a str,
     pub word: &'a str,
-    /// The key after `where`.
-    pub key: Option<&'a str>,
+    /// The key after `where`, or the level after `log`.
+    pub more: Option<&'a str>,
 }
 
-pub const TELL_HELP: &str = "usage: mcgate tell PATH WORD [KEY]
+pub const TELL_HELP: &str = "usage: mcgate tell PATH WORD [KEY | LEVEL]
 
 Tells the mcgate serve that runs with --control PATH, and prints what it answers. The WORDs:
   drain      it accepts nobody any more, closes each client once nothing of it is under way, and ends; the answer comes then
   reload     it reads its FILE now, and prints what came of it, as after --reload-ms
   status     what it counts, as /stats.json of --metrics
   servers    a line for each server: up, down, late or unused, and its calls that are out
+  log LEVEL  lines of LEVEL and more urgent ones are written from now on, as with --log-level LEVEL: error, warn, info or debug
   where KEY  where KEY lives in the tree in use, as mcgate where prints it
 Exit status: 0 done, 1 refused, or clients were left when it drained, 2 bad arguments, 3 memory or a device failed, also where nobody answers.
 ";
@@ -33,18 +35,16 @@ pub fn tell_command<'a>(alloc: Global) -> Result<Command<'a>, AllocError> {
         .arg(help_flag(alloc))?
         .arg(Arg::new(alloc, "PATH"))?
         .arg(Arg::new(alloc, "WORD"))?
-        .arg(Arg::new(alloc, "KEY"))
+        .arg(Arg::new(alloc, "MORE"))
 }
 
-// The key, which only `where` has, if it is one.
-fn key_after<'a>(word: &str, key: Option<&'a str>) -> Result<Option<&'a str>, ArgumentsFault> {
-    match (word, key) {
-        ("where", Some(text)) => match Key::read(text.as_bytes()) {
-            Ok(_) => Ok(key),
-            Err(_) => Err(ArgumentsFault::Refused),
-        },
-        ("where", None) | (_, Some(_)) => Err(ArgumentsFault::Refused),
-        (_, None) => Ok(None),
+// Whether a word can have this after it, or nothing: a key `where`, and a level `log`.
+fn fits(word: &str, more: Option<&str>) -> bool {
+    match (word, more) {
+        ("where", Some(key)) => Key::read(key.as_bytes()).is_ok(),
+        ("log", Some(level)) => level_of(level).is_some(),
+        ("where" | "log", None) | (_, Some(_)) => false,
+        (_, None) => true,
     }
 }
 
@@ -56,6 +56,9 @@ pub fn tell_job<'a>(given: &ArgMatches<'a>) -> Result<Job<'a>, ArgumentsFault> {
     let (Some(path), Some(word)) = (given.get_str("PATH"), given.get_str("WORD")) else {
         return Err(ArgumentsFault::Refused);
     };
-    let key = key_after(word, given.get_str("KEY"))?;
-    Ok(Job::Tell(TellJob { path, word, key }))
+    let more = given.get_str("MORE");
+    if !fits(word, more) {
+        return Err(ArgumentsFault::Refused);
+    }
+    Ok(Job::Tell(TellJob { path, word, more }))
 }

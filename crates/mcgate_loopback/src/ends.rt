@@ -11,7 +11,7 @@ use mc_types::limits::SCRIPT_CLIENTS;
 use route_json::Config;
 use route_json::addresses::Servers;
 use script_events::{Event, Output, PIECE_CUT, Reload, Script};
-use serve_proxy::{Beginnings, ProxyEnd, ServerDialect, Settings, text_at};
+use serve_proxy::{Beginning, Beginnings, ProxyEnd, ServerDialect, Settings, text_at};
 use serve_wire::Wire;
 use serve_wire::sockets::Sockets;
 use std::alloc::{AllocError, Global};
@@ -86,6 +86,25 @@ fn settings() -> Settings {
     }
 }
 
+// How servers began: of those that a reload brings nothing is left where they are emptied first.
+fn begun(flushes_new: bool) -> Beginnings {
+    if flushes_new {
+        Beginnings {
+            opened: Beginning::Any,
+            added: Beginning::Own,
+        }
+    } else {
+        Beginnings::any()
+    }
+}
+
+// Servers behind the first so many are emptied before their first call: each has its link from the beginning, also where a reload brings it.
+fn empty_new(proxy: &mut ProxyEnd<Sockets>, first: usize, servers: usize) {
+    for at in first..servers {
+        proxy.empty_first(at);
+    }
+}
+
 // No client is connected.
 fn no_clients(alloc: Global) -> Result<Vec<Option<ClientEnd>>, AllocError> {
     let mut clients = Vec::new(alloc);
@@ -120,25 +139,31 @@ fn push_output(place: usize, bytes: Vec<u8>, shown: &mut Vec<Entry>) -> Result<(
 }
 
 impl Ends {
-    /// A proxy over an accepted configuration and so many servers, which hold nothing. Each listens at a port that the system picks.
+    /// A proxy over an accepted configuration and so many servers, which hold nothing. Each listens at a port that the system picks. Those that a reload
+    /// brings are emptied by `flush_all` before their first call, or none is.
     pub fn open<R: Net + Clock + AllocGlobal>(
         rt: &R,
         accepted: Accepted,
         servers: usize,
+        flushes_new: bool,
     ) -> io::Result<Ends> {
         let alloc = rt.alloc();
-        let servers = ServerEnds::listen(rt, alloc, servers, any_port())?;
+        let servers = ServerEnds::listen(rt, alloc, servers, any_port(), flushes_new)?;
         let addresses = servers.addresses()?;
         let wire = listen(rt, &addresses)?;
+        let first = accepted.config().servers().len();
         let mut proxy = ProxyEnd::new(
             alloc,
             wire,
             accepted,
-            Beginnings::any(),
+            begun(flushes_new),
             &addresses,
             settings(),
         )?;
         proxy.poll_in_rounds();
+        if flushes_new {
+            empty_new(&mut proxy, first, addresses.len());
+        }
         Ends::of(alloc, proxy, servers)
     }
 

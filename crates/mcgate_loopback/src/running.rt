@@ -35,10 +35,11 @@ fn drive_ends<R: Net + Clock + AllocGlobal>(
     rt: &R,
     accepted: Accepted,
     script: &ConfiguredScript,
+    flushes_new: bool,
     shown: &mut Vec<Entry>,
 ) -> io::Result<Counts> {
     let servers = script.server_count() as usize;
-    let mut ends = Ends::open(rt, accepted, servers)?;
+    let mut ends = Ends::open(rt, accepted, servers, flushes_new)?;
     drive(
         rt,
         &mut ends,
@@ -74,13 +75,14 @@ fn run_accepted<R: Net + Clock + AllocGlobal, W: Write>(
     rt: &R,
     accepted: Accepted,
     script: &ConfiguredScript,
+    flushes_new: bool,
     out: &mut W,
 ) -> Result<u8, RunFault>
     ensures ok { IfOk result (λ status. (status ≡ 0) × WritesRun script.now.reloads.items (W.contents out.old) (W.contents out.new)) }
     ensures err { IfErr result (BreaksOff (W.contents out.old) (W.contents out.new)) }
 {
     let mut shown = Vec::new(rt.alloc());
-    let driven = drive_ends(rt, accepted, script, &mut shown);
+    let driven = drive_ends(rt, accepted, script, flushes_new, &mut shown);
     write_driven(&driven, script.reloads.as_slice(), shown.as_slice(), out)
 }
 
@@ -88,6 +90,7 @@ fn run_accepted<R: Net + Clock + AllocGlobal, W: Write>(
 fn run_good<R: Net + Clock + AllocGlobal, W: Write>(
     rt: &R,
     script: &ConfiguredScript,
+    flushes_new: bool,
     out: &mut W,
 ) -> Result<u8, RunFault>
     ensures ok { IfOk result (RunsGood script.now.config script.now.reloads.items (W.contents out.old) (W.contents out.new)) }
@@ -95,7 +98,7 @@ fn run_good<R: Net + Clock + AllocGlobal, W: Write>(
 {
     let first = script.config.copy(rt.alloc())?;
     match judge(rt.alloc(), first) {
-        Ok(accepted) => run_accepted(rt, accepted, script, out),
+        Ok(accepted) => run_accepted(rt, accepted, script, flushes_new, out),
         Err(refused) => print_refused(&refused.config, &refused.reason, out),
     }
 }
@@ -104,6 +107,7 @@ fn run_good<R: Net + Clock + AllocGlobal, W: Write>(
 fn run_script<R: Net + Clock + AllocGlobal, W: Write>(
     rt: &R,
     configured: &ConfiguredScript,
+    flushes_new: bool,
     out: &mut W,
 ) -> Result<u8, RunFault>
     requires { length configured.now.lines.items ≡ length configured.now.script.events.items }
@@ -116,7 +120,7 @@ fn run_script<R: Net + Clock + AllocGlobal, W: Write>(
             write_bad_line(line, out)?;
             Ok(BAD_INPUT)
         }
-        None => run_good(rt, configured, out),
+        None => run_good(rt, configured, flushes_new, out),
     }
 }
 
@@ -124,6 +128,7 @@ fn run_script<R: Net + Clock + AllocGlobal, W: Write>(
 fn run_read<R: Net + Clock + AllocGlobal, W: Write>(
     rt: &R,
     read: Result<ConfiguredScript, ScriptFault>,
+    flushes_new: bool,
     out: &mut W,
 ) -> Result<u8, RunFault>
     requires { IsReading read }
@@ -131,7 +136,7 @@ fn run_read<R: Net + Clock + AllocGlobal, W: Write>(
     ensures err { IfErr result (BreaksOff (W.contents out.old) (W.contents out.new)) }
 {
     match read {
-        Ok(configured) => run_script(rt, &configured, out),
+        Ok(configured) => run_script(rt, &configured, flushes_new, out),
         Err(ScriptFault::Config(fault)) => {
             write_config_fault(&fault, out)?;
             Ok(BAD_INPUT)
@@ -147,12 +152,13 @@ fn run_read<R: Net + Clock + AllocGlobal, W: Write>(
 fn run_text<R: Net + Clock + AllocGlobal, W: Write>(
     rt: &R,
     text: &str,
+    flushes_new: bool,
     out: &mut W,
 ) -> Result<u8, RunFault>
     ensures ok { IfOk result (Runs text.now (W.contents out.old) (W.contents out.new)) }
     ensures err { IfErr result (BreaksOff (W.contents out.old) (W.contents out.new)) }
 {
-    run_read(rt, read_script(rt.alloc(), text), out)
+    run_read(rt, read_script(rt.alloc(), text), flushes_new, out)
 }
 
 /// Runs a script with proxy, clients and servers as ends of TCP connections on 127.0.0.1, all in this thread, and prints what each
@@ -162,18 +168,24 @@ fn run_text<R: Net + Clock + AllocGlobal, W: Write>(
 /// Ports are those that the system picks, whatever the configuration's addresses say. A server answers when the script says so: after a piece each that was
 /// asked, the least first, so that calls are made in the order in which a replay makes them. One that is to fail before it is applied is cut off; of one that is to fail after
 /// that the answer comes too late: the link is dropped before. Of one that is to be cut the first bytes come, and junk in an answer's
-/// place, and then the server ends the link. What servers hold, lose, and take for the time is set directly.
+/// place, and then the server ends the link. What servers hold, lose, and take for the time is set directly. Where new servers are to be flushed,
+/// each that a reload brings is emptied by `flush_all` before its first call, and reloads are judged by that.
 ///
 /// The answer is the program's exit status, `DONE`, `REFUSED` or `BAD_INPUT`; or else `NO_MEMORY` where memory was refused: then
 /// nothing was printed, or some of what clients got; or `WRITER` where the output could not be written, or a socket failed.
 ///
 /// Source: mcgate's own.
-pub fn run_loopback<R: Net + Clock + AllocGlobal, W: Write>(rt: &R, text: &str, out: &mut W) -> u8
+pub fn run_loopback<R: Net + Clock + AllocGlobal, W: Write>(
+    rt: &R,
+    text: &str,
+    flushes_new: bool,
+    out: &mut W,
+) -> u8
     ensures status { result ≤ 4 }
     ensures wrote { result ≤ 2 → Runs text.now (W.contents out.old) (W.contents out.new) result }
     ensures refused { result ≡ 3 → BreaksOff (W.contents out.old) (W.contents out.new) RunFault.NoMemory }
 {
-    match run_text(rt, text, out) {
+    match run_text(rt, text, flushes_new, out) {
         Ok(status) => status,
         Err(fault) => answer_of(fault),
     }

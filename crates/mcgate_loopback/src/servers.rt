@@ -119,6 +119,17 @@ impl ServerEnd {
         }
     }
 
+    // Where what came begins with `flush_all` the server loses all that it holds, and says so.
+    fn flush(&mut self, cache: &mut Cache) -> Result<(), AllocError> {
+        let Some(link) = self.link.as_mut() else {
+            return Ok(());
+        };
+        if link.pass_flush()? {
+            cache.restart();
+        }
+        Ok(())
+    }
+
     // The call that came is made: it is answered, or it fails so. Whether it has failed already, before its answer or without one.
     fn make_call(
         &mut self,
@@ -182,6 +193,8 @@ pub struct ServerEnds {
     ends: Vec<ServerEnd>,
     calls: Calls,
     moment: Moment,
+    // Whether `flush_all` empties one of them.
+    flushes: bool,
     // How many bytes came and were sent.
     moved: u64,
 }
@@ -227,12 +240,14 @@ fn moment_of(seconds: i64) -> Moment {
 }
 
 impl ServerEnds {
-    /// So many servers, each of which holds nothing and listens at this address, at a port that the system picks.
+    /// So many servers, each of which holds nothing and listens at this address, at a port that the system picks. `flush_all` empties one,
+    /// or is an `ERROR`.
     pub fn listen<N: Net>(
         net: &N,
         alloc: Global,
         servers: usize,
         address: SocketAddr,
+        flushes: bool,
     ) -> io::Result<ServerEnds> {
         Ok(ServerEnds {
             alloc,
@@ -240,6 +255,7 @@ impl ServerEnds {
             ends: listen_all(net, alloc, servers, address)?,
             calls: Calls::new(alloc),
             moment: moment_of(0),
+            flushes,
             moved: 0,
         })
     }
@@ -326,6 +342,7 @@ impl ServerEnds {
         for at in 0..self.ends.len() {
             let read = self.read(at)?;
             self.note_moved(read);
+            self.flush(at)?;
             let sent = self.send(at);
             self.note_moved(sent);
             self.close_last(at);
@@ -343,6 +360,13 @@ impl ServerEnds {
         };
         end.accept(self.alloc);
         end.read()
+    }
+
+    fn flush(&mut self, at: usize) -> Result<(), AllocError> {
+        match (self.ends.get_mut(at), self.caches.get_mut(at)) {
+            (Some(end), Some(cache)) if self.flushes => end.flush(cache),
+            _ => Ok(()),
+        }
     }
 
     fn send(&mut self, at: usize) -> usize {

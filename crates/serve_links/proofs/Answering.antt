@@ -15,8 +15,11 @@ use Rattle.serve_links.specs.declared.calls.calls.SentCall.{SentCall}
 use Rattle.serve_links.specs.CoreSteps.{Step, Settled, Spelled, Walks, AreOf, IsOfTurn}
 use Rattle.serve_links.specs.Dialects.{SpellsIn}
 use Rattle.serve_links.specs.Settled.{SettlesOne, SettlesEach, SettlesSome}
-use Rattle.serve_links.specs.Talks.{SaidAsk, Talk, behind, with_answer, talk_in, IsNextAnswer, IsOrderly, IsOfServer}
-use Rattle.serve_links.specs.Story.{said_asks, AreCalled}
+use Rattle.serve_links.specs.Called.{call_in, TellsCalls}
+use Rattle.serve_links.specs.Talks.{SaidAsk, Talk, behind, with_answer, talk_in, IsNotAmong, AreCalled, MaySettle, IsNextAnswer, IsOrderly, IsOfServer}
+use Rattle.serve_links.specs.Story.{said_asks}
+use Rattle.serve_links.proofs.Called.{asks_told, walks_tell_calls}
+use Rattle.serve_links.proofs.Due.{said_both, KeepsBut, keeps_settled, keeps_twice, sent_gone, own_nowhere}
 use Rattle.serve_links.proofs.Walked.{walked, of_both}
 use Rattle.serve_links.proofs.Showing.{IsUnlost}
 
@@ -26,12 +29,14 @@ pub record Answers (at : ℕ) (sent : List SentCall) (bytes : List ℕ) (a : Ser
   pub kinds : AreOf IsOfTurn steps
   pub own : AreOf (IsOfServer at) steps
   pub unlost : AreOf IsUnlost steps
-  pub called : (past : List Step) → AreCalled past at (said_asks sent) → AreCalled past at (said_asks sent')
+  pub gone : List SentCall
+  pub parts : sent ≡ gone ++ sent'
+  pub keeps : (past : List Step) → KeepsBut (said_asks gone) past (steps ++ past)
   pub walks : Walks steps a b
   pub spelled : List ℕ
   pub whole : bytes ≡ spelled ++ rest
   pub orderly :
-      (past : List Step) → IsOrderly past → (talk_in past at).out ≡ said_asks sent → (talk_in past at).awaits ≡ None → (talk_in past at).late ≡ []
+      (past : List Step) → IsOrderly past → TellsCalls past a → AreCalled past at (said_asks sent) → (talk_in past at).out ≡ said_asks sent → (talk_in past at).awaits ≡ None → (talk_in past at).late ≡ []
       → IsOrderly (steps ++ past) × (talk_in (steps ++ past) at ≡ record (talk_in past at) { told = (talk_in past at).told ++ spelled; out = said_asks sent' })
 
 spells_within : (dialect : Dialect) (ask : Ask) (bytes : List ℕ) (answer : Answer) (used : ℕ) → SpellsIn dialect ask bytes answer used → used ≤ length bytes
@@ -59,11 +64,14 @@ one at (call ∷ calls) bytes a answer sent' rest b s = record {
   kinds = (tt, (tt, tt));
   own = (tt, (refl, tt));
   unlost = (tt, (tt, tt));
-  called = λ past are. subst (λ (l : List SentCall). AreCalled past at (said_asks l)) (sym s.settles.1) are.1;
+  gone = call ∷ [];
+  parts = ap (λ (l : List SentCall). call ∷ l) (sym s.settles.1);
+  keeps = λ past. keeps past;
   walks = (a, (a, refl, (refl, asks)), s.settles.2);
   spelled = spelled;
   whole = s.whole ∙ ap (λ l. l ++ s.more) (sym (take-append-drop s.used s.front)) ∙ append_assoc spelled (drop s.used s.front) s.more ∙ ap (λ l. spelled ++ l) (sym s.rest);
-  orderly = λ past o out off alone. ((record { at = at; ask = ask; bytes = spelled; earlier = past; last = refl }, (next past out off alone, o)), told past out);
+  orderly = λ past o tells called out off alone.
+      let follows : IsOrderly (Spelled at number ask answer spelled ∷ past) = (next past tells called.0 out off alone, o) in (((settles past follows called out, record { at = at; ask = ask; bytes = spelled; earlier = past; last = refl }), follows), told past out);
 }
   where
     number : ℕ
@@ -81,17 +89,30 @@ one at (call ∷ calls) bytes a answer sent' rest b s = record {
     asks : of_calls.asked a.core number ≡ Some ask
     asks = ap (λ (p : ℕ × Dialect). of_calls.asked a.core p.0) first ∙ s.answers.asks
 
-    next : (past : List Step) → (talk_in past at).out ≡ said_asks (call ∷ calls) → (talk_in past at).awaits ≡ None → (talk_in past at).late ≡ [] → IsNextAnswer number ask answer spelled (talk_in past at)
-    next past out off alone = record {
+    next :
+        (past : List Step) → TellsCalls past a → call_in past number ≡ Some (at, call.ticket.ask) → (talk_in past at).out ≡ said_asks (call ∷ calls) → (talk_in past at).awaits ≡ None → (talk_in past at).late ≡ []
+        → IsNextAnswer number ask answer spelled (talk_in past at)
+    next past tells is out off alone = record {
       dialect = call.dialect;
-      said = call.ticket.ask;
       others = said_asks calls;
-      is_first = out;
+      is_first = out ∙ ap (λ (said : Ask). let first : SaidAsk = (number, call.dialect, said) in first ∷ said_asks calls) (sym (asks_told past a number at call.ticket.ask ask tells is asks));
       none_before = off;
       none_late = alone;
       more = drop s.used s.front;
       spells = spells_front call.dialect ask s.front answer s.used (subst (λ (p : ℕ × Dialect). SpellsIn p.1 ask s.front answer s.used) (sym first) s.answers.spells);
     }
+
+    keeps : (past : List Step) → KeepsBut (said_asks (call ∷ [])) past (Settled number (Answered answer) ∷ Spelled at number ask answer spelled ∷ past)
+    keeps past = keeps_settled (Spelled at number ask answer spelled ∷ past) number (Answered answer) call.dialect call.ticket.ask
+
+    settles :
+        (past : List Step) → IsOrderly (Spelled at number ask answer spelled ∷ past) → AreCalled past at (said_asks (call ∷ calls)) → (talk_in past at).out ≡ said_asks (call ∷ calls) → MaySettle number (Spelled at number ask answer spelled ∷ past)
+    settles past o called out =
+        let left : (talk_in (Spelled at number ask answer spelled ∷ past) at).out ≡ said_asks calls = ap (λ t. (if t then with_answer spelled (talk_in past at) else talk_in past at).out) (equal at) ∙ ap behind out in record {
+          call = (at, call.ticket.ask);
+          is_out = called.0;
+          nowhere = own_nowhere (Spelled at number ask answer spelled ∷ past) at number call.ticket.ask o called.0 (subst (IsNotAmong number) (sym left) called.2);
+        }
 
     told :
         (past : List Step) → (talk_in past at).out ≡ said_asks (call ∷ calls)
@@ -109,7 +130,10 @@ both at sent bytes a mid left m sent' rest b f g = record {
   kinds = of_both IsOfTurn g.steps f.steps g.kinds f.kinds;
   own = of_both (IsOfServer at) g.steps f.steps g.own f.own;
   unlost = of_both IsUnlost g.steps f.steps g.unlost f.unlost;
-  called = λ past are. g.called past (f.called past are);
+  gone = f.gone ++ g.gone;
+  parts = f.parts ∙ ap (λ (l : List SentCall). f.gone ++ l) g.parts ∙ sym (append_assoc f.gone g.gone sent');
+  keeps = λ past. subst (λ l. KeepsBut l past ((g.steps ++ f.steps) ++ past)) (sym (said_both f.gone g.gone)) (subst (KeepsBut (said_asks f.gone ++ said_asks g.gone) past) (sym (append_assoc g.steps f.steps past))
+      (keeps_twice (said_asks f.gone) (said_asks g.gone) past (f.steps ++ past) (g.steps ++ (f.steps ++ past)) (f.keeps past) (g.keeps (f.steps ++ past))));
   walks = walked g.steps f.steps a m b f.walks g.walks;
   spelled = f.spelled ++ g.spelled;
   whole = f.whole ∙ ap (λ l. f.spelled ++ l) g.whole ∙ sym (append_assoc f.spelled g.spelled rest);
@@ -117,11 +141,13 @@ both at sent bytes a mid left m sent' rest b f g = record {
 }
   where
     orderly :
-        (past : List Step) → IsOrderly past → (talk_in past at).out ≡ said_asks sent → (talk_in past at).awaits ≡ None → (talk_in past at).late ≡ []
+        (past : List Step) → IsOrderly past → TellsCalls past a → AreCalled past at (said_asks sent) → (talk_in past at).out ≡ said_asks sent → (talk_in past at).awaits ≡ None → (talk_in past at).late ≡ []
         → IsOrderly ((g.steps ++ f.steps) ++ past) × (talk_in ((g.steps ++ f.steps) ++ past) at ≡ record (talk_in past at) { told = (talk_in past at).told ++ (f.spelled ++ g.spelled); out = said_asks sent' })
-    orderly past o out off alone =
-        let first = f.orderly past o out off alone in
-        let later = g.orderly (f.steps ++ past) first.0 (ap (λ (t : Talk). t.out) first.1) (ap (λ (t : Talk). t.awaits) first.1 ∙ off) (ap (λ (t : Talk). t.late) first.1 ∙ alone) in
+    orderly past o tells called out off alone =
+        let first = f.orderly past o tells called out off alone in
+        let told = (walks_tell_calls.goes_on f.steps past a m tells f.walks).0 in
+        let left = sent_gone at past (f.steps ++ past) f.gone mid [] (f.keeps past) (subst (λ (l : List SentCall). AreCalled past at (said_asks l)) f.parts called) tt in
+        let later = g.orderly (f.steps ++ past) first.0 told left.called (ap (λ (t : Talk). t.out) first.1) (ap (λ (t : Talk). t.awaits) first.1 ∙ off) (ap (λ (t : Talk). t.late) first.1 ∙ alone) in
         subst (λ l. IsOrderly l × (talk_in l at ≡ record (talk_in past at) { told = (talk_in past at).told ++ (f.spelled ++ g.spelled); out = said_asks sent' })) (sym (append_assoc g.steps f.steps past)) (
           later.0,
           later.1 ∙ ap (λ (t : Talk). record t { told = t.told ++ g.spelled; out = said_asks sent' }) first.1
@@ -137,11 +163,13 @@ answers_each at [] sent bytes a sent' rest b s = record {
   kinds = tt;
   own = tt;
   unlost = tt;
-  called = λ past are. subst (λ (l : List SentCall). AreCalled past at (said_asks l)) (sym s.0) are;
+  gone = [];
+  parts = sym s.0;
+  keeps = λ past n not. (refl, refl);
   walks = s.2;
   spelled = [];
   whole = sym s.1;
-  orderly = λ past o out off alone. (o, none past out);
+  orderly = λ past o tells called out off alone. (o, none past out);
 }
   where
     none : (past : List Step) → (talk_in past at).out ≡ said_asks sent → talk_in past at ≡ record (talk_in past at) { told = (talk_in past at).told ++ []; out = said_asks sent' }

@@ -21,10 +21,10 @@ use Rattle.serve_links.specs.declared.link.Link.{Link}
 use Rattle.serve_links.specs.Calls.{as_late, IsFirstLate, PassesOver, SettlesFirst}
 use Rattle.serve_links.specs.CoreSteps.{Step, Settled, Late, CameLate, IsOfTurn, IsSending}
 use Rattle.serve_links.specs.Dialects.{SpellsIn}
-use Rattle.serve_links.specs.Talks.{SaidAsk, Talk, behind, first_of, turned_late, with_late, talk_in, AreDue, IsFirstOut, IsNextLate}
-use Rattle.serve_links.specs.Story.{said_asks, said_late, numbers_of, AreCalled, MayAllGo, TalkAgrees, LineAgrees, LineGoes, LineState, line_of}
-use Rattle.serve_links.proofs.Talking.{calls_later, called_all_later}
-use Rattle.serve_links.proofs.Due.{due_later}
+use Rattle.serve_links.specs.Talks.{SaidAsk, Talk, behind, first_of, turned_late, with_late, talk_in, IsNotAmong, AreDue, AreCalled, MaySettle, IsOrderly, IsFirstOut, IsNextLate}
+use Rattle.serve_links.specs.Story.{said_asks, said_late, MayAllGo, TalkAgrees, LineAgrees, LineGoes, LineState, line_of}
+use Rattle.serve_links.proofs.Talking.{calls_later}
+use Rattle.serve_links.proofs.Due.{due_stays, called_stays, keeps_settled, SentGone, sent_gone, own_nowhere}
 use Rattle.serve_links.proofs.Showing.{none_since, shown_later}
 use Rattle.serve_links.specs.Shut.{drain_of}
 use Rattle.serve_links.proofs.Shutting.{conn_is, conns_same, shut_still}
@@ -87,8 +87,8 @@ turns {at} {core} {core'} {h} x y c call rest was same draining text waiting awa
   kinds = (refl, (tt, tt));
   own = (tt, (refl, tt));
   walks = (core, (core, refl, refl), settled);
-  agrees = λ past o a. ((inr (inr (record { at = at; earlier = past; last = refl })), (first past a, o)), agreed past a, all_kept (1, at) h h (quiet h));
-  shown = λ past o a shown. shown_later steps past h h (tt, (tt, tt)) (none_since h) shown;
+  agrees = λ past o tells a. let late_now : IsOrderly (Late at call.ticket.number ∷ past) = (first past a, o) in (((settles past a late_now, tt), late_now), agreed past a, all_kept (1, at) h h (quiet h), (others past a).others);
+  shown = λ past o tells a shown. shown_later steps past h h (tt, (tt, tt)) (none_since h) shown;
   shut = shut_still (quiet h) (conns_same x y same draining);
   text = text;
 }
@@ -99,6 +99,22 @@ turns {at} {core} {core'} {h} x y c call rest was same draining text waiting awa
     first : (past : List Step) → LineAgrees at past h x → IsFirstOut call.ticket.number (talk_in past at)
     first past a = record { dialect = call.dialect; ask = call.ticket.ask; others = said_asks rest; is_first = (a.conn c was).out_is ∙ ap said_asks sent }
 
+    called : (past : List Step) → LineAgrees at past h x → AreCalled past at (said_asks (call ∷ rest))
+    called past a = subst (λ (l : List SentCall). AreCalled past at (said_asks l)) sent a.called
+
+    settles : (past : List Step) → LineAgrees at past h x → IsOrderly (Late at call.ticket.number ∷ past) → MaySettle call.ticket.number (Late at call.ticket.number ∷ past)
+    settles past a o =
+        let left : (talk_in (Late at call.ticket.number ∷ past) at).out ≡ said_asks rest =
+            ap (λ b. (if b then turned_late (talk_in past at) else talk_in past at).out) (equal at) ∙ ap behind ((a.conn c was).out_is ∙ ap said_asks sent) in
+        record {
+          call = (at, call.ticket.ask);
+          is_out = (called past a).0;
+          nowhere = own_nowhere (Late at call.ticket.number ∷ past) at call.ticket.number call.ticket.ask o (called past a).0 (subst (IsNotAmong call.ticket.number) (sym left) (called past a).2);
+        }
+
+    others : (past : List Step) → LineAgrees at past h x → SentGone at past (steps ++ past) rest x.waiting.items
+    others past a = sent_gone at past (steps ++ past) (call ∷ []) rest x.waiting.items (keeps_settled (Late at call.ticket.number ∷ past) call.ticket.number Failed call.dialect call.ticket.ask) (called past a) a.due
+
     agreed : (past : List Step) → LineAgrees at past h x → LineAgrees at (steps ++ past) h y
     agreed past a =
         let talk = ap (λ b. if b then turned_late (talk_in past at) else talk_in past at) (equal at) in
@@ -106,8 +122,7 @@ turns {at} {core} {core'} {h} x y c call rest was same draining text waiting awa
         let now = talk_turns h at x.text.items (talk_in past at) c.number c.held.items (bytes_of c.unsent) (call.ticket.number, call.dialect, call.ticket.ask) (said_asks rest) (said_late x.late.items) x.awaits_dialect x.dialect before in
         has_conn at (steps ++ past) h y c (same ∙ was) (talk_as text talk refl refl refl (ap said_asks left) awaits speaks (ap said_late late ∙ one_late x.late.items (as_late call)) now) (a.goes_on c was)
         (calls_later steps past at y.waiting.items (subst (λ w. MayAllGo past at w) (sym waiting) a.waiting))
-        (due_later steps past at (numbers_of y.waiting.items) (ap (λ (t : Talk). t.asked) talk) (subst (λ w. AreDue past at (numbers_of w)) (sym waiting) a.due))
-        (called_all_later steps past at (said_asks y.calls.sent.items) (subst (λ (l : List SentCall). AreCalled past at (said_asks l)) (sym left) (subst (λ (l : List SentCall). AreCalled past at (said_asks l)) sent a.called).1))
+        (subst (λ w. AreDue (steps ++ past) at (said_asks w)) (sym waiting) (others past a).due) (subst (λ (l : List SentCall). AreCalled (steps ++ past) at (said_asks l)) (sym left) (others past a).called)
 
 -- the same of the outcome as a link's calls have it
 pub line_turns :
@@ -153,8 +168,8 @@ line_throws {at} {core} {h} x y c d call rest answer used was is off text waitin
   kinds = (tt, tt);
   own = (refl, tt);
   walks = (core, refl, refl);
-  agrees = λ past o a. ((next past a, o), agreed past a, all_kept (1, at) h h (quiet h));
-  shown = λ past o a shown. shown_later (step ∷ []) past h h (tt, tt) (none_since h) shown;
+  agrees = λ past o tells a. ((next past a, o), agreed past a, all_kept (1, at) h h (quiet h), λ j other n ask is. (refl, refl));
+  shown = λ past o tells a shown. shown_later (step ∷ []) past h h (tt, tt) (none_since h) shown;
   shut = shut_still (quiet h) (conn_is y d is ∙ ap (λ n. Some n) number ∙ sym (conn_is x c was));
   text = text;
 }
@@ -185,8 +200,8 @@ line_throws {at} {core} {h} x y c d call rest answer used was is off text waitin
         let now = talk_throws h at x.text.items (talk_in past at) c.number spelled d.held.items (bytes_of c.unsent) (said_asks x.calls.sent.items) (call.number, call.dialect, call.ask) (said_late rest) x.awaits_dialect x.dialect before in
         has_conn at (step ∷ past) h y d is (talk_as text talk number refl unsent (ap said_asks sent) awaits speaks (ap said_late left) now) (ap (λ n. is_over n h) number ∙ a.goes_on c was)
         (calls_later (step ∷ []) past at y.waiting.items (subst (λ w. MayAllGo past at w) (sym waiting) a.waiting))
-        (due_later (step ∷ []) past at (numbers_of y.waiting.items) (ap (λ (t : Talk). t.asked) talk) (subst (λ w. AreDue past at (numbers_of w)) (sym waiting) a.due))
-        (called_all_later (step ∷ []) past at (said_asks y.calls.sent.items) (subst (λ (l : List SentCall). AreCalled past at (said_asks l)) (sym sent) a.called))
+        (due_stays past (step ∷ past) at (said_asks y.waiting.items) (λ n ask is. (refl, refl)) (subst (λ w. AreDue past at (said_asks w)) (sym waiting) a.due))
+        (called_stays past (step ∷ past) at (said_asks y.calls.sent.items) (λ n ask is. (refl, refl)) (subst (λ (l : List SentCall). AreCalled past at (said_asks l)) (sym sent) a.called))
 
 -- or it isn't there
 passes_none :

@@ -1,4 +1,5 @@
 pub mod CallOrder
+pub mod Counted
 pub mod StoreLines
 pub mod Walked
 pub mod Called

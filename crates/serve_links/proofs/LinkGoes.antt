@@ -27,10 +27,12 @@ use Rattle.serve_links.specs.Dialects.{asked_in, AnswersFirst, awaits_flush}
 use Rattle.serve_links.specs.Lines.{first_asked_of, awaits_first, first_dialect, greeting_of, SameLine, KeepsLines, IsNewEnd, HasNewEnd, OpensBy, TakesGreeting, HasLearnt, Learns}
 use Rattle.serve_links.specs.Links.{FailsTo}
 use Rattle.serve_links.specs.Settled.{SettlesSome}
-use Rattle.serve_links.specs.Talks.{SaidAsk, Talk, Apart, Ending, left_by, first_talk, with_ask, greeted, given_up, talk_in, AreDue, IsOrderly, IsOfServer}
-use Rattle.serve_links.specs.Story.{said_asks, said_late, numbers_of, AreCalled, MayGo, MayAllGo, TalkAgrees, Unused, ConnAgrees, LineAgrees, LineLost, LineFails, ShowsWhy, WasShown, AreShown, LineCalled, LineState, line_of, KeepsOthers, LineGoesFrom, LineGoes, AnEnd, Agrees, AgreesLosing}
-use Rattle.serve_links.proofs.Talking.{calls_later, one_more, IsPlain, plain_talk, called_all_later, called_more, called_last, called_first, called_of, waiting_called, FailsInOrder, fail_in_order}
-use Rattle.serve_links.proofs.Due.{due_less, due_first, due_last, due_behind, due_between, due_later, due_asked}
+use Rattle.serve_links.specs.Talks.{SaidAsk, Talk, Apart, Ending, left_by, first_talk, with_ask, greeted, given_up, talk_in, AreDue, AreCalled, IsOrderly, IsOfServer}
+use Rattle.serve_links.specs.Called.{TellsCalls}
+use Rattle.serve_links.proofs.Called.{walks_tell_calls}
+use Rattle.serve_links.specs.Story.{said_asks, said_late, MayGo, MayAllGo, TalkAgrees, Unused, ConnAgrees, LineAgrees, LineLost, LineFails, ShowsWhy, WasShown, AreShown, LineCalled, LineState, line_of, KeepsOthers, LeavesCalls, LineGoesFrom, LineGoes}
+use Rattle.serve_links.proofs.Talking.{calls_later, one_more, IsPlain, plain_talk, AreOut, sent_out, waiting_out, FailsInOrder, fail_in_order}
+use Rattle.serve_links.proofs.Due.{due_stays, called_stays, leaves_twice, due_last, called_last, due_behind, due_taken, SentGone, sent_gone, waiting_gone, AskedOne, asked_one}
 use Rattle.serve_links.proofs.Walked.{walked, of_both}
 use Rattle.serve_links.proofs.Showing.{plain_unlost, none_since, shown_since, shown_later}
 use Rattle.serve_links.proofs.Answering.{Answers, answers_some}
@@ -80,11 +82,11 @@ talk_as {h} {at} {text} {text'} {t} {t'} {c} {c'} {held} {held'} {unsent} {unsen
 }
 
 -- a link that has this connection
-pub has_conn : (at : ℕ) (past : List Step) (h : List Event) (y : Link) (d : Conn) → y.conn ≡ Some d → ConnAgrees at past h y d d.held.items → is_over d.number h ≡ false → MayAllGo past at y.waiting.items → AreDue past at (numbers_of y.waiting.items) → AreCalled past at (said_asks y.calls.sent.items) → LineAgrees at past h y
+pub has_conn : (at : ℕ) (past : List Step) (h : List Event) (y : Link) (d : Conn) → y.conn ≡ Some d → ConnAgrees at past h y d d.held.items → is_over d.number h ≡ false → MayAllGo past at y.waiting.items → AreDue past at (said_asks y.waiting.items) → AreCalled past at (said_asks y.calls.sent.items) → LineAgrees at past h y
 has_conn at past h y d is agrees goes_on waiting due called = record { conn = λ conn there. subst (λ (z : Conn). ConnAgrees at past h y z z.held.items) (same_some (sym is ∙ there)) agrees; goes_on = λ conn there. subst (λ (z : Conn). is_over z.number h ≡ false) (same_some (sym is ∙ there)) goes_on; waiting = waiting; due = due; none_out = λ none. absurd (none_some (sym none ∙ is)); unused = λ none. absurd (none_some (sym none ∙ is)); called = called }
 
 -- and one that has none
-pub has_none : (at : ℕ) (past : List Step) (h : List Event) (y : Link) → y.conn ≡ None → MayAllGo past at y.waiting.items → AreDue past at (numbers_of y.waiting.items) → (talk_in past at).out ≡ [] → Unused h at y.text.items (talk_in past at) (drain_of y) → AreCalled past at (said_asks y.calls.sent.items) → LineAgrees at past h y
+pub has_none : (at : ℕ) (past : List Step) (h : List Event) (y : Link) → y.conn ≡ None → MayAllGo past at y.waiting.items → AreDue past at (said_asks y.waiting.items) → (talk_in past at).out ≡ [] → Unused h at y.text.items (talk_in past at) (drain_of y) → AreCalled past at (said_asks y.calls.sent.items) → LineAgrees at past h y
 has_none at past h y is waiting due out unused called = record { conn = λ conn there. absurd (none_some (sym is ∙ there)); goes_on = λ conn there. absurd (none_some (sym is ∙ there)); waiting = waiting; due = due; none_out = λ none. out; unused = λ none. unused; called = called }
 
 pub as_lost : (at : ℕ) (past : List Step) (h : List Event) (x : Link) → LineAgrees at past h x → LineLost at past h x
@@ -94,28 +96,11 @@ as_lost at past h x a = record { conn = λ conn is. (conn.held.items, a.conn con
 pub as_failing : (why : Option Cause) (at : ℕ) (past : List Step) (h : List Event) (x : Link) → ((conn : Conn) → x.conn ≡ Some conn → ShowsWhy why (talk_in past at) conn.number h) → LineAgrees at past h x → LineFails why at past h x
 as_failing why at past h x shows a = record { lost = as_lost at past h x a; shows = shows }
 
--- where all agree, all agree but for what one link may hold
-pub losing : (at : ℕ) (past : List Step) (x : AnEnd) → Agrees past x → AgreesLosing past x
-losing at past x a = (
-  at,
-  record {
-    orderly = a.orderly;
-    clients = a.clients;
-    told = a.told;
-    links = λ j link other there. a.links j link there;
-    this = λ link there. as_lost at past x.history link (a.links at link there);
-    gone = a.gone;
-    shown = a.shown;
-    unlinked = a.unlinked;
-    shut = a.shut;
-  },
-)
-
 -- nothing happened but at the connection, and no step is told of
 pub line_moves :
     {Before After : ℕ → List Step → List Event → Link → Type 0} {Is : Step → Type 0} {at : ℕ} {a b : ServedCore} {h h' : List Event} {x y : Link} → b ≡ a → Extends h h' → StaysShut at h x h' y → y.text.items ≡ x.text.items
     → ((past : List Step) → Before at past h x → After at past h' y × KeepsOthers (1, at) h h') → LineGoesFrom Before After Is at a h x b h' y
-line_moves {h = h} {h' = h'} same more shut text moves = record { steps = []; kinds = tt; own = tt; walks = same; agrees = λ past o was. let m = moves past was in (o, m.0, m.1); shown = λ past o was shown. shown_since past h h' more shown; shut = shut; text = text }
+line_moves {h = h} {h' = h'} same more shut text moves = record { steps = []; kinds = tt; own = tt; walks = same; agrees = λ past o tells was. let m = moves past was in (o, m.0, m.1, λ j other n ask is. (refl, refl)); shown = λ past o tells was shown. shown_since past h h' more shown; shut = shut; text = text }
 
 -- what is wanted before is there, and what is there after is more than is wanted
 pub line_between :
@@ -126,8 +111,8 @@ line_between before after g = record {
   kinds = g.kinds;
   own = g.own;
   walks = g.walks;
-  agrees = λ past o was. let r = g.agrees past o (before past was) in (r.0, after (g.steps ++ past) r.1, r.2);
-  shown = λ past o was shown. g.shown past o (before past was) shown;
+  agrees = λ past o tells was. let r = g.agrees past o tells (before past was) in (r.0, after (g.steps ++ past) r.1, r.2, r.3);
+  shown = λ past o tells was shown. g.shown past o tells (before past was) shown;
   shut = g.shut;
   text = g.text;
 }
@@ -148,16 +133,20 @@ line_then {P} {Q} {R} {Is} {at} {a} {b} {c} {h} {h'} {h''} {x} {y} {z} g k = rec
   kinds = of_both Is k.steps g.steps k.kinds g.kinds;
   own = of_both (IsOfServer at) k.steps g.steps k.own g.own;
   walks = walked k.steps g.steps a b c g.walks k.walks;
-  agrees = λ past o was.
-      let first = g.agrees past o was in
-      let later = k.agrees (g.steps ++ past) first.0 first.1 in
-      let both = subst (λ l. IsOrderly l × R at l h'' z) (sym (append_assoc k.steps g.steps past)) (later.0, later.1) in
-      (both.0, both.1, others_twice (1, at) h h' h'' first.2 later.2);
-  shown = λ past o was shown.
-      let first = g.agrees past o was in subst (λ l. AreShown l h'') (sym (append_assoc k.steps g.steps past)) (k.shown (g.steps ++ past) first.0 first.1 (g.shown past o was shown));
+  agrees = λ past o tells was.
+      let first = g.agrees past o tells was in
+      let later = k.agrees (g.steps ++ past) first.0 (told past tells) first.1 in
+      let both = subst (λ l. IsOrderly l × R at l h'' z × LeavesCalls at past l) (sym (append_assoc k.steps g.steps past)) (later.0, later.1, leaves_twice at past (g.steps ++ past) (k.steps ++ (g.steps ++ past)) first.3 later.3) in
+      (both.0, both.1, others_twice (1, at) h h' h'' first.2 later.2, both.2);
+  shown = λ past o tells was shown.
+      let first = g.agrees past o tells was in
+      subst (λ l. AreShown l h'') (sym (append_assoc k.steps g.steps past)) (k.shown (g.steps ++ past) first.0 (told past tells) first.1 (g.shown past o tells was shown));
   shut = λ was. k.shut (g.shut was);
   text = k.text ∙ g.text;
 }
+  where
+    told : (past : List Step) → TellsCalls past a → TellsCalls (g.steps ++ past) b
+    told past tells = (walks_tell_calls.goes_on g.steps past a b tells g.walks).0
 
 -- ---- a link that has the same
 
@@ -166,7 +155,7 @@ OfConn at past h text out awaits dialect late drain None = ((talk_in past at).ou
 OfConn at past h text out awaits dialect late drain (Some e) = TalkAgrees h at text (talk_in past at) e.0 e.1 e.2 out awaits dialect late × (is_over e.0 h ≡ false)
 
 abbrev OfLine : ℕ → List Step → List Event → LineState → Type 0
-OfLine at past h s = OfConn at past h s.0 s.2 s.4 s.5 s.6 s.7 s.1 × MayAllGo past at s.3 × AreDue past at (numbers_of s.3) × AreCalled past at s.2
+OfLine at past h s = OfConn at past h s.0 s.2 s.4 s.5 s.6 s.7 s.1 × MayAllGo past at s.3 × AreDue past at (said_asks s.3) × AreCalled past at s.2
 
 to_line : (at : ℕ) (past : List Step) (h : List Event) (x : Link) → LineAgrees at past h x → OfLine at past h (line_of x)
 to_line at past h x a = (by x.conn refl, a.waiting, a.due, a.called)
@@ -201,7 +190,7 @@ pub line_keeps :
     {Is : Step → Type 0} {at : ℕ} {core : ServedCore} {h h' : List Event} {x y : Link} → ((d : ℕ) → IsUntouched d h h') → line_of y ≡ line_of x → LineGoes Is at core h x core h' y
 line_keeps {at = at} {h = h} {h' = h'} {x = x} {y = y} still same =
     line_moves refl (still 0).after (shut_still still (same_conn x y same)) (ap (λ (s : LineState). s.0) same)
-    (λ past a. (same_line at past h' x y same (line_stays h h' at [] past x (λ c of_c. still c) refl a), all_kept (1, at) h h' still))
+    (λ past a. (same_line at past h' x y same (line_stays h h' at [] past x (λ c of_c. still c) refl (λ n ask is. (refl, refl)) a), all_kept (1, at) h h' still))
 
 -- of eight parts
 pub of_eight :
@@ -247,7 +236,7 @@ talk_reads h h' at text t c held held' unsent out awaits dialect r was = record 
 -- what agrees but for its connection is over, and shows why
 pub over_so :
     (why : Option Cause) (at : ℕ) (past : List Step) (h : List Event) (y : Link) (d : Conn) → y.conn ≡ Some d → ConnAgrees at past h y d d.held.items → ShowsWhy why (talk_in past at) d.number h → MayAllGo past at y.waiting.items
-    → AreDue past at (numbers_of y.waiting.items) → AreCalled past at (said_asks y.calls.sent.items) → LineFails why at past h y
+    → AreDue past at (said_asks y.waiting.items) → AreCalled past at (said_asks y.calls.sent.items) → LineFails why at past h y
 over_so why at past h y d is agrees shows waiting due called = record {
   lost = record { conn = λ conn there. (conn.held.items, subst (λ (z : Conn). ConnAgrees at past h y z z.held.items) (same_some (sym is ∙ there)) agrees); waiting = waiting; due = due; none_out = λ none. absurd (none_some (sym none ∙ is)); unused = λ none. absurd (none_some (sym none ∙ is)); called = called };
   shows = λ conn there. subst (λ (z : Conn). ShowsWhy why (talk_in past at) z.number h) (same_some (sym is ∙ there)) shows;
@@ -257,7 +246,7 @@ over_so why at past h y d is agrees shows waiting due called = record {
 line_reads_to :
     {After : ℕ → List Step → List Event → Link → Type 0} {Is : Step → Type 0} {at : ℕ} {core : ServedCore} {h h' : List Event} (x y : Link) (c d : Conn) → x.conn ≡ Some c → y ≡ record x { conn = Some d } → d.number ≡ c.number
     → bytes_of d.unsent ≡ bytes_of c.unsent → ReadsOn c.number c.held.items d.held.items h h'
-    → ((past : List Step) → LineAgrees at past h x → ConnAgrees at past h' y d d.held.items → MayAllGo past at y.waiting.items → AreDue past at (numbers_of y.waiting.items) → AreCalled past at (said_asks y.calls.sent.items) → After at past h' y)
+    → ((past : List Step) → LineAgrees at past h x → ConnAgrees at past h' y d d.held.items → MayAllGo past at y.waiting.items → AreDue past at (said_asks y.waiting.items) → AreCalled past at (said_asks y.calls.sent.items) → After at past h' y)
     → LineGoesFrom LineAgrees After Is at core h x core h' y
 line_reads_to {After} {at = at} {h = h} {h' = h'} x y c d was is number unsent r after =
     line_moves refl (only_after c.number h h' r.elsewhere) (shut_used c.number r.elsewhere (conn_is x c was) (ap conn_of is ∙ ap (λ n. Some n) number)) (ap (λ (z : Link). z.text.items) is) (λ past a. (agrees past a, keeps_others c.number (1, at) h h' (a.conn c was).is_to r.same_role r.elsewhere))
@@ -267,7 +256,7 @@ line_reads_to {After} {at = at} {h = h} {h' = h'} x y c d was is number unsent r
         let now = talk_reads h h' at x.text.items (talk_in past at) c.number c.held.items d.held.items (bytes_of c.unsent) (said_asks x.calls.sent.items) x.awaits_dialect x.dialect r (a.conn c was) in
         let conn = talk_as (ap (λ (z : Link). z.text.items) is) refl number refl unsent (ap (λ (z : Link). said_asks z.calls.sent.items) is) (ap (λ (z : Link). z.awaits_dialect) is) (ap (λ (z : Link). z.dialect) is) (ap (λ (z : Link). said_late z.late.items) is) now in
         let waits = sym (ap (λ (z : Link). z.waiting.items) is) in
-        after past a conn (subst (λ w. MayAllGo past at w) waits a.waiting) (subst (λ w. AreDue past at (numbers_of w)) waits a.due) (subst (λ l. AreCalled past at l) (sym (ap (λ (z : Link). said_asks z.calls.sent.items) is)) a.called)
+        after past a conn (subst (λ w. MayAllGo past at w) waits a.waiting) (subst (λ w. AreDue past at (said_asks w)) waits a.due) (subst (λ l. AreCalled past at l) (sym (ap (λ (z : Link). said_asks z.calls.sent.items) is)) a.called)
 
 -- where the connection stands still
 pub line_reads :
@@ -303,7 +292,7 @@ talk_sends h h' at text t c held unsent unsent' out awaits dialect s was = recor
 line_sends_to :
     {After : ℕ → List Step → List Event → Link → Type 0} {Is : Step → Type 0} {at : ℕ} {core : ServedCore} {h h' : List Event} (x y : Link) (c d : Conn) → x.conn ≡ Some c → y ≡ record x { conn = Some d } → d.number ≡ c.number
     → d.held.items ≡ c.held.items → SendsOn c.number (bytes_of c.unsent) (bytes_of d.unsent) h h'
-    → ((past : List Step) → LineAgrees at past h x → ConnAgrees at past h' y d d.held.items → MayAllGo past at y.waiting.items → AreDue past at (numbers_of y.waiting.items) → AreCalled past at (said_asks y.calls.sent.items) → After at past h' y)
+    → ((past : List Step) → LineAgrees at past h x → ConnAgrees at past h' y d d.held.items → MayAllGo past at y.waiting.items → AreDue past at (said_asks y.waiting.items) → AreCalled past at (said_asks y.calls.sent.items) → After at past h' y)
     → LineGoesFrom LineAgrees After Is at core h x core h' y
 line_sends_to {After} {at = at} {h = h} {h' = h'} x y c d was is number held s after =
     line_moves refl (only_after c.number h h' s.elsewhere) (shut_used c.number s.elsewhere (conn_is x c was) (ap conn_of is ∙ ap (λ n. Some n) number)) (ap (λ (z : Link). z.text.items) is) (λ past a. (agrees past a, keeps_others c.number (1, at) h h' (a.conn c was).is_to s.same_role s.elsewhere))
@@ -313,7 +302,7 @@ line_sends_to {After} {at = at} {h = h} {h' = h'} x y c d was is number held s a
         let now = talk_sends h h' at x.text.items (talk_in past at) c.number c.held.items (bytes_of c.unsent) (bytes_of d.unsent) (said_asks x.calls.sent.items) x.awaits_dialect x.dialect s (a.conn c was) in
         let conn = talk_as (ap (λ (z : Link). z.text.items) is) refl number held refl (ap (λ (z : Link). said_asks z.calls.sent.items) is) (ap (λ (z : Link). z.awaits_dialect) is) (ap (λ (z : Link). z.dialect) is) (ap (λ (z : Link). said_late z.late.items) is) now in
         let waits = sym (ap (λ (z : Link). z.waiting.items) is) in
-        after past a conn (subst (λ w. MayAllGo past at w) waits a.waiting) (subst (λ w. AreDue past at (numbers_of w)) waits a.due) (subst (λ l. AreCalled past at l) (sym (ap (λ (z : Link). said_asks z.calls.sent.items) is)) a.called)
+        after past a conn (subst (λ w. MayAllGo past at w) waits a.waiting) (subst (λ w. AreDue past at (said_asks w)) waits a.due) (subst (λ l. AreCalled past at l) (sym (ap (λ (z : Link). said_asks z.calls.sent.items) is)) a.called)
 
 -- where the connection stands still
 pub line_sends :
@@ -334,9 +323,9 @@ line_sends_over {at = at} {h' = h'} why x y c d was is number held s shows =
 -- ---- a new connection
 
 first_agrees :
-    (h : List Event) (at number : ℕ) (text : List ℕ) (dialect : Greeting) (t : Talk) → IsNew number h
-    → TalkAgrees (connects number at text ∷ h) at text (first_talk dialect t) number [] (first_asked_of dialect) [] (awaits_first dialect) (first_dialect dialect.dialect) []
-first_agrees h at number text dialect t new = record {
+    (h : List Event) (at number : ℕ) (text : List ℕ) (dialect : Greeting) → IsNew number h
+    → TalkAgrees (connects number at text ∷ h) at text (first_talk dialect) number [] (first_asked_of dialect) [] (awaits_first dialect) (first_dialect dialect.dialect) []
+first_agrees h at number text dialect new = record {
   is_to = ap (λ b. if b then Some (1, at) else role number h) (equal number);
   address = address_begins h text at number;
   sent_is = ap (λ l. l ++ first_asked_of dialect) (sym new.none_went);
@@ -363,8 +352,8 @@ begins at core h h' x y dialect number new noted has = record {
   kinds = (tt, tt);
   own = (refl, tt);
   walks = (core, refl, refl);
-  agrees = λ past o a. ((subst (λ (d : Option Conn). Unused h at x.text.items (talk_in past at) (option_map (λ (z : Conn). z.number) d)) has.none_draining (a.unused has.none_there), o), by past a y.conn refl has.conn, keeps_by number (1, at) h h' (new_own number (1, at) h new.no_role) (ap (role number) noted ∙ ap (λ b. if b then Some (1, at) else role number h) (equal number)) only);
-  shown = λ past o a shown. shown_later (Linked at dialect ∷ []) past h h' (tt, tt) (connects number at x.text.items ∷ [], noted) shown;
+  agrees = λ past o tells a. ((subst (λ (d : Option Conn). Unused h at x.text.items (talk_in past at) (option_map (λ (z : Conn). z.number) d)) has.none_draining (a.unused has.none_there), o), by past a y.conn refl has.conn, keeps_by number (1, at) h h' (new_own number (1, at) h new.no_role) (ap (role number) noted ∙ ap (λ b. if b then Some (1, at) else role number h) (equal number)) only, λ j other n ask is. (refl, refl));
+  shown = λ past o tells a shown. shown_later (Linked at dialect ∷ []) past h h' (tt, tt) (connects number at x.text.items ∷ [], noted) shown;
   shut = shut_begun number only (conn_drains x has.none_there ∙ ap (option_map (λ (z : Conn). z.number)) has.none_draining) (ap (λ o. first_some o (drain_of y)) (has_number y.conn has.conn));
   text = ap (λ t. t.items) has.text;
 }
@@ -379,13 +368,13 @@ begins at core h h' x y dialect number new noted has = record {
     by : (past : List Step) → LineAgrees at past h x → (o : Option Conn) → y.conn ≡ o → IsNewEnd number dialect o → LineAgrees at (Linked at dialect ∷ past) h' y
     by past a None e end = absurd end
     by past a (Some d) e end =
-        let talk = ap (λ b. if b then first_talk dialect (talk_in past at) else talk_in past at) (equal at) in
+        let talk = ap (λ b. if b then first_talk dialect else talk_in past at) (equal at) in
         let none : said_asks y.calls.sent.items ≡ [] = ap (λ c. said_asks c.sent.items) has.calls ∙ ap said_asks has.none_out in
-        let first = subst (λ k. TalkAgrees k at x.text.items (first_talk dialect (talk_in past at)) number [] (first_asked_of dialect) [] (awaits_first dialect) (first_dialect dialect.dialect) []) (sym noted) (first_agrees h at number x.text.items dialect (talk_in past at) new) in
+        let first = subst (λ k. TalkAgrees k at x.text.items (first_talk dialect) number [] (first_asked_of dialect) [] (awaits_first dialect) (first_dialect dialect.dialect) []) (sym noted) (first_agrees h at number x.text.items dialect new) in
         has_conn at (Linked at dialect ∷ past) h' y d e (talk_as (ap (λ t. t.items) has.text) talk end.0 end.1 end.2 none has.awaits has.speaks (ap said_late has.none_late) first)
         (ap (λ n. is_over n h') end.0 ∙ ap (is_over number) noted ∙ new.goes_on)
         (calls_later (Linked at dialect ∷ []) past at y.waiting.items (subst (λ w. MayAllGo past at w) (sym (ap (λ w. w.items) has.waiting)) a.waiting))
-        (due_later (Linked at dialect ∷ []) past at (numbers_of y.waiting.items) (ap (λ (t : Talk). t.asked) talk) (subst (λ w. AreDue past at (numbers_of w)) (sym (ap (λ w. w.items) has.waiting)) a.due))
+        (due_stays past (Linked at dialect ∷ past) at (said_asks y.waiting.items) (λ n ask is. (refl, refl)) (subst (λ w. AreDue past at (said_asks w)) (sym (ap (λ w. w.items) has.waiting)) a.due))
         (subst (λ l. AreCalled (Linked at dialect ∷ past) at l) (sym none) tt)
 
 -- one was begun, and closed
@@ -395,7 +384,7 @@ begins_in_vain at core h h' x y number new closed keeps =
     let same = keeps_line x y keeps in
     let only = only_twice number h (connects number at x.text.items ∷ h) h' (only_connects number at x.text.items h) (only_closed number (connects number at x.text.items ∷ h) h' closed) in
     line_moves refl (only_after number h h' only) (shut_in_vain number only (closed_shut number (connects number at x.text.items ∷ h) h' closed) (same_conn x y same)) (ap (λ t. t.items) keeps.text) (λ past a. (
-      same_line at past h' x y same (line_stays h h' at [] past x (λ c of_c. only c (new_apart number c h (1, at) of_c new.no_role)) refl a),
+      same_line at past h' x y same (line_stays h h' at [] past x (λ c of_c. only c (new_apart number c h (1, at) of_c new.no_role)) refl (λ n ask is. (refl, refl)) a),
       keeps_by number (1, at) h h' (new_own number (1, at) h new.no_role) (closed_role number (connects number at x.text.items ∷ h) h' closed ∙ ap (λ b. if b then Some (1, at) else role number h) (equal number)) only,
     ))
 
@@ -436,8 +425,8 @@ line_learns {at} {core} {h} x y can l = by l.told
       kinds = (tt, tt);
       own = (refl, tt);
       walks = (core, refl, refl);
-      agrees = λ past o a. ((subst (λ o. AnswersFirst o y.dialect takes.0) (sym (a.conn c was).awaits_is) takes.2, o), agreed past a, all_kept (1, at) h h (quiet h));
-      shown = λ past o a shown. shown_later (step ∷ []) past h h (tt, tt) (none_since h) shown;
+      agrees = λ past o tells a. ((subst (λ o. AnswersFirst o y.dialect takes.0) (sym (a.conn c was).awaits_is) takes.2, o), agreed past a, all_kept (1, at) h h (quiet h), λ j other n ask is. (refl, refl));
+      shown = λ past o tells a shown. shown_later (step ∷ []) past h h (tt, tt) (none_since h) shown;
       shut = shut_still (quiet h) (conn_is y d is ∙ ap (λ (z : Conn). Some z.number) takes.3 ∙ sym (conn_is x c was));
       text = ap (λ (z : Link). z.text.items) learnt.rest;
     }
@@ -454,8 +443,8 @@ line_learns {at} {core} {h} x y can l = by l.told
             (talk_as (ap (λ (z : Link). z.text.items) learnt.rest) talk (ap (λ (z : Conn). z.number) takes.3) refl (ap (λ (z : Conn). bytes_of z.unsent) takes.3) (ap (λ (z : Link). said_asks z.calls.sent.items) learnt.rest) learnt.told refl (ap (λ (z : Link). said_late z.late.items) learnt.rest) now)
             (ap (λ (z : Conn). is_over z.number h) takes.3 ∙ a.goes_on c was)
             (calls_later (step ∷ []) past at y.waiting.items (subst (λ w. MayAllGo past at w) (sym (ap (λ (z : Link). z.waiting.items) learnt.rest)) a.waiting))
-            (due_later (step ∷ []) past at (numbers_of y.waiting.items) (ap (λ (t : Talk). t.asked) talk) (subst (λ w. AreDue past at (numbers_of w)) (sym (ap (λ (z : Link). z.waiting.items) learnt.rest)) a.due))
-            (called_all_later (step ∷ []) past at (said_asks y.calls.sent.items) (subst (λ l. AreCalled past at l) (sym (ap (λ (z : Link). said_asks z.calls.sent.items) learnt.rest)) a.called))
+            (due_stays past (step ∷ past) at (said_asks y.waiting.items) (λ n ask is. (refl, refl)) (subst (λ w. AreDue past at (said_asks w)) (sym (ap (λ (z : Link). z.waiting.items) learnt.rest)) a.due))
+            (called_stays past (step ∷ past) at (said_asks y.calls.sent.items) (λ n ask is. (refl, refl)) (subst (λ l. AreCalled past at l) (sym (ap (λ (z : Link). said_asks z.calls.sent.items) learnt.rest)) a.called))
 
     by_conns : (o p : Option Conn) → x.conn ≡ o → y.conn ≡ p → TakesGreeting x.awaits_dialect y.dialect o p → HasLearnt x y → LineGoes IsOfTurn at core h x core h y
     by_conns None p was is takes learnt = absurd takes
@@ -497,8 +486,10 @@ line_asks {at} {core} {h} x y c d call was is same alone ready more unsent = rec
   kinds = (tt, tt);
   own = (refl, tt);
   walks = (core, refl, refl);
-  agrees = λ past o a. (((a.1, due_first past at call.ticket.number (numbers_of x.waiting.items) a.2, (a.0.conn c was).late_is ∙ ap said_late alone, ap awaits_flush (a.0.conn c was).awaits_is ∙ ready), o), agreed past a.0 a.1 a.2, all_kept (1, at) h h (quiet h));
-  shown = λ past o a shown. shown_later (step ∷ []) past h h (tt, tt) (none_since h) shown;
+  agrees = λ past o tells a.
+      let one = asked_one at past x.calls.sent.items call x.waiting.items a.0.called a.2 in
+      (((a.1, a.2.0, (a.0.conn c was).late_is ∙ ap said_late alone, ap awaits_flush (a.0.conn c was).awaits_is ∙ ready), o), agreed past a.0 one, all_kept (1, at) h h (quiet h), one.others);
+  shown = λ past o tells a shown. shown_later (step ∷ []) past h h (tt, tt) (none_since h) shown;
   shut = shut_still (quiet h) (ap conn_of is ∙ ap (λ (z : Conn). Some z.number) same ∙ sym (conn_is x c was));
   text = ap (λ (z : Link). z.text.items) is;
 }
@@ -506,20 +497,19 @@ line_asks {at} {core} {h} x y c d call was is same alone ready more unsent = rec
     step : Step
     step = Asked at call.ticket.number call.dialect call.ticket.ask
 
-    agreed : (past : List Step) → LineAgrees at past h x → MayGo past at call → AreDue past at (numbers_of (call ∷ x.waiting.items)) → LineAgrees at (step ∷ past) h y
-    agreed past a may due =
+    agreed : (past : List Step) → LineAgrees at past h x → AskedOne at past (step ∷ past) x.calls.sent.items call x.waiting.items → LineAgrees at (step ∷ past) h y
+    agreed past a one =
         let talk = ap (λ b. if b then with_ask call.ticket.number call.dialect call.ticket.ask (talk_in past at) else talk_in past at) (equal at) in
         let now = talk_asks h at x.text.items (talk_in past at) c.number c.held.items (bytes_of c.unsent) (said_asks x.calls.sent.items) x.awaits_dialect x.dialect call.ticket.number call.dialect call.ticket.ask (a.conn c was) in
         has_conn at (step ∷ past) h y d (ap (λ (z : Link). z.conn) is)
         (talk_as (ap (λ (z : Link). z.text.items) is) talk (ap (λ (z : Conn). z.number) same) (ap (λ (z : Conn). z.held.items) same) unsent (ap said_asks more ∙ one_said x.calls.sent.items call) (ap (λ (z : Link). z.awaits_dialect) is) (ap (λ (z : Link). z.dialect) is) (ap (λ (z : Link). said_late z.late.items) is) now)
         (ap (λ (z : Conn). is_over z.number h) same ∙ a.goes_on c was)
         (calls_later (step ∷ []) past at y.waiting.items (subst (λ w. MayAllGo past at w) (sym (ap (λ (z : Link). z.waiting.items) is)) a.waiting))
-        (due_asked step past at call.ticket.number (numbers_of y.waiting.items) (ap (λ (t : Talk). t.asked) talk) (subst (λ w. AreDue past at (numbers_of (call ∷ w))) (sym (ap (λ (z : Link). z.waiting.items) is)) due))
-        (subst (λ l. AreCalled (step ∷ past) at l) (sym (ap said_asks more ∙ one_said x.calls.sent.items call))
-        (called_all_later (step ∷ []) past at (said_asks x.calls.sent.items ++ (call.ticket.number, call.dialect, call.ticket.ask) ∷ []) (called_more past at (said_asks x.calls.sent.items) (call.ticket.number, call.dialect, call.ticket.ask) a.called (called_of past at call may))))
+        (subst (λ w. AreDue (step ∷ past) at (said_asks w)) (sym (ap (λ (z : Link). z.waiting.items) is)) one.due)
+        (subst (λ (l : List SentCall). AreCalled (step ∷ past) at (said_asks l)) (sym more) one.called)
 
 -- a link that has another list of calls that wait
-waits_with : (at : ℕ) (past : List Step) (h : List Event) (x y : Link) → y ≡ record x { waiting = y.waiting } → LineAgrees at past h x → MayAllGo past at y.waiting.items → AreDue past at (numbers_of y.waiting.items) → LineAgrees at past h y
+waits_with : (at : ℕ) (past : List Step) (h : List Event) (x y : Link) → y ≡ record x { waiting = y.waiting } → LineAgrees at past h x → MayAllGo past at y.waiting.items → AreDue past at (said_asks y.waiting.items) → LineAgrees at past h y
 waits_with at past h x y is a waiting due = record {
   conn = λ conn there.
       talk_as (ap (λ (z : Link). z.text.items) is) refl refl refl refl (ap (λ (z : Link). said_asks z.calls.sent.items) is) (ap (λ (z : Link). z.awaits_dialect) is) (ap (λ (z : Link). z.dialect) is) (ap (λ (z : Link). said_late z.late.items) is)
@@ -539,7 +529,7 @@ pub line_waits :
 line_waits {at = at} {h = h} x y call is more =
     line_moves refl (none_since h) (shut_still (quiet h) (ap conn_of is)) (ap (λ (z : Link). z.text.items) is)
     (λ past a. (
-      waits_with at past h x y is a.0 (subst (λ w. MayAllGo past at w) (sym more) (one_more past at x.waiting.items call a.0.waiting a.1)) (subst (λ w. AreDue past at (numbers_of w)) (sym more) (due_behind past at x.waiting.items call a.2)),
+      waits_with at past h x y is a.0 (subst (λ w. MayAllGo past at w) (sym more) (one_more past at x.waiting.items call a.0.waiting a.1)) (subst (λ w. AreDue past at (said_asks w)) (sym more) (due_behind past at x.waiting.items call a.2)),
       all_kept (1, at) h h (quiet h),
     ))
 
@@ -555,11 +545,11 @@ line_takes {at = at} {h = h} x y call before after is was now =
     line_moves refl (none_since h) (shut_still (quiet h) (ap conn_of is)) (ap (λ (z : Link). z.text.items) is)
     (λ past a.
     let all = called_between past at before call after (subst (λ w. MayAllGo past at w) was a.waiting) in
-    let due = due_between past at before call after (subst (λ w. AreDue past at (numbers_of w)) was a.due) in (
+    let due = due_taken past at before call after (subst (λ w. AreDue past at (said_asks w)) was a.due) in (
       (
-        waits_with at past h x y is a (subst (λ w. MayAllGo past at w) (sym now) all.1) (subst (λ w. AreDue past at (numbers_of w)) (sym now) (due_less past at call.ticket.number (numbers_of (before ++ after)) due)),
+        waits_with at past h x y is a (subst (λ w. MayAllGo past at w) (sym now) all.1) (subst (λ w. AreDue past at (said_asks w)) (sym now) due.2),
         all.0,
-        subst (λ w. AreDue past at (numbers_of (call ∷ w))) (sym now) due,
+        subst (λ w. AreDue past at (said_asks (call ∷ w))) (sym now) due,
       ),
       all_kept (1, at) h h (quiet h),
     ))
@@ -584,15 +574,15 @@ talk_answers h at text t c spelled held unsent out out' awaits dialect was = rec
 settles_to :
     {After : ℕ → List Step → List Event → Link → Type 0} {at : ℕ} {core core' : ServedCore} {h : List Event} (x y : Link) (c d : Conn) (rest : List ℕ) → x.conn ≡ Some c → y.conn ≡ Some d → x.awaits_dialect ≡ None → x.late.items ≡ []
     → y.text.items ≡ x.text.items → y.waiting.items ≡ x.waiting.items → y.awaits_dialect ≡ x.awaits_dialect → y.dialect ≡ x.dialect → y.late.items ≡ x.late.items → d.number ≡ c.number → bytes_of d.unsent ≡ bytes_of c.unsent
-    → ((past : List Step) → ConnAgrees at past h y d rest → is_over d.number h ≡ false → MayAllGo past at y.waiting.items → AreDue past at (numbers_of y.waiting.items) → AreCalled past at (said_asks y.calls.sent.items) → After at past h y)
+    → ((past : List Step) → ConnAgrees at past h y d rest → is_over d.number h ≡ false → MayAllGo past at y.waiting.items → AreDue past at (said_asks y.waiting.items) → AreCalled past at (said_asks y.calls.sent.items) → After at past h y)
     → SettlesSome x.calls.sent.items c.held.items core y.calls.sent.items rest core' → LineGoesFrom LineAgrees After IsOfTurn at core h x core' h y
 settles_to {After} {at} {core} {core'} {h} x y c d rest was is off alone text waiting awaits speaks late number unsent after s = record {
   steps = g.steps;
   kinds = g.kinds;
   own = g.own;
   walks = g.walks;
-  agrees = λ past o a. let t = a.conn c was in let r = g.orderly past o t.out_is (t.awaits_is ∙ off) (t.late_is ∙ ap said_late alone) in (r.0, agreed past a r.1, all_kept (1, at) h h (quiet h));
-  shown = λ past o a shown. shown_later g.steps past h h g.unlost (none_since h) shown;
+  agrees = λ past o tells a. let t = a.conn c was in let r = g.orderly past o tells a.called t.out_is (t.awaits_is ∙ off) (t.late_is ∙ ap said_late alone) in (r.0, agreed past a r.1, all_kept (1, at) h h (quiet h), (left past a).others);
+  shown = λ past o tells a shown. shown_later g.steps past h h g.unlost (none_since h) shown;
   shut = shut_still (quiet h) (conn_is y d is ∙ ap (λ n. Some n) number ∙ sym (conn_is x c was));
   text = text;
 }
@@ -600,13 +590,15 @@ settles_to {After} {at} {core} {core'} {h} x y c d rest was is off alone text wa
     g : Answers at x.calls.sent.items c.held.items core y.calls.sent.items rest core'
     g = answers_some at x.calls.sent.items c.held.items core y.calls.sent.items rest core' s
 
+    left : (past : List Step) → LineAgrees at past h x → SentGone at past (g.steps ++ past) y.calls.sent.items x.waiting.items
+    left past a = sent_gone at past (g.steps ++ past) g.gone y.calls.sent.items x.waiting.items (g.keeps past) (subst (λ (l : List SentCall). AreCalled past at (said_asks l)) g.parts a.called) a.due
+
     agreed : (past : List Step) → LineAgrees at past h x → talk_in (g.steps ++ past) at ≡ record (talk_in past at) { told = (talk_in past at).told ++ g.spelled; out = said_asks y.calls.sent.items } → After at (g.steps ++ past) h y
     agreed past a talk =
         let before = talk_as refl refl refl (sym g.whole) refl refl refl refl refl (a.conn c was) in
         let now = talk_answers h at x.text.items (talk_in past at) c.number g.spelled rest (bytes_of c.unsent) (said_asks x.calls.sent.items) (said_asks y.calls.sent.items) x.awaits_dialect x.dialect before in
         after (g.steps ++ past) (talk_as text talk number refl unsent refl awaits speaks (ap said_late late) now) (ap (λ n. is_over n h) number ∙ a.goes_on c was) (calls_later g.steps past at y.waiting.items (subst (λ w. MayAllGo past at w) (sym waiting) a.waiting))
-        (due_later g.steps past at (numbers_of y.waiting.items) (ap (λ (t : Talk). t.asked) talk) (subst (λ w. AreDue past at (numbers_of w)) (sym waiting) a.due))
-        (called_all_later g.steps past at (said_asks y.calls.sent.items) (g.called past a.called))
+        (subst (λ w. AreDue (g.steps ++ past) at (said_asks w)) (sym waiting) (left past a).due) (left past a).called
 
 -- what is left of it is held
 pub line_settles :
@@ -639,7 +631,7 @@ gives_none {at} {core} {h} {h'} why x y had same closed draining text waiting se
 
     left : (past : List Step) → LineFails why at past h x → LineAgrees at past h' y
     left past a =
-        has_none at past h' y closed (subst (λ w. MayAllGo past at w) (sym waiting) a.lost.waiting) (subst (λ w. AreDue past at (numbers_of w)) (sym waiting) a.lost.due) (a.lost.none_out had)
+        has_none at past h' y closed (subst (λ w. MayAllGo past at w) (sym waiting) a.lost.waiting) (subst (λ w. AreDue past at (said_asks w)) (sym waiting) a.lost.due) (a.lost.none_out had)
         (subst (λ k. Unused k at y.text.items (talk_in past at) (drain_of y)) (sym same) (subst (λ t. Unused h at t (talk_in past at) (drain_of y)) (sym text) (subst (λ (o : Option Conn). Unused h at x.text.items (talk_in past at) (option_map (λ (z : Conn). z.number) o)) (sym draining) (a.lost.unused had))))
         (subst (λ (l : List SentCall). AreCalled past at (said_asks l)) (sym sent) a.lost.called)
 
@@ -653,8 +645,8 @@ gives_up {at} {core} {h} {h'} why x y c e only same_role closed text waiting sen
   kinds = (refl, tt);
   own = (refl, tt);
   walks = (core, refl, refl);
-  agrees = λ past o a. ((tt, o), left past a, keeps_others c.number (1, at) h h' (a.lost.conn c e).1.is_to same_role only);
-  shown = λ past o a shown. (was_shown past a, shown_since past h h' (only_after c.number h h' only) shown);
+  agrees = λ past o tells a. ((tt, o), left past a, keeps_others c.number (1, at) h h' (a.lost.conn c e).1.is_to same_role only, λ j other n ask is. (refl, refl));
+  shown = λ past o tells a shown. (was_shown past a, shown_since past h h' (only_after c.number h h' only) shown);
   shut = shut;
   text = text;
 }
@@ -665,8 +657,8 @@ gives_up {at} {core} {h} {h'} why x y c e only same_role closed text waiting sen
     left : (past : List Step) → LineFails why at past h x → LineAgrees at (Lost at why ∷ past) h' y
     left past a =
         has_none at (Lost at why ∷ past) h' y closed (calls_later (Lost at why ∷ []) past at y.waiting.items (subst (λ w. MayAllGo past at w) (sym waiting) a.lost.waiting))
-        (due_later (Lost at why ∷ []) past at (numbers_of y.waiting.items) (ap (λ (t : Talk). t.asked) (talk past)) (subst (λ w. AreDue past at (numbers_of w)) (sym waiting) a.lost.due)) (ap (λ (t : Talk). t.out) (talk past)) (unused past a)
-        (called_all_later (Lost at why ∷ []) past at (said_asks y.calls.sent.items) (subst (λ (l : List SentCall). AreCalled past at (said_asks l)) (sym sent) a.lost.called))
+        (due_stays past (Lost at why ∷ past) at (said_asks y.waiting.items) (λ n ask is. (refl, refl)) (subst (λ w. AreDue past at (said_asks w)) (sym waiting) a.lost.due)) (ap (λ (t : Talk). t.out) (talk past)) (unused past a)
+        (called_stays past (Lost at why ∷ past) at (said_asks y.calls.sent.items) (λ n ask is. (refl, refl)) (subst (λ (l : List SentCall). AreCalled past at (said_asks l)) (sym sent) a.lost.called))
 
     was_shown : (past : List Step) → LineFails why at past h x → WasShown why at past h'
     was_shown past a = let t = (a.lost.conn c e).1 in record {
@@ -762,7 +754,7 @@ line_away {at = at} {h = h} {h' = h'} x y c d bytes none was is number r =
     agrees : (past : List Step) → LineAgrees at past h x → LineAgrees at past h' y
     agrees past a =
         let waits = sym (ap (λ (z : Link). z.waiting.items) is) in
-        has_none at past h' y (ap (λ (z : Link). z.conn) is ∙ none) (subst (λ w. MayAllGo past at w) waits a.waiting) (subst (λ w. AreDue past at (numbers_of w)) waits a.due) (a.none_out none)
+        has_none at past h' y (ap (λ (z : Link). z.conn) is ∙ none) (subst (λ w. MayAllGo past at w) waits a.waiting) (subst (λ w. AreDue past at (said_asks w)) waits a.due) (a.none_out none)
         (subst (Unused h' at y.text.items (talk_in past at)) (sym drains) (subst (λ w. Unused h' at w (talk_in past at) (Some c.number)) (sym (ap (λ (z : Link). z.text.items) is)) (now past a)))
         (subst (λ l. AreCalled past at l) (sym (ap (λ (z : Link). said_asks z.calls.sent.items) is)) a.called)
 
@@ -775,8 +767,8 @@ line_ends {Is} {at} {core} {h} {k} {h'} why kind apart x y c none was is r shows
   kinds = (kind, tt);
   own = (refl, tt);
   walks = (core, refl, refl);
-  agrees = λ past o a. ((tt, o), left past a, keeps_others c.number (1, at) h h' (before past a).3.is_to (closed_role c.number k h' closes_it ∙ r.same_role) only);
-  shown = λ past o a shown. (was_shown past a, shown_since past h h' (only_after c.number h h' only) shown);
+  agrees = λ past o tells a. ((tt, o), left past a, keeps_others c.number (1, at) h h' (before past a).3.is_to (closed_role c.number k h' closes_it ∙ r.same_role) only, λ j other n ask is. (refl, refl));
+  shown = λ past o tells a shown. (was_shown past a, shown_since past h h' (only_after c.number h h' only) shown);
   shut = shut_closed c.number only (closed_shut c.number k h' closes_it) (conn_drains x none ∙ ap (option_map (λ (z : Conn). z.number)) was);
   text = ap (λ (z : Link). z.text.items) is;
 }
@@ -794,10 +786,10 @@ line_ends {Is} {at} {core} {h} {k} {h'} why kind apart x y c none was is r shows
     left past a =
         has_none at (Lost at why ∷ past) h' y (ap (λ (z : Link). z.conn) is ∙ none)
         (calls_later (Lost at why ∷ []) past at y.waiting.items (subst (λ w. MayAllGo past at w) (sym (ap (λ (z : Link). z.waiting.items) is)) a.waiting))
-        (due_later (Lost at why ∷ []) past at (numbers_of y.waiting.items) (ap (λ (t : Talk). t.asked) (talk past)) (subst (λ w. AreDue past at (numbers_of w)) (sym (ap (λ (z : Link). z.waiting.items) is)) a.due))
+        (due_stays past (Lost at why ∷ past) at (said_asks y.waiting.items) (λ n ask is. (refl, refl)) (subst (λ w. AreDue past at (said_asks w)) (sym (ap (λ (z : Link). z.waiting.items) is)) a.due))
         (ap (λ (t : Talk). t.out) (talk past))
         (subst (Unused h' at y.text.items (talk_in (Lost at why ∷ past) at)) (sym (ap drain_of is)) (ap (λ (t : Talk). t.stands) (talk past) ∙ apart))
-        (called_all_later (Lost at why ∷ []) past at (said_asks y.calls.sent.items) (subst (λ l. AreCalled past at l) (sym (ap (λ (z : Link). said_asks z.calls.sent.items) is)) a.called))
+        (called_stays past (Lost at why ∷ past) at (said_asks y.calls.sent.items) (λ n ask is. (refl, refl)) (subst (λ l. AreCalled past at l) (sym (ap (λ (z : Link). said_asks z.calls.sent.items) is)) a.called))
 
     was_shown : (past : List Step) → LineAgrees at past h x → WasShown why at past h'
     was_shown past a =
@@ -830,12 +822,13 @@ line_shuts {at = at} {h' = h'} {y = y} {z = z} g none closed draining text waiti
   kinds = g.kinds;
   own = g.own;
   walks = g.walks;
-  agrees = λ past o was. let r = g.agrees past o was in (
+  agrees = λ past o tells was. let r = g.agrees past o tells was in (
     r.0,
-    has_none at (g.steps ++ past) h' z closed (subst (λ w. MayAllGo (g.steps ++ past) at w) (sym waiting) r.1.waiting) (subst (λ w. AreDue (g.steps ++ past) at (numbers_of w)) (sym waiting) r.1.due) (r.1.none_out none)
+    has_none at (g.steps ++ past) h' z closed (subst (λ w. MayAllGo (g.steps ++ past) at w) (sym waiting) r.1.waiting) (subst (λ w. AreDue (g.steps ++ past) at (said_asks w)) (sym waiting) r.1.due) (r.1.none_out none)
         (subst (λ t. Unused h' at t (talk_in (g.steps ++ past) at) (drain_of z)) (sym text) (subst (λ (o : Option Conn). Unused h' at y.text.items (talk_in (g.steps ++ past) at) (option_map (λ (c : Conn). c.number) o)) (sym draining) (r.1.unused none)))
         (subst (λ (l : List SentCall). AreCalled (g.steps ++ past) at (said_asks l)) (sym sent) r.1.called),
     r.2,
+    r.3,
   );
   shown = g.shown;
   shut = λ was. subst (λ o. IsShutBut (1, at) o h') (sym (conns_same y z (closed ∙ sym none) draining)) (g.shut was);
@@ -901,18 +894,21 @@ line_fails {why} {at} {core} {core'} {h} x y mid sent waiting had none draining 
   kinds = failed_giving why (w.steps ++ f.steps) kinds;
   own = own.0;
   walks = walked w.steps f.steps core mid core' f.walks w.walks;
-  agrees = λ past o a. (
-    subst IsOrderly (sym (append_assoc w.steps f.steps past)) (w.orderly (f.steps ++ past) (waits past a) (ap (λ (t : Talk). t.out) (plain_talk f.steps (failed_own at f.steps f.kinds).1 past at) ∙ a.none_out had) (f.orderly past (first past a) (a.none_out had) o)),
+  agrees = λ past o tells a. (
+    subst IsOrderly (sym (append_assoc w.steps f.steps past))
+    (w.orderly (f.steps ++ past) (waiting_out (f.steps ++ past) at waiting.0 y.waiting.items (after_sent past a).due) (ap (λ (t : Talk). t.out) (plain_talk f.steps (failed_own at f.steps f.kinds).1 past at) ∙ a.none_out had)
+    (f.orderly past (sent_out past at sent.0 y.calls.sent.items (called past a)) (a.none_out had) o)),
     has_none at ((w.steps ++ f.steps) ++ past) h y none (calls_later (w.steps ++ f.steps) past at y.waiting.items (last_called past at waiting.0 y.waiting.items (subst (λ l. MayAllGo past at l) waiting.1 a.waiting)))
-        (due_later (w.steps ++ f.steps) past at (numbers_of y.waiting.items) (ap (λ (t : Talk). t.asked) (plain_talk (w.steps ++ f.steps) own.1 past at)) (due_last past at waiting.0 y.waiting.items (subst (λ l. AreDue past at (numbers_of l)) waiting.1 a.due)))
+        (left past a).due
         (ap (λ (t : Talk). t.out) (plain_talk (w.steps ++ f.steps) own.1 past at) ∙ a.none_out had)
         (subst (λ t. Unused h at t (talk_in ((w.steps ++ f.steps) ++ past) at) (drain_of y)) (sym text)
         (subst (λ (o : Option Conn). Unused h at x.text.items (talk_in ((w.steps ++ f.steps) ++ past) at) (option_map (λ (z : Conn). z.number) o)) (sym draining)
         (subst (λ u. Unused h at x.text.items u (drain_of x)) (sym (plain_talk (w.steps ++ f.steps) own.1 past at)) (a.unused had))))
-        (called_all_later (w.steps ++ f.steps) past at (said_asks y.calls.sent.items) (called_last past at sent.0 y.calls.sent.items (subst (λ (l : List SentCall). AreCalled past at (said_asks l)) sent.1 a.called))),
+        (left past a).called,
     all_kept (1, at) h h (quiet h),
+    (left past a).others,
   );
-  shown = λ past o a shown. shown_later (w.steps ++ f.steps) past h h (plain_unlost (w.steps ++ f.steps) own.1) (none_since h) shown;
+  shown = λ past o tells a shown. shown_later (w.steps ++ f.steps) past h h (plain_unlost (w.steps ++ f.steps) own.1) (none_since h) shown;
   shut = shut_still (quiet h) (conns_same x y (none ∙ sym had) draining);
   text = text;
 }
@@ -929,8 +925,17 @@ line_fails {why} {at} {core} {core'} {h} x y mid sent waiting had none draining 
     own : AreOf (IsOfServer at) (w.steps ++ f.steps) × AreOf IsPlain (w.steps ++ f.steps)
     own = failed_own at (w.steps ++ f.steps) kinds
 
-    first : (past : List Step) → LineAgrees at past h x → AreCalled past at (said_asks sent.0)
-    first past a = called_first past at sent.0 y.calls.sent.items (subst (λ (l : List SentCall). AreCalled past at (said_asks l)) sent.1 a.called)
+    called : (past : List Step) → LineAgrees at past h x → AreCalled past at (said_asks (sent.0 ++ y.calls.sent.items))
+    called past a = subst (λ (l : List SentCall). AreCalled past at (said_asks l)) sent.1 a.called
 
-    waits : (past : List Step) → LineAgrees at past h x → AreCalled (f.steps ++ past) at (said_asks waiting.0)
-    waits past a = called_all_later f.steps past at (said_asks waiting.0) (called_first past at waiting.0 y.waiting.items (subst (λ (l : List SentCall). AreCalled past at (said_asks l)) waiting.1 (waiting_called past at x.waiting.items a.waiting)))
+    -- once those that were sent have failed, and then those that wait
+    after_sent : (past : List Step) → LineAgrees at past h x → SentGone at past (f.steps ++ past) y.calls.sent.items (waiting.0 ++ y.waiting.items)
+    after_sent past a = sent_gone at past (f.steps ++ past) sent.0 y.calls.sent.items (waiting.0 ++ y.waiting.items) (f.keeps past) (called past a) (subst (λ (l : List SentCall). AreDue past at (said_asks l)) waiting.1 a.due)
+
+    left : (past : List Step) → LineAgrees at past h x → SentGone at past ((w.steps ++ f.steps) ++ past) y.calls.sent.items y.waiting.items
+    left past a =
+        let first = after_sent past a in
+        let later = waiting_gone at (f.steps ++ past) (w.steps ++ (f.steps ++ past)) waiting.0 y.waiting.items y.calls.sent.items (w.keeps (f.steps ++ past)) first.due first.called in
+        let both : SentGone at past (w.steps ++ (f.steps ++ past)) y.calls.sent.items y.waiting.items =
+        record { called = later.called; due = later.due; others = leaves_twice at past (f.steps ++ past) (w.steps ++ (f.steps ++ past)) first.others later.others } in
+        subst (λ l. SentGone at past l y.calls.sent.items y.waiting.items) (sym (append_assoc w.steps f.steps past)) both

@@ -19,10 +19,12 @@ use Rattle.serve_clients.specs.Marks.{client_of}
 use Rattle.serve_links.specs.declared.settings.Greeting.{Greeting}
 use Rattle.serve_links.specs.declared.link.Link.{Link}
 use Rattle.serve_links.specs.CoreSteps.{Step, Closed, Opened, Polled, AreOf}
-use Rattle.serve_links.specs.Talks.{SaidAsk, Talk, Apart, talk_in}
-use Rattle.serve_links.specs.Story.{fed_in, gave_in, is_open_in, is_broken_in, AgreesWith, IsTold, AreTold, TellsNone, TookAll, EndsBy, IsGone, HasOrHad, TalkAgrees, Unused, said_asks, numbers_of, LineAgrees, LinesAgree, texts_of, OneGoes, LineGoesFrom, LineGoes, AnEnd, Agrees, AgreesBut, AgreesCalled, AllGoFrom, AllGo, StoriesGoOn}
-use Rattle.serve_links.proofs.Talking.{called_all_later, calls_later, IsPlain, clients_plain, plain_talk, clients_orderly, server_tells_none, talk_elsewhere}
-use Rattle.serve_links.proofs.Due.{due_later}
+use Rattle.serve_links.specs.Talks.{SaidAsk, Talk, Apart, talk_in, AreDue, AreCalled}
+use Rattle.serve_links.specs.Story.{fed_in, gave_in, is_open_in, is_broken_in, AgreesWith, IsTold, AreTold, TellsNone, TookAll, EndsBy, IsGone, HasOrHad, TalkAgrees, Unused, said_asks, StayOut, LineAgrees, LinesAgree, texts_of, OneGoes, LineGoesFrom, LineGoes, AnEnd, Agrees, AgreesBut, AgreesCalled, AllGoFrom, AllGo, StoriesGoOn}
+use Rattle.serve_links.specs.Called.{TellsCalls, GiveOnce}
+use Rattle.serve_links.proofs.Called.{walks_tell_calls}
+use Rattle.serve_links.proofs.Talking.{calls_later, IsPlain, clients_plain, plain_talk, clients_orderly, server_tells_none, talk_elsewhere}
+use Rattle.serve_links.proofs.Due.{due_stays, called_stays, clients_stay}
 use Rattle.serve_links.proofs.Showing.{plain_unlost, shown_later}
 use Rattle.serve_links.specs.Shut.{drain_of, conn_of, link_conn, IsShutBut, AreShut}
 use Rattle.serve_links.proofs.Shutting.{shut_line, shut_client}
@@ -97,20 +99,27 @@ unused_stays h h' at text t t' o same e was = subst (λ u. Unused h' at text u o
     by None apart = apart
     by (Some c) ending = (ending.0, ending.1, ending.2, talk_stays h h' at text t t c ending.1 ending.2 t.out t.awaits t.dialect (same c ending.3.is_to) refl ending.3)
 
--- a link whose connections nothing touched, and of whose server nothing more was told
-pub line_stays :
-    (h h' : List Event) (at : ℕ) (steps past : List Step) (link : Link) → ((c : ℕ) → role c h ≡ Some (1, at) → IsUntouched c h h') → talk_in (steps ++ past) at ≡ talk_in past at
-    → LineAgrees at past h link → LineAgrees at (steps ++ past) h' link
-line_stays h h' at steps past link same told was = record {
+-- a link whose connections nothing touched, and of whose server nothing more was told, and whose calls are as they were
+pub line_stays_by :
+    (h h' : List Event) (at : ℕ) (steps past : List Step) (link : Link) → ((c : ℕ) → role c h ≡ Some (1, at) → IsUntouched c h h') → talk_in (steps ++ past) at ≡ talk_in past at → AreDue (steps ++ past) at (said_asks link.waiting.items)
+    → AreCalled (steps ++ past) at (said_asks link.calls.sent.items) → LineAgrees at past h link → LineAgrees at (steps ++ past) h' link
+line_stays_by h h' at steps past link same told due called was = record {
   conn = λ conn is.
       talk_stays h h' at link.text.items (talk_in past at) (talk_in (steps ++ past) at) conn.number conn.held.items (bytes_of conn.unsent) (said_asks link.calls.sent.items) link.awaits_dialect link.dialect (same conn.number (was.conn conn is).is_to) told (was.conn conn is);
   goes_on = λ conn is. (same conn.number (was.conn conn is).is_to).same_over ∙ was.goes_on conn is;
   waiting = calls_later steps past at link.waiting.items was.waiting;
-  due = due_later steps past at (numbers_of link.waiting.items) (ap (λ (t : Talk). t.asked) told) was.due;
+  due = due;
   none_out = λ none. ap (λ (t : Talk). t.out) told ∙ was.none_out none;
   unused = λ none. unused_stays h h' at link.text.items (talk_in past at) (talk_in (steps ++ past) at) (drain_of link) same told (was.unused none);
-  called = called_all_later steps past at (said_asks link.calls.sent.items) was.called;
+  called = called;
 }
+
+-- so they are where they stay out
+pub line_stays :
+    (h h' : List Event) (at : ℕ) (steps past : List Step) (link : Link) → ((c : ℕ) → role c h ≡ Some (1, at) → IsUntouched c h h') → talk_in (steps ++ past) at ≡ talk_in past at → StayOut at past (steps ++ past)
+    → LineAgrees at past h link → LineAgrees at (steps ++ past) h' link
+line_stays h h' at steps past link same told stay was =
+    line_stays_by h h' at steps past link same told (due_stays past (steps ++ past) at (said_asks link.waiting.items) stay was.due) (called_stays past (steps ++ past) at (said_asks link.calls.sent.items) stay was.called) was
 
 -- where no link is, and nothing more was told
 pub unlinked_stays : {t t' : Talk} → t' ≡ t → (t.out ≡ []) × (t.stands ≡ Apart) → (t'.out ≡ []) × (t'.stands ≡ Apart)
@@ -260,11 +269,14 @@ one_agrees {Is} id old new x y was is others links g = agree
     plain : AreOf IsPlain g.steps
     plain = clients_plain g.steps g.own
 
+    tells : (past : List Step) → Agrees past old → TellsCalls (g.steps ++ past) new.core × GiveOnce g.steps past
+    tells past a = walks_tell_calls.goes_on g.steps past old.core new.core a.calls g.walks
+
     lines : (past : List Step) → Agrees past old → LinesAgree (g.steps ++ past) h' new.links
     lines past a at link there =
         let was_there = ap (λ (ls : List Link). slice_get ls at) (sym links) ∙ there in let was_l = a.links at link was_there in
         line_stays h h' at g.steps past link (λ c of_c. g.only c (apart x.conn.number c h (0, id) (1, at) (its h (fed_in past) (gave_in past) id x (was_of past a id x was)) of_c (kinds_apart id at)))
-        (plain_talk g.steps plain past at) was_l
+        (plain_talk g.steps plain past at) (clients_stay at g.steps g.own past (tells past a).1) was_l
 
     numbers : (j : ℕ) → option_map (λ (z : Client). z.conn.number) (client_of new.clients j) ≡ option_map (λ (z : Client). z.conn.number) (client_of old.clients j)
     numbers j = elim (cases_Bool (nat_eq id j)) [ inl e ↦ mine (eqb-true id j e) | inr e ↦ ap (option_map (λ (z : Client). z.conn.number)) (others j e) ]
@@ -295,7 +307,8 @@ one_agrees {Is} id old new x y was is others links g = agree
 
     agree : (past : List Step) → Agrees past old → Agrees (g.steps ++ past) new
     agree past a = record {
-      orderly = clients_orderly g.steps g.own past a.orderly;
+      orderly = clients_orderly g.steps g.own past (tells past a).1 a.orderly;
+      calls = (tells past a).0;
       clients = each_client h' (fed_in (g.steps ++ past)) (gave_in (g.steps ++ past)) new.clients (client past a);
       told = each_told (g.steps ++ past) new.clients (told past a);
       links = lines past a;
@@ -327,18 +340,18 @@ line_among {Before} {After} {Is} at old new x y was is others texts clients_are 
     client : (past : List Step) → AgreesBut Before at past old → (j : ℕ) (z : Client) → client_of new.clients j ≡ Some z → AgreesWith (g.steps ++ past) h' j z
     client past a j z there =
         let was_z = at_client h (fed_in past) (gave_in past) old.clients j z (sym (clients_are j) ∙ there) a.clients in let told = server_tells_none at g.steps g.own past j in
-        let keeps = (g.agrees past a.orderly (a.this x was)).2 in
+        let keeps = (g.agrees past a.orderly a.calls (a.this x was)).2 in
         end_stays h h' (fed_in past) (gave_in past) (fed_in (g.steps ++ past)) (gave_in (g.steps ++ past)) j z (keeps.were z.conn.number (0, j) (its h (fed_in past) (gave_in past) j z was_z) (kinds_apart j at)) told.0 told.1 was_z
 
     other : (past : List Step) → AgreesBut Before at past old → (j : ℕ) (z : Link) → nat_eq at j ≡ false → slice_get new.links j ≡ Some z → LineAgrees j (g.steps ++ past) h' z
     other past a j z e there =
         let was_z = a.links j z e (sym (others j e) ∙ there) in
-        let keeps = (g.agrees past a.orderly (a.this x was)).2 in
-        line_stays h h' j g.steps past z (λ c of_c. keeps.were c (1, j) of_c (links_apart at j e)) (talk_elsewhere at g.steps g.own past j e) was_z
+        let goes = g.agrees past a.orderly a.calls (a.this x was) in
+        line_stays h h' j g.steps past z (λ c of_c. goes.2.were c (1, j) of_c (links_apart at j e)) (talk_elsewhere at g.steps g.own past j e) (goes.3 j e) was_z
 
     gone : (past : List Step) → AgreesBut Before at past old → (conn j : ℕ) → role conn h' ≡ Some (0, j) → HasOrHad (g.steps ++ past) h' new.clients j conn
     gone past a conn j its_now =
-        let same = (g.agrees past a.orderly (a.this x was)).2.are conn (λ e. kinds_apart j at (same_some (0, j) (1, at) (sym its_now ∙ e))) in
+        let same = (g.agrees past a.orderly a.calls (a.this x was)).2.are conn (λ e. kinds_apart j at (same_some (0, j) (1, at) (sym its_now ∙ e))) in
         had_stays past g.steps h h' old.clients new.clients j conn (same_told conn h h' same) (ap (option_map (λ (z : Client). z.conn.number)) (clients_are j)) (a.gone conn j (sym same.same_role ∙ its_now))
 
     at_conn : (ls : List Link) (z : Link) → slice_get ls at ≡ Some z → link_conn ls at ≡ conn_of z
@@ -351,14 +364,15 @@ line_among {Before} {After} {Is} at old new x y was is others texts clients_are 
         none_is_some e = cc
 
     agree : (past : List Step) → AgreesBut Before at past old → AgreesBut After at (g.steps ++ past) new
-    agree past a = let goes = g.agrees past a.orderly (a.this x was) in record {
+    agree past a = let goes = g.agrees past a.orderly a.calls (a.this x was) in record {
       orderly = goes.0;
+      calls = (walks_tell_calls.goes_on g.steps past old.core new.core a.calls g.walks).0;
       clients = each_client h' (fed_in (g.steps ++ past)) (gave_in (g.steps ++ past)) new.clients (client past a);
       told = each_told (g.steps ++ past) new.clients (λ j z there. told_still past g.steps j z z (server_tells_none at g.steps g.own past j) refl (at_told past old.clients j z (sym (clients_are j) ∙ there) a.told));
       links = other past a;
       this = λ link there. subst (After at (g.steps ++ past) h') (same_some y link (sym is ∙ there)) goes.1;
       gone = gone past a;
-      shown = g.shown past a.orderly (a.this x was) a.shown;
+      shown = g.shown past a.orderly a.calls (a.this x was) a.shown;
       unlinked = unlinked past a;
       shut = shut_line at goes.2 (λ was_shut. subst (λ o. IsShutBut (1, at) o h') (sym (at_conn new.links y is)) (g.shut (subst (λ o. IsShutBut (1, at) o h) (at_conn old.links x was) was_shut)))
           (λ j e. ap (λ o. option_flatten (option_map conn_of o)) (others j e)) (λ j. ap (option_map (λ (z : Client). z.conn.number)) (clients_are j)) a.shut;
@@ -366,20 +380,20 @@ line_among {Before} {After} {Is} at old new x y was is others texts clients_are 
 
 -- where the link at one place agrees like the others, all agree
 pub but_all : (at : ℕ) (past : List Step) (x : AnEnd) → AgreesBut LineAgrees at past x → Agrees past x
-but_all at past x a = record { orderly = a.orderly; clients = a.clients; told = a.told; links = λ j link there. elim (cases_Bool (nat_eq at j)) [ inl e ↦ mine j link there (eqb-true at j e) | inr e ↦ a.links j link e there ]; gone = a.gone; shown = a.shown; unlinked = a.unlinked; shut = a.shut }
+but_all at past x a = record { orderly = a.orderly; calls = a.calls; clients = a.clients; told = a.told; links = λ j link there. elim (cases_Bool (nat_eq at j)) [ inl e ↦ mine j link there (eqb-true at j e) | inr e ↦ a.links j link e there ]; gone = a.gone; shown = a.shown; unlinked = a.unlinked; shut = a.shut }
   where
     mine : (j : ℕ) (link : Link) → slice_get x.links j ≡ Some link → at ≡ j → LineAgrees j past x.history link
     mine j link there e = subst (λ k. LineAgrees k past x.history link) e (a.this link (ap (slice_get x.links) e ∙ there))
 
 -- and where none is there
 pub but_none : {This : ℕ → List Step → List Event → Link → Type 0} (at : ℕ) (past : List Step) (x : AnEnd) → slice_get x.links at ≡ None → AgreesBut This at past x → Agrees past x
-but_none at past x none a = record { orderly = a.orderly; clients = a.clients; told = a.told; links = λ j link there. elim (cases_Bool (nat_eq at j)) [ inl e ↦ absurd (nobody (sym none ∙ ap (slice_get x.links) (eqb-true at j e) ∙ there)) | inr e ↦ a.links j link e there ]; gone = a.gone; shown = a.shown; unlinked = a.unlinked; shut = a.shut }
+but_none at past x none a = record { orderly = a.orderly; calls = a.calls; clients = a.clients; told = a.told; links = λ j link there. elim (cases_Bool (nat_eq at j)) [ inl e ↦ absurd (nobody (sym none ∙ ap (slice_get x.links) (eqb-true at j e) ∙ there)) | inr e ↦ a.links j link e there ]; gone = a.gone; shown = a.shown; unlinked = a.unlinked; shut = a.shut }
   where
     nobody : {link : Link} → None ≡ Some link → ⊥
     nobody e = cc
 
 pub all_but : (at : ℕ) (past : List Step) (x : AnEnd) → Agrees past x → AgreesBut LineAgrees at past x
-all_but at past x a = record { orderly = a.orderly; clients = a.clients; told = a.told; links = λ j link e there. a.links j link there; this = λ link there. a.links at link there; gone = a.gone; shown = a.shown; unlinked = a.unlinked; shut = a.shut }
+all_but at past x a = record { orderly = a.orderly; calls = a.calls; clients = a.clients; told = a.told; links = λ j link e there. a.links j link there; this = λ link there. a.links at link there; gone = a.gone; shown = a.shown; unlinked = a.unlinked; shut = a.shut }
 
 -- what is wanted before is there, and what is there after is more than is wanted
 pub go_between :

@@ -1,16 +1,19 @@
 -- What steps leave of what was told before them.
-use Rattle.std.proofs.Common.{◌≡◌, ℕ, false, if◌then◌else◌, List, [], ◌∷◌, ◌++◌, inl, inr, refl, sym, ap, ◌∙◌, subst, append_assoc}
+use Rattle.std.proofs.Common.{◌≡◌, ℕ, false, if◌then◌else◌, List, [], ◌∷◌, ◌++◌, Some, inl, inr, refl, sym, ap, ◌∙◌, subst, append_assoc}
 use Rattle.std.specs.Prelude.{nat_eq}
 use Rattle.mc_types.specs.declared.ask.Ask.{Ask}
 use Rattle.mc_types.specs.declared.call.Outcome.TheVariants.{Failed}
 use Rattle.core_proxy.specs.declared.note.Poll.TheVariants as polls
 use Rattle.serve_links.specs.declared.calls.calls.SentCall.{SentCall}
 use Rattle.serve_links.specs.CoreSteps.{Step, Opened, NotOpened, Fed, Polled, Stopped, Settled, Gave, Closed, LeftLine, Broke, Loaded, Linked, Asked, Greeted, Spelled, Late, CameLate, Lost, AreOf}
-use Rattle.serve_links.specs.Talks.{SaidAsk, first_talk, with_ask, greeted, with_answer, turned_late, with_late, given_up, talk_in, IsCalledIn, MayBeAsked, ComesBy, MayFollow, IsOrderly, IsOfClients, IsOfServer}
-use Rattle.serve_links.specs.Story.{TellsNone, MayGo, MayAllGo, AreCalled, said_asks}
+use Rattle.serve_links.specs.Talks.{SaidAsk, first_talk, with_ask, greeted, with_answer, turned_late, with_late, given_up, talk_in, IsCalledIn, IsNotAmong, AreDue, AreCalled, MaySettle, MayFollow, IsOrderly, IsOfClients, IsOfServer}
+use Rattle.serve_links.specs.Story.{TellsNone, MayGo, MayAllGo, said_asks}
+use Rattle.serve_links.specs.Called.{call_in, GivesOnce, GiveOnce}
+use Rattle.serve_links.proofs.Due.{turned, among_first, said_both, due_out, KeepsBut, keeps_settled, own_nowhere}
 use Rattle.serve_links.specs.Links.{AllFail}
 use Rattle.serve_links.specs.CoreSteps.{Walks, IsFailure}
 use Rattle.core_accepted.specs.declared.served.ServedCore.{ServedCore}
+use Rattle.core_accepted.specs.Results.{IsSettled}
 use Rattle.serve_links.proofs.Walked.{walked, of_both}
 
 -- ---- calls that the core gave out
@@ -107,76 +110,89 @@ plain_talk (Spelled at number ask answer bytes ∷ steps) kinds past j = absurd 
 plain_talk (Lost at why ∷ steps) kinds past j = absurd kinds.0
 
 -- steps of clients may come at any time
-pub clients_orderly : (steps : List Step) → AreOf IsOfClients steps → (past : List Step) → IsOrderly past → IsOrderly (steps ++ past)
-clients_orderly [] kinds past o = o
-clients_orderly (step ∷ steps) kinds past o = (follows step (steps ++ past) kinds.0, clients_orderly steps kinds.1 past o)
+pub clients_orderly : (steps : List Step) → AreOf IsOfClients steps → (past : List Step) → GiveOnce steps past → IsOrderly past → IsOrderly (steps ++ past)
+clients_orderly [] kinds past once o = o
+clients_orderly (step ∷ steps) kinds past once o = (follows step (steps ++ past) kinds.0 once.0, clients_orderly steps kinds.1 past once.1 o)
   where
-    follows : (s : Step) (before : List Step) → IsOfClients s → MayFollow s before
-    follows (Opened client) before is = tt
-    follows (NotOpened fault) before is = tt
-    follows (Fed client piece) before is = tt
-    follows (Polled client poll) before is = tt
-    follows (Stopped client fault) before is = tt
-    follows (Gave client bytes) before is = tt
-    follows (Closed client) before is = tt
-    follows (LeftLine client) before is = tt
-    follows (Broke client) before is = tt
-    follows (Loaded configuration generation) before is = tt
-    follows (Settled number outcome) before is = absurd is
-    follows (Linked at dialect) before is = absurd is
-    follows (Asked at number dialect ask) before is = absurd is
-    follows (Greeted at dialect bytes) before is = absurd is
-    follows (Late at number) before is = absurd is
-    follows (CameLate at number ask answer bytes) before is = absurd is
-    follows (Spelled at number ask answer bytes) before is = absurd is
-    follows (Lost at why) before is = absurd is
+    follows : (s : Step) (before : List Step) → IsOfClients s → GivesOnce s before → MayFollow s before
+    follows (Opened client) before is once = tt
+    follows (NotOpened fault) before is once = tt
+    follows (Fed client piece) before is once = tt
+    follows (Polled client poll) before is once = once
+    follows (Stopped client fault) before is once = tt
+    follows (Gave client bytes) before is once = tt
+    follows (Closed client) before is once = tt
+    follows (LeftLine client) before is once = tt
+    follows (Broke client) before is once = tt
+    follows (Loaded configuration generation) before is once = tt
+    follows (Settled number outcome) before is once = absurd is
+    follows (Linked at dialect) before is once = absurd is
+    follows (Asked at number dialect ask) before is once = absurd is
+    follows (Greeted at dialect bytes) before is once = absurd is
+    follows (Late at number) before is once = absurd is
+    follows (CameLate at number ask answer bytes) before is once = absurd is
+    follows (Spelled at number ask answer bytes) before is once = absurd is
+    follows (Lost at why) before is once = absurd is
 
 -- ---- calls that fail
 
-pub called_all_later : (later past : List Step) (at : ℕ) (said : List SaidAsk) → AreCalled past at said → AreCalled (later ++ past) at said
-called_all_later later past at [] are = tt
-called_all_later later past at (one ∷ said) are = (called_later later past one.0 at one.2 are.0, called_all_later later past at said are.1)
+-- each of these calls is out, and no two have one number
+abbrev pub AreOut : List Step → ℕ → List SaidAsk → Type 0
+AreOut past at [] = Unit {0}
+AreOut past at (said ∷ others) = (call_in past said.0 ≡ Some (at, said.2)) × IsNotAmong said.0 others × AreOut past at others
 
-pub called_more : (past : List Step) (at : ℕ) (said : List SaidAsk) (one : SaidAsk) → AreCalled past at said → IsCalledIn past one.0 at one.2 → AreCalled past at (said ++ one ∷ [])
-called_more past at [] one are is = (is, tt)
-called_more past at (first ∷ said) one are is = (are.0, called_more past at said one are.1 is)
+pub sent_out : (past : List Step) (at : ℕ) (first later : List SentCall) → AreCalled past at (said_asks (first ++ later)) → AreOut past at (said_asks first)
+sent_out past at [] later called = tt
+sent_out past at (call ∷ first) later called =
+    (called.0, among_first call.ticket.number (said_asks first) (said_asks later) (subst (IsNotAmong call.ticket.number) (said_both first later) called.2), sent_out past at first later called.3)
 
-pub called_last : (past : List Step) (at : ℕ) (first later : List SentCall) → AreCalled past at (said_asks (first ++ later)) → AreCalled past at (said_asks later)
-called_last past at [] later are = are
-called_last past at (call ∷ first) later are = called_last past at first later are.1
-
-pub called_first : (past : List Step) (at : ℕ) (first later : List SentCall) → AreCalled past at (said_asks (first ++ later)) → AreCalled past at (said_asks first)
-called_first past at [] later are = tt
-called_first past at (call ∷ first) later are = (are.0, called_first past at first later are.1)
-
--- what may be asked is such
-pub called_of : (past : List Step) (at : ℕ) (call : SentCall) → MayGo past at call → IsCalledIn past call.ticket.number at call.ticket.ask
-called_of past at call may = subst (λ l. IsCalledIn l call.ticket.number at call.ticket.ask) (sym may.parts) (called_later may.later may.earlier call.ticket.number at call.ticket.ask may.called)
-
-pub waiting_called : (past : List Step) (at : ℕ) (calls : List SentCall) → MayAllGo past at calls → AreCalled past at (said_asks calls)
-waiting_called past at [] are = tt
-waiting_called past at (call ∷ calls) are = (called_of past at call are.0, waiting_called past at calls are.1)
+pub waiting_out : (past : List Step) (at : ℕ) (first later : List SentCall) → AreDue past at (said_asks (first ++ later)) → AreOut past at (said_asks first)
+waiting_out past at [] later due = tt
+waiting_out past at (call ∷ first) later due = (
+  due_out past call.ticket.number (at, call.ticket.ask) due.0,
+  among_first call.ticket.number (said_asks first) (said_asks later) (subst (IsNotAmong call.ticket.number) (said_both first later) due.1),
+  waiting_out past at first later due.2,
+)
 
 -- the walk that they make as they fail, while none is out there
 pub record FailsInOrder (at : ℕ) (calls : List SentCall) (a b : ServedCore) : Type 0 where
   pub steps : List Step
   pub kinds : AreOf IsFailure steps
   pub walks : Walks steps a b
-  pub orderly : (past : List Step) → AreCalled past at (said_asks calls) → (talk_in past at).out ≡ [] → IsOrderly past → IsOrderly (steps ++ past)
+  pub keeps : (past : List Step) → KeepsBut (said_asks calls) past (steps ++ past)
+  pub orderly : (past : List Step) → AreOut past at (said_asks calls) → (talk_in past at).out ≡ [] → IsOrderly past → IsOrderly (steps ++ past)
+
+-- one more has failed before
+fails_before : (at : ℕ) (call : SentCall) (calls : List SentCall) (a mid b : ServedCore) → IsSettled a call.ticket.number Failed mid → FailsInOrder at calls mid b → FailsInOrder at (call ∷ calls) a b
+fails_before at call calls a mid b is rest = record {
+  steps = rest.steps ++ step ∷ [];
+  kinds = of_both IsFailure rest.steps (step ∷ []) rest.kinds (refl, tt);
+  walks = walked rest.steps (step ∷ []) a mid b (a, refl, is) rest.walks;
+  keeps = λ past. subst (KeepsBut (said_asks (call ∷ calls)) past) (sym (append_assoc rest.steps (step ∷ []) past)) (keeps past);
+  orderly = λ past out none o.
+      subst IsOrderly (sym (append_assoc rest.steps (step ∷ []) past)) (rest.orderly (step ∷ past) (still past (said_asks calls) out.1 out.2) none ((settles past out.0 none o, tt), o));
+}
+  where
+    number : ℕ
+    number = call.ticket.number
+
+    step : Step
+    step = Settled number Failed
+
+    keeps : (past : List Step) → KeepsBut (said_asks (call ∷ calls)) past (rest.steps ++ step ∷ past)
+    keeps past = λ n not.
+        let first = keeps_settled past number Failed call.dialect call.ticket.ask n (not.0, tt) in let later = rest.keeps (step ∷ past) n not.1 in (later.0 ∙ first.0, later.1 ∙ first.1)
+
+    settles : (past : List Step) → call_in past number ≡ Some (at, call.ticket.ask) → (talk_in past at).out ≡ [] → IsOrderly past → MaySettle number past
+    settles past out none o = record { call = (at, call.ticket.ask); is_out = out; nowhere = own_nowhere past at number call.ticket.ask o out (subst (IsNotAmong number) (sym none) tt) }
+
+    still : (past : List Step) (l : List SaidAsk) → IsNotAmong number l → AreOut past at l → AreOut (step ∷ past) at l
+    still past [] not out = tt
+    still past (one ∷ l) not out = ((keeps_settled past number Failed call.dialect call.ticket.ask one.0 (turned not.0, tt)).0 ∙ out.0, out.1, still past l not.1 out.2)
 
 pub fail_in_order : (at : ℕ) (calls : List SentCall) (a b : ServedCore) → AllFail calls a b → FailsInOrder at calls a b
-fail_in_order at [] a b all = record { steps = []; kinds = tt; walks = all; orderly = λ past called none o. o }
-fail_in_order at (call ∷ calls) a b all =
-    let rest = fail_in_order at calls all.0 b all.2 in
-    let step : Step = Settled call.ticket.number Failed in
-    record {
-      steps = rest.steps ++ step ∷ [];
-      kinds = of_both IsFailure rest.steps (step ∷ []) rest.kinds (refl, tt);
-      walks = walked rest.steps (step ∷ []) a all.0 b (a, refl, all.1) rest.walks;
-      orderly = λ past called none o.
-          subst IsOrderly (sym (append_assoc rest.steps (step ∷ []) past))
-          (rest.orderly (step ∷ past) (called_all_later (step ∷ []) past at (said_asks calls) called.1) none (inl (record { at = at; ask = call.ticket.ask; called = called.0; none_out = none }), o));
-    }
+fail_in_order at [] a b all = record { steps = []; kinds = tt; walks = all; keeps = λ past n not. (refl, refl); orderly = λ past out none o. o }
+fail_in_order at (call ∷ calls) a b all = fails_before at call calls a all.0 b all.1 (fail_in_order at calls all.0 b all.2)
 
 -- ---- steps of one server
 
@@ -207,7 +223,7 @@ pub talk_elsewhere : (at : ℕ) (steps : List Step) → AreOf (IsOfServer at) st
 talk_elsewhere at [] own past j other = refl
 talk_elsewhere at (Settled number outcome ∷ steps) own past j other = talk_elsewhere at steps own.1 past j other
 talk_elsewhere at (Linked a dialect ∷ steps) own past j other =
-    ap (λ b. if b then first_talk dialect (talk_in (steps ++ past) j) else talk_in (steps ++ past) j) (ap (λ n. nat_eq n j) own.0 ∙ other) ∙ talk_elsewhere at steps own.1 past j other
+    ap (λ b. if b then first_talk dialect else talk_in (steps ++ past) j) (ap (λ n. nat_eq n j) own.0 ∙ other) ∙ talk_elsewhere at steps own.1 past j other
 talk_elsewhere at (Asked a number dialect ask ∷ steps) own past j other =
     ap (λ b. if b then with_ask number dialect ask (talk_in (steps ++ past) j) else talk_in (steps ++ past) j) (ap (λ n. nat_eq n j) own.0 ∙ other) ∙ talk_elsewhere at steps own.1 past j other
 talk_elsewhere at (Greeted a dialect bytes ∷ steps) own past j other =

@@ -47,10 +47,36 @@ abbrev pub call_in : List Step → ℕ → Option (ℕ × Ask)
 call_in [] n = None
 call_in (step ∷ steps) n = call_after step n (call_in steps n)
 
--- those calls of the core are out that these steps tell to be
+-- what a step changes of a call that is still to be asked: it was asked, or else the same
+abbrev pub due_after : Step → ℕ → Option (ℕ × Ask) → Option (ℕ × Ask)
+due_after (Asked at number dialect ask) n call = if nat_eq number n then None else call
+due_after (Polled client poll) n call = call_by poll n call
+due_after (Settled number outcome) n call = if nat_eq number n then None else call
+due_after (Opened client) n call = call
+due_after (NotOpened fault) n call = call
+due_after (Fed client piece) n call = call
+due_after (Stopped client fault) n call = call
+due_after (Gave client bytes) n call = call
+due_after (Closed client) n call = call
+due_after (LeftLine client) n call = call
+due_after (Broke client) n call = call
+due_after (Loaded configuration generation) n call = call
+due_after (Linked at dialect) n call = call
+due_after (Greeted at dialect bytes) n call = call
+due_after (Late at number) n call = call
+due_after (CameLate at number ask answer bytes) n call = call
+due_after (Spelled at number ask answer bytes) n call = call
+due_after (Lost at why) n call = call
+
+-- the same of a call that wasn't asked either since it was given out
+abbrev pub due_in : List Step → ℕ → Option (ℕ × Ask)
+due_in [] n = None
+due_in (step ∷ steps) n = due_after step n (due_in steps n)
+
+-- each call that these steps tell to be out is out in the core
 pub record TellsCalls (steps : List Step) (core : ServedCore) : Type 0 where
   pub stands : CanStand core.core
-  pub calls : (n : ℕ) → called core.core n ≡ call_in steps n
+  pub calls : (n : ℕ) (call : ℕ × Ask) → call_in steps n ≡ Some call → called core.core n ≡ Some call
 
 -- none of its number is out where a call is given out
 abbrev pub IsGivenOnce : Poll → List Step → Type 0
@@ -63,33 +89,33 @@ IsGivenOnce polls.Queued past = Unit {0}
 IsGivenOnce polls.Busy past = Unit {0}
 IsGivenOnce (polls.Did note) past = Unit {0}
 
--- and the ask that an answer is read for is that of the call of its number which is out
-abbrev pub IsOfCall : Step → List Step → Type 0
-IsOfCall (Polled client poll) past = IsGivenOnce poll past
-IsOfCall (Spelled at number ask answer bytes) past = (server : ℕ) × (call_in past number ≡ Some (server, ask))
-IsOfCall (Opened client) past = Unit {0}
-IsOfCall (NotOpened fault) past = Unit {0}
-IsOfCall (Fed client piece) past = Unit {0}
-IsOfCall (Stopped client fault) past = Unit {0}
-IsOfCall (Settled number outcome) past = Unit {0}
-IsOfCall (Gave client bytes) past = Unit {0}
-IsOfCall (Closed client) past = Unit {0}
-IsOfCall (LeftLine client) past = Unit {0}
-IsOfCall (Broke client) past = Unit {0}
-IsOfCall (Loaded configuration generation) past = Unit {0}
-IsOfCall (Linked at dialect) past = Unit {0}
-IsOfCall (Asked at number dialect ask) past = Unit {0}
-IsOfCall (Greeted at dialect bytes) past = Unit {0}
-IsOfCall (Late at number) past = Unit {0}
-IsOfCall (CameLate at number ask answer bytes) past = Unit {0}
-IsOfCall (Lost at why) past = Unit {0}
+-- the same of a step
+abbrev pub GivesOnce : Step → List Step → Type 0
+GivesOnce (Polled client poll) past = IsGivenOnce poll past
+GivesOnce (Opened client) past = Unit {0}
+GivesOnce (NotOpened fault) past = Unit {0}
+GivesOnce (Fed client piece) past = Unit {0}
+GivesOnce (Stopped client fault) past = Unit {0}
+GivesOnce (Settled number outcome) past = Unit {0}
+GivesOnce (Gave client bytes) past = Unit {0}
+GivesOnce (Closed client) past = Unit {0}
+GivesOnce (LeftLine client) past = Unit {0}
+GivesOnce (Broke client) past = Unit {0}
+GivesOnce (Loaded configuration generation) past = Unit {0}
+GivesOnce (Linked at dialect) past = Unit {0}
+GivesOnce (Asked at number dialect ask) past = Unit {0}
+GivesOnce (Greeted at dialect bytes) past = Unit {0}
+GivesOnce (Late at number) past = Unit {0}
+GivesOnce (CameLate at number ask answer bytes) past = Unit {0}
+GivesOnce (Spelled at number ask answer bytes) past = Unit {0}
+GivesOnce (Lost at why) past = Unit {0}
 
--- so it is with each of these steps, after those before it
-abbrev pub AreOfCalls : List Step → List Step → Type 0
-AreOfCalls [] past = Unit {0}
-AreOfCalls (step ∷ steps) past = IsOfCall step (steps ++ past) × AreOfCalls steps past
+-- and of each of these steps, after those before it
+abbrev pub GiveOnce : List Step → List Step → Type 0
+GiveOnce [] past = Unit {0}
+GiveOnce (step ∷ steps) past = GivesOnce step (steps ++ past) × GiveOnce steps past
 
--- laws of all walks: a core of which nothing was asked yet has no call out; and where those calls are out that the steps before tell to be, so it is after each step of the walk
+-- laws of all walks: something can stand beside a core of which nothing was asked yet; and where those calls are out that the steps before tell to be, so it is after each step of the walk, and no call is given out while one of its number is out
 pub record WalksTellCalls : Type 0 where
   pub begins : (tree : Route) (limits : Limits) (core : ServedCore) → IsFresh tree limits core.core → TellsCalls [] core
-  pub goes_on : (steps past : List Step) (old new : ServedCore) → TellsCalls past old → Walks steps old new → TellsCalls (steps ++ past) new × AreOfCalls steps past
+  pub goes_on : (steps past : List Step) (old new : ServedCore) → TellsCalls past old → Walks steps old new → TellsCalls (steps ++ past) new × GiveOnce steps past

@@ -1,9 +1,10 @@
 -- What is late by a clock. Source: mcgate's own.
-use Rattle.std.specs.Prelude.{◌≡◌, ℕ, Bool, false, ◌+◌, ◌<◌, ◌≤◌, List, Option, Some, None, slice_get}
+use Rattle.std.specs.Prelude.{◌≡◌, ◌⊎◌, ℕ, Bool, true, false, ◌+◌, ◌<◌, ◌≤◌, List, Option, Some, None, slice_get}
 use Rattle.std.specs.List.{Any}
 use Rattle.serve_wire.specs.declared.conn.conn.Conn.{Conn}
 use Rattle.serve_links.specs.declared.calls.calls.SentCall.{SentCall}
 use Rattle.serve_links.specs.declared.link.Link.{Link}
+use Rattle.serve_links.specs.Dialects.{awaits_flush}
 
 -- a call began more than so many milliseconds before a clock showed this
 abbrev pub IsLate : (most now : ℕ) → SentCall → Type 0
@@ -13,9 +14,13 @@ IsLate most now call = call.since + most < now
 abbrev pub HasLate : (most now : ℕ) → Link → Type 0
 HasLate most now link = Any (IsLate most now) link.calls.sent.items
 
--- a connection that doesn't stand was begun so long before
+-- its connection doesn't stand, or its server is still to say that it has emptied itself
+abbrev pub IsUnready : Link → Type 0
+IsUnready link = (link.is_connected ≡ false) ⊎ (awaits_flush link.awaits_dialect ≡ true)
+
+-- a connection that takes no calls yet was begun so long before
 abbrev pub IsConnectLate : (most now : ℕ) → Link → Type 0
-IsConnectLate most now link = (link.is_connected ≡ false) × (link.opened + most < now)
+IsConnectLate most now link = IsUnready link × (link.opened + most < now)
 
 -- whether a read of a connection may give more
 abbrev pub may_give : Option Conn → Bool

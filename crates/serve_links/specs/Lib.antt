@@ -5,6 +5,7 @@ pub mod CoreSteps
 pub mod Counting
 pub mod Lines
 pub mod Lateness
+pub mod Epochs
 pub mod Links
 pub mod Pieces
 pub mod Settled

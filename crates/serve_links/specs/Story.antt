@@ -19,7 +19,8 @@ use Rattle.serve_links.specs.declared.news.Cause.{Cause}
 use Rattle.serve_links.specs.declared.news.Cause.TheVariants as causes
 use Rattle.serve_links.specs.CoreSteps.{Step, Opened, NotOpened, Fed, Polled, Stopped, Settled, Gave, Closed, LeftLine, Broke, Loaded, Linked, Asked, Greeted, Spelled, Late, CameLate, Lost, Walks, AreOf}
 use Rattle.serve_links.specs.Shut.{drain_of, AreShut, StaysShut}
-use Rattle.serve_links.specs.Talks.{SaidAsk, Talk, Apart, Ending, talk_in, IsCalledIn, MayBeAsked, AreDue, IsUnasked, IsOrderly, IsOfClients, IsOfServer}
+use Rattle.serve_links.specs.Called.{call_in, due_in, TellsCalls}
+use Rattle.serve_links.specs.Talks.{SaidAsk, Talk, Apart, Ending, talk_in, IsCalledIn, MayBeAsked, IsNotAmong, AreDue, AreCalled, IsOrderly, IsOfClients, IsOfServer}
 use Rattle.std.specs.Option.{option_map}
 
 -- all that the core was fed for this client since it was opened, by the calls of a walk, the latest first
@@ -178,15 +179,6 @@ abbrev pub MayAllGo : List Step → ℕ → List SentCall → Type 0
 MayAllGo past at [] = Unit {0}
 MayAllGo past at (call ∷ calls) = MayGo past at call × MayAllGo past at calls
 
--- the core gave out each of these calls for this server
-abbrev pub AreCalled : List Step → ℕ → List SaidAsk → Type 0
-AreCalled past at [] = Unit {0}
-AreCalled past at (said ∷ others) = IsCalledIn past said.0 at said.2 × AreCalled past at others
-
--- the numbers of calls
-abbrev pub numbers_of : List SentCall → List ℕ
-numbers_of calls = each (λ call. call.ticket.number) calls
-
 -- a connection agrees with what was said over it: it is to this server, and was begun at the address that this text names; what was to be sent is what it took, and then what is unsent; what it delivered told all
 -- that was told, and is else held; these calls are out, what the server says to what it was asked first is awaited or not, calls are asked in this dialect, and these were late
 pub record TalkAgrees (h : List Event) (at : ℕ) (text : List ℕ) (talk : Talk) (c : ℕ) (held unsent : List ℕ) (out : List SaidAsk) (awaits : Option Greeting) (dialect : Dialect) (late : List SaidAsk) : Type 0 where
@@ -208,12 +200,12 @@ abbrev pub Unused : List Event → ℕ → List ℕ → Talk → Option ℕ → 
 Unused h at text talk None = talk.stands ≡ Apart
 Unused h at text talk (Some c) = (talk.stands ≡ Ending) × (held unsent : List ℕ) × TalkAgrees h at text talk c held unsent talk.out talk.awaits talk.dialect talk.late
 
--- a link agrees with these calls, its connection is not over, and all calls that wait for it may go there, and weren't asked yet; without a connection no call is out there
+-- a link agrees with these calls, its connection is not over, and all calls that wait for it may go there, and weren't asked yet, and those that were sent are out; without a connection no call is out there
 pub record LineAgrees (at : ℕ) (past : List Step) (h : List Event) (link : Link) : Type 0 where
   pub conn : (conn : Conn) → link.conn ≡ Some conn → ConnAgrees at past h link conn conn.held.items
   pub goes_on : (conn : Conn) → link.conn ≡ Some conn → is_over conn.number h ≡ false
   pub waiting : MayAllGo past at link.waiting.items
-  pub due : AreDue past at (numbers_of link.waiting.items)
+  pub due : AreDue past at (said_asks link.waiting.items)
   pub none_out : link.conn ≡ None → (talk_in past at).out ≡ []
   pub unused : link.conn ≡ None → Unused h at link.text.items (talk_in past at) (drain_of link)
   pub called : AreCalled past at (said_asks link.calls.sent.items)
@@ -222,7 +214,7 @@ pub record LineAgrees (at : ℕ) (past : List Step) (h : List Event) (link : Lin
 pub record LineLost (at : ℕ) (past : List Step) (h : List Event) (link : Link) : Type 0 where
   pub conn : (conn : Conn) → link.conn ≡ Some conn → (held : List ℕ) × ConnAgrees at past h link conn held
   pub waiting : MayAllGo past at link.waiting.items
-  pub due : AreDue past at (numbers_of link.waiting.items)
+  pub due : AreDue past at (said_asks link.waiting.items)
   pub none_out : link.conn ≡ None → (talk_in past at).out ≡ []
   pub unused : link.conn ≡ None → Unused h at link.text.items (talk_in past at) (drain_of link)
   pub called : AreCalled past at (said_asks link.calls.sent.items)
@@ -290,7 +282,7 @@ pub record LineFails (why : Option Cause) (at : ℕ) (past : List Step) (h : Lis
 
 -- a link agrees, and this call may go there, and wasn't asked yet
 abbrev pub LineCalled : SentCall → (at : ℕ) → List Step → List Event → Link → Type 0
-LineCalled call at past h link = LineAgrees at past h link × MayGo past at call × AreDue past at (numbers_of (call ∷ link.waiting.items))
+LineCalled call at past h link = LineAgrees at past h link × MayGo past at call × AreDue past at (said_asks (call ∷ link.waiting.items))
 
 -- each link agrees with these calls
 abbrev pub LinesAgree : List Step → List Event → List Link → Type 0
@@ -321,15 +313,23 @@ pub record OneGoes (Is : Step → Type 0) (id : ℕ) (core : ServedCore) (h : Li
   pub only : TouchesOnly client.conn.number h h'
   pub others : (past : List Step) (j : ℕ) → nat_eq id j ≡ false → TellsNone j past steps
 
--- by calls of this kind, which tell of this server alone, the core goes on, and the server's link on the wire with it: where the one held of it and of all calls before, the other holds of it and of all calls after, and
--- all happened in order if it had before. No other's connection is touched, of its own none is left open but the one that it has, and where a connection is given up the wire showed why
+-- each call of this server that was out is out, and still to be asked if it was
+abbrev pub StayOut : ℕ → List Step → List Step → Type 0
+StayOut at past past' = (n : ℕ) (ask : Ask) → call_in past n ≡ Some (at, ask) → (call_in past' n ≡ call_in past n) × (due_in past' n ≡ due_in past n)
+
+-- so are those of all others
+abbrev pub LeavesCalls : ℕ → List Step → List Step → Type 0
+LeavesCalls at past past' = (j : ℕ) → nat_eq at j ≡ false → StayOut j past past'
+
+-- by calls of this kind, which tell of this server alone, the core goes on, and the server's link on the wire with it: where the one held of it and of all calls before, and the core has those out that they tell to be, the other
+-- holds of it and of all calls after, and all happened in order if it had before. No other's connection is touched, nor its calls, of its own none is left open but the one that it has, and where a connection is given up the wire showed why
 pub record LineGoesFrom (Before After : ℕ → List Step → List Event → Link → Type 0) (Is : Step → Type 0) (at : ℕ) (core : ServedCore) (h : List Event) (link : Link) (core' : ServedCore) (h' : List Event) (link' : Link) : Type 0 where
   pub steps : List Step
   pub kinds : AreOf Is steps
   pub own : AreOf (IsOfServer at) steps
   pub walks : Walks steps core core'
-  pub agrees : (past : List Step) → IsOrderly past → Before at past h link → IsOrderly (steps ++ past) × After at (steps ++ past) h' link' × KeepsOthers (1, at) h h'
-  pub shown : (past : List Step) → IsOrderly past → Before at past h link → AreShown past h → AreShown (steps ++ past) h'
+  pub agrees : (past : List Step) → IsOrderly past → TellsCalls past core → Before at past h link → IsOrderly (steps ++ past) × After at (steps ++ past) h' link' × KeepsOthers (1, at) h h' × LeavesCalls at past (steps ++ past)
+  pub shown : (past : List Step) → IsOrderly past → TellsCalls past core → Before at past h link → AreShown past h → AreShown (steps ++ past) h'
   pub shut : StaysShut at h link h' link'
   pub text : link'.text.items ≡ link.text.items
 
@@ -348,9 +348,10 @@ pub record AnEnd : Type 0 where
 abbrev pub texts_of : List Link → List (List ℕ)
 texts_of links = each (λ link. link.text.items) links
 
--- all happened in order by these calls, and each end agrees with them, and so does each connection that was a client's; the wire showed why each of a server's was given up; and none is open but what ends have
+-- all happened in order by these calls, the core has those out that they tell to be, and each end agrees with them, and so does each connection that was a client's; the wire showed why each of a server's was given up; and none is open but what ends have
 pub record Agrees (past : List Step) (x : AnEnd) : Type 0 where
   pub orderly : IsOrderly past
+  pub calls : TellsCalls past x.core
   pub clients : AgreeWith past x.history x.clients
   pub told : AreTold past x.clients
   pub links : LinesAgree past x.history x.links
@@ -362,6 +363,7 @@ pub record Agrees (past : List Step) (x : AnEnd) : Type 0 where
 -- the same, but that this holds of the link at one place
 pub record AgreesBut (This : ℕ → List Step → List Event → Link → Type 0) (at : ℕ) (past : List Step) (x : AnEnd) : Type 0 where
   pub orderly : IsOrderly past
+  pub calls : TellsCalls past x.core
   pub clients : AgreeWith past x.history x.clients
   pub told : AreTold past x.clients
   pub links : (j : ℕ) (link : Link) → nat_eq at j ≡ false → slice_get x.links j ≡ Some link → LineAgrees j past x.history link
@@ -382,15 +384,18 @@ AgreesCalled number at ask past x = Agrees past x × (call : IsCalledIn past num
 -- all agree, and this call may go to this server, and wasn't asked yet
 abbrev pub AgreesSent : ℕ → SentCall → List Step → AnEnd → Type 0
 AgreesSent at call past x =
-    Agrees past x × MayGo past at call × ((link : Link) → slice_get x.links at ≡ Some link → AreDue past at (numbers_of (call ∷ link.waiting.items))) × AreDue past at (call.ticket.number ∷ [])
+    Agrees past x × MayGo past at call × ((link : Link) → slice_get x.links at ≡ Some link → AreDue past at (said_asks (call ∷ link.waiting.items))) × AreDue past at (said_asks (call ∷ []))
 
--- all agree, and a call of this number is still to be asked
+-- a call of this number is still to be asked of some server, and doesn't wait for its link
+pub record IsInHand (number : ℕ) (past : List Step) (links : List Link) : Type 0 where
+  pub at : ℕ
+  pub ask : Ask
+  pub due : due_in past number ≡ Some (at, ask)
+  pub apart : (link : Link) → slice_get links at ≡ Some link → IsNotAmong number (said_asks link.waiting.items)
+
+-- all agree, and a call of this number is in hand
 abbrev pub AgreesDue : ℕ → List Step → AnEnd → Type 0
-AgreesDue number past x = Agrees past x × IsUnasked number past
-
--- all agree, but that what one link holds may be lost
-abbrev pub AgreesLosing : List Step → AnEnd → Type 0
-AgreesLosing past x = (at : ℕ) × AgreesBut LineLost at past x
+AgreesDue number past x = Agrees past x × IsInHand number past x.links
 
 -- by calls of this kind it goes on: where the one held of it and of all calls before, the other holds of it and of all calls after. The links are to the servers that they were to
 pub record AllGoFrom (Before After : List Step → AnEnd → Type 0) (Is : Step → Type 0) (old new : AnEnd) : Type 0 where

@@ -1,5 +1,5 @@
 -- What a walk tells of what was said over each server's connection. Source: mcgate's own.
-use Rattle.std.specs.Prelude.{Option, None, Some, ◌≡◌, ◌⊎◌, ℕ, false, List, [], ◌∷◌, ◌++◌, ◌+◌, ◌≤◌, nat_eq, length, if◌then◌else◌}
+use Rattle.std.specs.Prelude.{Option, None, Some, ◌≡◌, ◌≢◌, ℕ, false, List, [], ◌∷◌, ◌++◌, nat_eq, length, if◌then◌else◌}
 use Rattle.mc_types.specs.declared.ask.Ask.{Ask}
 use Rattle.mc_types.specs.declared.ask.Dialect.{Dialect}
 use Rattle.mc_types.specs.declared.ask.Dialect.TheVariants.{Classic}
@@ -16,6 +16,7 @@ use Rattle.serve_links.specs.Dialects.{asked_in, SpellsIn, AnswersFirst, awaits_
 use Rattle.serve_links.specs.declared.settings.Greeting.{Greeting}
 use Rattle.serve_links.specs.Lines.{first_asked_of, awaits_first, first_dialect}
 use Rattle.serve_links.specs.CoreSteps.{Step, Opened, NotOpened, Fed, Polled, Stopped, Settled, Gave, Closed, LeftLine, Broke, Loaded, Linked, Asked, Greeted, Spelled, Late, CameLate, Lost}
+use Rattle.serve_links.specs.Called.{call_in, due_in, IsGivenOnce}
 
 -- a call that a server was asked: its number, in which dialect it was asked, and its ask
 abbrev pub SaidAsk : Type 0
@@ -39,8 +40,7 @@ left_by (Some causes.Foreign) = Ending
 left_by (Some causes.VainReads) = Ending
 
 -- of a server's connection: how it stands, what was to be sent over it, which bytes that came over it told something, the calls that are out there, the one that was asked first in front, before them those that were late, which have
--- failed, and whose answers are still to come first; what the server was asked first, if it is still to say all that it says to that, before it answers any call, in which dialect calls are asked there from now on; and the numbers of all calls that
--- the server was ever asked, the last in front
+-- failed, and whose answers are still to come first; what the server was asked first, if it is still to say all that it says to that, before it answers any call, in which dialect calls are asked there from now on
 pub record Talk : Type 0 where
   pub stands : Standing
   pub sent : List ℕ
@@ -49,7 +49,6 @@ pub record Talk : Type 0 where
   pub late : List SaidAsk
   pub awaits : Option Greeting
   pub dialect : Dialect
-  pub asked : List ℕ
 
 -- without the first
 abbrev pub behind : List SaidAsk → List SaidAsk
@@ -63,15 +62,15 @@ first_of (ask ∷ asks) = ask ∷ []
 
 -- where there was no connection yet
 abbrev pub no_talk : Talk
-no_talk = record { stands = Apart; sent = []; told = []; out = []; late = []; awaits = None; dialect = Classic; asked = [] }
+no_talk = record { stands = Apart; sent = []; told = []; out = []; late = []; awaits = None; dialect = Classic }
 
 -- a new connection, to a server that is asked this first
-abbrev pub first_talk : Greeting → Talk → Talk
-first_talk greeting talk = record { stands = InUse; sent = first_asked_of greeting; told = []; out = []; late = []; awaits = awaits_first greeting; dialect = first_dialect greeting.dialect; asked = talk.asked }
+abbrev pub first_talk : Greeting → Talk
+first_talk greeting = record { stands = InUse; sent = first_asked_of greeting; told = []; out = []; late = []; awaits = awaits_first greeting; dialect = first_dialect greeting.dialect }
 
 -- one more call is asked in its dialect
 abbrev pub with_ask : ℕ → Dialect → Ask → Talk → Talk
-with_ask number dialect ask talk = record talk { sent = talk.sent ++ spelling_of (asked_in dialect ask); out = talk.out ++ (number, dialect, ask) ∷ []; asked = number ∷ talk.asked }
+with_ask number dialect ask talk = record talk { sent = talk.sent ++ spelling_of (asked_in dialect ask); out = talk.out ++ (number, dialect, ask) ∷ [] }
 
 -- the server told this dialect
 abbrev pub greeted : Dialect → List ℕ → Talk → Talk
@@ -95,7 +94,7 @@ given_up why talk = record talk { stands = left_by why; out = []; late = []; awa
 
 -- what a step adds to what was said over the connection of the server of this number
 abbrev pub talk_after : Step → ℕ → Talk → Talk
-talk_after (Linked at dialect) i talk = if nat_eq at i then first_talk dialect talk else talk
+talk_after (Linked at dialect) i talk = if nat_eq at i then first_talk dialect else talk
 talk_after (Asked at number dialect ask) i talk = if nat_eq at i then with_ask number dialect ask talk else talk
 talk_after (Greeted at dialect bytes) i talk = if nat_eq at i then greeted dialect bytes talk else talk
 talk_after (Late at number) i talk = if nat_eq at i then turned_late talk else talk
@@ -138,57 +137,26 @@ pub record MayBeAsked (steps : List Step) (number at : ℕ) (dialect : Dialect) 
   pub called : IsCalledIn earlier number at ask
   pub speaks : (talk_in earlier at).dialect ≡ dialect
 
--- how often a number stands among others
-abbrev pub times : ℕ → List ℕ → ℕ
-times n [] = 0
-times n (m ∷ numbers) = (if nat_eq m n then 1 else 0) + times n numbers
+-- none of these calls has this number
+abbrev pub IsNotAmong : ℕ → List SaidAsk → Type 0
+IsNotAmong n [] = Unit {0}
+IsNotAmong n (said ∷ others) = (said.0 ≢ n) × IsNotAmong n others
 
--- the number of the call for this server that a poll gave out, if one was
-abbrev pub called_by : Poll → ℕ → List ℕ
-called_by (polls.Call ticket) at = if nat_eq ticket.server at then ticket.number ∷ [] else []
-called_by polls.Idle at = []
-called_by polls.Own at = []
-called_by polls.Refused at = []
-called_by polls.Waiting at = []
-called_by polls.Queued at = []
-called_by polls.Busy at = []
-called_by (polls.Did note) at = []
+-- each of these calls is still to be asked of this server: the core gave it out for it, and since then it was neither asked nor settled. No two have one number
+abbrev pub AreDue : List Step → ℕ → List SaidAsk → Type 0
+AreDue steps at [] = Unit {0}
+AreDue steps at (said ∷ others) = (due_in steps said.0 ≡ Some (at, said.2)) × IsNotAmong said.0 others × AreDue steps at others
 
-abbrev pub calls_of : Step → ℕ → List ℕ
-calls_of (Polled client poll) at = called_by poll at
-calls_of (Opened client) at = []
-calls_of (NotOpened fault) at = []
-calls_of (Fed client piece) at = []
-calls_of (Stopped client fault) at = []
-calls_of (Settled number outcome) at = []
-calls_of (Gave client bytes) at = []
-calls_of (Closed client) at = []
-calls_of (LeftLine client) at = []
-calls_of (Broke client) at = []
-calls_of (Loaded configuration generation) at = []
-calls_of (Linked server dialect) at = []
-calls_of (Asked server number dialect ask) at = []
-calls_of (Greeted server dialect bytes) at = []
-calls_of (Late server number) at = []
-calls_of (CameLate server number ask answer bytes) at = []
-calls_of (Spelled server number ask answer bytes) at = []
-calls_of (Lost server why) at = []
+-- each of these was asked, and the core has it out for this server still, where it asks just this. No two have one number
+abbrev pub AreCalled : List Step → ℕ → List SaidAsk → Type 0
+AreCalled steps at [] = Unit {0}
+AreCalled steps at (said ∷ others) = (call_in steps said.0 ≡ Some (at, said.2)) × (due_in steps said.0 ≡ None) × IsNotAmong said.0 others × AreCalled steps at others
 
--- the numbers of all calls that the core gave out for this server in these steps
-abbrev pub calls_in : List Step → ℕ → List ℕ
-calls_in [] at = []
-calls_in (step ∷ steps) at = calls_of step at ++ calls_in steps at
-
--- calls of these numbers are still to be asked: of each number the core gave out as many for this server as were asked there and are among these, or more
-abbrev pub AreDue : List Step → ℕ → List ℕ → Type 0
-AreDue steps at numbers = (n : ℕ) → times n ((talk_in steps at).asked ++ numbers) ≤ times n (calls_in steps at)
-
--- the call that was asked first of those that are out has this number, nothing else is told before its answer, and these bytes, whatever follows them, spell this answer to the ask, in the dialect in which it was asked
+-- the call that was asked first of those that are out has this number and asked this, nothing else is told before its answer, and these bytes, whatever follows them, spell this answer to it, in the dialect in which it was asked
 pub record IsNextAnswer (number : ℕ) (ask : Ask) (answer : Answer) (bytes : List ℕ) (talk : Talk) : Type 0 where
   pub dialect : Dialect
-  pub said : Ask
   pub others : List SaidAsk
-  pub is_first : talk.out ≡ (number, dialect, said) ∷ others
+  pub is_first : talk.out ≡ (number, dialect, ask) ∷ others
   pub none_before : talk.awaits ≡ None
   pub none_late : talk.late ≡ []
   pub more : List ℕ
@@ -218,44 +186,32 @@ pub record IsJustSpelled (number : ℕ) (answer : Answer) (steps : List Step) : 
   pub earlier : List Step
   pub last : steps ≡ Spelled at number ask answer bytes ∷ earlier
 
--- a call of this number was given out for a server over whose connection none is out: it was answered there, or given up with that, or never asked
-pub record IsOutNowhere (number : ℕ) (steps : List Step) : Type 0 where
-  pub at : ℕ
-  pub ask : Ask
-  pub called : IsCalledIn steps number at ask
-  pub none_out : (talk_in steps at).out ≡ []
+-- the core has a call of this number out, and no server has it, or has it any more
+pub record MaySettle (number : ℕ) (steps : List Step) : Type 0 where
+  pub call : ℕ × Ask
+  pub is_out : call_in steps number ≡ Some call
+  pub nowhere : (at : ℕ) → IsNotAmong number (talk_in steps at).out
 
--- or the core gave one out for a server more often than it was asked there
-pub record IsUnasked (number : ℕ) (steps : List Step) : Type 0 where
-  pub at : ℕ
-  pub due : AreDue steps at (number ∷ [])
-
--- or the last step was that the call is late
-pub record IsJustLate (number : ℕ) (steps : List Step) : Type 0 where
-  pub at : ℕ
-  pub earlier : List Step
-  pub last : steps ≡ Late at number ∷ earlier
-
--- no call is answered but by what its server's bytes spell, and none fails that its server has and that isn't late
+-- no call is answered but by what its server's bytes spell
 abbrev pub ComesBy : ℕ → Outcome → List Step → Type 0
 ComesBy number (Answered answer) past = IsJustSpelled number answer past
-ComesBy number Failed past = IsOutNowhere number past ⊎ IsUnasked number past ⊎ IsJustLate number past
+ComesBy number Failed past = Unit {0}
 
--- after these steps this one may come: a connection is begun where none is there, also none whose end is awaited; a server is asked what the core gave out for it, once, in a dialect that it speaks, and neither while late answers are still to come nor before it said that it emptied itself where it is to do that first; tells of its dialects where it is asked for that, and then answers its calls in
--- their order, those that are late too, whose answers settle nothing; and a call is settled by its answer
+-- after these steps this one may come: a connection is begun where none is there, also none whose end is awaited; a server is asked what the core gave out for it last under that number, once, in a dialect that it speaks, and neither while late answers are still to come nor before it said that it emptied itself where it is to do that first; tells of its dialects where it is asked for that, and then answers its calls in
+-- their order, those that are late too, whose answers settle nothing; a call is settled that no server has, by its answer, or as it failed; and none is given out while one of its number is out
 abbrev pub MayFollow : Step → List Step → Type 0
-MayFollow (Asked at number dialect ask) past = MayBeAsked past number at dialect ask × AreDue past at (number ∷ []) × ((talk_in past at).late ≡ []) × (awaits_flush (talk_in past at).awaits ≡ false)
+MayFollow (Asked at number dialect ask) past = MayBeAsked past number at dialect ask × (due_in past number ≡ Some (at, ask)) × ((talk_in past at).late ≡ []) × (awaits_flush (talk_in past at).awaits ≡ false)
 MayFollow (Greeted at dialect bytes) past = AnswersFirst (talk_in past at).awaits dialect bytes
 MayFollow (Late at number) past = IsFirstOut number (talk_in past at)
 MayFollow (CameLate at number ask answer bytes) past = IsNextLate number ask answer bytes (talk_in past at)
 MayFollow (Spelled at number ask answer bytes) past = IsNextAnswer number ask answer bytes (talk_in past at)
-MayFollow (Settled number outcome) past = ComesBy number outcome past
+MayFollow (Settled number outcome) past = MaySettle number past × ComesBy number outcome past
 MayFollow (Linked at dialect) past = (talk_in past at).stands ≡ Apart
 MayFollow (Lost at why) past = Unit {0}
 MayFollow (Opened client) past = Unit {0}
 MayFollow (NotOpened fault) past = Unit {0}
 MayFollow (Fed client piece) past = Unit {0}
-MayFollow (Polled client poll) past = Unit {0}
+MayFollow (Polled client poll) past = IsGivenOnce poll past
 MayFollow (Stopped client fault) past = Unit {0}
 MayFollow (Gave client bytes) past = Unit {0}
 MayFollow (Closed client) past = Unit {0}

@@ -3,6 +3,7 @@
 
 mod calls;
 mod sending;
+mod times;
 
 pub use calls::{LateCall, LateRead, LinkCalls, Next, SentCall, fail_call};
 pub use sending::send_ask;

@@ -13,8 +13,8 @@ pub fn stories_go_on()
     ensures sendings { StoriesGoOn IsSending }
 {}
 
-/// Whatever calls of a core are made, a call that it gave out is out until it is settled, and until then none of its number is given out: so
-/// the ask that an answer is read for is that of the last call of this number that the core gave out.
+/// Whatever calls of a core are made, a call that it gave out is out until it is settled, asks there what it asked, and until then none of its
+/// number is given out.
 pub fn walks_tell_calls()
     ensures { WalksTellCalls }
 {}

@@ -3,9 +3,10 @@
 ghost use Rattle.std.specs.Prelude.{◌≡◌, ◌≢◌, true, IfSome, IsSome, ◌+◌, ◌<◌, ◌++◌, false, ◌∷◌, [], None, length, MatchOption, IfOk, IfErr, OnOk, OnErr, option_map};
 ghost use Rattle.mc_types.specs.declared.ask.Dialect.TheVariants.{Classic};
 ghost use Rattle.serve_links.specs.Links.{IsDown, IsTaken, vain_cause};
-ghost use Rattle.serve_links.specs.Lateness.{HasLate, IsConnectLate, IsReadBy, may_give};
+ghost use Rattle.serve_links.specs.Lateness.{HasLate, IsUnready, IsConnectLate, IsReadBy, may_give};
 ghost use Rattle.wire_parts.specs.Sending.{bytes_of};
 ghost use Rattle.serve_links.specs.Dialects.{awaits_flush};
+ghost use Rattle.serve_links.specs.Epochs.{is_retired, with_retired, IsQuiet};
 ghost use Rattle.serve_links.specs.Lines.{dialect_asked, flush_asked, first_asked_of, asks_dialect, awaits_first, first_dialect, greeting_of, KeepsLines, HasNewEnd, OpensBy, Learns, ended_by, DrainsOne, DrainsBy};
 ghost use Rattle.serve_links.specs.Story.{line_of};
 ghost use Rattle.serve_links.specs.Shut.{conn_of};
@@ -183,7 +184,7 @@ pub enum Opening {
 /// What a link has waited for too long.
 #[derive(Clone, Copy, PartialEq, Eq)]
 pub enum Lateness {
-    /// Its connection is to stand.
+    /// Its connection is to stand, or its server is to say that it has emptied itself.
     Connection,
     /// A call is to be answered.
     Call,
@@ -335,14 +336,15 @@ impl Link {
 
     /// From now on its calls fail at once, or they do no longer.
     pub fn retire(&mut self, is_retired: bool)
-        ensures { line_of self.new ≡ line_of self.old }
+        ensures retired { self.new ≡ with_retired is_retired self.old }
+        ensures line { line_of self.new ≡ line_of self.old }
     {
         self.is_retired = is_retired;
     }
 
     /// Whether no call is out or waits, none is late, and no end of a connection is awaited.
     pub fn is_quiet(&self) -> bool
-        ensures { result ≡ true → (self.now.calls.sent.items ≡ []) × (self.now.waiting.items ≡ []) × (self.now.late.items ≡ []) }
+        ensures { result ≡ true → IsQuiet self.now }
     {
         self.calls.is_empty()
             && self.waiting.is_empty()
@@ -501,14 +503,14 @@ impl Link {
     }
 
     /// When it is late if nothing comes, in milliseconds: its first call, or its connection, has taken too long then, or late answers have, or the end of
-    /// a connection.
+    /// a connection. A connection takes until its server has emptied itself, where that is to be.
     pub fn time_limit(&self, settings: &Settings) -> Option<u64>
-        ensures { self.now.is_connected ≡ true → self.now.calls.sent.items ≡ [] → self.now.late.items ≡ [] → self.now.draining ≡ None → result ≡ None }
+        ensures { self.now.is_connected ≡ true → awaits_flush self.now.awaits_dialect ≡ false → self.now.calls.sent.items ≡ [] → self.now.late.items ≡ [] → self.now.draining ≡ None → result ≡ None }
     {
         if self.conn.is_none() {
             return self.give_up_limit(settings);
         }
-        if !self.is_connected {
+        if self.is_unready() {
             return Some(self.opened.saturating_add(settings.connect_ms));
         }
         match self.calls.oldest() {
@@ -521,7 +523,7 @@ impl Link {
     fn awaited_first(&self) -> Lateness {
         if self.conn.is_none() {
             Lateness::Answer
-        } else if !self.is_connected {
+        } else if self.is_unready() {
             Lateness::Connection
         } else if self.calls.is_empty() {
             Lateness::Answer
@@ -566,11 +568,19 @@ impl Link {
         self.calls.has_late(settings.call_ms, now)
     }
 
-    /// Whether its connection was begun longer ago than one may take to stand, and doesn't.
+    // Whether its connection doesn't stand, or its server is still to say that it has emptied itself: neither takes calls.
+    fn is_unready(&self) -> bool
+        ensures ready { result ≡ false → (self.now.is_connected ≡ true) × (awaits_flush self.now.awaits_dialect ≡ false) }
+        ensures unready { result ≡ true → IsUnready self.now }
+    {
+        !self.is_connected || self.awaits_flush()
+    }
+
+    /// Whether its connection was begun longer ago than one may take to stand, and to empty its server where that is to be, and doesn't take calls yet.
     pub fn is_connect_late(&self, now: u64, settings: &Settings) -> bool
         ensures { result ≡ true → IsConnectLate settings.now.connect_ms now self.now }
     {
-        !self.is_connected && self.opened.saturating_add(settings.connect_ms) < now
+        self.is_unready() && self.opened.saturating_add(settings.connect_ms) < now
     }
 
     /// Whether more may have come over it than was read.
@@ -607,7 +617,9 @@ impl Link {
 
     /// Whether a call fails at once: late answers are awaited, or the end of a connection, or no call goes out any more; or the server failed too many times in a row, and either it isn't to be tried
     /// yet, or a call tries.
-    pub fn is_held_back(&self, now: u64, settings: &Settings) -> bool {
+    pub fn is_held_back(&self, now: u64, settings: &Settings) -> bool
+        ensures { is_retired self.now ≡ true → result ≡ true }
+    {
         if self.awaits_late() || self.draining.is_some() || self.is_retired {
             return true;
         }

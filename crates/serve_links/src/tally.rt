@@ -1,7 +1,7 @@
 //! What an end has done so far. A count that reaches the greatest number stays there.
 
 ghost use Rattle.std.specs.Prelude.{◌≡◌, ◌<◌};
-ghost use Rattle.serve_links.specs.Counting.{one_more, with_ended};
+ghost use Rattle.serve_links.specs.Counting.{one_more, with_ended, span_of, with_answer, with_failure};
 
 use crate::news::Cause;
 use core_proxy::Note;
@@ -34,6 +34,25 @@ pub struct OpTally {
     /// All others.
     pub others: u64,
 }
+
+/// What has become of the calls of a server that went out.
+#[derive(Clone, Copy)]
+pub struct CallTally {
+    /// How many were answered.
+    pub answered: u64,
+    /// How many have failed.
+    pub failed: u64,
+    /// How long those took together that were answered, in microseconds.
+    pub micros: u64,
+    // How many of these took so long, by the place of the time.
+    spans: [u64; 11],
+}
+
+/// The times that are told apart of answers, in microseconds: one took at most the first, or more than that and at most the next, and so on, or more
+/// than the last.
+pub const SPANS: [u64; 10] = [
+    100, 250, 500, 1_000, 2_500, 5_000, 10_000, 50_000, 250_000, 1_000_000,
+];
 
 /// What has become of a link so far.
 #[derive(Clone, Copy)]
@@ -78,6 +97,26 @@ fn cause_place(cause: Cause) -> usize
         Cause::Foreign => 4,
         Cause::VainReads => 5,
         Cause::AnswerLate => 6,
+    }
+}
+
+// The place of a time among those that are told apart.
+fn span_of(micros: u64) -> usize
+    ensures place { result ≡ span_of micros }
+    ensures bound { result < 11 }
+{
+    match micros {
+        ..=100 => 0,
+        ..=250 => 1,
+        ..=500 => 2,
+        ..=1_000 => 3,
+        ..=2_500 => 4,
+        ..=5_000 => 5,
+        ..=10_000 => 6,
+        ..=50_000 => 7,
+        ..=250_000 => 8,
+        ..=1_000_000 => 9,
+        _ => 10,
     }
 }
 
@@ -156,6 +195,40 @@ impl Tally {
     /// How many commands of this operation have ended.
     pub fn of(&self, op: Op) -> OpTally {
         self.ops[place_of(op)]
+    }
+}
+
+impl CallTally {
+    /// None yet.
+    pub fn new() -> CallTally {
+        CallTally {
+            answered: 0,
+            failed: 0,
+            micros: 0,
+            spans: [0; 11],
+        }
+    }
+
+    /// One was answered, so many microseconds after it went out.
+    pub fn note_answered(&mut self, micros: u64)
+        ensures { self.new ≡ with_answer micros self.old }
+    {
+        self.answered = self.answered.saturating_add(1);
+        self.micros = self.micros.saturating_add(micros);
+        let place = span_of(micros);
+        self.spans[place] = self.spans[place].saturating_add(1);
+    }
+
+    /// One has failed.
+    pub fn note_failed(&mut self)
+        ensures { self.new ≡ with_failure self.old }
+    {
+        self.failed = self.failed.saturating_add(1);
+    }
+
+    /// How many were answered in times of this place: of [`SPANS`], or after these of longer ones.
+    pub fn spans(&self) -> &[u64] {
+        &self.spans
     }
 }
 

@@ -123,7 +123,7 @@ line_given_up {h = h} {h' = h'} {cs = cs} {a = a} {b = b} why links at x y withi
 -- one may be given up that agrees, where it shows why
 failing_at : (why : Option Cause) (at : ℕ) (past : List Step) (x : AnEnd) → ((link : Link) → slice_get x.links at ≡ Some link → LineFails why at past x.history link) → Agrees past x → AgreesBut (LineFails why) at past x
 failing_at why at past x this a =
-    record { orderly = a.orderly; clients = a.clients; told = a.told; links = λ j link other there. a.links j link there; this = this; gone = a.gone; shown = a.shown; shut = a.shut; unlinked = a.unlinked }
+    record { orderly = a.orderly; calls = a.calls; clients = a.clients; told = a.told; links = λ j link other there. a.links j link there; this = this; gone = a.gone; shown = a.shown; shut = a.shut; unlinked = a.unlinked }
 
 pub unconnected : {Q : List Step → AnEnd → Type 0} {Is : Step → Type 0} {a b : AnEnd} (at : ℕ) → AllGoFrom (AgreesBut (LineFails (Some causes.ConnectLate)) at) Q Is a b → AllGoFrom Agrees Q Is a b
 unconnected {a = a} at g =

@@ -6,6 +6,7 @@ use Rattle.std.proofs.lemmas.Option.{slice_get_read}
 use Rattle.std.specs.Prelude.{slice_get, nat_eq, IfSome, IsSome, IfOk, IfErr, OnOk, OnErr, map as each}
 use Rattle.std.specs.Option.{option_map}
 use Rattle.mc_types.specs.declared.ask.Ask.{Ask}
+use Rattle.mc_types.specs.declared.ask.Dialect.TheVariants.{Classic}
 use Rattle.mc_types.specs.declared.call.Outcome.TheVariants.{Failed}
 use Rattle.fresh_runs.specs.Overlap as log
 use Rattle.wire_parts.specs.Sending.{bytes_of}
@@ -32,15 +33,17 @@ use Rattle.serve_links.specs.declared.calls.calls.SentCall.{SentCall}
 use Rattle.serve_links.specs.declared.link.Link.{Link}
 use Rattle.serve_links.specs.declared.news.Cause.{Cause}
 use Rattle.serve_links.specs.CoreSteps.{Step, Opened, NotOpened, Fed, Polled, Stopped, Settled, Gave, Closed, LeftLine, Broke, Loaded, Linked, Asked, Greeted, Spelled, Late, CameLate, Lost, Does, Walks, AreOf, GoesBy, IsOfTurn, IsFailure, IsSending, IsGivingUp, Fails}
-use Rattle.serve_links.specs.Talks.{AreDue, IsOfClients, Talk}
+use Rattle.serve_links.specs.Called.{TellsCalls, GiveOnce}
+use Rattle.serve_links.specs.Talks.{Talk, IsNotAmong, AreDue, MaySettle, IsOrderly, IsOfClients}
+use Rattle.serve_links.proofs.Called.{given_besides, walks_tell_calls}
 use Rattle.serve_links.specs.Pieces.{FeedsHeld}
-use Rattle.serve_links.specs.Story.{fed_in, gave_in, is_open_in, is_broken_in, AgreesWith, IsTold, AreTold, TellsNone, HasOrHad, numbers_of, LineState, line_of, LineAgrees, LineCalled, LinesAgree, OneGoes, LineGoesFrom, LineGoes, AnEnd, Agrees, AgreesGiven, AgreesBut, AgreesCalled, AgreesDue, AllGoFrom, AllGo, texts_of, AgreesSent}
+use Rattle.serve_links.specs.Story.{fed_in, gave_in, is_open_in, is_broken_in, AgreesWith, IsTold, AreTold, TellsNone, HasOrHad, said_asks, StayOut, IsInHand, LineState, line_of, LineAgrees, LineCalled, LinesAgree, OneGoes, LineGoesFrom, LineGoes, AnEnd, Agrees, AgreesGiven, AgreesBut, AgreesCalled, AgreesDue, AllGoFrom, AllGo, texts_of, AgreesSent}
 use Rattle.serve_links.proofs.Reading.{breaks_now}
 use Rattle.serve_links.proofs.Talking.{IsPlain, plain_talk, clients_orderly}
-use Rattle.serve_links.proofs.Story.{one_agrees, at_told, each_told, all_told, same_told, had_stays, one_of_all, line_among, line_stays, unlinked_stays, all_still, from_then, go_between, all_but, but_all}
+use Rattle.serve_links.proofs.Story.{one_agrees, at_told, each_told, all_told, same_told, had_stays, one_of_all, line_among, line_stays_by, line_stays, unlinked_stays, all_still, from_then, go_between, all_but, but_all}
 use Rattle.serve_links.proofs.Showing.{plain_unlost, none_since, shown_since, shown_later}
 use Rattle.serve_links.proofs.Shutting.{shut_quiet}
-use Rattle.serve_links.proofs.Due.{due_first, none_more, one_due}
+use Rattle.serve_links.proofs.Due.{due_out, keeps_settled, hand_gone, due_nowhere, clients_stay, one_due, one_apart}
 use Rattle.core_accepted.specs.Results.{IsSettled}
 use Rattle.serve_links.proofs.LinkGoes.{same_line}
 use Rattle.serve_links.proofs.Walked.{walked, of_both}
@@ -84,11 +87,24 @@ lines_stay h h' past ls ls' quiet same was at link there = by (slice_get ls at) 
   where
     by : (o : Option Link) → slice_get ls at ≡ o → option_map line_of o ≡ Some (line_of link) → LineAgrees at past h' link
     by None e l = absurd (none_some l)
-    by (Some x) e l = line_stays h h' at [] past link (λ c of_c. quiet c) refl (same_line at past h x link (sym (same_some l)) (was at x e))
+    by (Some x) e l = line_stays h h' at [] past link (λ c of_c. quiet c) refl (λ n ask is. (refl, refl)) (same_line at past h x link (sym (same_some l)) (was at x e))
 
--- steps of which servers are told nothing
-pub lines_told : (h : List Event) (steps past : List Step) (ls : List Link) → AreOf IsPlain steps → LinesAgree past h ls → LinesAgree (steps ++ past) h ls
-lines_told h steps past ls plain was at link there = line_stays h h at steps past link (λ c of_c. untouched c h) (plain_talk steps plain past at) (was at link there)
+-- steps of which servers are told nothing, and by which all calls that were out stay so
+pub lines_told : (h : List Event) (steps past : List Step) (ls : List Link) → AreOf IsPlain steps → ((at : ℕ) → StayOut at past (steps ++ past)) → LinesAgree past h ls → LinesAgree (steps ++ past) h ls
+lines_told h steps past ls plain stay was at link there = line_stays h h at steps past link (λ c of_c. untouched c h) (plain_talk steps plain past at) (stay at) (was at link there)
+
+-- what is in hand is so still where links have the lines that they had
+hand_stays : (number : ℕ) (past : List Step) (ls ls' : List Link) → lines_of ls' ≡ lines_of ls → IsInHand number past ls → IsInHand number past ls'
+hand_stays number past ls ls' same was = record {
+  at = was.at;
+  ask = was.ask;
+  due = was.due;
+  apart = λ link there. by link (slice_get ls was.at) refl (get_line ls was.at ∙ ap (λ l. slice_get l was.at) (sym same) ∙ sym (get_line ls' was.at) ∙ ap (option_map line_of) there);
+}
+  where
+    by : (link : Link) (o : Option Link) → slice_get ls was.at ≡ o → option_map line_of o ≡ Some (line_of link) → IsNotAmong number (said_asks link.waiting.items)
+    by link None e l = absurd (none_some l)
+    by link (Some x) e l = subst (λ (line : LineState). IsNotAmong number (said_asks line.3)) (same_some l) (was.apart x e)
 
 clients_quiet : (h h' : List Event) (input output : ℕ → List ℕ) (cs : Clients) → ((d : ℕ) → IsUntouched d h h') → AllAgree h input output cs → AllAgree h' input output cs
 clients_quiet h h' input output cs quiet was id = by (client_of cs id) (was id)
@@ -140,6 +156,7 @@ stays {Is} {h} {h'} {cs} {cs'} {ls} {ls'} core s =
         clients = clients_quiet h h' (fed_in past) (gave_in past) cs' s.quiet (agree_still h (fed_in past) (gave_in past) cs cs' s.clients a.clients);
         told = told_kept past cs cs' s.clients a.told;
         orderly = a.orderly;
+        calls = a.calls;
         links = lines_stay h h' past ls ls' s.quiet s.links a.links;
         gone = λ conn id is. had_quiet past [] h h' cs cs' id conn (s.quiet conn) (numbers_kept (client_of cs id) (client_of cs' id) (s.clients id)) is a.gone;
         shown = shown_since past h h' (s.quiet 0).after a.shown;
@@ -440,13 +457,14 @@ agree_told h input output input' output' cs told was id = by (client_of cs id) (
 
 -- calls of the core alone, of which nobody is told anything
 calls_agree :
-    {h : List Event} {cs : Clients} {ls : List Link} (a b : ServedCore) (past steps : List Step) → AreOf IsSilent steps → Agrees past (record { core = a; history = h; clients = cs; links = ls })
-    → Agrees (steps ++ past) (record { core = b; history = h; clients = cs; links = ls })
-calls_agree {h} {cs} {ls} a b past steps silent was = record {
-  orderly = clients_orderly steps (silent_clients steps silent) past was.orderly;
+    {h : List Event} {cs : Clients} {ls : List Link} (a b : ServedCore) (past steps : List Step) → AreOf IsSilent steps → TellsCalls (steps ++ past) b → GiveOnce steps past
+    → Agrees past (record { core = a; history = h; clients = cs; links = ls }) → Agrees (steps ++ past) (record { core = b; history = h; clients = cs; links = ls })
+calls_agree {h} {cs} {ls} a b past steps silent tells once was = record {
+  orderly = clients_orderly steps (silent_clients steps silent) past once was.orderly;
+  calls = tells;
   clients = agree_told h (fed_in past) (gave_in past) (fed_in (steps ++ past)) (gave_in (steps ++ past)) cs (λ j. let t = tells_none steps silent past j in (t.0, t.1)) was.clients;
   told = all_told past steps cs (tells_none steps silent past) was.told;
-  links = lines_told h steps past ls (silent_plain steps silent) was.links;
+  links = lines_told h steps past ls (silent_plain steps silent) (λ at. clients_stay at steps (silent_clients steps silent) past once) was.links;
   gone = λ conn id is. had_quiet past steps h h cs cs id conn (untouched conn h) refl is was.gone;
   shown = shown_later steps past h h (plain_unlost steps (silent_plain steps silent)) (none_since h) was.shown;
   shut = was.shut;
@@ -456,7 +474,13 @@ calls_agree {h} {cs} {ls} a b past steps silent was = record {
 calls_go :
     {Is : Step → Type 0} {h : List Event} {cs : Clients} {ls : List Link} (a b : ServedCore) (steps : List Step) → AreOf Is steps → AreOf IsSilent steps → Walks steps a b
     → AllGo Is (record { core = a; history = h; clients = cs; links = ls }) (record { core = b; history = h; clients = cs; links = ls })
-calls_go {Is} {h} {cs} {ls} a b steps kinds silent walks = record { steps = steps; kinds = kinds; walks = walks; agree = λ past was. calls_agree a b past steps silent was; texts = refl }
+calls_go {Is} {h} {cs} {ls} a b steps kinds silent walks = record {
+  steps = steps;
+  kinds = kinds;
+  walks = walks;
+  agree = λ past was. let tells = walks_tell_calls.goes_on steps past a b was.calls walks in calls_agree a b past steps silent tells.0 tells.1 was;
+  texts = refl;
+}
 
 -- a call failed that is still to be asked
 pub refused_go :
@@ -469,10 +493,11 @@ refused_go {h} {cs} {ls} number a b is =
       kinds = (refl, tt);
       walks = (a, refl, is);
       agree = λ past due. let was = due.0 in record {
-        orderly = (inr (inl due.1), was.orderly);
+        orderly = ((settles past was.orderly due.1, tt), was.orderly);
+        calls = (walks_tell_calls.goes_on (step ∷ []) past a b was.calls (a, refl, is)).0;
         clients = agree_told h (fed_in past) (gave_in past) (fed_in (step ∷ past)) (gave_in (step ∷ past)) cs (λ j. (refl, refl)) was.clients;
         told = all_told past (step ∷ []) cs (λ j. (refl, refl, refl, refl)) was.told;
-        links = lines_told h (step ∷ []) past ls (refl, tt) was.links;
+        links = lines past was.links due.1;
         gone = λ conn id of_id. had_quiet past (step ∷ []) h h cs cs id conn (untouched conn h) refl of_id was.gone;
         shown = (tt, was.shown);
         shut = was.shut;
@@ -480,11 +505,20 @@ refused_go {h} {cs} {ls} number a b is =
       };
       texts = refl;
     }
+  where
+    settles : (past : List Step) → IsOrderly past → IsInHand number past ls → MaySettle number past
+    settles past o hand = record { call = (hand.at, hand.ask); is_out = due_out past number (hand.at, hand.ask) hand.due; nowhere = due_nowhere past number (hand.at, hand.ask) o hand.due }
+
+    lines : (past : List Step) → LinesAgree past h ls → IsInHand number past ls → LinesAgree (Settled number Failed ∷ past) h ls
+    lines past was hand at link there =
+        let agrees = was at link there in
+        let left = hand_gone past (Settled number Failed ∷ past) hand.at number hand.ask (number, Classic, hand.ask) refl hand.due (keeps_settled past number Failed Classic hand.ask) at link.calls.sent.items link.waiting.items (λ e. hand.apart link (ap (slice_get ls) e ∙ there)) agrees.called agrees.due in
+        line_stays_by h h at (Settled number Failed ∷ []) past link (λ c of_c. untouched c h) refl left.1 left.0 agrees
 
 -- one in hand is still to be asked
 pub called_due : {Q : List Step → AnEnd → Type 0} {Is : Step → Type 0} {a b : AnEnd} (number at : ℕ) (ask : Ask) → AllGoFrom (AgreesDue number) Q Is a b → AllGoFrom (AgreesCalled number at ask) Q Is a b
 called_due number at ask g =
-    go_between (λ past was. (was.0, record { at = at; due = one_due past number at ask was.1 [] (none_more (was.1.later ++ was.1.earlier) at was.2.orderly) })) (λ past was. was) g
+    go_between (λ past was. (was.0, record { at = at; ask = ask; due = one_due past number at ask was.1 was.0.orderly was.2.orderly; apart = λ link there. one_apart past number at ask was.1 (said_asks link.waiting.items) was.0.orderly was.2.orderly (was.2.links at link there).due })) (λ past was. was) g
 
 pub sent_due :
     {h h' : List Event} {cs cs' : Clients} {ls ls' : List Link} (at : ℕ) (call : SentCall) (core : ServedCore) → EndsStay h h' cs cs' ls ls'
@@ -492,7 +526,7 @@ pub sent_due :
 unfolding stays
 sent_due {h} {h'} {cs} {cs'} {ls} {ls'} at call core s =
     let g : AllGo IsSending (record { core = core; history = h; clients = cs; links = ls }) (record { core = core; history = h'; clients = cs'; links = ls' }) = stays core s in
-    record { steps = []; kinds = tt; walks = refl; agree = λ past was. (g.agree past was.0, record { at = at; due = was.3 }); texts = g.texts }
+    record { steps = []; kinds = tt; walks = refl; agree = λ past was. (g.agree past was.0, hand_stays call.ticket.number past ls ls' s.links (record { at = at; ask = call.ticket.ask; due = was.3.0; apart = λ link there. (was.2 link there).1 })); texts = g.texts }
 
 pub quietly_go : {h : List Event} {cs : Clients} {ls : List Link} {a b : ServedCore} → GoesBy IsSilent a b → AllGo IsOfTurn (record { core = a; history = h; clients = cs; links = ls }) (record { core = b; history = h; clients = cs; links = ls })
 quietly_go {a = a} {b = b} f = calls_go a b f.steps (silent_turn f.steps f.kinds) f.kinds f.walks
@@ -508,9 +542,9 @@ called_go {h} {cs} {ls} client ticket a b does =
       kinds = (tt, tt);
       walks = (a, refl, does);
       agree = λ past was. (
-        calls_agree a b past (step ∷ []) (tt, tt) was,
+        (let tells = walks_tell_calls.goes_on (step ∷ []) past a b was.calls (a, refl, does) in calls_agree a b past (step ∷ []) (tt, tt) tells.0 tells.1 was),
         record { client = client; ticket = ticket; number_is = refl; server_is = refl; ask_is = refl; later = []; earlier = past; was = refl },
-        calls_agree a b past [] tt was,
+        calls_agree a b past [] tt (given_besides client ticket past a b was.calls does) tt was,
       );
       texts = refl;
     }
@@ -550,9 +584,10 @@ close_none {h} {cs} {ls} client (Ok done) a b nobody ok err fresh = record {
   walks = (a, refl, (ok.0, ok.1, fresh));
   agree = λ past was. record {
     orderly = (tt, was.orderly);
+    calls = (walks_tell_calls.goes_on (Closed client ∷ []) past a b was.calls (a, refl, (ok.0, ok.1, fresh))).0;
     clients = agree_told h (fed_in past) (gave_in past) (fed_in (Closed client ∷ past)) (gave_in (Closed client ∷ past)) cs (λ j. (refl, refl)) was.clients;
     told = each_told (Closed client ∷ past) cs (λ j z there. told past j z there (at_told past cs j z there was.told));
-    links = lines_told h (Closed client ∷ []) past ls (tt, tt) was.links;
+    links = lines_told h (Closed client ∷ []) past ls (tt, tt) (λ at n ask is. (refl, refl)) was.links;
     gone = λ conn id is. had_quiet past (Closed client ∷ []) h h cs cs id conn (untouched conn h) refl is was.gone;
     shown = (tt, was.shown);
     shut = was.shut;
@@ -594,7 +629,7 @@ line_took {h = h} {h' = h'} {cs = cs} {a = a} {b = b} links at x y call within w
     with_call :
         (past : List Step) → AgreesSent at call past (record { core = a; history = h; clients = cs; links = links }) → AgreesBut (LineCalled call) at past (record { core = a; history = h; clients = cs; links = links })
     with_call past was =
-        record { orderly = was.0.orderly; clients = was.0.clients; told = was.0.told; links = λ j link other there. was.0.links j link there; this = λ link there. (was.0.links at link there, was.1, was.2 link there); gone = was.0.gone; shown = was.0.shown; shut = was.0.shut; unlinked = was.0.unlinked }
+        record { orderly = was.0.orderly; calls = was.0.calls; clients = was.0.clients; told = was.0.told; links = λ j link other there. was.0.links j link there; this = λ link there. (was.0.links at link there, was.1, was.2 link there); gone = was.0.gone; shown = was.0.shown; shut = was.0.shut; unlinked = was.0.unlinked }
 
 -- one that waited was taken from it
 pub line_gave :
@@ -608,10 +643,10 @@ line_gave {h = h} {h' = h'} {cs = cs} {a = a} {b = b} links at x y call within w
         → AgreesSent at call past (record { core = b; history = h'; clients = cs; links = set links at y })
     with_call past was = (
       but_all at past (record { core = b; history = h'; clients = cs; links = set links at y })
-          (record { orderly = was.orderly; clients = was.clients; told = was.told; links = was.links; this = λ link there. (was.this link there).0; gone = was.gone; shown = was.shown; shut = was.shut; unlinked = was.unlinked }),
+          (record { orderly = was.orderly; calls = was.calls; clients = was.clients; told = was.told; links = was.links; this = λ link there. (was.this link there).0; gone = was.gone; shown = was.shown; shut = was.shut; unlinked = was.unlinked }),
       (was.this y (set_here links at y within)).1,
-      λ link there. subst (λ (z : Link). AreDue past at (numbers_of (call ∷ z.waiting.items))) (same_some (sym (set_here links at y within) ∙ there)) (was.this y (set_here links at y within)).2,
-      due_first past at call.ticket.number (numbers_of y.waiting.items) (was.this y (set_here links at y within)).2,
+      λ link there. subst (λ (z : Link). AreDue past at (said_asks (call ∷ z.waiting.items))) (same_some (sym (set_here links at y within) ∙ there)) (was.this y (set_here links at y within)).2,
+      ((was.this y (set_here links at y within)).2.0, tt, tt),
     )
 
 -- without a core

@@ -4,7 +4,10 @@ use Rattle.std.specs.Prelude.{slice_get, IfSome, map as each}
 use Rattle.std.specs.Option.{option_map, option_flatten}
 use Rattle.mc_types.specs.declared.ask.Dialect.{Dialect}
 use Rattle.mc_types.specs.declared.ask.Dialect.TheVariants.{Classic}
+use Rattle.route_tree.specs.Route.{Route}
 use Rattle.route_json.specs.Configuration.{Configuration}
+use Rattle.core_accepted.specs.declared.beginnings.Beginnings.{Beginnings}
+use Rattle.serve_links.specs.declared.settings.Settings.{Settings}
 use Rattle.core_accepted.specs.declared.served.ServedCore.{ServedCore}
 use Rattle.core_accepted.specs.Loading.{IsLoaded}
 use Rattle.wire_parts.specs.Sending.{bytes_of}
@@ -21,13 +24,15 @@ use Rattle.serve_links.specs.declared.link.Link.{Link}
 use Rattle.serve_links.specs.Links.{IsDown}
 use Rattle.serve_links.specs.CoreSteps.{Step, Loaded}
 use Rattle.serve_links.specs.declared.settings.Greeting.{Greeting}
-use Rattle.serve_links.specs.Story.{fed_in, gave_in, IsTold, said_asks, said_late, numbers_of, AreCalled, LineState, line_of, Unused, LineAgrees, LinesAgree, AnEnd, Agrees, AllGoFrom, texts_of, MayAllGo}
+use Rattle.serve_links.specs.Story.{fed_in, gave_in, IsTold, said_asks, said_late, LineState, line_of, Unused, LineAgrees, LinesAgree, AnEnd, Agrees, AllGoFrom, texts_of, MayAllGo}
 use Rattle.serve_links.specs.Shut.{drain_of}
-use Rattle.serve_links.specs.Talks.{Apart, talk_in, AreDue, IsOrderly}
-use Rattle.serve_links.proofs.Due.{none_more}
+use Rattle.serve_links.specs.Talks.{Apart, talk_in, AreDue, AreCalled, IsOrderly}
+use Rattle.serve_links.specs.Called.{TellsCalls}
+use Rattle.serve_links.proofs.Called.{walks_tell_calls}
 use Rattle.serve_links.proofs.Shutting.{shut_quiet}
 use Rattle.serve_links.proofs.Walked.{walked, of_both}
 use Rattle.serve_proxy.specs.Ends.{lines_of, down_line, AddsLines, AllGrowFrom, AllGrow, IsLoadOf, HasNoConns}
+use Rattle.serve_proxy.specs.Beginning.{limits_by, BeginsFresh, BeginsUnchecked}
 use Rattle.serve_proxy.proofs.Conns.{conns_grow}
 use Rattle.serve_proxy.proofs.Going.{agree_told, had_quiet, lines_told, get_line, texts_by_lines}
 use Rattle.serve_links.proofs.LinkGoes.{same_line, has_none}
@@ -112,7 +117,7 @@ lines_grow h past ls ls' adds orderly unlinked was at link there = by (in_both (
 
     by : (slice_get (lines_of ls) at ≡ Some (line_of link)) ⊎ ((slice_get (lines_of ls) at ≡ None) × (k : ℕ) × (slice_get (each down_line adds.0) k ≡ Some (line_of link))) → LineAgrees at past h link
     by (inl old) = of_old (slice_get ls at) refl (get_line ls at ∙ old)
-    by (inr new) = let down = is_down adds.0 new.1 (line_of link) new.2 in has_none at past h link (no_conn link.conn down.0) (subst (λ w. MayAllGo past at w) (sym down.1) tt) (subst (λ w. AreDue past at (numbers_of w)) (sym down.1) (none_more past at orderly)) (unlinked at (none_of ls at new.0)).0 (subst (Unused h at link.text.items (talk_in past at)) (sym down.3) (unlinked at (none_of ls at new.0)).1) (subst (λ l. AreCalled past at l) (sym down.2) tt)
+    by (inr new) = let down = is_down adds.0 new.1 (line_of link) new.2 in has_none at past h link (no_conn link.conn down.0) (subst (λ w. MayAllGo past at w) (sym down.1) tt) (subst (λ w. AreDue past at (said_asks w)) (sym down.1) tt) (unlinked at (none_of ls at new.0)).0 (subst (Unused h at link.text.items (talk_in past at)) (sym down.3) (unlinked at (none_of ls at new.0)).1) (subst (λ l. AreCalled past at l) (sym down.2) tt)
 
 texts_both : (lines : List LineState) (texts : List (List ℕ)) → each (λ (p : LineState). p.0) (lines ++ each down_line texts) ≡ each (λ (p : LineState). p.0) lines ++ texts
 texts_both [] [] = refl
@@ -145,7 +150,7 @@ pub links_grow :
     {Is : Step → Type 0} {h : List Event} {cs : Clients} {ls ls' : List Link} (core : ServedCore) → AddsLines ls ls'
     → AllGrow Is (record { core = core; history = h; clients = cs; links = ls }) (record { core = core; history = h; clients = cs; links = ls' })
 links_grow {h = h} {ls = ls} {ls' = ls'} core adds =
-    record { steps = []; kinds = tt; walks = refl; agree = λ past was. record { orderly = was.orderly; clients = was.clients; told = was.told; links = lines_grow h past ls ls' adds was.orderly was.unlinked was.links; gone = was.gone; shown = was.shown; shut = shut_quiet (λ d. untouched d h) (λ j. refl) (conns_grow ls ls' adds) was.shut; unlinked = λ at none. was.unlinked at (none_before ls ls' adds at none) }; texts = (adds.0, texts_grow ls ls' adds) }
+    record { steps = []; kinds = tt; walks = refl; agree = λ past was. record { orderly = was.orderly; calls = was.calls; clients = was.clients; told = was.told; links = lines_grow h past ls ls' adds was.orderly was.unlinked was.links; gone = was.gone; shown = was.shown; shut = shut_quiet (λ d. untouched d h) (λ j. refl) (conns_grow ls ls' adds) was.shut; unlinked = λ at none. was.unlinked at (none_before ls ls' adds at none) }; texts = (adds.0, texts_grow ls ls' adds) }
 
 -- a configuration was loaded, which tells nothing of clients
 pub load_grows :
@@ -156,14 +161,14 @@ load_grows {h} {cs} {ls} configuration generation a b loaded =
       steps = Loaded configuration generation ∷ [];
       kinds = ((generation, refl), tt);
       walks = (a, refl, loaded);
-      agree = λ past was. record { orderly = (tt, was.orderly); clients = agree_told h (fed_in past) (gave_in past) (fed_in (Loaded configuration generation ∷ past)) (gave_in (Loaded configuration generation ∷ past)) cs (λ j. (refl, refl)) was.clients; told = was.told; links = lines_told h (Loaded configuration generation ∷ []) past ls (tt, tt) was.links; gone = λ conn id is. had_quiet past (Loaded configuration generation ∷ []) h h cs cs id conn (untouched conn h) refl is was.gone; shown = (tt, was.shown); shut = was.shut; unlinked = was.unlinked };
+      agree = λ past was. record { orderly = (tt, was.orderly); calls = (walks_tell_calls.goes_on (Loaded configuration generation ∷ []) past a b was.calls (a, refl, loaded)).0; clients = agree_told h (fed_in past) (gave_in past) (fed_in (Loaded configuration generation ∷ past)) (gave_in (Loaded configuration generation ∷ past)) cs (λ j. (refl, refl)) was.clients; told = was.told; links = lines_told h (Loaded configuration generation ∷ []) past ls (tt, tt) (λ at n ask is. (refl, refl)) was.links; gone = λ conn id is. had_quiet past (Loaded configuration generation ∷ []) h h cs cs id conn (untouched conn h) refl is was.gone; shown = (tt, was.shown); shut = was.shut; unlinked = was.unlinked };
       texts = ([], sym (append-nil (texts_of ls)));
     }
 
 -- it was, or it is as it was
 pub same_grows :
     {Is : Step → Type 0} {h : List Event} {cs : Clients} {ls : List Link} (a b : ServedCore) → b ≡ a → AllGrow Is (record { core = a; history = h; clients = cs; links = ls }) (record { core = b; history = h; clients = cs; links = ls })
-same_grows {Is} {h} {cs} {ls} a b same = record { steps = []; kinds = tt; walks = same; agree = λ past was. record { orderly = was.orderly; clients = was.clients; told = was.told; links = was.links; gone = was.gone; shown = was.shown; shut = was.shut; unlinked = was.unlinked }; texts = ([], sym (append-nil (texts_of ls))) }
+same_grows {Is} {h} {cs} {ls} a b same = record { steps = []; kinds = tt; walks = same; agree = λ past was. record { orderly = was.orderly; calls = subst (TellsCalls past) (sym same) was.calls; clients = was.clients; told = was.told; links = was.links; gone = was.gone; shown = was.shown; shut = was.shut; unlinked = was.unlinked }; texts = ([], sym (append-nil (texts_of ls))) }
 
 -- from a core that is the same
 pub grow_from :
@@ -173,9 +178,16 @@ grow_from {Is} {h} {cs} {ls} {a} {x} {b} same g = subst (λ y. AllGrow Is (recor
 
 -- ---- an end that begins
 
+-- a new core has no call out
+pub new_tells : (accepted : List Configuration) (begun : Beginnings) (settings : Settings) (core : ServedCore) → BeginsFresh accepted begun settings core → TellsCalls [] core
+new_tells accepted begun settings core begins = walks_tell_calls.begins begins.config.tree (limits_by settings) core begins.core_is
+
+pub unchecked_tells : (tree : Route) (settings : Settings) (core : ServedCore) → BeginsUnchecked tree settings core → TellsCalls [] core
+unchecked_tells tree settings core begins = walks_tell_calls.begins tree (limits_by settings) core begins.core_is
+
 -- no client is there, and no link has a connection
-pub new_agrees : (h : List Event) (core : ServedCore) (cs : Clients) (ls : List Link) → cs.all.items ≡ [] → AddsLines [] ls → HasNoConns h → Agrees [] (record { core = core; history = h; clients = cs; links = ls })
-new_agrees h core cs ls none adds new = record { orderly = tt; clients = λ id. subst (λ o. IfSome o (EndAgrees h (fed_in []) (gave_in []) id)) (sym (nobody id)) tt; told = λ id. subst (λ o. IfSome o (IsTold [] id)) (sym (nobody id)) tt; links = lines_grow h [] [] ls adds tt (λ at none. (refl, refl)) (λ at link there. absurd (none_some there)); gone = λ conn id is. absurd (none_some (sym (new conn).0 ∙ is)); shown = tt; shut = record { clients = λ id conn is. absurd (none_some (sym (new conn).0 ∙ is)); links = λ at conn is. absurd (none_some (sym (new conn).0 ∙ is)); nobodys = λ conn is. (new conn).1 }; unlinked = λ at none. (refl, refl) }
+pub new_agrees : (h : List Event) (core : ServedCore) (cs : Clients) (ls : List Link) → TellsCalls [] core → cs.all.items ≡ [] → AddsLines [] ls → HasNoConns h → Agrees [] (record { core = core; history = h; clients = cs; links = ls })
+new_agrees h core cs ls tells none adds new = record { orderly = tt; calls = tells; clients = λ id. subst (λ o. IfSome o (EndAgrees h (fed_in []) (gave_in []) id)) (sym (nobody id)) tt; told = λ id. subst (λ o. IfSome o (IsTold [] id)) (sym (nobody id)) tt; links = lines_grow h [] [] ls adds tt (λ at none. (refl, refl)) (λ at link there. absurd (none_some there)); gone = λ conn id is. absurd (none_some (sym (new conn).0 ∙ is)); shown = tt; shut = record { clients = λ id conn is. absurd (none_some (sym (new conn).0 ∙ is)); links = λ at conn is. absurd (none_some (sym (new conn).0 ∙ is)); nobodys = λ conn is. (new conn).1 }; unlinked = λ at none. (refl, refl) }
   where
     nobody : (id : ℕ) → client_of cs id ≡ None
     nobody id = ap (λ (xs : List (Option Client)). option_flatten (slice_get xs id)) none

@@ -14,3 +14,5 @@ pub mod Greatest
 pub mod Sparing
 pub mod Refusing
 pub mod Drained
+pub mod Turns
+pub mod Emptied

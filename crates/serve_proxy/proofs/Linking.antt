@@ -37,10 +37,10 @@ use Rattle.serve_links.specs.Links.{IsTaken}
 use Rattle.serve_links.specs.Lines.{IsNewEnd, OpensBy, greeting_of}
 use Rattle.serve_links.specs.Shut.{drain_of}
 use Rattle.serve_links.specs.Talks.{SaidAsk, talk_in, IsCalledIn}
-use Rattle.serve_links.specs.Story.{LineState, line_of, said_asks, said_late, numbers_of, MayGo, LineAgrees, LineLost, LineGoesFrom, LineGoes, AnEnd, Agrees, AgreesBut, AgreesCalled, AgreesSent, AllGoFrom, fed_in, gave_in}
+use Rattle.serve_links.specs.Story.{LineState, line_of, said_asks, said_late, MayGo, LineAgrees, LineLost, LineGoesFrom, LineGoes, AnEnd, Agrees, AgreesBut, AgreesCalled, AgreesSent, AllGoFrom, fed_in, gave_in}
 use Rattle.serve_links.proofs.LinkGoes.{as_lost, line_between, line_settles, line_loses, line_asks, line_waits, line_takes}
 use Rattle.serve_links.proofs.Story.{go_between}
-use Rattle.serve_links.proofs.Due.{none_more, one_due}
+use Rattle.serve_links.proofs.Due.{one_due, one_apart}
 use Rattle.serve_links.proofs.Shutting.{shut_quiet}
 use Rattle.serve_proxy.specs.Ends.{lines_of, LinksTake, LinksGive, LineTakes, IsOpenAt, AsksIn}
 use Rattle.serve_proxy.proofs.Going.{line_took, line_gave, had_quiet, numbers_kept, told_kept, set_here}
@@ -166,7 +166,16 @@ pub called_at :
     → AllGoFrom (AgreesCalled call.ticket.number call.ticket.server call.ticket.ask) Q Is a b
 called_at {Q} {Is} {a} {b} at call same stands asks g =
     subst (λ n. AllGoFrom (AgreesCalled call.ticket.number n call.ticket.ask) Q Is a b) (sym same)
-    (go_between (λ past was. (was.0, may_go past a at call stands asks was.0 was.1, λ link there. one_due past call.ticket.number at call.ticket.ask was.1 (numbers_of link.waiting.items) (was.2.links at link there).due, one_due past call.ticket.number at call.ticket.ask was.1 [] (none_more (was.1.later ++ was.1.earlier) at was.2.orderly))) (λ past was. was) g)
+    (go_between (λ past was. given past was) (λ past was. was) g)
+  where
+    given : (past : List Step) → AgreesCalled call.ticket.number at call.ticket.ask past a → AgreesSent at call past a
+    given past was =
+        let due = one_due past call.ticket.number at call.ticket.ask was.1 was.0.orderly was.2.orderly in (
+          was.0,
+          may_go past a at call stands asks was.0 was.1,
+          λ link there. (due, one_apart past call.ticket.number at call.ticket.ask was.1 (said_asks link.waiting.items) was.0.orderly was.2.orderly (was.2.links at link there).due, (was.0.links at link there).due),
+          (due, tt, tt),
+        )
 
 -- ---- answers
 
@@ -201,6 +210,7 @@ but_clients {This} {core = core} {h = h} {ls = ls} at cs cs' g keeps = record { 
     kept : (past : List Step) → AgreesBut This at past (record { core = core; history = h; clients = cs; links = ls }) → AgreesBut This at past (record { core = core; history = h; clients = cs'; links = ls })
     kept past was = record {
       orderly = was.orderly;
+      calls = was.calls;
       clients = agree_still h (fed_in past) (gave_in past) cs cs' keeps was.clients;
       told = told_kept past cs cs' keeps was.told;
       links = was.links;

@@ -23,11 +23,14 @@ use Rattle.serve_clients.proofs.Agreeing.{its, keeps_none, state_stays, state_br
 use Rattle.serve_clients.proofs.Marked.{kept}
 use Rattle.serve_links.specs.declared.link.Link.{Link}
 use Rattle.serve_links.specs.CoreSteps.{Step, Opened, Gave, Closed, Does, AreOf, GoesBy, IsOfTurn}
-use Rattle.serve_links.specs.Story.{fed_in, gave_in, is_open_in, is_broken_in, IsTold, AreTold, TookAll, IsJustGiven, IsGone, IsUnused, HasOrHad, LinesAgree, OneGoes, Agrees, AgreesGiven, AllGoFrom, AllGo}
+use Rattle.serve_links.specs.Story.{fed_in, gave_in, is_open_in, is_broken_in, IsTold, AreTold, TookAll, IsJustGiven, IsGone, IsUnused, HasOrHad, StayOut, LinesAgree, OneGoes, Agrees, AgreesGiven, AllGoFrom, AllGo}
 use Rattle.serve_links.specs.Shut.{client_conn}
 use Rattle.serve_links.proofs.Shutting.{closed_shut, shut_without, shut_opened, shut_turned}
 use Rattle.serve_links.proofs.Showing.{plain_unlost, shown_later}
 use Rattle.serve_links.specs.Talks.{Talk}
+use Rattle.serve_links.specs.Called.{TellsCalls, GiveOnce}
+use Rattle.serve_links.proofs.Called.{walks_tell_calls}
+use Rattle.serve_links.proofs.Due.{clients_stay}
 use Rattle.serve_links.proofs.Talking.{IsPlain, plain_talk, clients_orderly}
 use Rattle.serve_links.proofs.Story.{at_told, all_told, took_all, TellsSame, same_told, gone_stays, end_gone, had_stays, line_stays, unlinked_stays}
 use Rattle.serve_links.proofs.Walked.{walked, of_both}
@@ -75,9 +78,9 @@ if_moved h h' input output input' output' id (Some x) same fed gave was = end_mo
 
 -- what touches no server's connection leaves all links as they were
 lines_apart :
-    (h h' : List Event) (steps past : List Step) (ls : List Link) → ((d at : ℕ) → role d h ≡ Some (1, at) → IsUntouched d h h') → AreOf IsPlain steps → LinesAgree past h ls → LinesAgree (steps ++ past) h' ls
-lines_apart h h' steps past ls only plain was at link there =
-    line_stays h h' at steps past link (λ c of_c. only c at of_c) (plain_talk steps plain past at) (was at link there)
+    (h h' : List Event) (steps past : List Step) (ls : List Link) → ((d at : ℕ) → role d h ≡ Some (1, at) → IsUntouched d h h') → AreOf IsPlain steps → ((at : ℕ) → StayOut at past (steps ++ past)) → LinesAgree past h ls → LinesAgree (steps ++ past) h' ls
+lines_apart h h' steps past ls only plain stay was at link there =
+    line_stays h h' at steps past link (λ c of_c. only c at of_c) (plain_talk steps plain past at) (stay at) (was at link there)
 
 -- what touches a new connection alone, which isn't open then, leaves all clients as they were, too: one was turned away
 pub new_touched : {h h' : List Event} {cs : Clients} {ls : List Link} (c : ℕ) → role c h ≡ None → role c h' ≡ None → is_open c h' ≡ false → TouchesOnly c h h' → EndsGo h h' cs cs ls ls
@@ -88,8 +91,9 @@ new_touched {h} {h'} {cs} {ls} c none none_now shut only = λ core. record {
   agree = λ past was. record {
     clients = λ j. if_moved h h' (fed_in past) (gave_in past) (fed_in past) (gave_in past) j (client_of cs j) (λ d of_d. only d (new_apart c d h (0, j) of_d none)) refl refl (was.clients j);
     orderly = was.orderly;
+    calls = was.calls;
     told = was.told;
-    links = lines_apart h h' [] past ls (λ d at of_d. only d (new_apart c d h (1, at) of_d none)) tt was.links;
+    links = lines_apart h h' [] past ls (λ d at of_d. only d (new_apart c d h (1, at) of_d none)) tt (λ at n ask is. (refl, refl)) was.links;
     gone = λ conn id is. had_quiet past [] h h' cs cs id conn (only conn (new_apart c conn h' (0, id) is none_now)) refl is was.gone;
     shown = shown_later [] past h h' tt (only_after c h h' only) was.shown;
     shut = shut_turned c shut only was.shut;
@@ -153,8 +157,9 @@ opened_go {h} {h1} {h2} {h'} {cs} {cs'} {ls} id c b last new is dropped only unu
   agree = λ past was. subst (λ l. Agrees l (record { core = last; history = h'; clients = cs'; links = ls })) (sym (append_assoc q.steps (Opened id ∷ []) past)) (record {
     clients = agree_told h' (fed_in (Opened id ∷ past)) (gave_in (Opened id ∷ past)) (fed_in (q.steps ++ Opened id ∷ past)) (gave_in (q.steps ++ Opened id ∷ past)) cs' (λ j. let t = tells_none q.steps q.kinds (Opened id ∷ past) j in (t.0, t.1)) (mid past was.clients);
     told = all_told (Opened id ∷ past) q.steps cs' (tells_none q.steps q.kinds (Opened id ∷ past)) (told_mid past was.told);
-    orderly = clients_orderly q.steps (silent_clients q.steps q.kinds) (Opened id ∷ past) (tt, was.orderly);
-    links = lines_told h' q.steps (Opened id ∷ past) ls (silent_plain q.steps q.kinds) (lines_apart h h' (Opened id ∷ []) past ls (λ d at of_d. apart_of past was.clients d (1, at) of_d (λ e. one_zero (ap (λ (p : ℕ × ℕ). p.0) e))) (tt, tt) was.links);
+    orderly = clients_orderly q.steps (silent_clients q.steps q.kinds) (Opened id ∷ past) (tells_calls past was).1 (tt, was.orderly);
+    calls = (tells_calls past was).0;
+    links = lines_told h' q.steps (Opened id ∷ past) ls (silent_plain q.steps q.kinds) (λ at. clients_stay at q.steps (silent_clients q.steps q.kinds) (Opened id ∷ past) (tells_calls past was).1) (lines_apart h h' (Opened id ∷ []) past ls (λ d at of_d. apart_of past was.clients d (1, at) of_d (λ e. one_zero (ap (λ (p : ℕ × ℕ). p.0) e))) (tt, tt) (λ at n ask is. (refl, refl)) was.links);
     gone = gone past was;
     shown = shown_later q.steps (Opened id ∷ past) h' h' (plain_unlost q.steps (silent_plain q.steps q.kinds)) ([], refl) (shown_later (Opened id ∷ []) past h h' (tt, tt) after was.shown);
     shut = shut_opened id c (λ d e. (tells d e).0) opens own (λ j other. ap (option_map (λ (x : Client). x.conn.number)) (others j other)) (λ j. refl) was.shut;
@@ -163,6 +168,13 @@ opened_go {h} {h1} {h2} {h'} {cs} {cs'} {ls} id c b last new is dropped only unu
   texts = refl;
 }
   where
+    -- the core has those calls out that are told to be
+    had : (past : List Step) → Agrees past (record { core = before; history = h; clients = cs; links = ls }) → TellsCalls (Opened id ∷ past) b
+    had past was = (walks_tell_calls.goes_on (Opened id ∷ []) past before b was.calls (before, refl, does)).0
+
+    tells_calls : (past : List Step) → Agrees past (record { core = before; history = h; clients = cs; links = ls }) → TellsCalls (q.steps ++ Opened id ∷ past) last × GiveOnce q.steps (Opened id ∷ past)
+    tells_calls past was = walks_tell_calls.goes_on q.steps (Opened id ∷ past) b last (had past was) q.walks
+
     one_zero : ◌≡◌ {A = ℕ} 1 0 → ⊥
     one_zero e = cc
 
@@ -326,7 +338,8 @@ gone_go {h} {h'} {cs} {cs'} {ls} id gone dropped before core does sent = record 
     clients = λ j. clients past was.clients j (cases_eq j id);
     told = λ j. still_told past was.told j (cases_eq j id);
     orderly = (tt, was.orderly);
-    links = lines_apart h h' (Closed id ∷ []) past ls (λ d at of_d. touched past was.clients d (1, at) of_d (λ e. one_zero (ap (λ (p : ℕ × ℕ). p.0) e))) (tt, tt) was.links;
+    calls = (walks_tell_calls.goes_on (Closed id ∷ []) past before core was.calls (before, refl, does)).0;
+    links = lines_apart h h' (Closed id ∷ []) past ls (λ d at of_d. touched past was.clients d (1, at) of_d (λ e. one_zero (ap (λ (p : ℕ × ℕ). p.0) e))) (tt, tt) (λ at n ask is. (refl, refl)) was.links;
     gone = gone_of past was given.1;
     shown = shown_later (Closed id ∷ []) past h h' (tt, tt) (dropped_after (client_conn cs id) h h' dropped) was.shown;
     shut = shut_without id (λ d. (told d).0) (λ d on. dropped_opens (client_conn cs id) d h h' dropped on) (λ j other. ap (option_map (λ (x : Client). x.conn.number)) (gone_others cs cs' id gone j other)) (λ j. refl) was.shut;

@@ -2,6 +2,8 @@ pub mod Ends
 pub mod LogsGoOn
 pub mod Beginning
 pub mod Stillness
+pub mod Epochs
+pub mod Emptying
 pub mod Stalls
 pub mod Spares
 pub mod Budgets

@@ -195,11 +195,12 @@ impl<W: Wire> Sockets<W> {
     fn note_came(&mut self, at: usize)
         ensures ends { Stay W.history self.old self.new }
     {
+        let now = self.wire.last_micros();
         let Some(link) = self.links.all.get_mut(at) else {
             return;
         };
         let (is_large, has_room) = note_room(link);
-        let is_news = has_come(link);
+        let is_news = has_come(link, now);
         self.links.note_news(at, is_news);
         self.rooms.note(is_large, has_room, self.time);
     }
@@ -249,11 +250,12 @@ fn note_room(link: &Link) -> (bool, bool) {
     }
 }
 
-// Something came over it: whether that may be news, as it stands by that, or awaits late answers.
+// Something came over it now, in microseconds: whether that may be news, as it stands by that, or awaits late answers.
 #[tactic(auto, using(crate::proofs::Staying::kept_line))]
-fn has_come(link: &mut Link) -> bool
+fn has_come(link: &mut Link, now: u64) -> bool
     ensures line { line_of link.new ≡ line_of link.old }
 {
+    link.calls.note_came(now);
     link.reads_long = link.may_have_more();
     let has_stood = link.stand();
     has_stood || link.awaits_late()

@@ -93,7 +93,8 @@ fn let_wait<W: Wire>(core: &mut ServedCore, sockets: &mut Sockets<W>, at: usize,
 fn begin_call<W: Wire>(core: &mut ServedCore, sockets: &mut Sockets<W>, at: usize, call: SentCall)
     ensures ends { AllSendFrom (AgreesSent at call) W.history core.old sockets.old core.new sockets.new }
 {
-    match sockets.links.write_call(at, call) {
+    let now = sockets.wire.last_micros();
+    match sockets.links.write_call(at, call, now) {
         Ok(()) => {}
         Err(call) => refuse_call(core, sockets, call.client, call.ticket),
     }

@@ -1,10 +1,15 @@
 //! The links to the servers, by their numbers: which of them are to be read and written, when they are late, and what there is to tell
 //! of them. Nothing here knows the core.
 
-ghost use Rattle.std.specs.Prelude.{◌≡◌, ◌↔◌, true, None, [], ◌∷◌, ◌++◌, drop, length, IsTrue, IsSome, IfOk, IfErr, OnOk, MatchOption};
+ghost use Rattle.std.specs.Prelude.{◌≡◌, ◌↔◌, Bool, true, false, None, Some, [], ◌∷◌, ◌++◌, drop, length, IsTrue, IsSome, IfOk, IfErr, OnOk, MatchOption, slice_get};
+ghost use Rattle.serve_links.specs.declared.link.Link.{Link};
 ghost use Rattle.serve_clients.specs.declared.clients.Clients.{Clients};
 ghost use Rattle.serve_links.specs.Lateness.{IsConnectLateAt, IsReadAt};
 ghost use Rattle.serve_links.specs.Links.{calls_out};
+ghost use Rattle.serve_links.specs.Epochs.{IsQuiet};
+ghost use Rattle.route_json.specs.ServerNames.{is_over};
+ghost use Rattle.serve_proxy.specs.Epochs.{share_address, HaveEnded, IsInTurn, AreInTurn, Retires};
+ghost use Rattle.serve_proxy.specs.Emptying.{AddsEach, EmptiesAt};
 ghost use Rattle.serve_links.specs.Story.{line_of, texts_of};
 ghost use Rattle.serve_proxy.specs.Ends.{lines_of, LinksTake, LinksGive, LineStands, LineTakes, IsOpenAt, AsksIn, AwaitsLateAt, EndsGo, AddsLines};
 
@@ -65,8 +70,8 @@ fn begin<W: Wire, N: Net>(
     }
 }
 
-// The call is written to the link, or given back, as it is where late answers are awaited, or the server is still to empty itself.
-fn write_to(link: &mut Link, call: SentCall) -> Result<(), SentCall>
+// The call is written to the link, or given back, as it is where late answers are awaited, or the server is still to empty itself. `now` is in microseconds.
+fn write_to(link: &mut Link, call: SentCall, now: u64) -> Result<(), SentCall>
     ensures ok { OnOk result (LineTakes call link.old link.new) }
     ensures err { IfErr result (λ given. (given ≡ call) × (line_of link.new ≡ line_of link.old)) }
 {
@@ -77,7 +82,7 @@ fn write_to(link: &mut Link, call: SentCall) -> Result<(), SentCall>
         return Err(call);
     }
     match link.conn.as_mut() {
-        Some(conn) => link.calls.begin(call, &mut conn.unsent),
+        Some(conn) => link.calls.begin(call, now, &mut conn.unsent),
         None => Err(call),
     }
 }
@@ -133,6 +138,7 @@ pub struct Links {
 impl Links {
     /// One link to each server, without a connection. None of these servers is emptied.
     pub fn to(alloc: Global, servers: &Servers, settings: Settings) -> Result<Links, AllocError>
+        ensures kept { IfOk result (λ links. AddsEach false [] links.all.items) }
         ensures texts { IfOk result (λ links. texts_of links.all.items ≡ servers.now) }
         ensures down { IfOk result (λ links. AddsLines [] links.all.items) }
     {
@@ -143,7 +149,8 @@ impl Links {
     }
 
     fn none(alloc: Global, settings: Settings) -> Links
-        ensures { result.all.items ≡ [] }
+        ensures all { result.all.items ≡ [] }
+        ensures kept { result.flushes_new ≡ false }
     {
         Links {
             alloc,
@@ -177,6 +184,8 @@ impl Links {
 
     /// Servers that have no link yet get one, without a connection. They are emptied before their first call, where that is set.
     pub fn add(&mut self, servers: &Servers) -> Result<(), AllocError>
+        ensures emptied { AddsEach self.old.flushes_new self.old.all.items self.new.all.items }
+        ensures set { self.new.flushes_new ≡ self.old.flushes_new }
         ensures texts { OnOk result (texts_of self.new.all.items ≡ texts_of self.old.all.items ++ drop (length self.old.all.items) servers.now) }
         ensures adds { AddsLines self.old.all.items self.new.all.items }
     {
@@ -191,6 +200,8 @@ impl Links {
     // The server whose address this text names gets one, at the end.
     #[tactic(auto, using(crate::proofs::LinkTexts::added))]
     fn add_one(&mut self, text: &str) -> Result<(), AllocError>
+        ensures emptied { AddsEach self.old.flushes_new self.old.all.items self.new.all.items }
+        ensures set { self.new.flushes_new ≡ self.old.flushes_new }
         ensures texts { OnOk result (texts_of self.new.all.items ≡ texts_of self.old.all.items ++ text.now ∷ []) }
         ensures adds { AddsLines self.old.all.items self.new.all.items }
     {
@@ -201,6 +212,7 @@ impl Links {
 
     /// The server of this number is emptied before its first call.
     pub fn empty_first(&mut self, at: usize)
+        ensures emptied { EmptiesAt at self.old.all.items self.new.all.items }
         ensures lines { lines_of self.new.all.items ≡ lines_of self.old.all.items }
     {
         if let Some(link) = self.all.get_mut(at) {
@@ -210,6 +222,7 @@ impl Links {
 
     // Calls of this server fail at once from now on, or they do no longer.
     fn retire(&mut self, at: usize, is_retired: bool)
+        ensures retired { Retires at is_retired self.old.all.items self.new.all.items }
         ensures lines { lines_of self.new.all.items ≡ lines_of self.old.all.items }
     {
         if let Some(link) = self.all.get_mut(at) {
@@ -218,37 +231,60 @@ impl Links {
     }
 
     // Whether no call is out at this server or waits for it, and none is late there.
-    fn is_quiet(&self, at: usize) -> bool {
+    fn is_quiet(&self, at: usize) -> bool
+        ensures { result ≡ true → (link : Link) → slice_get self.now.all.items at ≡ Some link → IsQuiet link }
+    {
         match self.all.get(at) {
             Some(link) => link.is_quiet(),
             None => true,
         }
     }
 
+    // Whether the first of these servers isn't at the address of the other, or has no calls any more.
+    fn has_left(&self, servers: &Servers, earlier: usize, at: usize) -> bool
+        ensures { result ≡ true → share_address servers.now earlier at ≡ true → (link : Link) → slice_get self.now.all.items earlier ≡ Some link → IsQuiet link }
+    {
+        !share_address(servers, earlier, at) || self.is_quiet(earlier)
+    }
+
     // Whether earlier servers at the address of this one have no calls any more.
-    fn have_ended(&self, servers: &Servers, at: usize) -> bool {
+    fn have_ended(&self, servers: &Servers, at: usize) -> bool
+        ensures { result ≡ true → HaveEnded servers.now at self.now.all.items }
+    {
         for earlier in 0..at {
-            if share_address(servers, earlier, at) && !self.is_quiet(earlier) {
+            if !self.has_left(servers, earlier, at) {
                 return false;
             }
         }
         true
     }
 
-    // Calls of this server go out where no later one has its address, and earlier ones there have no calls any more; others' fail at once. Whether that is so, or a later one
-    // has it.
-    fn keep_epoch(&mut self, servers: &Servers, at: usize) -> bool
+    // Whether calls may go to this server: no later one has its address, and earlier ones there have no calls any more.
+    fn is_in_turn(&self, servers: &Servers, at: usize) -> bool
+        ensures { result ≡ true → (is_over servers.now at ≡ false) × HaveEnded servers.now at self.now.all.items }
+    {
+        !is_over(servers, at) && self.have_ended(servers, at)
+    }
+
+    // Whether this server isn't to wait for earlier ones at its address: they have no calls any more, or a later one has it.
+    fn waits_for_none(&self, servers: &Servers, at: usize) -> bool {
+        is_over(servers, at) || self.have_ended(servers, at)
+    }
+
+    // Calls of this server go out where they may, and fail at once where they may not.
+    fn keep_epoch(&mut self, servers: &Servers, at: usize)
+        ensures turn { IsInTurn servers.now self.new.all.items at }
+        ensures retired { (retired : Bool) × Retires at retired self.old.all.items self.new.all.items }
         ensures lines { lines_of self.new.all.items ≡ lines_of self.old.all.items }
     {
-        let is_over = is_over(servers, at);
-        let has_begun = self.have_ended(servers, at);
-        self.retire(at, is_over || !has_begun);
-        is_over || has_begun
+        let is_in_turn = self.is_in_turn(servers, at);
+        self.retire(at, !is_in_turn);
     }
 
     /// Where servers have epochs: calls go to each while no later one has its address, once earlier ones there have no calls any more; all others fail at once. Whether none is
     /// waited for.
     pub fn keep_epochs(&mut self, servers: &Servers) -> bool
+        ensures turns { AreInTurn servers.now self.new.all.items }
         ensures lines { lines_of self.new.all.items ≡ lines_of self.old.all.items }
     {
         if !servers.have_epochs() {
@@ -256,8 +292,9 @@ impl Links {
         }
         let mut have_begun = true;
         for at in 0..servers.len() {
-            let is_kept = self.keep_epoch(servers, at);
-            have_begun = is_kept && have_begun;
+            self.keep_epoch(servers, at);
+            let waits_for_none = self.waits_for_none(servers, at);
+            have_begun = waits_for_none && have_begun;
         }
         have_begun
     }
@@ -515,13 +552,13 @@ impl Links {
         self.all.get_mut(at)?.next_too_late(pace, &settings)
     }
 
-    /// The call is written to the link, or given back.
-    pub fn write_call(&mut self, at: usize, call: SentCall) -> Result<(), SentCall>
+    /// The call is written to the link, or given back. `now` is in microseconds.
+    pub fn write_call(&mut self, at: usize, call: SentCall, now: u64) -> Result<(), SentCall>
         ensures ok { OnOk result (LinksTake at call self.old.all.items self.new.all.items) }
         ensures err { IfErr result (λ given. (given ≡ call) × (lines_of self.new.all.items ≡ lines_of self.old.all.items)) }
     {
         match self.all.get_mut(at) {
-            Some(link) => write_to(link, call),
+            Some(link) => write_to(link, call, now),
             None => Err(call),
         }
     }

@@ -12,6 +12,8 @@ ghost use Rattle.core_accepted.specs.Logs.{TreesAreSound};
 ghost use Rattle.serve_proxy.specs.LogsGoOn.{LogsAreFresh};
 ghost use Rattle.serve_proxy.specs.Stillness.{IsStill};
 ghost use Rattle.serve_proxy.specs.Beginning.{BeginsFresh, BeginsUnchecked, LoadStops};
+ghost use Rattle.serve_proxy.specs.Emptying.{EmptiesAt};
+ghost use Rattle.serve_proxy.specs.Epochs.{AreInTurn};
 
 use crate::accepting::accept_ready;
 use crate::answers::read_links;
@@ -170,6 +172,7 @@ impl<W: Wire> ProxyEnd<W> {
 
     /// The server of this number is emptied, by `flush_all`, before its first call.
     pub fn empty_first(&mut self, server: usize)
+        ensures emptied { EmptiesAt server self.old.sockets.links.all.items self.new.sockets.links.all.items }
         ensures core { self.new.core ≡ self.old.core }
         ensures ends { Stay W.history self.old.sockets self.new.sockets }
     {
@@ -179,6 +182,7 @@ impl<W: Wire> ProxyEnd<W> {
     /// Where servers have epochs: calls go to a server while no later one has its address, and once the earlier ones there have no calls any more; all others fail at once.
     /// Whether none is waited for. It is asked after a load, and after each turn until it says so.
     pub fn keep_epochs(&mut self, servers: &Servers) -> bool
+        ensures turns { AreInTurn servers.now self.new.sockets.links.all.items }
         ensures core { self.new.core ≡ self.old.core }
         ensures ends { Stay W.history self.old.sockets self.new.sockets }
     {

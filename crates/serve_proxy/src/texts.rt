@@ -1,6 +1,8 @@
 //! The texts that name the addresses of servers.
 
 ghost use Rattle.std.specs.Prelude.{◌≡◌, Some, None, IfSome, slice_get};
+ghost use Rattle.route_json.specs.ServerNames.{is_over};
+ghost use Rattle.serve_proxy.specs.Epochs.{share_address};
 
 use mc_types::ServerId;
 use route_json::addresses::{Servers, address_in};
@@ -17,7 +19,9 @@ pub fn text_at(servers: &Servers, at: usize) -> Option<&str>
 }
 
 /// Whether the epoch of the server of this number is over.
-pub fn is_over(servers: &Servers, at: usize) -> bool {
+pub fn is_over(servers: &Servers, at: usize) -> bool
+    ensures { result ≡ is_over servers.now at }
+{
     if at >= servers.len() {
         return false;
     }
@@ -25,7 +29,9 @@ pub fn is_over(servers: &Servers, at: usize) -> bool {
 }
 
 /// Whether two servers have one address.
-pub fn share_address(servers: &Servers, one: usize, other: usize) -> bool {
+pub fn share_address(servers: &Servers, one: usize, other: usize) -> bool
+    ensures { result ≡ share_address servers.now one other }
+{
     match (text_at(servers, one), text_at(servers, other)) {
         (Some(one), Some(other)) => address_in(one) == address_in(other),
         _ => false,

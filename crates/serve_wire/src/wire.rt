@@ -29,6 +29,9 @@ pub trait Wire {
     fn last_millis(&self) -> u64
         ensures { result ≡ time (history self.now) };
 
+    /// The same in microseconds.
+    fn last_micros(&self) -> u64;
+
     /// Waits until something is ready, and this long at most: how many reports there are.
     fn wait(&mut self, limit: Option<Duration>) -> io::Result<usize>
         ensures { history self.new ≡ history self.old };

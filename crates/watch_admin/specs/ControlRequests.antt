@@ -10,4 +10,5 @@ Means line asks.Reload = line ≡ codes "reload"
 Means line asks.Status = line ≡ codes "status"
 Means line asks.Servers = line ≡ codes "servers"
 Means line (asks.Where key) = line ≡ codes "where " ++ key.now
+Means line (asks.Log level) = line ≡ codes "log " ++ level.now
 Means line asks.Unknown = (line ≢ codes "drain") × (line ≢ codes "reload") × (line ≢ codes "status") × (line ≢ codes "servers")

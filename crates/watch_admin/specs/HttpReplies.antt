@@ -1,13 +1,15 @@
--- The bytes of answers. Source: RFC 9110, sections 8, 10.2.1 and 15, and RFC 9112, section 4; Prometheus' media type.
+-- The bytes of answers. Source: RFC 9110, sections 8, 10.2.1 and 15, and RFC 9112, section 4; HTML's and Prometheus' media types.
 use Rattle.std.specs.Prelude.{◌≡◌, ℕ, ◌⊎◌, List, [], ◌++◌, length, codes, decimal}
 use Rattle.watch_admin.specs.declared.http.request.Page.{Page}
-use Rattle.watch_admin.specs.declared.http.request.Page.TheVariants.{Metrics, Stats}
+use Rattle.watch_admin.specs.declared.http.request.Page.TheVariants.{Home, Config, Metrics, Stats}
 use Rattle.watch_admin.specs.declared.http.request.Refusal.{Refusal}
 use Rattle.watch_admin.specs.declared.http.request.Refusal.TheVariants.{Bad, NotFound, NotAllowed, TooLarge}
 use Rattle.watch_admin.specs.declared.http.request.Asked.TheVariants.{For, Refused}
 use Rattle.watch_admin.specs.HttpRequests.{Asks}
 
 abbrev pub kind_of : Page → List ℕ
+kind_of Home = codes "text/html; charset=utf-8"
+kind_of Config = codes "application/json"
 kind_of Metrics = codes "text/plain; version=0.0.4; charset=utf-8"
 kind_of Stats = codes "application/json"
 

@@ -3,13 +3,15 @@ use Rattle.std.specs.Prelude.{◌≡◌, ◌≢◌, ℕ, ◌<◌, ◌≤◌, ◌
 use Rattle.httparse.specs.Grammar.{RequestHead, ReadsRequest, HasNoRequest, NeverHasRequest}
 use Rattle.httparse.specs.Spans.{RequestExceeds}
 use Rattle.watch_admin.specs.declared.http.request.Page.{Page}
-use Rattle.watch_admin.specs.declared.http.request.Page.TheVariants.{Metrics, Stats}
+use Rattle.watch_admin.specs.declared.http.request.Page.TheVariants.{Home, Config, Metrics, Stats}
 use Rattle.watch_admin.specs.declared.http.request.Refusal.TheVariants.{Bad, NotFound, NotAllowed, TooLarge}
 use Rattle.watch_admin.specs.declared.http.request.Asked.{Asked}
 use Rattle.watch_admin.specs.declared.http.request.Asked.TheVariants.{Unfinished, For, Refused}
 
 -- the path of a page
 abbrev pub path_of : Page → List ℕ
+path_of Home = codes "/"
+path_of Config = codes "/config.json"
 path_of Metrics = codes "/metrics"
 path_of Stats = codes "/stats.json"
 

@@ -4,7 +4,8 @@ use Rattle.std.specs.Prelude.{ℕ, List, [], ◌∷◌, ◌++◌, codes, flat_ma
 use Rattle.watch_admin.specs.declared.families.Label.{Label}
 use Rattle.watch_admin.specs.declared.families.Sample.{Sample}
 use Rattle.watch_admin.specs.declared.families.Samples.{Samples}
-use Rattle.watch_admin.specs.declared.families.Samples.TheVariants.{One, Each}
+use Rattle.watch_admin.specs.declared.families.Spread.{Spread}
+use Rattle.watch_admin.specs.declared.families.Samples.TheVariants.{One, Each, Times}
 use Rattle.watch_admin.specs.declared.families.Family.{Family}
 use Rattle.watch_admin.specs.Families.{amount_text}
 use Rattle.watch_admin.specs.Quoted.{quoted}
@@ -30,9 +31,23 @@ each_json (sample ∷ samples) = sample_json sample ++ flat_map next_sample_json
 abbrev pub array_json : List Sample → List ℕ
 array_json samples = codes "[" ++ each_json samples ++ codes "]"
 
+unfoldable pub buckets_json : Spread → List ℕ
+buckets_json spread = codes "{\"le\":" ++ array_json spread.buckets.items
+
+unfoldable pub sums_json : Spread → List ℕ
+sums_json spread = codes ",\"sum\":" ++ array_json spread.sums.items
+
+unfoldable pub counts_json : Spread → List ℕ
+counts_json spread = codes ",\"n\":" ++ array_json spread.counts.items ++ codes "}"
+
+-- {"le":[..],"sum":[..],"n":[..]}
+abbrev pub spread_json : Spread → List ℕ
+spread_json spread = buckets_json spread ++ sums_json spread ++ counts_json spread
+
 abbrev pub samples_json : Samples → List ℕ
 samples_json (One amount) = amount_text amount
 samples_json (Each samples) = array_json samples.items
+samples_json (Times spread) = spread_json spread
 
 -- "NAME":NUMBERS
 abbrev pub family_json : Family → List ℕ

@@ -4,7 +4,8 @@ use Rattle.watch_admin.specs.declared.families.Amount.{Amount}
 use Rattle.watch_admin.specs.declared.families.Label.{Label}
 use Rattle.watch_admin.specs.declared.families.Sample.{Sample}
 use Rattle.watch_admin.specs.declared.families.Samples.{Samples}
-use Rattle.watch_admin.specs.declared.families.Samples.TheVariants.{One, Each}
+use Rattle.watch_admin.specs.declared.families.Spread.{Spread}
+use Rattle.watch_admin.specs.declared.families.Samples.TheVariants.{One, Each, Times}
 use Rattle.watch_admin.specs.declared.families.Family.{Family}
 use Rattle.watch_admin.specs.Families.{amount_text, kind_text}
 use Rattle.watch_admin.specs.Quoted.{quoted}
@@ -21,26 +22,32 @@ abbrev pub labels_text : List Label → List ℕ
 labels_text [] = []
 labels_text (label ∷ labels) = label_text label ++ flat_map next_label_text labels
 
-abbrev pub front_text : List ℕ → List ℕ
-front_text name = name ++ codes "{"
+-- NAMEPART{
+abbrev pub front_text : List ℕ → List ℕ → List ℕ
+front_text name part = name ++ part ++ codes "{"
 
 abbrev pub end_text : Amount → List ℕ
 end_text amount = codes "} " ++ amount_text amount ++ codes "\n"
 
--- NAME{LABELS} AMOUNT
-abbrev pub sample_text : List ℕ → Sample → List ℕ
-sample_text name sample = front_text name ++ labels_text sample.labels.items ++ end_text sample.amount
+-- NAMEPART{LABELS} AMOUNT
+abbrev pub sample_text : List ℕ → List ℕ → Sample → List ℕ
+sample_text name part sample = front_text name part ++ labels_text sample.labels.items ++ end_text sample.amount
 
-abbrev pub each_text : List ℕ → List Sample → List ℕ
-each_text name samples = flat_map (sample_text name) samples
+abbrev pub each_text : List ℕ → List ℕ → List Sample → List ℕ
+each_text name part samples = flat_map (sample_text name part) samples
 
 -- NAME AMOUNT
 abbrev pub one_text : List ℕ → Amount → List ℕ
 one_text name amount = name ++ codes " " ++ amount_text amount ++ codes "\n"
 
+abbrev pub spread_text : List ℕ → Spread → List ℕ
+spread_text name spread =
+    each_text name (codes "_bucket") spread.buckets.items ++ each_text name (codes "_sum") spread.sums.items ++ each_text name (codes "_count") spread.counts.items
+
 abbrev pub samples_text : List ℕ → Samples → List ℕ
 samples_text name (One amount) = one_text name amount
-samples_text name (Each samples) = each_text name samples.items
+samples_text name (Each samples) = each_text name [] samples.items
+samples_text name (Times spread) = spread_text name spread
 
 -- # HELP NAME HELP
 abbrev pub help_text : Family → List ℕ

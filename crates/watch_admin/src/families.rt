@@ -1,7 +1,7 @@
 //! Families of numbers.
 
 ghost use Rattle.std.specs.Prelude.{Some};
-ghost use Rattle.watch_admin.specs.Families.{amount_text, kind_text};
+ghost use Rattle.watch_admin.specs.Families.{three_digits, amount_text, kind_text};
 
 use std::fmt;
 use std::fmt::Display;
@@ -13,6 +13,8 @@ pub enum Amount {
     Count(u64),
     /// So many milliseconds, told in seconds.
     Millis(u64),
+    /// So many microseconds, told in seconds.
+    Micros(u64),
 }
 
 /// What becomes of a number.
@@ -22,6 +24,8 @@ pub enum Kind {
     Counter,
     /// It goes up and down.
     Gauge,
+    /// How often something took how long.
+    Histogram,
 }
 
 /// What tells a number from others of its family.
@@ -47,6 +51,19 @@ pub enum Samples {
     One(Amount),
     /// Those that have labels, which are of the same names.
     Each(Vec<Sample>),
+    /// How often something took how long.
+    Times(Spread),
+}
+
+/// How often something took how long.
+#[derive(Drop)]
+pub struct Spread {
+    /// How often it took no longer than the label `le` says, in seconds.
+    pub buckets: Vec<Sample>,
+    /// How long it took altogether.
+    pub sums: Vec<Sample>,
+    /// How often it was.
+    pub counts: Vec<Sample>,
 }
 
 /// Numbers that tell of one thing.
@@ -60,7 +77,22 @@ pub struct Family {
     pub samples: Samples,
 }
 
-/// The digits of a number; milliseconds are told in seconds, to the third place after the point.
+// The last three digits of a number.
+#[derive(Drop)]
+struct ThreeDigits(u64);
+
+impl Display for ThreeDigits {
+    ghost output = { λ d. Some (three_digits d.0) };
+
+    fn fmt<W: fmt::Write>(&self, f: &mut fmt::Formatter<W>) -> fmt::Result {
+        let hundreds = self.0 / 100 % 10;
+        let tens = self.0 / 10 % 10;
+        let ones = self.0 % 10;
+        write!(f, "{hundreds}{tens}{ones}")
+    }
+}
+
+/// The digits of a number; milliseconds are told in seconds, to the third place after the point, and microseconds to the sixth.
 impl Display for Amount {
     ghost output = { λ a. Some (amount_text a) };
 
@@ -69,16 +101,20 @@ impl Display for Amount {
             Amount::Count(count) => write!(f, "{count}"),
             Amount::Millis(millis) => {
                 let seconds = millis / 1000;
-                let tenths = millis / 100 % 10;
-                let hundredths = millis / 10 % 10;
-                let thousandths = millis % 10;
-                write!(f, "{seconds}.{tenths}{hundredths}{thousandths}")
+                let rest = ThreeDigits(millis);
+                write!(f, "{seconds}.{rest}")
+            }
+            Amount::Micros(micros) => {
+                let seconds = micros / 1_000_000;
+                let millis = ThreeDigits(micros / 1000);
+                let rest = ThreeDigits(micros);
+                write!(f, "{seconds}.{millis}{rest}")
             }
         }
     }
 }
 
-/// `counter` or `gauge`.
+/// `counter`, `gauge` or `histogram`.
 impl Display for Kind {
     ghost output = { λ k. Some (kind_text k) };
 
@@ -86,6 +122,7 @@ impl Display for Kind {
         match *self {
             Kind::Counter => f.write_str("counter"),
             Kind::Gauge => f.write_str("gauge"),
+            Kind::Histogram => f.write_str("histogram"),
         }
     }
 }

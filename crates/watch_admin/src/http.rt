@@ -2,5 +2,6 @@
 
 pub mod answers;
 pub mod exchange;
+pub mod home;
 pub mod request;
 pub mod visitors;

@@ -2,9 +2,9 @@
 
 ghost use Rattle.std.specs.Prelude.{OnOk};
 ghost use Rattle.std.specs.Io.KnownBytes.{Appends};
-ghost use Rattle.watch_admin.specs.Json.{label_json, labels_json, sample_json, each_json, array_json, samples_json, family_json, families_json, object_json};
+ghost use Rattle.watch_admin.specs.Json.{label_json, labels_json, sample_json, each_json, array_json, buckets_json, sums_json, counts_json, spread_json, samples_json, family_json, families_json, object_json};
 
-use crate::families::{Family, Label, Sample, Samples};
+use crate::families::{Family, Label, Sample, Samples, Spread};
 use crate::quoted::Quoted;
 use std::io;
 use std::io::Write;
@@ -60,12 +60,50 @@ fn write_array<W: Write>(samples: &[Sample], out: &mut W) -> io::Result<()>
     write!(out, "]")
 }
 
+// Writes `{"le":[..]`.
+#[tactic(auto, unfolding(crate::specs::Json::buckets_json))]
+fn write_buckets<W: Write>(spread: &Spread, out: &mut W) -> io::Result<()>
+    ensures { OnOk result (Appends (W.contents out.old) (W.contents out.new) (buckets_json spread.now)) }
+{
+    write!(out, "{{\"le\":")?;
+    write_array(spread.buckets.as_slice(), out)
+}
+
+// Writes `,"sum":[..]`.
+#[tactic(auto, unfolding(crate::specs::Json::sums_json))]
+fn write_sums<W: Write>(spread: &Spread, out: &mut W) -> io::Result<()>
+    ensures { OnOk result (Appends (W.contents out.old) (W.contents out.new) (sums_json spread.now)) }
+{
+    write!(out, ",\"sum\":")?;
+    write_array(spread.sums.as_slice(), out)
+}
+
+// Writes `,"n":[..]}`.
+#[tactic(auto, unfolding(crate::specs::Json::counts_json))]
+fn write_counts<W: Write>(spread: &Spread, out: &mut W) -> io::Result<()>
+    ensures { OnOk result (Appends (W.contents out.old) (W.contents out.new) (counts_json spread.now)) }
+{
+    write!(out, ",\"n\":")?;
+    write_array(spread.counts.as_slice(), out)?;
+    write!(out, "}}")
+}
+
+// Writes `{"le":[..],"sum":[..],"n":[..]}`.
+fn write_spread<W: Write>(spread: &Spread, out: &mut W) -> io::Result<()>
+    ensures { OnOk result (Appends (W.contents out.old) (W.contents out.new) (spread_json spread.now)) }
+{
+    write_buckets(spread, out)?;
+    write_sums(spread, out)?;
+    write_counts(spread, out)
+}
+
 fn write_samples<W: Write>(samples: &Samples, out: &mut W) -> io::Result<()>
     ensures { OnOk result (Appends (W.contents out.old) (W.contents out.new) (samples_json samples.now)) }
 {
     match samples {
         Samples::One(amount) => write!(out, "{amount}"),
         Samples::Each(samples) => write_array(samples.as_slice(), out),
+        Samples::Times(spread) => write_spread(spread, out),
     }
 }
 
@@ -94,7 +132,7 @@ fn write_families<W: Write>(families: &[Family], out: &mut W) -> io::Result<()>
 }
 
 /// Writes families as a JSON object, a line for each: under its name is its only number, or an array of objects, each with the labels
-/// of a number and the number under `value`.
+/// of a number and the number under `value`, or an object of three such arrays.
 pub fn write_json<W: Write>(families: &[Family], out: &mut W) -> io::Result<()>
     ensures { OnOk result (Appends (W.contents out.old) (W.contents out.new) (object_json families.now)) }
 {

@@ -7,6 +7,8 @@ pub mod families;
 pub mod http;
 pub mod json;
 pub mod numbers;
+pub mod places;
 pub mod prometheus;
 pub mod quoted;
+pub mod sending;
 pub mod times;

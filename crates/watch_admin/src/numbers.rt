@@ -1,6 +1,6 @@
 //! What a running proxy tells of itself, and the families of these numbers.
 
-use crate::families::{Amount, Family, Kind, Label, Sample, Samples};
+use crate::families::{Amount, Family, Kind, Label, Sample, Samples, Spread};
 use std::alloc::{AllocError, Global};
 
 /// The program and what it uses.
@@ -68,19 +68,38 @@ pub struct FailureNumbers {
     pub count: u64,
 }
 
+/// Answers of a server that took up to so long.
+#[derive(Drop)]
+pub struct SpanNumbers {
+    /// In seconds, or `+Inf`.
+    pub most: String,
+    /// How many took that long, and longer than those of the row before.
+    pub count: u64,
+}
+
 /// One of its servers.
 #[derive(Drop)]
 pub struct ServerNumbers {
     /// Its text in the configuration.
     pub text: String,
-    /// Whether a connection to it stands.
+    /// Whether a connection to it stands, and no answer of it is late.
     pub is_up: bool,
+    /// Whether answers of it are late.
+    pub is_late: bool,
     /// How many connections to it stood.
     pub connections: u64,
     /// How many calls are out.
     pub calls_out: u64,
     /// How often its link failed, a row for each cause.
     pub failures: Vec<FailureNumbers>,
+    /// How many calls that went out to it were answered.
+    pub answered: u64,
+    /// How many have failed.
+    pub failed: u64,
+    /// How long those took altogether that were answered.
+    pub answer_micros: u64,
+    /// How many of them took how long, the shortest ones first.
+    pub spans: Vec<SpanNumbers>,
 }
 
 /// What a running proxy tells of itself.
@@ -303,6 +322,7 @@ fn add_commands(
 #[derive(Clone, Copy)]
 enum ServerCount {
     Up,
+    Late,
     Connections,
     CallsOut,
 }
@@ -310,6 +330,7 @@ enum ServerCount {
 fn server_count(server: &ServerNumbers, what: ServerCount) -> u64 {
     match what {
         ServerCount::Up => u64::from(server.is_up),
+        ServerCount::Late => u64::from(server.is_late),
         ServerCount::Connections => server.connections,
         ServerCount::CallsOut => server.calls_out,
     }
@@ -348,6 +369,94 @@ fn failures_of(alloc: Global, servers: &[ServerNumbers]) -> Result<Vec<Sample>, 
     Ok(samples)
 }
 
+// How many calls of a server that went out were answered, and how many have failed.
+fn add_outcomes(
+    alloc: Global,
+    server: &ServerNumbers,
+    samples: &mut Vec<Sample>,
+) -> Result<(), AllocError> {
+    let mut answered = server_sample(alloc, server, server.answered)?;
+    answered.labels.push(label(alloc, "outcome", "answered")?)?;
+    samples.push(answered)?;
+    let mut failed = server_sample(alloc, server, server.failed)?;
+    failed.labels.push(label(alloc, "outcome", "failed")?)?;
+    samples.push(failed)?;
+    Ok(())
+}
+
+fn outcomes_of(alloc: Global, servers: &[ServerNumbers]) -> Result<Vec<Sample>, AllocError> {
+    let mut samples = Vec::new(alloc);
+    for server in servers {
+        add_outcomes(alloc, server, &mut samples)?;
+    }
+    Ok(samples)
+}
+
+// How many answers of a server took at most how long.
+fn add_buckets(
+    alloc: Global,
+    server: &ServerNumbers,
+    samples: &mut Vec<Sample>,
+) -> Result<(), AllocError> {
+    let mut count = 0u64;
+    for span in &server.spans {
+        count = count.saturating_add(span.count);
+        let mut bucket = server_sample(alloc, server, count)?;
+        bucket.labels.push(label(alloc, "le", span.most.as_str())?)?;
+        samples.push(bucket)?;
+    }
+    Ok(())
+}
+
+// How long the answers of a server took.
+fn add_spread(
+    alloc: Global,
+    server: &ServerNumbers,
+    spread: &mut Spread,
+) -> Result<(), AllocError> {
+    add_buckets(alloc, server, &mut spread.buckets)?;
+    let mut sum = server_sample(alloc, server, 0)?;
+    sum.amount = Amount::Micros(server.answer_micros);
+    spread.sums.push(sum)?;
+    spread
+        .counts
+        .push(server_sample(alloc, server, server.answered)?)?;
+    Ok(())
+}
+
+fn spread_of(alloc: Global, servers: &[ServerNumbers]) -> Result<Spread, AllocError> {
+    let mut spread = Spread {
+        buckets: Vec::new(alloc),
+        sums: Vec::new(alloc),
+        counts: Vec::new(alloc),
+    };
+    for server in servers {
+        add_spread(alloc, server, &mut spread)?;
+    }
+    Ok(spread)
+}
+
+// The calls of servers that went out.
+fn add_calls(
+    alloc: Global,
+    servers: &[ServerNumbers],
+    families: &mut Vec<Family>,
+) -> Result<(), AllocError> {
+    families.push(each(
+        "mcgate_server_calls_total",
+        Kind::Counter,
+        "Calls that went out to the server, by what became of them.",
+        outcomes_of(alloc, servers)?,
+    ))?;
+    families.push(Family {
+        name: "mcgate_server_call_seconds",
+        kind: Kind::Histogram,
+        help: "How long the server's answers took, from when the call went out.",
+        samples: Samples::Times(spread_of(alloc, servers)?),
+    })?;
+    Ok(())
+}
+
 fn add_servers(
     alloc: Global,
     servers: &[ServerNumbers],
@@ -358,6 +467,12 @@ fn add_servers(
         Kind::Gauge,
         "1 where a connection to the server stands.",
         server_samples(alloc, servers, ServerCount::Up)?,
+    ))?;
+    families.push(each(
+        "mcgate_server_late",
+        Kind::Gauge,
+        "1 while answers of the server to calls that have failed are still to come.",
+        server_samples(alloc, servers, ServerCount::Late)?,
     ))?;
     families.push(each(
         "mcgate_server_connections_total",
@@ -377,7 +492,7 @@ fn add_servers(
         "Failures of the link to the server, by cause.",
         failures_of(alloc, servers)?,
     ))?;
-    Ok(())
+    add_calls(alloc, servers, families)
 }
 
 /// The families of these numbers. The only error is that memory was refused.

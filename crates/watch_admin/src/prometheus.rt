@@ -2,9 +2,9 @@
 
 ghost use Rattle.std.specs.Prelude.{OnOk};
 ghost use Rattle.std.specs.Io.KnownBytes.{Appends};
-ghost use Rattle.watch_admin.specs.Prometheus.{label_text, labels_text, front_text, end_text, sample_text, each_text, one_text, samples_text, help_text, type_text, family_text, families_text};
+ghost use Rattle.watch_admin.specs.Prometheus.{label_text, labels_text, front_text, end_text, sample_text, each_text, one_text, spread_text, samples_text, help_text, type_text, family_text, families_text};
 
-use crate::families::{Amount, Family, Label, Sample, Samples};
+use crate::families::{Amount, Family, Label, Sample, Samples, Spread};
 use crate::quoted::Quoted;
 use std::io;
 use std::io::Write;
@@ -32,10 +32,10 @@ fn write_labels<W: Write>(labels: &[Label], out: &mut W) -> io::Result<()>
     Ok(())
 }
 
-fn write_front<W: Write>(name: &str, out: &mut W) -> io::Result<()>
-    ensures { OnOk result (Appends (W.contents out.old) (W.contents out.new) (front_text name.now)) }
+fn write_front<W: Write>(name: &str, part: &str, out: &mut W) -> io::Result<()>
+    ensures { OnOk result (Appends (W.contents out.old) (W.contents out.new) (front_text name.now part.now)) }
 {
-    write!(out, "{name}{{")
+    write!(out, "{name}{part}{{")
 }
 
 fn write_amount<W: Write>(amount: Amount, out: &mut W) -> io::Result<()>
@@ -44,20 +44,20 @@ fn write_amount<W: Write>(amount: Amount, out: &mut W) -> io::Result<()>
     writeln!(out, "}} {amount}")
 }
 
-// Writes `NAME{LABELS} AMOUNT`.
-fn write_sample<W: Write>(name: &str, sample: &Sample, out: &mut W) -> io::Result<()>
-    ensures { OnOk result (Appends (W.contents out.old) (W.contents out.new) (sample_text name.now sample.now)) }
+// Writes `NAMEPART{LABELS} AMOUNT`.
+fn write_sample<W: Write>(name: &str, part: &str, sample: &Sample, out: &mut W) -> io::Result<()>
+    ensures { OnOk result (Appends (W.contents out.old) (W.contents out.new) (sample_text name.now part.now sample.now)) }
 {
-    write_front(name, out)?;
+    write_front(name, part, out)?;
     write_labels(sample.labels.as_slice(), out)?;
     write_amount(sample.amount, out)
 }
 
-fn write_each<W: Write>(name: &str, samples: &[Sample], out: &mut W) -> io::Result<()>
-    ensures { OnOk result (Appends (W.contents out.old) (W.contents out.new) (each_text name.now samples.now)) }
+fn write_each<W: Write>(name: &str, part: &str, samples: &[Sample], out: &mut W) -> io::Result<()>
+    ensures { OnOk result (Appends (W.contents out.old) (W.contents out.new) (each_text name.now part.now samples.now)) }
 {
     for sample in samples {
-        write_sample(name, sample, out)?;
+        write_sample(name, part, sample, out)?;
     }
     Ok(())
 }
@@ -68,12 +68,22 @@ fn write_one<W: Write>(name: &str, amount: Amount, out: &mut W) -> io::Result<()
     writeln!(out, "{name} {amount}")
 }
 
+// Writes its buckets, its sums, and its counts.
+fn write_spread<W: Write>(name: &str, spread: &Spread, out: &mut W) -> io::Result<()>
+    ensures { OnOk result (Appends (W.contents out.old) (W.contents out.new) (spread_text name.now spread.now)) }
+{
+    write_each(name, "_bucket", spread.buckets.as_slice(), out)?;
+    write_each(name, "_sum", spread.sums.as_slice(), out)?;
+    write_each(name, "_count", spread.counts.as_slice(), out)
+}
+
 fn write_samples<W: Write>(name: &str, samples: &Samples, out: &mut W) -> io::Result<()>
     ensures { OnOk result (Appends (W.contents out.old) (W.contents out.new) (samples_text name.now samples.now)) }
 {
     match samples {
         Samples::One(amount) => write_one(name, *amount, out),
-        Samples::Each(samples) => write_each(name, samples.as_slice(), out),
+        Samples::Each(samples) => write_each(name, "", samples.as_slice(), out),
+        Samples::Times(spread) => write_spread(name, spread, out),
     }
 }
 

@@ -6,6 +6,7 @@ ghost use Rattle.wire_parts.specs.Sending.{bytes_of};
 ghost use Rattle.wire_parts.specs.Stream.{Stands, Closed, extended};
 ghost use Rattle.wire_stream.specs.Held.{held_at};
 ghost use Rattle.cache_tcp.specs.Steps.{RunsOn, Stops, IsAnswered, IsWithin, at_front, spot_at};
+ghost use Rattle.cache_tcp.specs.Flushing.{IsBetween};
 
 use crate::connection::moment::Moment;
 use crate::connection::serve::serve;
@@ -58,7 +59,7 @@ impl Served {
 
     /// Whether no message is begun: nothing came that isn't answered yet. It takes no memory.
     pub fn is_between(&self) -> bool
-        ensures { result ≡ true → (held_at self.now.place ≡ []) × (self.now.count ≡ 0) }
+        ensures { result ≡ true → IsBetween self.now }
     {
         self.answered == 0 && self.stream.held_len() == 0 && !self.stream.is_closed()
     }

@@ -21,10 +21,12 @@ call classic => sent
 asked => get a\r\nget b\r\n
 oldest => 7
 answer EN => more
+came 7250
 answer END\r\nHELLO\r\n => client 0 by 5
 answer HELLO\r\n => foreign
 fail => client 0
 fail => none
+counts => 1 in 250: 0 1 0 0 0 0 0 0 0 0 0, 1 failed
 answer END\r\n => foreign
 poll => did
 poll => did
@@ -35,9 +37,12 @@ feed get a\r\nget b\r\n
 call classic => sent
 call meta => sent
 asked => get a\r\nmg b k f v\r\n
+came 7100
 answer END\r\nVA 1 kb f5\r\n => client 0 by 5
 answer VA 1 kb f5\r\n => more
+came 1007001
 answer VA 1 kb f5\r\nx\r\n => client 0 by 15
+counts => 2 in 1000101: 1 0 0 0 0 0 0 0 0 0 1, 0 failed
 poll => did
 poll => did
 output => END\r\nVALUE b 5 1\r\nx\r\nEND\r\n"
@@ -137,7 +142,7 @@ impl Link {
             bulk: 0,
             dialect,
         };
-        match self.calls.begin(call, &mut self.asked) {
+        match self.calls.begin(call, 7_000, &mut self.asked) {
             Ok(()) => "sent",
             Err(_call) => "not sent",
         }
@@ -174,6 +179,23 @@ impl Link {
         }
     }
 
+    // Bytes come at this time, in microseconds.
+    fn come(&mut self, text: &str) -> &'static str {
+        self.calls.note_came(text.parse::<u64>().unwrap_or(0));
+        ""
+    }
+
+    // How many calls were answered in how many microseconds, how many of these took how long, and how many have failed.
+    fn counts(&self) -> Result<String, Fail> {
+        let tally = self.calls.tally();
+        let mut text = format!(in self.alloc; "{} in {}:", tally.answered, tally.micros)?;
+        for count in tally.spans() {
+            write!(text, " {count}")?;
+        }
+        write!(text, ", {} failed", tally.failed)?;
+        Ok(text)
+    }
+
     fn output(&mut self) -> Result<String, Fail> {
         match self.core.take_output(0) {
             Ok(bytes) => shown(self.alloc, bytes.as_slice()),
@@ -186,6 +208,7 @@ impl Link {
             "feed" => self.feed(text),
             "call" => Ok(self.call(dialect_of(text))),
             "poll" => Ok(self.poll()),
+            "came" => Ok(self.come(text)),
             _ => Err("no such event")?,
         }
     }
@@ -199,6 +222,7 @@ impl Stage for Link {
             "oldest" => number_text(self.alloc, "", self.calls.oldest()),
             "answer" => self.settle(text),
             "fail" => self.fail(),
+            "counts" => self.counts(),
             "output" => self.output(),
             _ => Ok(self.word(verb, text)?.to_string(self.alloc)?),
         }

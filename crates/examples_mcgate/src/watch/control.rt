@@ -16,6 +16,9 @@ status⏎ => status
 servers⏎ => servers
 where a:b⏎ => where a:b
 where  a⏎ => where  a
+log debug⏎ => log debug
+log ⏎ => log 
+log⏎ => unknown
 drain⏎reload⏎ => drain
  => more
 drain => more
@@ -36,15 +39,19 @@ fn request_word(line: &[u8]) -> &'static str {
         Request::Status => "status",
         Request::Servers => "servers",
         Request::Where(_) => "where ",
+        Request::Log(_) => "log ",
         Request::Unknown => "unknown",
     }
 }
 
-// What a line asks for, and the key after `where`.
+// What a line asks for, and the key after `where`, or the level after `log`.
 fn told_of(alloc: Global, line: &[u8]) -> Result<String, AllocError> {
     let mut told = String::from_str(alloc, request_word(line))?;
-    if let Request::Where(key) = request_of(line) {
-        told.push_str(std::str::from_utf8(key).unwrap_or("?"))?;
+    match request_of(line) {
+        Request::Where(more) | Request::Log(more) => {
+            told.push_str(std::str::from_utf8(more).unwrap_or("?"))?;
+        }
+        _ => {}
     }
     Ok(told)
 }

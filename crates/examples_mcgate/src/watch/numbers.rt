@@ -7,7 +7,7 @@ use watch_admin::families::Family;
 use watch_admin::json::write_json;
 use watch_admin::numbers::{
     ClientNumbers, CommandNumbers, ConfigNumbers, FailureNumbers, Numbers, ProcessNumbers,
-    ServerNumbers, families_of,
+    ServerNumbers, SpanNumbers, families_of,
 };
 use watch_admin::prometheus::write_prometheus;
 
@@ -57,6 +57,9 @@ mcgate_commands_total{op="get",reply="other"} 13
 # HELP mcgate_server_up 1 where a connection to the server stands.
 # TYPE mcgate_server_up gauge
 mcgate_server_up{server="\"a\\:1?"} 1
+# HELP mcgate_server_late 1 while answers of the server to calls that have failed are still to come.
+# TYPE mcgate_server_late gauge
+mcgate_server_late{server="\"a\\:1?"} 0
 # HELP mcgate_server_connections_total Connections to the server that stood.
 # TYPE mcgate_server_connections_total counter
 mcgate_server_connections_total{server="\"a\\:1?"} 14
@@ -66,6 +69,16 @@ mcgate_server_calls_out{server="\"a\\:1?"} 15
 # HELP mcgate_server_failures_total Failures of the link to the server, by cause.
 # TYPE mcgate_server_failures_total counter
 mcgate_server_failures_total{server="\"a\\:1?",cause="closed"} 16
+# HELP mcgate_server_calls_total Calls that went out to the server, by what became of them.
+# TYPE mcgate_server_calls_total counter
+mcgate_server_calls_total{server="\"a\\:1?",outcome="answered"} 18
+mcgate_server_calls_total{server="\"a\\:1?",outcome="failed"} 19
+# HELP mcgate_server_call_seconds How long the server's answers took, from when the call went out.
+# TYPE mcgate_server_call_seconds histogram
+mcgate_server_call_seconds_bucket{server="\"a\\:1?",le="0.0001"} 10
+mcgate_server_call_seconds_bucket{server="\"a\\:1?",le="+Inf"} 18
+mcgate_server_call_seconds_sum{server="\"a\\:1?"} 3.004050
+mcgate_server_call_seconds_count{server="\"a\\:1?"} 18
 # HELP mcgate_scrapes_total Requests for these numbers that were answered before.
 # TYPE mcgate_scrapes_total counter
 mcgate_scrapes_total 17
@@ -86,9 +99,12 @@ fn stats() -> &'static str {
 "mcgate_client_bytes_total":[{"direction":"in","value":10},{"direction":"out","value":18446744073709551615}],
 "mcgate_commands_total":[{"op":"get","reply":"item","value":11},{"op":"get","reply":"acknowledged","value":12},{"op":"get","reply":"other","value":13}],
 "mcgate_server_up":[{"server":"\"a\\:1?","value":1}],
+"mcgate_server_late":[{"server":"\"a\\:1?","value":0}],
 "mcgate_server_connections_total":[{"server":"\"a\\:1?","value":14}],
 "mcgate_server_calls_out":[{"server":"\"a\\:1?","value":15}],
 "mcgate_server_failures_total":[{"server":"\"a\\:1?","cause":"closed","value":16}],
+"mcgate_server_calls_total":[{"server":"\"a\\:1?","outcome":"answered","value":18},{"server":"\"a\\:1?","outcome":"failed","value":19}],
+"mcgate_server_call_seconds":{"le":[{"server":"\"a\\:1?","le":"0.0001","value":10},{"server":"\"a\\:1?","le":"+Inf","value":18}],"sum":[{"server":"\"a\\:1?","value":3.004050}],"n":[{"server":"\"a\\:1?","value":18}]},
 "mcgate_scrapes_total":17}
 "#
 }
@@ -114,6 +130,19 @@ fn commands(alloc: Global) -> Result<Vec<CommandNumbers>, AllocError> {
     Ok(commands)
 }
 
+fn spans(alloc: Global) -> Result<Vec<SpanNumbers>, AllocError> {
+    let mut spans = Vec::new(alloc);
+    spans.push(SpanNumbers {
+        most: String::from_str(alloc, "0.0001")?,
+        count: 10,
+    })?;
+    spans.push(SpanNumbers {
+        most: String::from_str(alloc, "+Inf")?,
+        count: 8,
+    })?;
+    Ok(spans)
+}
+
 fn servers(alloc: Global) -> Result<Vec<ServerNumbers>, AllocError> {
     let mut failures = Vec::new(alloc);
     failures.push(FailureNumbers {
@@ -124,9 +153,14 @@ fn servers(alloc: Global) -> Result<Vec<ServerNumbers>, AllocError> {
     servers.push(ServerNumbers {
         text: String::from_str(alloc, "\"a\\:1\n")?,
         is_up: true,
+        is_late: false,
         connections: 14,
         calls_out: 15,
         failures,
+        answered: 18,
+        failed: 19,
+        answer_micros: 3_004_050,
+        spans: spans(alloc)?,
     })?;
     Ok(servers)
 }

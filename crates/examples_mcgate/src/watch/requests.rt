@@ -18,7 +18,10 @@ GET /metrics HTTP/1.0⏎Host: a:1⏎Accept: */*⏎⏎ => metrics
 GET => unfinished
 GET /metrics HTTP/1.1⏎ => unfinished
 GET /metrics HTTP/1.1⏎Host: a:1⏎ => unfinished
-GET / HTTP/1.1⏎⏎ => 404
+GET / HTTP/1.1⏎⏎ => home
+GET /config.json HTTP/1.1⏎⏎ => config
+GET /index.html HTTP/1.1⏎⏎ => 404
+GET /? HTTP/1.1⏎⏎ => 404
 GET /metrics/ HTTP/1.1⏎⏎ => 404
 GET /metrics?name=a HTTP/1.1⏎⏎ => 404
 GET /Metrics HTTP/1.1⏎⏎ => 404
@@ -40,6 +43,8 @@ GET /«8200 a» => 431"
 fn told_of(asked: Asked) -> &'static str {
     match asked {
         Asked::Unfinished => "unfinished",
+        Asked::For(Page::Home) => "home",
+        Asked::For(Page::Config) => "config",
         Asked::For(Page::Metrics) => "metrics",
         Asked::For(Page::Stats) => "stats",
         Asked::Refused(Refusal::Bad) => "400",
@@ -107,7 +112,11 @@ fn sent_after(alloc: Global, asking: Asking, bytes: &[u8]) -> io::Result<usize> 
         return Ok(2);
     }
     match asking.take(alloc, bytes)? {
-        Exchange::Waiting(waiting) => Ok(waiting.answer(alloc, b"x")?.rest().len()),
+        Exchange::Waiting(waiting) => {
+            let mut sent = Vec::new(alloc);
+            waiting.answer(alloc, b"x")?.send(&mut sent)?;
+            Ok(sent.len())
+        }
         _ => Ok(3),
     }
 }

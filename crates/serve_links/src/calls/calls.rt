@@ -12,8 +12,11 @@ ghost use Rattle.serve_links.specs.Calls.{IsReadFor, IsReadNext, IsFirstLate, Is
 ghost use Rattle.mc_types.specs.declared.call.Outcome.TheVariants.{Failed};
 ghost use Rattle.std.specs.List.{Any};
 ghost use Rattle.serve_links.specs.Lateness.{IsLate};
+ghost use Rattle.serve_links.specs.Counting.{with_first, with_next};
 
 use crate::calls::sending::send_ask;
+use crate::calls::times::CallTimes;
+use crate::tally::CallTally;
 use core_accepted::ServedCore;
 use core_proxy::Ticket;
 use mc_types::{Ask, Dialect, Op, Outcome, SharedAsk, SpareBodies, is_ask};
@@ -97,6 +100,7 @@ pub struct LinkCalls {
     forms: MetaForms,
     // Bodies of earlier answers, for later ones.
     spares: SpareBodies,
+    times: CallTimes,
 }
 
 /// A call that could not go out has failed.
@@ -248,6 +252,7 @@ impl LinkCalls {
             expects: 0,
             forms: MetaForms::new(),
             spares: SpareBodies::new(alloc),
+            times: CallTimes::new(alloc),
         }
     }
 
@@ -343,14 +348,14 @@ impl LinkCalls {
     /// The call's ask is appended in its dialect to what is to be sent, and the call is after those that are out. Large data of a store
     /// aren't copied, as [`send_ask`] says.
     ///
-    /// Where memory was refused the call is given back, and nothing has changed.
+    /// Where memory was refused the call is given back, and nothing has changed. `now` is in microseconds.
     ///
     /// Source: mcgate's own.
-    pub fn begin(&mut self, call: SentCall, out: &mut SendBuffer) -> Result<(), SentCall>
+    pub fn begin(&mut self, call: SentCall, now: u64, out: &mut SendBuffer) -> Result<(), SentCall>
         ensures ok { OnOk result ((self.new.sent.items ≡ self.old.sent.items ++ call ∷ []) × (bytes_of out.new ≡ bytes_of out.old ++ spelling_of (asked_in call.dialect call.ticket.ask))) }
         ensures err { IfErr result (λ given. (given ≡ call) × (self.new.sent.items ≡ self.old.sent.items) × (bytes_of out.new ≡ bytes_of out.old)) }
     {
-        if self.sent.reserve(1).is_err() {
+        if self.sent.reserve(1).is_err() || self.times.reserve().is_err() {
             return Err(call);
         }
         let ask = call.ticket.ask.get();
@@ -359,20 +364,35 @@ impl LinkCalls {
         }
         self.bulk_out = self.bulk_out.saturating_add(call.bulk);
         self.sent.push_back_reserved(call);
+        self.times.note_gone(now);
         Ok(())
     }
 
+    /// Bytes of the server came now, in microseconds.
+    pub fn note_came(&mut self, now: u64)
+        ensures { self.new.sent ≡ self.old.sent }
+    {
+        self.times.note_came(now);
+    }
+
+    /// What has become of those that were out.
+    pub fn tally(&self) -> CallTally {
+        self.times.tally()
+    }
+
     // The first call had this outcome: whose it was.
-    #[tactic(auto, using(crate::proofs::CallOrder::popped, crate::proofs::CallOrder::fits_popped))]
+    #[tactic(auto, using(crate::proofs::CallOrder::popped, crate::proofs::CallOrder::fits_popped, crate::proofs::Counted::counts_first, crate::proofs::Counted::counts_none))]
     fn settle_first(&mut self, core: &mut ServedCore, outcome: Outcome) -> Option<usize>
         requires { FitsFirst self.old.sent.items core.old.core outcome }
-        ensures { SettlesFirst self.old.sent.items core.old outcome result self.new.sent.items core.new }
+        ensures settles { SettlesFirst self.old.sent.items core.old outcome result self.new.sent.items core.new }
+        ensures counts { self.new.times.tally ≡ with_first self.old.sent.items outcome self.old.times }
     {
         match self.sent.pop_front() {
             None => None,
             Some(call) => {
                 let client = call.client;
                 self.bulk_out = self.bulk_out.saturating_sub(call.bulk);
+                self.times.note_settled(&outcome);
                 let _ = core.settle(call.ticket, outcome);
                 Some(client)
             }
@@ -387,7 +407,8 @@ impl LinkCalls {
     ///
     /// Source: mcgate's own.
     pub fn settle_next(&mut self, core: &mut ServedCore, received: &Received) -> Next
-        ensures { SettlesNext self.old.sent.items received.now core.old result self.new.sent.items core.new }
+        ensures settles { SettlesNext self.old.sent.items received.now core.old result self.new.sent.items core.new }
+        ensures counts { self.new.times.tally ≡ with_next result self.old.times }
     {
         let Some((number, dialect)) = self.first_asked() else {
             return Next::Foreign;

@@ -383,6 +383,10 @@ impl Wire for Memory {
         self.shown
     }
 
+    fn last_micros(&self) -> u64 {
+        self.shown.saturating_mul(1000)
+    }
+
     fn wait(&mut self, limit: Option<Duration>) -> io::Result<usize> {
         self.look()?;
         if self.reports.is_empty() {

@@ -62,8 +62,9 @@ pub struct Sockets {
     start: Instant,
     // Whether the last wait told of a descriptor for which a wait ends.
     is_woken: bool,
-    // What the clock showed last.
+    // What the clock showed last, in milliseconds and in microseconds.
     shown: u64,
+    micros: u64,
     log: Record,
     ghost clock: { shown ≡ time log.events },
     ghost fresh: { (c : ℕ) → count * 16777216 ≤ c → IsNew c log.events × (is_open c log.events ≡ false) },
@@ -253,6 +254,7 @@ impl Sockets {
             start,
             is_woken: false,
             shown: 0,
+            micros: 0,
             log: Record::new(),
         })
     }
@@ -281,8 +283,9 @@ impl Wire for Sockets {
     ghost history = { λ s. s.log.events };
 
     fn millis<C: Clock>(&mut self, clock: &C) -> io::Result<u64> {
-        let millis = self.start.elapsed(clock)?.as_millis();
-        let millis = u64::try_from(millis).unwrap_or(u64::MAX);
+        let elapsed = self.start.elapsed(clock)?;
+        let millis = u64::try_from(elapsed.as_millis()).unwrap_or(u64::MAX);
+        self.micros = u64::try_from(elapsed.as_micros()).unwrap_or(u64::MAX);
         self.log.note(&[TICKS, 0, millis], &[]);
         self.shown = millis;
         Ok(millis)
@@ -290,6 +293,10 @@ impl Wire for Sockets {
 
     fn last_millis(&self) -> u64 {
         self.shown
+    }
+
+    fn last_micros(&self) -> u64 {
+        self.micros
     }
 
     fn wait(&mut self, limit: Option<Duration>) -> io::Result<usize> {

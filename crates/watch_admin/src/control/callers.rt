@@ -1,31 +1,19 @@
 //! Those who ask: their connections, of which there are 16 at most. A line has 5 seconds to come, and an answer 5 to be taken.
 
-ghost use Rattle.std.specs.Prelude.{◌≡◌, IfOk, length};
+ghost use Rattle.std.specs.Prelude.{◌≡◌, length};
 
 use crate::control::answers::Verdict;
-use crate::control::exchange::{Answering, Exchange};
+use crate::control::exchange::{Exchange, answering};
+use crate::places::{ACCEPTS, EVENTS, LISTENER, MOST_MS, PLACES, free_places};
+use crate::sending::Sending;
 use mio::net::{UnixListener, UnixStream};
 use mio::{Events, Interest, Poll, Token};
-use std::alloc::{AllocError, Global};
+use std::alloc::Global;
 use std::io;
-use std::io::{ErrorKind, Read, Write};
+use std::io::{ErrorKind, Read};
 use std::net::Net;
 use std::os::fd::{AsRawFd, RawFd};
 use std::time::Duration;
-
-/// So many may be there at once.
-pub const PLACES: usize = 16;
-
-// So many milliseconds a line may take to come, and an answer to be taken.
-const MOST_MS: u64 = 5_000;
-
-// So many are accepted in a turn.
-const ACCEPTS: usize = 64;
-
-// No wait tells of more.
-const EVENTS: usize = 64;
-
-const LISTENER: Token = Token(PLACES);
 
 #[derive(Drop)]
 struct Caller {
@@ -51,17 +39,10 @@ fn read(alloc: Global, mut stream: &UnixStream, came: Vec<u8>) -> io::Result<Opt
 }
 
 // It is sent what it takes. Where it stands then, if it stays: not once all was sent.
-fn send(mut stream: &UnixStream, answering: Answering) -> io::Result<Option<Exchange>> {
-    let mut answering = answering;
-    for _ in 0..answering.rest().len() {
-        match stream.write(answering.rest()) {
-            Ok(0) => return Ok(None),
-            Ok(count) => answering.advance(count),
-            Err(error) if error.kind() == ErrorKind::WouldBlock => {
-                return Ok(Some(Exchange::Answering(answering)));
-            }
-            Err(error) => return Err(error),
-        }
+fn send(mut stream: &UnixStream, sending: Sending) -> io::Result<Option<Exchange>> {
+    let mut sending = sending;
+    if sending.send(&mut stream)? {
+        return Ok(Some(Exchange::Answering(sending)));
     }
     Ok(None)
 }
@@ -72,7 +53,7 @@ fn go_on(alloc: Global, stream: &UnixStream, exchange: Exchange) -> io::Result<O
         Exchange::Asking(came) => read(alloc, stream, came),
         Exchange::Asked(text) => Ok(Some(Exchange::Asked(text))),
         Exchange::Owed => Ok(Some(Exchange::Owed)),
-        Exchange::Answering(answering) => send(stream, answering),
+        Exchange::Answering(sending) => send(stream, sending),
     }
 }
 
@@ -83,8 +64,8 @@ fn answer(
     verdict: Verdict,
     text: &[u8],
 ) -> io::Result<Option<Exchange>> {
-    let answering = Answering::new(alloc, verdict, text)?;
-    send(stream, answering)
+    let sending = answering(alloc, verdict, text)?;
+    send(stream, sending)
 }
 
 impl Caller {
@@ -164,17 +145,6 @@ pub struct Callers {
     // What was told last of the time, in milliseconds.
     now: u64,
     ghost bounded: { length places.items ≡ 16 },
-}
-
-// So many places, each of which is free.
-fn free_places(alloc: Global) -> Result<Vec<Option<Caller>>, AllocError>
-    ensures { IfOk result (λ places. length places.items ≡ PLACES) }
-{
-    let mut places = Vec::new(alloc);
-    for _ in 0..PLACES {
-        places.push(None)?;
-    }
-    Ok(places)
 }
 
 impl Callers {

@@ -1,19 +1,12 @@
 //! What came of one who asks, and the answer.
 
-ghost use Rattle.std.specs.Prelude.{◌≡◌, ◌≤◌, ◌+◌, ◌++◌, [], IfOk, length, drop};
+ghost use Rattle.std.specs.Prelude.{◌≡◌, IfOk};
 ghost use Rattle.watch_admin.specs.ControlAnswers.{answer_of};
 
 use crate::control::answers::{Verdict, put_answer};
+use crate::sending::Sending;
 use std::alloc::{AllocError, Global};
 use text_words::{Line, line};
-
-/// One that is sent an answer.
-#[derive(Drop)]
-pub struct Answering {
-    answer: Vec<u8>,
-    sent: usize,
-    ghost within: { sent ≤ length answer.items },
-}
 
 /// Where one who asks stands.
 #[derive(Drop)]
@@ -25,7 +18,7 @@ pub enum Exchange {
     /// Its line is being worked on.
     Owed,
     /// It is sent an answer.
-    Answering(Answering),
+    Answering(Sending),
 }
 
 impl Exchange {
@@ -43,30 +36,12 @@ impl Exchange {
     }
 }
 
-impl Answering {
-    /// The answer of this verdict and text. The only error is that memory was refused.
-    pub fn new(alloc: Global, verdict: Verdict, text: &[u8]) -> Result<Answering, AllocError>
-        ensures answer { IfOk result (λ answering. answering.answer.items ≡ answer_of verdict text.now) }
-        ensures sent { IfOk result (λ answering. answering.sent ≡ 0) }
-    {
-        let mut answer = Vec::new(alloc);
-        put_answer(verdict, text, &mut answer)?;
-        Ok(Answering { answer, sent: 0 })
-    }
-
-    /// What is left to send.
-    pub fn rest(&self) -> &[u8]
-        ensures { result.now ≡ drop self.now.sent self.now.answer.items }
-    {
-        &self.answer[self.sent..]
-    }
-
-    /// So many bytes of that were taken.
-    pub fn advance(&mut self, count: usize)
-        requires { count ≤ length (drop self.old.sent self.old.answer.items) }
-        ensures sent { self.new.sent ≡ self.old.sent + count }
-        ensures answer { self.new.answer ≡ self.old.answer }
-    {
-        self.sent += count;
-    }
+/// The answer of this verdict and text, to be sent. The only error is that memory was refused.
+pub fn answering(alloc: Global, verdict: Verdict, text: &[u8]) -> Result<Sending, AllocError>
+    ensures answer { IfOk result (λ sending. sending.answer.items ≡ answer_of verdict text.now) }
+    ensures sent { IfOk result (λ sending. sending.sent ≡ 0) }
+{
+    let mut answer = Vec::new(alloc);
+    put_answer(verdict, text, &mut answer)?;
+    Ok(Sending::new(answer))
 }

@@ -15,6 +15,8 @@ pub enum Request<'a> {
     Servers,
     /// Where this key lives.
     Where(&'a [u8]),
+    /// To write lines of this level and more urgent ones.
+    Log(&'a [u8]),
     /// It knows no such word.
     Unknown,
 }
@@ -42,6 +44,7 @@ pub fn request_of(line: &[u8]) -> Request<'_>
 {
     match line {
         [b'w', b'h', b'e', b'r', b'e', b' ', key @ ..] => Request::Where(key),
+        [b'l', b'o', b'g', b' ', level @ ..] => Request::Log(level),
         line => by_word(line),
     }
 }

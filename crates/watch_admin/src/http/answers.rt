@@ -13,8 +13,9 @@ fn kind_of(page: Page) -> &'static str
     ensures { result.now ≡ kind_of page }
 {
     match page {
+        Page::Home => "text/html; charset=utf-8",
         Page::Metrics => "text/plain; version=0.0.4; charset=utf-8",
-        Page::Stats => "application/json",
+        Page::Config | Page::Stats => "application/json",
     }
 }
 

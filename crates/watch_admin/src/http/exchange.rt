@@ -1,14 +1,16 @@
 //! A client's request and its answer.
 
-ghost use Rattle.std.specs.Prelude.{◌≡◌, ◌≤◌, ◌+◌, [], ◌++◌, IfOk, length, drop};
+ghost use Rattle.std.specs.Prelude.{◌≡◌, ◌≤◌, ◌+◌, [], ◌++◌, IfOk, length};
 ghost use Rattle.watch_admin.specs.declared.http.request.Asked.TheVariants.{Unfinished, For, Refused};
 ghost use Rattle.watch_admin.specs.HttpRequests.{Asks};
 ghost use Rattle.watch_admin.specs.HttpReplies.{page_text, Answers};
 
 use crate::http::answers::{write_page, write_refusal};
 use crate::http::request::{Asked, MOST_BYTES, Page, Refusal, what_is_asked};
+use crate::sending::Sending;
 use std::alloc::Global;
 use std::io;
+use std::io::Write;
 
 /// A client that has sent no whole request.
 #[derive(Drop)]
@@ -29,10 +31,8 @@ pub struct Waiting {
 #[derive(Drop)]
 pub struct Answering {
     came: Vec<u8>,
-    answer: Vec<u8>,
-    sent: usize,
-    ghost answers: { ∥ Answers came.items answer.items ∥₁ },
-    ghost within: { sent ≤ length answer.items },
+    sending: Sending,
+    ghost answers: { ∥ Answers came.items sending.answer.items ∥₁ },
 }
 
 /// Where a client stands.
@@ -55,11 +55,8 @@ impl Exchange {
     {
         let mut answer = Vec::new(alloc);
         write_refusal(refusal, &mut answer)?;
-        Ok(Exchange::Answering(Answering {
-            came,
-            answer,
-            sent: 0,
-        }))
+        let sending = Sending::new(answer);
+        Ok(Exchange::Answering(Answering { came, sending }))
     }
 
     // Where a client stands whose bytes ask for this.
@@ -110,33 +107,23 @@ impl Waiting {
     /// It is answered by this body of its page. The only error is that memory was refused.
     pub fn answer(self, alloc: Global, body: &[u8]) -> io::Result<Answering>
         ensures came { IfOk result (λ answering. answering.came ≡ self.came) }
-        ensures answer { IfOk result (λ answering. answering.answer.items ≡ page_text self.page body.now) }
-        ensures sent { IfOk result (λ answering. answering.sent ≡ 0) }
+        ensures answer { IfOk result (λ answering. answering.sending.answer.items ≡ page_text self.page body.now) }
+        ensures sent { IfOk result (λ answering. answering.sending.sent ≡ 0) }
     {
         let mut answer = Vec::new(alloc);
         write_page(self.page, body, &mut answer)?;
         Ok(Answering {
             came: self.came,
-            answer,
-            sent: 0,
+            sending: Sending::new(answer),
         })
     }
 }
 
 impl Answering {
-    /// What is left to send to it.
-    pub fn rest(&self) -> &[u8]
-        ensures { result.now ≡ drop self.now.sent self.now.answer.items }
+    /// A stream is sent what it takes of the answer. Whether something is left that it may take later.
+    pub fn send<W: Write>(&mut self, stream: &mut W) -> io::Result<bool>
+        ensures { self.new.sending.answer.items ≡ self.old.sending.answer.items }
     {
-        &self.answer[self.sent..]
-    }
-
-    /// It took so many bytes of that.
-    pub fn advance(&mut self, count: usize)
-        requires { count ≤ length (drop self.old.sent self.old.answer.items) }
-        ensures sent { self.new.sent ≡ self.old.sent + count }
-        ensures answer { self.new.answer ≡ self.old.answer }
-    {
-        self.sent += count;
+        self.sending.send(stream)
     }
 }

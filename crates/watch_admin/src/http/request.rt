@@ -10,6 +10,10 @@ use httparse::{Error, Status};
 /// A page that there is.
 #[derive(Clone, Copy, PartialEq, Eq)]
 pub enum Page {
+    /// `/`: the numbers for people, by a script that reads them.
+    Home,
+    /// `/config.json`: what says the configuration in use.
+    Config,
     /// `/metrics`: the numbers in Prometheus' text format.
     Metrics,
     /// `/stats.json`: the same in JSON.
@@ -48,7 +52,11 @@ pub const MOST_FIELDS: usize = 64;
 fn page_at(path: &[u8]) -> Asked
     ensures { AsksBy (codes "GET") path.now result }
 {
-    if path == b"/metrics".as_slice() {
+    if path == b"/".as_slice() {
+        Asked::For(Page::Home)
+    } else if path == b"/config.json".as_slice() {
+        Asked::For(Page::Config)
+    } else if path == b"/metrics".as_slice() {
         Asked::For(Page::Metrics)
     } else if path == b"/stats.json".as_slice() {
         Asked::For(Page::Stats)

@@ -1,34 +1,21 @@
 //! The clients that ask: their connections, of which there are 16 at most, each for 5 seconds.
 
-ghost use Rattle.std.specs.Prelude.{◌≡◌, IfOk, length};
+ghost use Rattle.std.specs.Prelude.{◌≡◌, length};
 
 use crate::http::exchange::{Answering, Asking, Exchange, Waiting};
 use crate::http::request::Page;
+use crate::places::{ACCEPTS, EVENTS, LISTENER, MOST_MS, PLACES, free_places};
 use mio::net::{TcpListener, TcpStream};
 use mio::{Events, Interest, Poll, Token};
-use std::alloc::{AllocError, Global};
+use std::alloc::Global;
 use std::io;
-use std::io::{ErrorKind, Read, Write};
+use std::io::{ErrorKind, Read};
 use std::net::{Net, Shutdown, SocketAddr};
 use std::os::fd::{AsRawFd, RawFd};
 use std::time::Duration;
 
-/// So many clients may be there at once.
-pub const PLACES: usize = 16;
-
-// A client is closed after so many milliseconds.
-const MOST_MS: u64 = 5_000;
-
-// So many are accepted in a turn.
-const ACCEPTS: usize = 64;
-
 // A client that has its answer is closed once it sent so much in a turn.
 const LINGERING_READS: usize = 8;
-
-// No wait tells of more.
-const EVENTS: usize = 64;
-
-const LISTENER: Token = Token(PLACES);
 
 #[derive(Drop)]
 struct Visitor {
@@ -63,15 +50,8 @@ fn end(stream: &TcpStream) -> io::Result<Option<Exchange>> {
 // It is sent what it takes. Where it stands then, if it stays.
 fn send(mut stream: &TcpStream, answering: Answering) -> io::Result<Option<Exchange>> {
     let mut answering = answering;
-    for _ in 0..answering.rest().len() {
-        match stream.write(answering.rest()) {
-            Ok(0) => return end(stream),
-            Ok(count) => answering.advance(count),
-            Err(error) if error.kind() == ErrorKind::WouldBlock => {
-                return Ok(Some(Exchange::Answering(answering)));
-            }
-            Err(error) => return Err(error),
-        }
+    if answering.send(&mut stream)? {
+        return Ok(Some(Exchange::Answering(answering)));
     }
     end(stream)
 }
@@ -190,17 +170,6 @@ pub struct Visitors {
     // How many were answered by a page.
     answered: u64,
     ghost bounded: { length places.items ≡ 16 },
-}
-
-// So many places, each of which is free.
-fn free_places(alloc: Global) -> Result<Vec<Option<Visitor>>, AllocError>
-    ensures { IfOk result (λ places. length places.items ≡ PLACES) }
-{
-    let mut places = Vec::new(alloc);
-    for _ in 0..PLACES {
-        places.push(None)?;
-    }
-    Ok(places)
 }
 
 impl Visitors {

@@ -1,6 +1,9 @@
 use Rattle.std.proofs.Common.{Some, refl, sym, ap}
-use Rattle.serve_links.proofs.LateGoes.{line_passes}
+use Rattle.serve_links.proofs.LateGoes.{line_still, line_passes}
 use Rattle.serve_links.proofs.link.Link.throw_first.Goals as goal
+
+pub returns-in_default-clause-goes : goal.returns-in_default-clause-goes
+returns-in_default-clause-goes c = λ at core h. line_still c.args.self.now
 
 pub returns : goal.returns
 returns c =

@@ -1,0 +1,22 @@
+-- Links that are in use no longer, or not yet. Source: mcgate's own.
+use Rattle.std.specs.Prelude.{◌≡◌, ℕ, Bool, true, List, [], None, Some, slice_get}
+use Rattle.serve_links.specs.declared.link.Link.{Link}
+
+-- no call goes out on it
+abbrev pub is_retired : Link → Bool
+is_retired link = link.is_retired
+
+-- the same link, of which that is said
+abbrev pub with_retired : Bool → Link → Link
+with_retired is_retired link = record link { is_retired = is_retired }
+
+-- the link of this number is retired
+abbrev pub IsRetiredAt : ℕ → List Link → Type 0
+IsRetiredAt at links = (link : Link) × (slice_get links at ≡ Some link) × (is_retired link ≡ true)
+
+-- no call is out on it or waits for it, none is late, and no end of a connection is awaited
+pub record IsQuiet (link : Link) : Type 0 where
+  pub sent : link.calls.sent.items ≡ []
+  pub waiting : link.waiting.items ≡ []
+  pub late : link.late.items ≡ []
+  pub draining : link.draining ≡ None

@@ -1,0 +1,179 @@
+//! The page for people: a script in it reads the numbers and the configuration every two seconds.
+
+/// The page.
+pub fn home_text() -> &'static str {
+    r##"<!DOCTYPE html>
+<html lang="en">
+<head>
+<meta charset="utf-8">
+<meta name="viewport" content="width=device-width">
+<title>mcgate</title>
+<style>
+body { font: 15px/1.45 system-ui, sans-serif; margin: 1.5em auto; max-width: 72em; padding: 0 1em; color: #222; background: #fff }
+h1 { font-size: 1.4em } h1 small { font-weight: normal; color: #666; font-size: .65em } h2 { font-size: 1.05em; margin: 1.6em 0 .4em }
+table { border-collapse: collapse; width: 100% } th, td { text-align: right; padding: .25em .7em; border-bottom: 1px solid #ddd }
+th { color: #666; font-weight: normal } th:first-child, td:first-child { text-align: left } td { font-variant-numeric: tabular-nums }
+.up { color: #17722f } .late, .warn { color: #9a6200; font-weight: bold } .down { color: #b3261e; font-weight: bold } .unused { color: #777 }
+#told p { margin: .2em 0; padding: .3em .7em; border-left: 4px solid #b3261e; background: #fbeceb }
+ul { margin: 0; padding-left: 1.3em; border-left: 1px solid #ddd; list-style: none } #tree > ul { border: 0; padding: 0 } li { padding: .1em 0 }
+li b { font-weight: 600 } li i { color: #666; font-style: normal }
+</style>
+</head>
+<body>
+<h1>mcgate <small id="about">no numbers yet</small></h1>
+<div id="told"></div>
+<h2>Servers</h2>
+<table id="servers"></table>
+<h2>Commands</h2>
+<table id="commands"></table>
+<h2>Clients and configurations</h2>
+<table id="others"></table>
+<h2>Tree</h2>
+<div id="tree"></div>
+<script>
+"use strict";
+const EVERY = 2000;
+let before = null, drawn = null;
+const at = id => document.getElementById(id);
+
+function made(kind, text, style) {
+  const it = document.createElement(kind);
+  if (text !== undefined) it.textContent = text;
+  if (style) it.className = style;
+  return it;
+}
+
+// Each row is a list of cells: a text, or a text and its style.
+function fill(id, names, rows) {
+  const table = at(id), head = made("tr");
+  names.forEach(name => head.append(made("th", name)));
+  const body = rows.map(row => {
+    const line = made("tr");
+    row.forEach(cell => line.append(Array.isArray(cell) ? made("td", cell[0], cell[1]) : made("td", cell)));
+    return line;
+  });
+  table.replaceChildren(head, ...body);
+}
+
+const has = (row, labels) => Object.keys(labels).every(name => row[name] === labels[name]);
+const sum = (rows, labels) => (rows || []).reduce((all, row) => has(row, labels) ? all + row.value : all, 0);
+const number = value => Math.round(value).toLocaleString("en");
+const bytes = value => value < 1e3 ? number(value) + " B" : value < 1e6 ? number(value / 1e3) + " kB" : number(value / 1e6) + " MB";
+const time = seconds => seconds === null ? "" : seconds < 1 ? (seconds * 1e3).toPrecision(2) + " ms" : seconds.toPrecision(2) + " s";
+
+// How much a count has grown in a second; before the second reading, since the start.
+function rate(now, then, seconds) { return seconds > 0 ? Math.max(0, now - then) / seconds : 0; }
+
+// The time that this part of the answers took no longer than, by the buckets.
+function most(buckets, part) {
+  const all = buckets.length ? buckets[buckets.length - 1].value : 0;
+  if (all === 0) return null;
+  const found = buckets.find(bucket => bucket.value >= all * part);
+  return found.le === "+Inf" ? Infinity : Number(found.le);
+}
+
+function state(now, server) {
+  if (sum(now.mcgate_server_late, {server})) return "late";
+  if (sum(now.mcgate_server_up, {server})) return "up";
+  return sum(now.mcgate_server_connections_total, {server}) + sum(now.mcgate_server_failures_total, {server}) ? "down" : "unused";
+}
+
+function spans(now, then, server) {
+  const of = it => (it.mcgate_server_call_seconds || {le: []}).le.filter(row => row.server === server);
+  const old = of(then);
+  return of(now).map((row, place) => ({le: row.le, value: row.value - (old[place] ? old[place].value : 0)}));
+}
+
+function answers(buckets) {
+  const told = part => { const it = most(buckets, part); return it === null ? "" : it === Infinity ? "> 1 s" : "≤ " + time(it); };
+  return [told(0.5), told(0.99)];
+}
+
+function causes(now, server) {
+  return (now.mcgate_server_failures_total || []).filter(row => row.server === server && row.value > 0)
+    .map(row => row.cause.replace(/_/g, " ") + " " + number(row.value)).join(", ");
+}
+
+function serverRow(now, then, seconds, server) {
+  const how = state(now, server);
+  const grown = outcome => rate(sum(now.mcgate_server_calls_total, {server, outcome}), sum(then.mcgate_server_calls_total, {server, outcome}), seconds);
+  const failed = grown("failed");
+  return [server, [how, how], number(grown("answered")), [number(failed), failed ? "down" : ""], ...answers(spans(now, then, server)),
+    number(sum(now.mcgate_server_calls_out, {server})), causes(now, server)];
+}
+
+function commandRow(now, then, seconds, op) {
+  const grown = reply => rate(sum(now.mcgate_commands_total, {op, reply}), sum(then.mcgate_commands_total, {op, reply}), seconds);
+  const kinds = op === "delete" ? ["item", "acknowledged", "other"] : ["item", "other"];
+  const all = kinds.reduce((total, kind) => total + grown(kind), 0);
+  const bad = op === "delete" && grown("other") > 0;
+  return [op, number(all), number(grown("item")), op === "delete" ? number(grown("acknowledged")) : "", [number(grown("other")), bad ? "down" : ""],
+    number(sum(now.mcgate_commands_total, {op}))];
+}
+
+function tell(now) {
+  const told = [];
+  const refused = sum(now.mcgate_reloads_total, {verdict: "refused"});
+  const lost = sum(now.mcgate_commands_total, {op: "delete", reply: "other"});
+  if (refused) told.push("Texts of its file that were refused: " + number(refused) + ". What is in use may not be what the file says.");
+  if (lost) told.push("Deletes that weren't acknowledged: " + number(lost) + ".");
+  if (now.mcgate_slow_clients_closed_total) told.push("Clients closed, as they took too little: " + number(now.mcgate_slow_clients_closed_total) + ".");
+  at("told").replaceChildren(...told.map(text => made("p", text)));
+}
+
+function show(now, then, seconds) {
+  const version = now.mcgate_build_info[0].version;
+  at("about").textContent = "version " + version + ", up " + number(now.mcgate_uptime_seconds) + " s, "
+    + bytes(now.mcgate_resident_memory_bytes) + " in use, " + Math.round(100 * rate(now.mcgate_cpu_seconds_total, then.mcgate_cpu_seconds_total || 0, seconds)) + " % of a processor";
+  tell(now);
+  fill("servers", ["server", "state", "answers/s", "failed/s", "half took", "99 % took", "calls out", "failures so far"],
+    now.mcgate_server_up.map(row => serverRow(now, then, seconds, row.server)));
+  const ops = [...new Set(now.mcgate_commands_total.map(row => row.op))].filter(op => sum(now.mcgate_commands_total, {op}));
+  fill("commands", ["command", "per second", "with an item", "acknowledged", "others", "so far"], ops.map(op => commandRow(now, then, seconds, op)));
+  const moved = direction => rate(sum(now.mcgate_client_bytes_total, {direction}), sum(then.mcgate_client_bytes_total, {direction}), seconds);
+  const came = verdict => number(sum(now.mcgate_client_connections_total, {verdict}));
+  const loads = verdict => number(sum(now.mcgate_reloads_total, {verdict}));
+  fill("others", ["clients now", "accepted", "refused", "read", "sent", "generation", "loaded", "unchanged", "refused"], [[number(now.mcgate_clients), came("accepted"),
+    came("refused"), bytes(moved("in")) + "/s", bytes(moved("out")) + "/s", number(now.mcgate_generation), loads("accepted"), loads("unchanged"), loads("refused")]]);
+}
+
+// A part of the configuration as a list: what it is called, and what stands in it.
+function branch(name, part) {
+  const line = made("li");
+  if (typeof part !== "object" || part === null) {
+    line.append(made("i", name ? name + ": " : ""), made("b", String(part)));
+    return line;
+  }
+  const inner = made("ul"), kind = Array.isArray(part) ? undefined : part.type;
+  line.append(made("i", name ? name + (kind ? ": " : "") : ""), made("b", kind || ""), inner);
+  Object.keys(part).filter(key => key !== "type").forEach(key => inner.append(branch(Array.isArray(part) ? "" : key, part[key])));
+  return line;
+}
+
+async function draw(generation) {
+  if (generation === drawn) return;
+  const config = await (await fetch("config.json")).json();
+  const list = made("ul");
+  Object.keys(config).forEach(key => list.append(branch(key, config[key])));
+  at("tree").replaceChildren(list);
+  drawn = generation;
+}
+
+async function look() {
+  try {
+    const now = await (await fetch("stats.json")).json();
+    const seconds = before ? now.mcgate_uptime_seconds - before.mcgate_uptime_seconds : now.mcgate_uptime_seconds;
+    show(now, before || {}, seconds);
+    before = now;
+    await draw(now.mcgate_generation);
+  } catch (fault) {
+    at("about").textContent = "it doesn't answer: " + fault.message;
+  }
+  setTimeout(look, EVERY);
+}
+look();
+</script>
+</body>
+</html>
+"##
+}
