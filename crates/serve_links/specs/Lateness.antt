@@ -1,6 +1,7 @@
 -- What is late by a clock. Source: mcgate's own.
-use Rattle.std.specs.Prelude.{◌≡◌, ◌⊎◌, ℕ, true, false, ◌+◌, ◌<◌, List, Some, slice_get}
+use Rattle.std.specs.Prelude.{◌≡◌, ◌⊎◌, ℕ, Bool, true, false, ◌+◌, ◌<◌, ◌≤◌, List, Option, Some, None, slice_get}
 use Rattle.std.specs.List.{Any}
+use Rattle.serve_wire.specs.declared.conn.conn.Conn.{Conn}
 use Rattle.serve_links.specs.declared.calls.calls.SentCall.{SentCall}
 use Rattle.serve_links.specs.declared.link.Link.{Link}
 use Rattle.serve_links.specs.Dialects.{awaits_flush}
@@ -21,7 +22,19 @@ IsUnready link = (link.is_connected ≡ false) ⊎ (awaits_flush link.awaits_dia
 abbrev pub IsConnectLate : (most now : ℕ) → Link → Type 0
 IsConnectLate most now link = IsUnready link × (link.opened + most < now)
 
+-- whether a read of a connection may give more
+abbrev pub may_give : Option Conn → Bool
+may_give None = false
+may_give (Some conn) = conn.readable
+
+-- once a clock showed this the system was asked for what has come over its connection, and all of it was read
+abbrev pub IsReadBy : (now : ℕ) → Link → Type 0
+IsReadBy now link = (now ≤ link.asked_at) × (may_give link.conn ≡ false)
+
 -- so it is with the link of this number
+abbrev pub IsReadAt : (at now : ℕ) → List Link → Type 0
+IsReadAt at now links = (link : Link) × (slice_get links at ≡ Some link) × IsReadBy now link
+
 abbrev pub HasLateAt : (at most now : ℕ) → List Link → Type 0
 HasLateAt at most now links = (link : Link) × (slice_get links at ≡ Some link) × HasLate most now link
 

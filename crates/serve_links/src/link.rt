@@ -1,9 +1,9 @@
 //! One server's link: its connection, if it has one, and the calls that are out.
 
-ghost use Rattle.std.specs.Prelude.{◌≡◌, ◌≢◌, true, IfSome, ◌+◌, ◌<◌, ◌++◌, false, ◌∷◌, [], None, length, MatchOption, IfOk, IfErr, OnOk, OnErr, option_map};
+ghost use Rattle.std.specs.Prelude.{◌≡◌, ◌≢◌, true, IfSome, IsSome, ◌+◌, ◌<◌, ◌++◌, false, ◌∷◌, [], None, length, MatchOption, IfOk, IfErr, OnOk, OnErr, option_map};
 ghost use Rattle.mc_types.specs.declared.ask.Dialect.TheVariants.{Classic};
 ghost use Rattle.serve_links.specs.Links.{IsDown, IsTaken, vain_cause};
-ghost use Rattle.serve_links.specs.Lateness.{HasLate, IsUnready, IsConnectLate};
+ghost use Rattle.serve_links.specs.Lateness.{HasLate, IsUnready, IsConnectLate, IsReadBy, may_give};
 ghost use Rattle.wire_parts.specs.Sending.{bytes_of};
 ghost use Rattle.serve_links.specs.Dialects.{awaits_flush};
 ghost use Rattle.serve_links.specs.Epochs.{is_retired, with_retired, IsQuiet};
@@ -221,6 +221,8 @@ pub struct Link {
     pub opened: u64,
     /// Whether it has stood since.
     pub is_connected: bool,
+    /// When the system was last asked for what has come over it, though it told of nothing, in milliseconds.
+    pub asked_at: u64,
     /// How many times in a row it failed since its server last answered.
     failures: u32,
     /// What has become of it so far.
@@ -281,6 +283,7 @@ impl Link {
             is_retired: false,
             opened: 0,
             is_connected: false,
+            asked_at: 0,
             failures: 0,
             tally: LinkTally::new(),
             held_until: 0,
@@ -529,11 +532,32 @@ impl Link {
         }
     }
 
-    /// What it has waited for too long by now.
-    pub fn lateness(&self, now: u64, settings: &Settings) -> Option<Lateness> {
+    /// Whether it has waited for something too long by now, so far as it was read: the system may not have been asked for what has come since.
+    pub fn is_overdue(&self, now: u64, settings: &Settings) -> bool {
         match self.time_limit(settings) {
-            Some(limit) if limit < now => Some(self.awaited_first()),
-            _ => None,
+            Some(limit) => limit < now && !self.may_have_more(),
+            None => false,
+        }
+    }
+
+    // Whether all that has come over its connection by now was read.
+    fn is_read_by(&self, now: u64) -> bool
+        ensures { result ≡ true → IsReadBy now self.now }
+    {
+        now <= self.asked_at && !self.may_have_more()
+    }
+
+    /// What it has waited for too long by now. It isn't late before all that has come over its connection by now was read.
+    pub fn lateness(&self, now: u64, settings: &Settings) -> Option<Lateness>
+        ensures read { IsSome result → IsReadBy now self.now }
+    {
+        if !self.is_read_by(now) {
+            return None;
+        }
+        if self.is_overdue(now, settings) {
+            Some(self.awaited_first())
+        } else {
+            None
         }
     }
 
@@ -560,18 +584,22 @@ impl Link {
     }
 
     /// Whether more may have come over it than was read.
-    pub fn may_have_more(&self) -> bool {
+    pub fn may_have_more(&self) -> bool
+        ensures { result ≡ may_give self.now.conn }
+    {
         match &self.conn {
             Some(conn) => conn.readable,
             None => false,
         }
     }
 
-    /// The wire is asked whether its connection stands by now, though it told of nothing: whether that is news. Where it stood before, a read may
+    /// The wire is asked by now whether its connection stands, though it told of nothing: whether that is news. Where it stood before, a read may
     /// give something.
-    pub fn look_again<W: Wire>(&mut self, wire: &W) -> bool
-        ensures { KeepsLines self.old self.new }
+    pub fn look_again<W: Wire>(&mut self, wire: &W, now: u64) -> bool
+        ensures lines { KeepsLines self.old self.new }
+        ensures asked { self.old.is_connected ≡ true → IfSome self.new.conn (λ conn. conn.readable ≡ true) }
     {
+        self.asked_at = now;
         let Some(conn) = self.conn.as_mut() else {
             return false;
         };

@@ -1,8 +1,8 @@
 //! Links fail: their connections broke, brought what is no answer, or took too long.
 
-ghost use Rattle.std.specs.Prelude.{◌≡◌, ◌⊎◌, ℕ};
+ghost use Rattle.std.specs.Prelude.{◌≡◌, ◌⊎◌, ℕ, IsSome};
 ghost use Rattle.serve_wire.specs.Events.{time};
-ghost use Rattle.serve_links.specs.Lateness.{HasLateAt, IsConnectLateAt};
+ghost use Rattle.serve_links.specs.Lateness.{HasLateAt, IsConnectLateAt, IsReadAt};
 ghost use Rattle.serve_links.specs.Links.{IsDownAt, IsClosedAt};
 ghost use Rattle.serve_links.specs.Talks.{Apart, Ending};
 ghost use Rattle.serve_proxy.specs.Ends.{idle_cause, GoAlone, GoAloneUnless, LineStands, AllFailOn, AllGiveUp, AllLeave, AllGoOn};
@@ -104,6 +104,7 @@ fn fail_if_late<W: Wire>(core: &mut ServedCore, sockets: &mut Sockets<W>, at: us
 
 // What the link has waited for has taken too long.
 fn fail_by<W: Wire>(core: &mut ServedCore, sockets: &mut Sockets<W>, at: usize, late: Lateness)
+    requires read { IsReadAt at (time (W.history sockets.old.wire)) sockets.old.links.all.items }
     ensures ends { AllFailOn W.history core.old sockets.old core.new sockets.new }
 {
     match late {
@@ -115,6 +116,7 @@ fn fail_by<W: Wire>(core: &mut ServedCore, sockets: &mut Sockets<W>, at: usize, 
 
 // The link's late answers didn't come for too long, or not the end of its connection: that is kept no longer.
 fn give_up<W: Wire>(core: &mut ServedCore, sockets: &mut Sockets<W>, at: usize)
+    requires read { IsReadAt at (time (W.history sockets.old.wire)) sockets.old.links.all.items }
     ensures ends { AllFailOn W.history core.old sockets.old core.new sockets.new }
 {
     sockets.stop_draining(at);
@@ -126,6 +128,7 @@ fn give_up<W: Wire>(core: &mut ServedCore, sockets: &mut Sockets<W>, at: usize)
 
 // If the link's connection has taken too long to stand, by what the clock showed last, it is given up.
 fn fail_unconnected<W: Wire>(core: &mut ServedCore, sockets: &mut Sockets<W>, at: usize)
+    requires read { IsReadAt at (time (W.history sockets.old.wire)) sockets.old.links.all.items }
     ensures ends { AllFailOn W.history core.old sockets.old core.new sockets.new }
     ensures late { IsConnectLateAt at sockets.old.links.settings.connect_ms (time (W.history sockets.old.wire)) sockets.old.links.all.items ⊎ ((sockets.new ≡ sockets.old) × (core.new ≡ core.old)) }
 {
@@ -139,6 +142,7 @@ fn fail_unconnected<W: Wire>(core: &mut ServedCore, sockets: &mut Sockets<W>, at
 // The link's calls have all failed. Those that are out keep their places, so that their answers meet no other calls; until these have come, further
 // calls fail at once.
 fn fail_calls<W: Wire>(core: &mut ServedCore, sockets: &mut Sockets<W>, at: usize)
+    requires read { IsReadAt at (time (W.history sockets.old.wire)) sockets.old.links.all.items }
     ensures ends { AllFailOn W.history core.old sockets.old core.new sockets.new }
 {
     fail_sent(core, sockets, at);
@@ -147,6 +151,7 @@ fn fail_calls<W: Wire>(core: &mut ServedCore, sockets: &mut Sockets<W>, at: usiz
 
 // If one of those that are out is late by what the clock showed last, they have.
 fn fail_sent<W: Wire>(core: &mut ServedCore, sockets: &mut Sockets<W>, at: usize)
+    requires read { IsReadAt at (time (W.history sockets.old.wire)) sockets.old.links.all.items }
     ensures ends { AllFailOn W.history core.old sockets.old core.new sockets.new }
     ensures late { HasLateAt at sockets.old.links.settings.call_ms (time (W.history sockets.old.wire)) sockets.old.links.all.items ⊎ (core.new ≡ core.old) }
 {
@@ -172,7 +177,7 @@ fn read_late<W: Wire>(core: &mut ServedCore, sockets: &mut Sockets<W>, at: usize
     ensures ends { AllGoOn W.history core.old sockets.old core.new sockets.new }
 {
     for _ in 0..LATE_READS {
-        if sockets.lateness(at).is_none() {
+        if !sockets.is_overdue(at) {
             return;
         }
         look_again(core, sockets, at);
@@ -186,7 +191,8 @@ fn read_late<W: Wire>(core: &mut ServedCore, sockets: &mut Sockets<W>, at: usize
 fn look_again<W: Wire>(core: &mut ServedCore, sockets: &mut Sockets<W>, at: usize)
     ensures ends { AllGoOn W.history core.old sockets.old core.new sockets.new }
 {
-    if sockets.links.look_again(&sockets.wire, at) {
+    let now = sockets.wire.last_millis();
+    if sockets.links.look_again(&sockets.wire, at, now) {
         return;
     }
     serve_link(core, sockets, at)
@@ -295,8 +301,15 @@ impl<W: Wire> Sockets<W> {
         }
     }
 
-    // What the link has waited for too long by now.
-    fn lateness(&self, at: usize) -> Option<Lateness> {
-        self.links.lateness(at, self.time)
+    // Whether the link has waited for something too long by now, so far as it was read.
+    fn is_overdue(&self, at: usize) -> bool {
+        self.links.is_overdue(at, self.wire.last_millis())
+    }
+
+    // What the link has waited for too long by what the clock showed last. Then all that had come over it was read.
+    fn lateness(&self, at: usize) -> Option<Lateness>
+        ensures read { IsSome result → IsReadAt at (time (W.history self.now.wire)) self.now.links.all.items }
+    {
+        self.links.lateness(at, self.wire.last_millis())
     }
 }

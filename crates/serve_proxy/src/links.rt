@@ -4,7 +4,7 @@
 ghost use Rattle.std.specs.Prelude.{◌≡◌, ◌↔◌, Bool, true, false, None, Some, [], ◌∷◌, ◌++◌, drop, length, IsTrue, IsSome, IfOk, IfErr, OnOk, MatchOption, slice_get};
 ghost use Rattle.serve_links.specs.declared.link.Link.{Link};
 ghost use Rattle.serve_clients.specs.declared.clients.Clients.{Clients};
-ghost use Rattle.serve_links.specs.Lateness.{IsConnectLateAt};
+ghost use Rattle.serve_links.specs.Lateness.{IsConnectLateAt, IsReadAt};
 ghost use Rattle.serve_links.specs.Links.{calls_out};
 ghost use Rattle.serve_links.specs.Epochs.{IsQuiet};
 ghost use Rattle.route_json.specs.ServerNames.{is_over};
@@ -39,12 +39,12 @@ fn note_told(link: &mut Link, told: Ready) -> Option<bool>
     Some(told.writes && !told.closes && link.stand())
 }
 
-// The system is asked whether its connection stands: whether it does, which is news.
+// The system is asked by now whether its connection stands: whether it does, which is news.
 #[tactic(auto, using(crate::proofs::Staying::kept_line))]
-fn look_at<W: Wire>(link: &mut Link, wire: &W) -> bool
+fn look_at<W: Wire>(link: &mut Link, wire: &W, now: u64) -> bool
     ensures line { line_of link.new ≡ line_of link.old }
 {
-    link.look_again(wire)
+    link.look_again(wire, now)
 }
 
 // A connection of the link is begun. Where it can't be, its calls fail for a while.
@@ -446,15 +446,15 @@ impl Links {
         self.note_limit(at);
     }
 
-    /// The system is asked whether the link's connection stands, though it told of nothing: whether it does, which is news, and it is to
+    /// The system is asked by now whether the link's connection stands, though it told of nothing: whether it does, which is news, and it is to
     /// be read and written. Where it stood before, it is to be read at once.
-    pub fn look_again<W: Wire>(&mut self, wire: &W, at: usize) -> bool
+    pub fn look_again<W: Wire>(&mut self, wire: &W, at: usize, now: u64) -> bool
         ensures lines { lines_of self.new.all.items ≡ lines_of self.old.all.items }
     {
         let Some(link) = self.all.get_mut(at) else {
             return false;
         };
-        if !look_at(link, wire) {
+        if !look_at(link, wire, now) {
             return false;
         }
         self.has_stood(at);
@@ -583,11 +583,21 @@ impl Links {
         }
     }
 
-    /// What the link has waited for too long by now. One over which more may have come than was read isn't late yet.
-    pub fn lateness(&self, at: usize, time: u64) -> Option<Lateness> {
+    /// Whether the link has waited for something too long by now, so far as it was read.
+    pub fn is_overdue(&self, at: usize, now: u64) -> bool {
         match self.all.get(at) {
-            Some(link) if !link.may_have_more() => link.lateness(time, &self.settings),
-            _ => None,
+            Some(link) => link.is_overdue(now, &self.settings),
+            None => false,
+        }
+    }
+
+    /// What the link has waited for too long by now. It isn't late before all that has come over it by now was read.
+    pub fn lateness(&self, at: usize, now: u64) -> Option<Lateness>
+        ensures read { IsSome result → IsReadAt at now self.now.all.items }
+    {
+        match self.all.get(at) {
+            Some(link) => link.lateness(now, &self.settings),
+            None => None,
         }
     }
 

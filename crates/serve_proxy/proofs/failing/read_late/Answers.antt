@@ -7,8 +7,8 @@ loop-init g c = still
 pub loop-preserved : goal.loop-preserved
 loop-preserved g c = and_then c.loop.invariant c.look_again.ensures.ends
 
-pub returns-then-is_none : goal.returns-then-is_none
-returns-then-is_none g c = record { ends = c.loop.invariant }
+pub returns-then-not-is_overdue : goal.returns-then-not-is_overdue
+returns-then-not-is_overdue g c = record { ends = c.loop.invariant }
 
 pub returns-then-not-may_have_more : goal.returns-then-not-may_have_more
 returns-then-not-may_have_more g c = record { ends = and_then c.loop.invariant c.look_again.ensures.ends }
