@@ -1,4 +1,5 @@
 use Rattle.std.proofs.Common.{refl, sym, ap, ◌∙◌}
+use Rattle.serve_links.proofs.LateGoes.{line_still}
 use Rattle.serve_proxy.proofs.Staying.{stay_links, not_some}
 use Rattle.serve_proxy.proofs.Going.{line_goes, go_stay}
 use Rattle.serve_proxy.proofs.Linking.{open_still, open_set}
@@ -21,6 +22,9 @@ returns-in-Failed g c = record {
   ends = λ clients. line_goes c.args.self.now.all.items c.args.at c.in-Some.link.now c.begin.new.link c.in-Some.ensures.item.3.0 c.in-Some.ensures.value c.begin.ensures.stands;
   there = λ is. absurd (let no = is in cc no);
 }
+
+pub returns-then-is_some-clause-ends : goal.returns-then-is_some-clause-ends
+returns-then-is_some-clause-ends g c = λ clients. line_goes c.args.self.now.all.items c.args.at c.in-Some.link.now c.in-Some.link.now c.in-Some.ensures.item.3.0 c.in-Some.ensures.value (λ core. line_still c.in-Some.link.now)
 
 pub returns-then-is_some-clause-there : goal.returns-then-is_some-clause-there
 returns-then-is_some-clause-there g c = λ is. open_set c.args.self.now.all.items c.args.at c.in-Some.link.now c.in-Some.ensures.item.3.0 (sym c.is_some.ensures ∙ c.if-is_some.true)
