@@ -9,7 +9,7 @@ use Rattle.cache_server.specs.declared.item.CacheItem.{CacheItem}
 use Rattle.cache_server.specs.declared.item.Entry.{Entry}
 use Rattle.cache_server.specs.Contents.{Key, Entries, same_key, is_expired, live}
 use Rattle.cache_server.specs.Expiry.{has_come}
-use Rattle.cache_server.specs.Sound.{IsDueFrom, AreDueFrom, due_with, IsEntry, AreEntries, IsSound}
+use Rattle.cache_server.specs.Sound.{IsDueFrom, AreDueFrom, due_with, IsEntry, AreEntries, AreSoundEntries}
 
 pub Contains-live : (now : ℕ) (es : Entries) (e : Key × Entry) → Contains (live now es) e → Contains es e
 Contains-live now [] e c = c
@@ -47,20 +47,20 @@ pub due_with-le : (due : ℕ) (expiry : Option ℕ) → due_with due expiry ≤ 
 due_with-le due None = omega arith
 due_with-le due (Some at) = omega arith
 
-pub sound_remove : (due : ℕ) (key : Key) (es : Entries) → IsSound due es → IsSound due (remove_entry (same_key key) es)
+pub sound_remove : (due : ℕ) (key : Key) (es : Entries) → AreSoundEntries due es → AreSoundEntries due (remove_entry (same_key key) es)
 sound_remove due key es s = record {
   entries_are = λ e c. s.entries_are e (Contains-remove_entry (same_key key) es e c);
   due_from = λ e c. s.due_from e (Contains-remove_entry (same_key key) es e c);
 }
 
-pub sound_promoted : (due : ℕ) (key : Key) (es : Entries) → IsSound due es → IsSound due (promoted (same_key key) es)
+pub sound_promoted : (due : ℕ) (key : Key) (es : Entries) → AreSoundEntries due es → AreSoundEntries due (promoted (same_key key) es)
 sound_promoted due key es s = record {
   entries_are = λ e c. s.entries_are e (Contains-promoted (same_key key) es e c);
   due_from = λ e c. s.due_from e (Contains-promoted (same_key key) es e c);
 }
 
-pub sound_put : (due : ℕ) (key : Key) (entry : Entry) (cap : ℕ) (es : Entries) → IsSound due es → IsEntry entry
-    → IsSound (due_with due entry.item.expiry) (put_entries same_key (lru_cache es cap) key entry)
+pub sound_put : (due : ℕ) (key : Key) (entry : Entry) (cap : ℕ) (es : Entries) → AreSoundEntries due es → IsEntry entry
+    → AreSoundEntries (due_with due entry.item.expiry) (put_entries same_key (lru_cache es cap) key entry)
 sound_put due key entry cap es s is = record {
   entries_are = λ e c. elim (Contains-put_entries same_key (lru_cache es cap) key entry e c) [
     | inl old ↦ s.entries_are e old
@@ -72,5 +72,5 @@ sound_put due key entry cap es s is = record {
   ];
 }
 
-pub sound_live : (due now : ℕ) (es : Entries) → AreEntries es → AreDueFrom due (live now es) → IsSound due (live now es)
+pub sound_live : (due now : ℕ) (es : Entries) → AreEntries es → AreDueFrom due (live now es) → AreSoundEntries due (live now es)
 sound_live due now es are d = record { entries_are = λ e c. are e (Contains-live now es e c); due_from = d }

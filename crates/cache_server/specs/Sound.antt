@@ -33,7 +33,7 @@ abbrev pub AreEntries : Entries → Type 0
 AreEntries entries = (e : Key × Entry) → Contains entries e → IsEntry e.1
 
 -- a cache's entries are in their ranges, and none expires before the moment that it knows of
-pub record IsSound (due : ℕ) (entries : Entries) : Type 0 where
+pub record AreSoundEntries (due : ℕ) (entries : Entries) : Type 0 where
   pub entries_are : AreEntries entries
   pub due_from : AreDueFrom due entries
 

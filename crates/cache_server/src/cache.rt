@@ -72,13 +72,13 @@ pub struct Cache {
 
 impl Model for Cache {
     ghost use Rattle.cache_server.specs.Contents.{Contents};
-    ghost use Rattle.cache_server.specs.Sound.{IsSound};
+    ghost use Rattle.cache_server.specs.Sound.{AreSoundEntries};
 
     ghost Value = { Contents };
 
     ghost view = { λ c. record { entries = c.items.entries; cap = c.items.cap; counter = c.counter } };
 
-    ghost invariant = { λ c. IsSound c.due c.items.entries };
+    ghost invariant = { λ c. AreSoundEntries c.due c.items.entries };
 }
 
 impl Cache {

@@ -15,7 +15,7 @@ use Rattle.wire_stream.specs.Held.{held_at}
 use Rattle.wire_stream.proofs.ReaderLaws.{reader_is}
 use Rattle.wire_stream.proofs.Shorter.{next_len}
 use Rattle.cache_server.specs.Contents.{Contents}
-use Rattle.cache_tcp.specs.Steps.{Spot, spot_at, place_by, count_by, IsOnWay, Stage, Runs, text_of, RunsOn, StopsNext, Stops, IsOneText, IsWithin, ServesNext, PassesOn}
+use Rattle.cache_tcp.specs.Steps.{Spot, spot_at, place_by, count_by, IsOnWay, ServedStep, Runs, text_of, RunsOn, StopsNext, Stops, IsOneText, IsWithin, ServesNext, PassesOn}
 use Rattle.cache_tcp.proofs.Runs.{runs_after, text_after}
 
 -- no step was made

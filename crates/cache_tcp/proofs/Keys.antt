@@ -19,11 +19,11 @@ use Rattle.wire_stream.proofs.ReaderLaws.{reader_is}
 use Rattle.cache_server.specs.Contents.{Contents}
 use Rattle.cache_tcp.specs.ConnectionServing.{AnswersAsk}
 use Rattle.cache_tcp.specs.Serving.{IsServed}
-use Rattle.cache_tcp.specs.Steps.{message_at, Spot, spot_at, IsOnWay, IsAnswered, IsAskAt, IsKeyAt, StopsAtAsk, StopsNext, place_by, ShowsNext, ServesNext}
+use Rattle.cache_tcp.specs.Steps.{message_at, Spot, spot_at, IsOnWay, IsAnswered, IsAskOf, IsKeyOf, StopsAtAsk, StopsNext, place_by, ShowsNext, ServesNext}
 
 -- the reply was written, and the message is done or not
 pub shows_next : (place place' : Place) (request : Request) (i : ℕ) (ask : Ask) (reply : Answer) (unsent unsent' : List ℕ) (used : ℕ) (quiet last ended : Bool)
-    → used ≡ used_of request → IsAskAt place request i ask → quiet ≡ quiet_of (message_at place request) → last ≡ is_last (asks_of (message_at place request)) i → unsent' ≡ unsent ++ shown_text quiet last ask reply
+    → used ≡ used_of request → IsAskOf place request i ask → quiet ≡ quiet_of (message_at place request) → last ≡ is_last (asks_of (message_at place request)) i → unsent' ≡ unsent ++ shown_text quiet last ask reply
     → ended ≡ (is_failure reply || last) → ((held : List ℕ) → place ≡ Stands Nothing held → place' ≡ place_by ended place (Stands Nothing (drop used held)))
     → ShowsNext place request i ask reply unsent ended place' unsent'
 shows_next place place' request i ask reply unsent unsent' used quiet last ended used_is at quiet_is last_is text ends goes =
@@ -38,7 +38,7 @@ shows_next place place' request i ask reply unsent unsent' used quiet last ended
 
 -- the cache answered, and the reply was shown
 pub serves_next : (moment : ℤ) (place place' : Place) (request : Request) (i : ℕ) (ask : Ask) (c d : Contents) (reply : Answer) (unsent unsent' : List ℕ) (ended : Bool)
-    → IsAskAt place request i ask → AnswersAsk moment ask c reply d → ShowsNext place request i ask reply unsent ended place' unsent' → ServesNext moment place i c unsent ended place' d unsent'
+    → IsAskOf place request i ask → AnswersAsk moment ask c reply d → ShowsNext place request i ask reply unsent ended place' unsent' → ServesNext moment place i c unsent ended place' d unsent'
 serves_next moment place place' request i ask c d reply unsent unsent' ended at answered shows =
     let m : Message = message_at place request in
     let rest : List ℕ = drop (used_of request) (held_at place) in
@@ -85,21 +85,21 @@ pub stays_at : (moment : ℤ) (place place' : Place) (i : ℕ) (c d : Contents) 
 stays_at moment place place' i c d u v ended s e = s.answers.place_is ∙ stays_by ended place s.answers.next e
 
 -- and its next ask is next
-pub way_on : (moment : ℤ) (place place' : Place) (request : Request) (i : ℕ) (c d : Contents) (u v : List ℕ) (ended : Bool) → IsKeyAt place request i → ServesNext moment place i c u ended place' d v → ended ≡ false → IsKeyAt place' request (i + 1)
+pub way_on : (moment : ℤ) (place place' : Place) (request : Request) (i : ℕ) (c d : Contents) (u v : List ℕ) (ended : Bool) → IsKeyOf place request i → ServesNext moment place i c u ended place' d v → ended ≡ false → IsKeyOf place' request (i + 1)
 way_on moment place place' request i c d u v ended way s e =
     let a = s.answers in
     let same : asks_in a.said ≡ asks_of (message_at place request) = asks_same place request a.said a.next way.front a.reads in
     let none : ends_at a.said i a.reply ≡ false = sym a.ended_is ∙ e in
     let there : i < length (asks_in a.said) = subst (λ (l : List Ask). i < length l) (sym same) way.there in
     let next : i + 1 < length (asks_of (message_at place request)) = subst (λ (l : List Ask). i + 1 < length l) same (not_last a.reply i (length (asks_in a.said)) (is_last (asks_in a.said) i) refl none there) in
-    subst (λ (p : Place). IsKeyAt p request (i + 1)) (sym (stays_at moment place place' i c d u v ended s e)) (record { front = way.front; there = next })
+    subst (λ (p : Place). IsKeyOf p request (i + 1)) (sym (stays_at moment place place' i c d u v ended s e)) (record { front = way.front; there = next })
 
 -- an ask of a request at the front is on the way
-pub key_on_way : (place : Place) (request : Request) (i : ℕ) → IsKeyAt place request i → IsOnWay (spot_at place i)
+pub key_on_way : (place : Place) (request : Request) (i : ℕ) → IsKeyOf place request i → IsOnWay (spot_at place i)
 key_on_way place request i way = inr (Whole (message_at place request), after_message (message_at place request) (drop (used_of request) (held_at place)), reads_front place request way.front, way.there)
 
 -- the next ask of a request at the front
-pub way_key : (place : Place) (request : Request) (i : ℕ) → IsFront place request → (asks_of (message_at place request) ≡ [] → ⊥) → IsOnWay (spot_at place i) → IsKeyAt place request i
+pub way_key : (place : Place) (request : Request) (i : ℕ) → IsFront place request → (asks_of (message_at place request) ≡ [] → ⊥) → IsOnWay (spot_at place i) → IsKeyOf place request i
 way_key place request i front some (inl zero) = record { front = front; there = subst (λ n. n < length (asks_of (message_at place request))) (sym zero) (some_first (asks_of (message_at place request)) some) }
   where
     some_first : (asks : List Ask) → (asks ≡ [] → ⊥) → 0 < length asks

@@ -4,14 +4,14 @@ use Rattle.std.proofs.lemmas.List.{take-append-drop}
 use Rattle.wire_parts.specs.Stream.{Place, extended}
 use Rattle.wire_stream.proofs.ReaderLaws.{reader_is}
 use Rattle.cache_server.specs.Contents.{Contents}
-use Rattle.cache_tcp.specs.Steps.{Spot, spot_at, came, place_by, Step, Stage, Runs, text_of, RunsOn, Stops}
-use Rattle.cache_tcp.specs.Serving.{Comes, Serves, StopsIn}
+use Rattle.cache_tcp.specs.Steps.{Spot, spot_at, came, place_by, Step, ServedStep, Runs, text_of, RunsOn, Stops}
+use Rattle.cache_tcp.specs.Serving.{FeedsStream, ServesHeld, StopsIn}
 
-pub runs_after : (moment : ℤ) (a b c : Spot) (x y z : Contents) (s t : List Stage) → Runs moment a x s b y → Runs moment b y t c z → Runs moment a x (s ++ t) c z
+pub runs_after : (moment : ℤ) (a b c : Spot) (x y z : Contents) (s t : List ServedStep) → Runs moment a x s b y → Runs moment b y t c z → Runs moment a x (s ++ t) c z
 runs_after moment a b c x y z [] t r q = subst (λ (p : Spot). Runs moment p x t c z) (sym r.0) (subst (λ (d : Contents). Runs moment b d t c z) (sym r.1) q)
 runs_after moment a b c x y z (g ∷ s) t r q = (r.0, runs_after moment g.spot b c g.contents y z s t r.1 q)
 
-pub text_after : (s t : List Stage) → text_of (s ++ t) ≡ text_of s ++ text_of t
+pub text_after : (s t : List ServedStep) → text_of (s ++ t) ≡ text_of s ++ text_of t
 text_after [] t = refl
 text_after (g ∷ s) t = ap (λ (l : List ℕ). g.text ++ l) (text_after s t) ∙ sym (append_assoc g.text (text_of s) (text_of t))
 
@@ -45,16 +45,16 @@ step_still moment from to c d text (b ∷ bs) (inr s) =
     inr (s.0, s.1, s.2, record { said = a.said; reads = reader_is.goes_on from.place a.said to.place (b ∷ bs) a.reads; asks = a.asks; text_is = a.text_is })
 
 -- where the same steps lead where more came
-later : List ℕ → List Stage → List Stage
+later : List ℕ → List ServedStep → List ServedStep
 later more [] = []
 later more (g ∷ s) = record { text = g.text; spot = came g.spot more; contents = g.contents } ∷ later more s
 
-text_later : (more : List ℕ) (s : List Stage) → text_of (later more s) ≡ text_of s
+text_later : (more : List ℕ) (s : List ServedStep) → text_of (later more s) ≡ text_of s
 unfolding later
 text_later more [] = refl
 text_later more (g ∷ s) = ap (λ (l : List ℕ). g.text ++ l) (text_later more s)
 
-runs_still : (moment : ℤ) (a b : Spot) (x y : Contents) (s : List Stage) (more : List ℕ) → Runs moment a x s b y → Runs moment (came a more) x (later more s) (came b more) y
+runs_still : (moment : ℤ) (a b : Spot) (x y : Contents) (s : List ServedStep) (more : List ℕ) → Runs moment a x s b y → Runs moment (came a more) x (later more s) (came b more) y
 unfolding later
 runs_still moment a b x y [] more r = (ap (λ (p : Spot). came p more) r.0, r.1)
 runs_still moment a b x y (g ∷ s) more r = (step_still moment a g.spot x g.contents g.text more r.0, runs_still moment g.spot b g.contents y s more r.1)
@@ -65,12 +65,12 @@ came_twice p (x ∷ a) [] = ap (λ (l : List ℕ). came p l) (sym (append-nil (x
 came_twice p (x ∷ a) (y ∷ b) = ap (λ (q : Place). spot_at q p.count) (reader_is.fed_append p.place (x ∷ a) (y ∷ b))
 
 -- nothing came, and nothing was served
-pub serves_none : (moment : ℤ) (held unsent : List ℕ) (p : Spot) (c : Contents) → Serves moment held unsent p c held unsent p c
+pub serves_none : (moment : ℤ) (held unsent : List ℕ) (p : Spot) (c : Contents) → ServesHeld moment held unsent p c held unsent p c
 serves_none moment held unsent p c = record { fed = []; stages = []; held_is = refl; runs = (refl, refl); unsent_is = sym (append-nil unsent) }
 
 -- more steps were made
 pub serves_on : (moment : ℤ) (h u : List ℕ) (p : Spot) (c : Contents) (h1 u1 : List ℕ) (q : Spot) (d : Contents) (u2 : List ℕ) (r : Spot) (e : Contents)
-    → Serves moment h u p c h1 u1 q d → RunsOn moment q d u1 r e u2 → Serves moment h u p c h1 u2 r e
+    → ServesHeld moment h u p c h1 u1 q d → RunsOn moment q d u1 r e u2 → ServesHeld moment h u p c h1 u2 r e
 serves_on moment h u p c h1 u1 q d u2 r e a b =
     record {
       fed = a.fed;
@@ -82,7 +82,7 @@ serves_on moment h u p c h1 u1 q d u2 r e a b =
 
 -- more came
 pub comes_on : (moment : ℤ) (h u : List ℕ) (p : Spot) (c : Contents) (h1 u1 : List ℕ) (q : Spot) (d : Contents) (h2 : List ℕ) (r : Spot)
-    → Serves moment h u p c h1 u1 q d → Comes h1 q h2 r → Serves moment h u p c h2 u1 r d
+    → ServesHeld moment h u p c h1 u1 q d → FeedsStream h1 q h2 r → ServesHeld moment h u p c h2 u1 r d
 comes_on moment h u p c h1 u1 q d h2 r a b =
     record {
       fed = a.fed ++ b.fed;
@@ -95,7 +95,7 @@ comes_on moment h u p c h1 u1 q d h2 r a b =
 
 -- memory was refused at a step after those
 pub stops_in : (moment : ℤ) (h u : List ℕ) (p : Spot) (c : Contents) (h1 u1 : List ℕ) (q : Spot) (d e : Contents)
-    → Serves moment h u p c h1 u1 q d → Stops moment q d e → StopsIn moment h p c e
+    → ServesHeld moment h u p c h1 u1 q d → Stops moment q d e → StopsIn moment h p c e
 stops_in moment h u p c h1 u1 q d e a b =
     record {
       fed = a.fed;
@@ -109,12 +109,12 @@ stops_in moment h u p c h1 u1 q d e a b =
     }
 
 -- or after them, before the next
-pub stops_between : (moment : ℤ) (h u : List ℕ) (p : Spot) (c : Contents) (h1 u1 : List ℕ) (q : Spot) (d : Contents) → Serves moment h u p c h1 u1 q d → StopsIn moment h p c d
+pub stops_between : (moment : ℤ) (h u : List ℕ) (p : Spot) (c : Contents) (h1 u1 : List ℕ) (q : Spot) (d : Contents) → ServesHeld moment h u p c h1 u1 q d → StopsIn moment h p c d
 stops_between moment h u p c h1 u1 q d a =
     record { fed = a.fed; rest = h1; stages = a.stages; spot = q; left = d; held_is = a.held_is; runs = a.runs; stops = inl refl }
 
 -- the first bytes of those that are held came
-pub comes_at : (held held' : List ℕ) (count : ℕ) (from to : Spot) → 0 < count → 0 < length held → held' ≡ drop count held → to ≡ spot_at (extended from.place (take count held)) from.count → Comes held from held' to
+pub comes_at : (held held' : List ℕ) (count : ℕ) (from to : Spot) → 0 < count → 0 < length held → held' ≡ drop count held → to ≡ spot_at (extended from.place (take count held)) from.count → FeedsStream held from held' to
 comes_at held held' zero from to some left is spot = absurd (omega (arith, some))
 comes_at [] held' (suc n) from to some left is spot = absurd (omega (arith, left))
 comes_at (x ∷ xs) held' (suc n) from to some left is spot =
@@ -122,12 +122,12 @@ comes_at (x ∷ xs) held' (suc n) from to some left is spot =
 
 -- steps were made, with the same held
 pub serves_still : (moment : ℤ) (h u : List ℕ) (p : Spot) (c : Contents) (h1 u1 : List ℕ) (q : Spot) (d : Contents) (h2 u2 : List ℕ) (r : Spot) (e : Contents)
-    → Serves moment h u p c h1 u1 q d → h2 ≡ h1 → RunsOn moment q d u1 r e u2 → Serves moment h u p c h2 u2 r e
+    → ServesHeld moment h u p c h1 u1 q d → h2 ≡ h1 → RunsOn moment q d u1 r e u2 → ServesHeld moment h u p c h2 u2 r e
 serves_still moment h u p c h1 u1 q d h2 u2 r e a same b =
-    subst (λ (l : List ℕ). Serves moment h u p c l u2 r e) (sym same) (serves_on moment h u p c h1 u1 q d u2 r e a b)
+    subst (λ (l : List ℕ). ServesHeld moment h u p c l u2 r e) (sym same) (serves_on moment h u p c h1 u1 q d u2 r e a b)
 
 -- more came, with the same unsent
 pub comes_still : (moment : ℤ) (h u : List ℕ) (p : Spot) (c : Contents) (h1 u1 : List ℕ) (q : Spot) (d : Contents) (h2 u2 : List ℕ) (r : Spot)
-    → Serves moment h u p c h1 u1 q d → u2 ≡ u1 → Comes h1 q h2 r → Serves moment h u p c h2 u2 r d
+    → ServesHeld moment h u p c h1 u1 q d → u2 ≡ u1 → FeedsStream h1 q h2 r → ServesHeld moment h u p c h2 u2 r d
 comes_still moment h u p c h1 u1 q d h2 u2 r a same b =
-    subst (λ (l : List ℕ). Serves moment h u p c h2 l r d) (sym same) (comes_on moment h u p c h1 u1 q d h2 r a b)
+    subst (λ (l : List ℕ). ServesHeld moment h u p c h2 l r d) (sym same) (comes_on moment h u p c h1 u1 q d h2 r a b)

@@ -9,7 +9,7 @@ use Rattle.wire_stream.proofs.ReaderLaws.{reader_is}
 use Rattle.cache_server.specs.Contents.{Contents}
 use Rattle.cache_tcp.specs.ConnectionServing.{AnswersAsk, AnswersEach, ServesTo}
 use Rattle.cache_tcp.specs.Laws.{StepsAreMessages, GoesOnAsAtOnce}
-use Rattle.cache_tcp.specs.Steps.{Spot, at_front, count_by, AnswersNext, PassesNext, Step, Stage, Runs, text_of}
+use Rattle.cache_tcp.specs.Steps.{Spot, at_front, count_by, AnswersNext, PassesNext, Step, ServedStep, Runs, text_of}
 use Rattle.cache_tcp.proofs.ConnectionJoined.{serves_one, serves_after, serves_nothing}
 use Rattle.cache_tcp.proofs.Runs.{runs_after, text_after}
 
@@ -135,7 +135,7 @@ step_more moment from to first c d text more b (inl s) = asks_more moment from t
 step_more moment from to first c d text more b (inr s) =
     inr (subst (λ (x : Contents). ServesTo moment from.place first (text ++ more) to.place x) s.2 (passed moment from.place to.place first c from.count text more b s.0 s.3), s.1)
 
-whole_from : (moment : ℤ) (stages : List Stage) (from to : Spot) (first c d : Contents) (text : List ℕ) → to.count ≡ 0 → Begun moment from.place first from.count c text → Runs moment from c stages to d → ServesTo moment from.place first (text ++ text_of stages) to.place d
+whole_from : (moment : ℤ) (stages : List ServedStep) (from to : Spot) (first c d : Contents) (text : List ℕ) → to.count ≡ 0 → Begun moment from.place first from.count c text → Runs moment from c stages to d → ServesTo moment from.place first (text ++ text_of stages) to.place d
 unfolding Further
 whole_from moment [] from to first c d text zero b r =
     let none = b.none (ap (λ (s : Spot). s.count) r.0 ∙ zero) in

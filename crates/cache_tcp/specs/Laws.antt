@@ -10,7 +10,7 @@ use Rattle.wire_parts.specs.Stream.{Place, Closed}
 use Rattle.wire_stream.specs.TextProtocol.{Said, Whole, LongLine, OtherProtocol, ReadsNext, memcached_text}
 use Rattle.cache_server.specs.Contents.{Contents}
 use Rattle.cache_tcp.specs.ConnectionServing.{out_of_memory, ServesTo, Feeds}
-use Rattle.cache_tcp.specs.Steps.{Spot, Stage, at_front, Runs, text_of}
+use Rattle.cache_tcp.specs.Steps.{Spot, ServedStep, at_front, Runs, text_of}
 
 -- what comes in two pieces at one moment is served as in one
 abbrev pub PiecesAreOne : Type 0
@@ -57,12 +57,12 @@ FeedIsDetermined =
 -- steps from the front of one message to that of another serve all messages between, each whole
 abbrev pub StepsAreMessages : Type 0
 StepsAreMessages =
-    (moment : ℤ) (place next : Place) (old new : Contents) (stages : List Stage)
+    (moment : ℤ) (place next : Place) (old new : Contents) (stages : List ServedStep)
     → Runs moment (at_front place) old stages (at_front next) new → ServesTo moment place old (text_of stages) next new
 
 -- what is answered in two goes, with nothing changed between, is answered as in one: the messages are served whole, and the texts of both, joined, are that of all
 abbrev pub GoesOnAsAtOnce : Type 0
 GoesOnAsAtOnce =
-    (moment : ℤ) (place next : Place) (stop : Spot) (old between new : Contents) (s t : List Stage)
+    (moment : ℤ) (place next : Place) (stop : Spot) (old between new : Contents) (s t : List ServedStep)
     → Runs moment (at_front place) old s stop between → Runs moment stop between t (at_front next) new
     → ServesTo moment place old (text_of s ++ text_of t) next new

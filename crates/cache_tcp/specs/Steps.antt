@@ -78,25 +78,25 @@ abbrev pub Step : ℤ → Spot → Contents → List ℕ → Spot → Contents �
 Step moment from old text to new = Asks moment from old text to new ⊎ Passes from old text to new
 
 -- what a step gave, and where it led
-pub record Stage : Type 0 where
+pub record ServedStep : Type 0 where
   pub text : List ℕ
   pub spot : Spot
   pub contents : Contents
 
 -- these steps lead from one spot to the other, each with what the cache holds then
-abbrev pub Runs : ℤ → Spot → Contents → List Stage → Spot → Contents → Type 0
+abbrev pub Runs : ℤ → Spot → Contents → List ServedStep → Spot → Contents → Type 0
 Runs moment from old [] to new = (from ≡ to) × (old ≡ new)
 Runs moment from old (stage ∷ stages) to new =
     Step moment from old stage.text stage.spot stage.contents × Runs moment stage.spot stage.contents stages to new
 
 -- what steps gave
-abbrev pub text_of : List Stage → List ℕ
+abbrev pub text_of : List ServedStep → List ℕ
 text_of [] = []
 text_of (stage ∷ stages) = stage.text ++ text_of stages
 
 -- steps were made, and their text stands after what is to be sent
 pub record RunsOn (moment : ℤ) (from : Spot) (old : Contents) (unsent : List ℕ) (to : Spot) (new : Contents) (unsent' : List ℕ) : Type 0 where
-  pub stages : List Stage
+  pub stages : List ServedStep
   pub runs : Runs moment from old stages to new
   pub unsent_is : unsent' ≡ unsent ++ text_of stages
 
@@ -111,7 +111,7 @@ StopsNext moment place count old new =
 
 -- steps were made, and memory was refused at the next one
 pub record Stops (moment : ℤ) (from : Spot) (old new : Contents) : Type 0 where
-  pub stages : List Stage
+  pub stages : List ServedStep
   pub spot : Spot
   pub left : Contents
   pub runs : Runs moment from old stages spot left
@@ -151,13 +151,13 @@ abbrev pub message_at : Place → Request → Message
 message_at place request = message_in (held_at place) request
 
 -- the i-th ask of the request at the front
-pub record IsAskAt (place : Place) (request : Request) (i : ℕ) (ask : Ask) : Type 0 where
+pub record IsAskOf (place : Place) (request : Request) (i : ℕ) (ask : Ask) : Type 0 where
   pub front : IsFront place request
   pub at : slice_get (asks_of (message_at place request)) i ≡ Some ask
   pub there : i < length (asks_of (message_at place request))
 
 -- the request stands at the front, and its i-th ask is next
-pub record IsKeyAt (place : Place) (request : Request) (i : ℕ) : Type 0 where
+pub record IsKeyOf (place : Place) (request : Request) (i : ℕ) : Type 0 where
   pub front : IsFront place request
   pub there : i < length (asks_of (message_at place request))
 

@@ -5,7 +5,7 @@ ghost use Rattle.wire_parts.specs.declared.skip.Skip.TheVariants.{Nothing};
 ghost use Rattle.wire_parts.specs.Sending.{bytes_of};
 ghost use Rattle.wire_parts.specs.Stream.{Stands, Closed};
 ghost use Rattle.cache_tcp.specs.Steps.{RunsOn, Stops, IsAnswered, IsWithin, at_front};
-ghost use Rattle.cache_tcp.specs.Serving.{Comes, Serves, StopsIn, IsServed, Waits};
+ghost use Rattle.cache_tcp.specs.Serving.{FeedsStream, ServesHeld, StopsIn, IsServed, Waits};
 ghost use Rattle.cache_tcp.specs.Flushing.{flush_line, PassesIf, TakesIf};
 
 use crate::clock::Moment;
@@ -151,7 +151,7 @@ impl<S: Read + Write + Drop> CacheClient<S> {
     // The first line that is held comes to the stream, or all where no line ends there.
     fn feed_piece(&mut self) -> Result<(), AllocError>
         requires { 0 < length self.old.conn.held.items }
-        ensures ok { OnOk result (Comes self.old.conn.held.items self.old.served self.new.conn.held.items self.new.served) }
+        ensures ok { OnOk result (FeedsStream self.old.conn.held.items self.old.served self.new.conn.held.items self.new.served) }
         ensures err { OnErr result (self.new ≡ self.old) }
         ensures shorter { OnOk result (length self.new.conn.held.items < length self.old.conn.held.items) }
         ensures unsent { self.new.conn.unsent ≡ self.old.conn.unsent }
@@ -171,7 +171,7 @@ impl<S: Read + Write + Drop> CacheClient<S> {
     ///
     /// Source: mcgate's own.
     pub fn serve(&mut self, cache: &mut Cache, moment: Moment) -> Result<(), AllocError>
-        ensures ok { OnOk result (Serves moment.seconds self.old.conn.held.items (bytes_of self.old.conn.unsent) self.old.served cache.old self.new.conn.held.items (bytes_of self.new.conn.unsent) self.new.served cache.new) }
+        ensures ok { OnOk result (ServesHeld moment.seconds self.old.conn.held.items (bytes_of self.old.conn.unsent) self.old.served cache.old self.new.conn.held.items (bytes_of self.new.conn.unsent) self.new.served cache.new) }
         ensures all { OnOk result (IsServed self.old.conn.limits.unsent self.new.conn.held.items (bytes_of self.new.conn.unsent) self.new.served) }
         ensures err { OnErr result (StopsIn moment.seconds self.old.conn.held.items self.old.served cache.old cache.new) }
         ensures within { IsWithin self.old.conn.limits.unsent (bytes_of self.old.conn.unsent) → IsWithin self.old.conn.limits.unsent (bytes_of self.new.conn.unsent) }

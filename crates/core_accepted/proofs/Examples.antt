@@ -21,7 +21,7 @@ use Rattle.fresh_runs.proofs.Sharing.{way_below}
 use Rattle.fresh_runs.proofs.Example.{a_delete, a_get, a_get_is, hit_fits}
 use Rattle.fresh_runs.proofs.SharingExample as races
 use Rattle.core_accepted.specs.Late.{Does, Lands, seen}
-use Rattle.core_accepted.specs.Pipes.{Step, Sends, Moves, Steps, moments_of}
+use Rattle.core_accepted.specs.Pipes.{PipeStep, Sends, Moves, Steps, moments_of}
 use Rattle.core_accepted.specs.Examples.{two_lines, GivenUpIsStale, bars_within, FleetCopiesRace}
 
 apart_all : (past : List Event) (number : ℕ) (ask : Ask) → IsApart nobody_bars past number ask
@@ -70,43 +70,43 @@ words = server_words (λ _. 0)
 abbrev failed : Answer
 failed = ServerError (own_text CallFailed)
 
-abbrev s1 : List Step
+abbrev s1 : List PipeStep
 s1 = Moves (Does (Begins 1 a_set)) ∷ []
 
-abbrev s2 : List Step
+abbrev s2 : List PipeStep
 s2 = Sends 1 0 a_set Client ∷ s1
 
-abbrev s3 : List Step
+abbrev s3 : List PipeStep
 s3 = Moves (Does (Calls 1 0 a_set Client Never)) ∷ s2
 
-abbrev s4 : List Step
+abbrev s4 : List PipeStep
 s4 = Moves (Does (Replies 1 key failed None)) ∷ s3
 
-abbrev s5 : List Step
+abbrev s5 : List PipeStep
 s5 = Moves (Does (Begins 2 a_delete)) ∷ s4
 
-abbrev s6 : List Step
+abbrev s6 : List PipeStep
 s6 = Sends 2 0 a_delete Client ∷ s5
 
-abbrev s7 : List Step
+abbrev s7 : List PipeStep
 s7 = Moves (Does (Calls 2 0 a_delete Client (Read 2 NotFound 0))) ∷ s6
 
-abbrev s8 : List Step
+abbrev s8 : List PipeStep
 s8 = Moves (Does (Replies 2 key NotFound None)) ∷ s7
 
-abbrev s9 : List Step
+abbrev s9 : List PipeStep
 s9 = Moves (Lands 1 0 a_set Client 1 Stored 0) ∷ s8
 
-abbrev s10 : List Step
+abbrev s10 : List PipeStep
 s10 = Moves (Does (Begins 3 a_get)) ∷ s9
 
-abbrev s11 : List Step
+abbrev s11 : List PipeStep
 s11 = Sends 3 0 a_get Client ∷ s10
 
-abbrev s12 : List Step
+abbrev s12 : List PipeStep
 s12 = Moves (Does (Calls 3 0 a_get Client (Read 3 its_hit 0))) ∷ s11
 
-abbrev s13 : List Step
+abbrev s13 : List PipeStep
 s13 = Moves (Does (Replies 3 key its_hit (Some 0))) ∷ s12
 
 t1 : Steps two_lines words nobody_bars empty s1

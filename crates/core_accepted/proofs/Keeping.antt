@@ -21,10 +21,10 @@ use Rattle.gate_check.specs.Sound.{AreLoaded, IsLast, trees_of}
 use Rattle.gate_growth.specs.declared.ledger.page.Beginning.TheVariants.{Any}
 use Rattle.gate_growth.specs.Pages.{is_any}
 use Rattle.gate_growth.specs.Grown.{AreSoundSince, OpensBy}
-use Rattle.gate_growth.specs.Untouched.{IsCoveredOrUntouched}
+use Rattle.fresh_runs.specs.Untouched.{IsCoveredOrUntouched}
 use Rattle.gate_growth.proofs.Since.{since_is_covered}
-use Rattle.gate_growth.proofs.UntouchedFresh as untouched
-use Rattle.core_proxy.specs.declared.limits.Limits.{Limits}
+use Rattle.fresh_runs.proofs.UntouchedFresh as untouched
+use Rattle.core_proxy.specs.declared.limits.CoreLimits.{CoreLimits}
 use Rattle.core_proxy.specs.declared.proxy.Core.{Core}
 use Rattle.core_proxy.specs.declared.fault.CoreFault.{CoreFault}
 use Rattle.core_proxy.specs.declared.fault.CoreFault.TheVariants as faults
@@ -54,12 +54,12 @@ pub led_there :
     (old x : Core) (opening : ℕ → List ℕ → Option Item) (at plans : ℕ → List ℕ → Plan) (log : List (Entry dialect)) (now : OverlapState dialect) → plans ≡ at → x.limits ≡ old.limits
     → LeadsTo (tree_words at) (bars_by old.limits.sharing at) opening log now → LeadsTo (tree_words plans) (bars_by x.limits.sharing plans) opening log now
 led_there old x opening at plans log now same limits leads =
-    subst (λ (l : Limits). LeadsTo (tree_words plans) (bars_by l.sharing plans) opening log now) (sym limits)
+    subst (λ (l : CoreLimits). LeadsTo (tree_words plans) (bars_by l.sharing plans) opening log now) (sym limits)
     (subst (λ (p : ℕ → List ℕ → Plan). LeadsTo (tree_words p) (bars_by old.limits.sharing p) opening log now) (sym same) leads)
 
 -- the empty log led to a new core by its tree
 led_by_none :
-    (word : Option Known) (tree : Route) (limits : Limits) (x : Core) → MayBeLoaded word (λ _. tree) → core_state.IsFresh tree limits x
+    (word : Option Known) (tree : Route) (limits : CoreLimits) (x : Core) → MayBeLoaded word (λ _. tree) → core_state.IsFresh tree limits x
     → (opening : ℕ → List ℕ → Option Item) → MayHaveLed opening [] (record { core = x; accepted = word })
 led_by_none word tree limits x loaded new opening =
     let plans : ℕ → List ℕ → Plan = λ n key. tree_at tree key in
@@ -69,17 +69,17 @@ led_by_none word tree limits x loaded new opening =
       beside = nothing_beside plans opening;
       plain = refl;
       fits = new.fits plans opening (λ n key lt. refl);
-      leads = subst (λ (l : Limits). LeadsTo (tree_words plans) (bars_by l.sharing plans) opening [] (state_of x (nothing_beside plans opening))) (sym new.limits_are) (new.leads plans opening);
+      leads = subst (λ (l : CoreLimits). LeadsTo (tree_words plans) (bars_by l.sharing plans) opening [] (state_of x (nothing_beside plans opening))) (sym new.limits_are) (new.leads plans opening);
     }
 
 pub new_is_led :
-    (xs : List Configuration) (c : Configuration) (begun : Beginnings) (limits : Limits) (x : Core) (known : Known) → IsLast xs c → known ≡ first_of c begun → core_state.IsFresh c.tree limits x
+    (xs : List Configuration) (c : Configuration) (begun : Beginnings) (limits : CoreLimits) (x : Core) (known : Known) → IsLast xs c → known ≡ first_of c begun → core_state.IsFresh c.tree limits x
     → IsNewFrom xs begun limits (record { core = x; accepted = Some known })
 new_is_led xs c begun limits x known at is new =
     subst (λ (k : Known). IsNewFrom xs begun limits (record { core = x; accepted = Some k })) (sym is)
     (record { config = c; last = at; word = refl; core_is = new; led = led_by_none (Some (first_of c begun)) c.tree limits x (all_by_last (c ∷ []) c refl) new })
 
-pub unchecked_is_led : (tree : Route) (limits : Limits) (x : Core) → core_state.IsFresh tree limits x → IsUnchecked tree limits (record { core = x; accepted = None })
+pub unchecked_is_led : (tree : Route) (limits : CoreLimits) (x : Core) → core_state.IsFresh tree limits x → IsUnchecked tree limits (record { core = x; accepted = None })
 unchecked_is_led tree limits x new = record { word = refl; core_is = new; led = led_by_none None tree limits x tt new }
 
 -- a step of the core

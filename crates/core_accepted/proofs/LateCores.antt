@@ -1,11 +1,11 @@
 -- The log of a core is a run of one proxy, whose calls servers may apply late.
-use Rattle.std.proofs.Common.{◌≡◌, ℕ, Bool, true, false, cond, if◌then◌else◌, List, [], ◌∷◌, Option, Some, inl, ⊎_elim, refl, sym, ap, ◌∙◌, subst, nat_eq, nat_lt}
+use Rattle.std.proofs.Common.{◌≡◌, ℕ, Bool, true, false, cond, if◌then◌else◌, List, [], ◌∷◌, ◌++◌, Option, Some, None, inl, ⊎_elim, refl, sym, ap, ◌∙◌, subst, nat_eq, nat_lt}
 use Rattle.std.proofs.lemmas.Bool.{eqb-true}
 use Rattle.mc_types.specs.declared.ask.Ask.{Ask}
 use Rattle.mc_types.specs.declared.answer.Answer.{Answer}
-use Rattle.fresh_runs.specs.Run.{Call}
+use Rattle.fresh_runs.specs.Run.{Call, outcome_of}
 use Rattle.fresh_runs.specs.Cover.{IsCovered}
-use Rattle.fresh_runs.specs.Sharing.{Event, Begins, Calls, Replies, Breaks, Turns, Restarts}
+use Rattle.fresh_runs.specs.Sharing.{Event, Begins, Calls, Replies, Breaks, Turns, Restarts, under_way, calls_so_far, IsNewNumber, IsFront}
 use Rattle.route_tree.specs.Route.{Route, IsTree}
 use Rattle.route_tree.specs.Each.{Each}
 use Rattle.route_tree.specs.Plan.{Plan}
@@ -25,9 +25,9 @@ use Rattle.core_accepted.specs.Logs.{MayBeLoaded, TreesAreSound, IsAccepted}
 use Rattle.core_accepted.proofs.Keeping as keeping
 use Rattle.core_accepted.specs.Pipes.{moments_of}
 use Rattle.core_accepted.specs.Late.{seen}
-use Rattle.core_accepted.specs.Parts.{Own, part}
+use Rattle.core_accepted.specs.Parts.{Own, part, NumbersRise}
 use Rattle.core_accepted.specs.Rollout.{words_by}
-use Rattle.core_accepted.specs.LateCores.{only_proxy, only_line, EveryLateLogIsFresh}
+use Rattle.core_accepted.specs.LateCores.{only_proxy, only_line, EveryLateLogIsFresh, EveryLateRunIsFresh}
 use Rattle.core_accepted.proofs.Parts.{part_laws}
 use Rattle.core_accepted.proofs.FleetsFresh.{one_fresh}
 use Rattle.core_accepted.proofs.Owns.{led_owns}
@@ -45,6 +45,72 @@ none_else p other (Restarts server ∷ past) = none_else p other past
 one_does : (words : ℕ → Ask → List Call → Answer → Option ℕ → Type 0) (Bars : ℕ → Ask → ℕ → Ask → Type 0) (events : List Event) → Own words Bars (part only_proxy 0 events) → (p : ℕ) (b : Bool) → nat_eq 0 p ≡ b → Own words Bars (part only_proxy p events)
 one_does words Bars events mine p true same = subst (λ q. Own words Bars (part only_proxy q events)) (eqb-true 0 p same) mine
 one_does words Bars events mine p false other = subst (Own words Bars) (sym (none_else p other events)) tt
+
+-- numbers are given as commands begin
+new_in : (number : ℕ) (events : List Event) → IsNewNumber number (part only_proxy 0 events) → IsNewNumber number events
+new_in number [] new = new
+new_in number (Begins n ask ∷ past) new = (new.0, new_in number past new.1)
+new_in number (Calls n server ask origin end ∷ past) new = (new.0, new_in number past new.1)
+new_in number (Replies n key reply from ∷ past) new = (new.0, new_in number past new.1)
+new_in number (Breaks n ∷ past) new = (new.0, new_in number past new.1)
+new_in number (Turns server key turned ∷ past) new = new_in number past new
+new_in number (Restarts server ∷ past) new = new_in number past new
+
+own_rise : (words : ℕ → Ask → List Call → Answer → Option ℕ → Type 0) (Bars : ℕ → Ask → ℕ → Ask → Type 0) (events : List Event) → Own words Bars (part only_proxy 0 events) → NumbersRise events
+own_rise words Bars [] own = tt
+own_rise words Bars (Begins n ask ∷ past) own = (new_in n past own.0.0, own_rise words Bars past own.1)
+own_rise words Bars (Calls n server ask origin end ∷ past) own = own_rise words Bars past own.1
+own_rise words Bars (Replies n key reply from ∷ past) own = own_rise words Bars past own.1
+own_rise words Bars (Breaks n ∷ past) own = own_rise words Bars past own.1
+own_rise words Bars (Turns server key turned ∷ past) own = own_rise words Bars past own
+own_rise words Bars (Restarts server ∷ past) own = own_rise words Bars past own
+
+-- what a proxy does, servers' losses aside
+new_part : (number : ℕ) (events : List Event) → IsNewNumber number events → IsNewNumber number (part only_proxy 0 events)
+new_part number [] new = new
+new_part number (Begins n ask ∷ past) new = (new.0, new_part number past new.1)
+new_part number (Calls n server ask origin end ∷ past) new = (new.0, new_part number past new.1)
+new_part number (Replies n key reply from ∷ past) new = (new.0, new_part number past new.1)
+new_part number (Breaks n ∷ past) new = (new.0, new_part number past new.1)
+new_part number (Turns server key turned ∷ past) new = new_part number past new
+new_part number (Restarts server ∷ past) new = new_part number past new
+
+way_part : (events : List Event) (n : ℕ) → under_way (part only_proxy 0 events) n ≡ under_way events n
+way_part [] n = refl
+way_part (Begins m ask ∷ past) n = ap (λ x. if nat_eq m n then Some ask else x) (way_part past n)
+way_part (Calls m server ask origin end ∷ past) n = way_part past n
+way_part (Replies m key reply from ∷ past) n = ap (λ x. if nat_eq m n then None else x) (way_part past n)
+way_part (Breaks m ∷ past) n = ap (λ x. if nat_eq m n then None else x) (way_part past n)
+way_part (Turns server key turned ∷ past) n = way_part past n
+way_part (Restarts server ∷ past) n = way_part past n
+
+calls_part : (events : List Event) (n : ℕ) → calls_so_far (part only_proxy 0 events) n ≡ calls_so_far events n
+calls_part [] n = refl
+calls_part (Begins m ask ∷ past) n = calls_part past n
+calls_part (Calls m server ask origin end ∷ past) n =
+    ap (λ calls. if nat_eq m n then calls ++ record { server = server; ask = ask; origin = origin; outcome = outcome_of end } ∷ [] else calls) (calls_part past n)
+calls_part (Replies m key reply from ∷ past) n = calls_part past n
+calls_part (Breaks m ∷ past) n = calls_part past n
+calls_part (Turns server key turned ∷ past) n = calls_part past n
+calls_part (Restarts server ∷ past) n = calls_part past n
+
+pub own_part : (words : ℕ → Ask → List Call → Answer → Option ℕ → Type 0) (Bars : ℕ → Ask → ℕ → Ask → Type 0) (events : List Event) → Own words Bars events → Own words Bars (part only_proxy 0 events)
+own_part words Bars [] own = tt
+own_part words Bars (Begins n ask ∷ past) own = ((new_part n past own.0.0, λ other client is key. own.0.1 other client (sym (way_part past other) ∙ is) key), own_part words Bars past own.1)
+own_part words Bars (Calls n server ask origin end ∷ past) own = (
+  (
+    own.0.0,
+    way_part past n ∙ own.0.1,
+    own.0.2,
+    subst (λ calls. IsFront words n own.0.0 (calls ++ record { server = server; ask = ask; origin = origin; outcome = outcome_of end } ∷ [])) (sym (calls_part past n)) own.0.3,
+  ),
+  own_part words Bars past own.1,
+)
+own_part words Bars (Replies n key reply from ∷ past) own =
+    ((own.0.0, way_part past n ∙ own.0.1, own.0.2, subst (λ calls. words n own.0.0 calls reply from) (sym (calls_part past n)) own.0.3), own_part words Bars past own.1)
+own_part words Bars (Breaks n ∷ past) own = ((own.0.0, way_part past n ∙ own.0.1), own_part words Bars past own.1)
+own_part words Bars (Turns server key turned ∷ past) own = own_part words Bars past own.1
+own_part words Bars (Restarts server ∷ past) own = own_part words Bars past own.1
 
 -- each server may have held anything at first
 any_either : (c : Bool) → is_any (if c then any_begun.opened else any_begun.added) ≡ true
@@ -69,25 +135,35 @@ covered trees are sound tree loaded =
     (λ n m lt. sound (loaded.generation n) (loaded.generation m) (tree n) (tree m) (loaded.rising n m lt) (loaded.loaded n) (loaded.loaded m))
 
 module _ (served : ServedCore) (known : Known) (word : served.accepted ≡ Some known) (are : Each IsTree (trees_of known.configs)) (sound : AreSound (trees_of known.configs)) where
-  pub late_logs : EveryLateLogIsFresh served
-  late_logs opening steps core order =
+  pub late_runs : EveryLateRunIsFresh served
+  late_runs opening steps core order =
       let tree = core.led.tree in
       let at : ℕ → List ℕ → Plan = λ n key. tree_at (tree n) key in
       let rule = served.core.limits.sharing in
       let words = words_by tree in
       let Bars : ℕ → Ask → ℕ → Ask → Type 0 = bars_by rule at in
-      let laws = part_laws words Bars in
       let loaded : AreLoaded (trees_of known.configs) tree = subst (λ (w : Option Known). MayBeLoaded w tree) word core.led.loaded in
-      let mine : Own words Bars (part only_proxy 0 (seen (moments_of steps))) =
-      laws.changes _ _ core.changes
-      (led_owns served core.believes core.log core.led (λ n. n) tree Bars (λ n. ◌≡◌ {A = ℕ} n n) (λ n is. refl)
-      (λ n m ask client one other b. subst (λ (a : ℕ → List ℕ → Plan). bars_by rule a n ask m client) (sym core.led.plain) b) (λ n ask e. refl)) in
-      let own : (p : ℕ) → Own words Bars (part only_proxy p (seen (moments_of steps))) = λ p. one_does words Bars (seen (moments_of steps)) mine p (nat_eq 0 p) refl in
+      let happened = seen (moments_of steps) in
+      let own : (p : ℕ) → Own words Bars (part only_proxy p happened) = λ p. one_does words Bars happened core.own p (nat_eq 0 p) refl in
       one_fresh words Bars (covered (trees_of known.configs) are sound tree loaded) (keeping.copies rule at) opening steps
-      (laws.steps only_proxy (λ number other ask client b. refl) only_line opening steps (record { parts = record { own = own; rise = core.rise; serves = core.serves }; order = order }))
+      ((part_laws words Bars).steps only_proxy (λ number other ask client b. refl) only_line opening steps
+      (record { parts = record { own = own; rise = own_rise words Bars happened core.own; serves = core.serves }; order = order }))
 
-pub late_core : (served : ServedCore) → TreesAreSound served → IsAccepted served → EveryLateLogIsFresh served
+  -- a log that is the same by the order in which servers applied its calls
+  late_logs : EveryLateLogIsFresh served
+  late_logs opening steps core order =
+      let tree = core.led.tree in
+      let at : ℕ → List ℕ → Plan = λ n key. tree_at (tree n) key in
+      let Bars : ℕ → Ask → ℕ → Ask → Type 0 = bars_by served.core.limits.sharing at in
+      let mine : Own (words_by tree) Bars (part only_proxy 0 (seen (moments_of steps))) =
+      (part_laws (words_by tree) Bars).changes _ _ core.changes
+      (led_owns served core.believes core.log core.led (λ n. n) tree Bars (λ n. ◌≡◌ {A = ℕ} n n) (λ n is. refl)
+      (λ n m ask client one other b. subst (λ (a : ℕ → List ℕ → Plan). bars_by served.core.limits.sharing a n ask m client) (sym core.led.plain) b) (λ n ask e. refl)) in
+      late_runs opening steps (record { believes = core.believes; log = core.log; led = core.led; own = mine; serves = core.serves }) order
+
+pub late_core : (served : ServedCore) → TreesAreSound served → IsAccepted served → EveryLateLogIsFresh served × EveryLateRunIsFresh served
 late_core served sound is =
     let known = is.0 in
     let trees = sound known is.1 in
-    late_logs served known is.1 trees.0 ((arbitrary_is_today (trees_of known.configs) trees.0).0 (since_all known is.2 trees.1))
+    let clear = (arbitrary_is_today (trees_of known.configs) trees.0).0 (since_all known is.2 trees.1) in
+    (late_logs served known is.1 trees.0 clear, late_runs served known is.1 trees.0 clear)

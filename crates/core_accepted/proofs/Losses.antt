@@ -7,7 +7,7 @@ use Rattle.fresh_runs.specs.OverlapState.{IsLike, MayStep, after}
 use Rattle.fresh_runs.proofs.OverlapSteps.{walks_more}
 use Rattle.route_tree.specs.Word.{tree_words}
 use Rattle.core_proxy.specs.declared.proxy.Core.{Core}
-use Rattle.core_proxy.specs.CoreState.{dialect, bars_of, Beside, Fits, state_of}
+use Rattle.core_proxy.specs.CoreState.{dialect, bars_of, Beside, FitsBeside, state_of}
 use Rattle.core_accepted.specs.declared.served.ServedCore.{ServedCore}
 use Rattle.core_accepted.specs.Logs.{MayHaveLed}
 use Rattle.core_accepted.specs.Losses.{ServersMayLose}
@@ -15,7 +15,7 @@ use Rattle.core_accepted.specs.Losses.{ServersMayLose}
 abbrev bereft : Event → Beside → Beside
 bereft event beside = record beside { holds = after_event event beside.holds }
 
-still_fits : (x : Core) (beside : Beside) (event : Event) → Fits x beside → Fits x (bereft event beside)
+still_fits : (x : Core) (beside : Beside) (event : Event) → FitsBeside x beside → FitsBeside x (bereft event beside)
 still_fits x beside event f =
     record { queues = f.queues; held = f.held; numbered = f.numbered; to_come = f.to_come; tickets = f.tickets; single = f.single; numbers = f.numbers; unseen = f.unseen; trees = f.trees }
 

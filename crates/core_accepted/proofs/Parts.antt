@@ -9,7 +9,7 @@ use Rattle.fresh_runs.specs.Run.{Call, End, outcome_of}
 use Rattle.fresh_runs.specs.Sharing.{Event, Begins, Calls, Replies, Breaks, Turns, Restarts, under_way, calls_so_far, IsNewNumber, IsFront}
 use Rattle.fresh_runs.proofs.Sharing.{no_ask, differs, differ, second, way_below}
 use Rattle.core_accepted.specs.Late.{Moment, Does, Lands, seen, Run, LandsEver}
-use Rattle.core_accepted.specs.Pipes.{Step, Sends, Moves, Closes, moments_of, Steps}
+use Rattle.core_accepted.specs.Pipes.{PipeStep, Sends, Moves, Closes, moments_of, Steps}
 use Rattle.core_accepted.specs.Parts.{MayDo, Own, RunIsOwn, IsOther, IsChange, MovesBack, EndsAs, LeavesKey, LeavesRestart, AreChanges, Same, More, OwnIsChanged, renamed, OwnIsRenamed, part, BarsWithin, NumbersRise, MayServe, Serves, AreInOrder, ArePartsOf, IsFleet, PartsAreRun, FleetHasSteps, FleetOfPartsIsFresh, NoStoreLands, PartsAreFresh, AreRunsOf, RunsAreParts, PartLaws}
 use Rattle.core_accepted.specs.FleetLaws.{LandsHarmless}
 use Rattle.core_accepted.proofs.FleetsFresh.{nothing_bars, fleet_fresh, patient_fresh}
@@ -342,7 +342,7 @@ module _ (words : ℕ → Ask → List Call → Answer → Option ℕ → Type 0
           ((serves.0.0, tt, serves.0.1, serves.0.2), go past own rise serves.1)
 
   -- with connections in order
-  with_order : (line : ℕ → ℕ → ℕ) (opening : ℕ → List ℕ → Option Item) (steps : List Step) → Run words Bars opening LandsEver (moments_of steps) → AreInOrder line steps → Steps line words Bars opening steps
+  with_order : (line : ℕ → ℕ → ℕ) (opening : ℕ → List ℕ → Option Item) (steps : List PipeStep) → Run words Bars opening LandsEver (moments_of steps) → AreInOrder line steps → Steps line words Bars opening steps
   with_order line opening [] run order = tt
   with_order line opening (Sends x s a o ∷ past) run order = (order.0, with_order line opening past run order.1)
   with_order line opening (Moves moment ∷ past) run order = ((run.0, order.0), with_order line opening past run.1 order.1)

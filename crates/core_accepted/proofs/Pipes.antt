@@ -15,7 +15,7 @@ use Rattle.fresh_runs.proofs.Stamps.{by_test, get_left, clears_split}
 use Rattle.fresh_runs.proofs.Sharing.{some_ask, no_ask, differs, differ, second, new_calls, ended_since}
 use Rattle.core_accepted.specs.Late.{Moment, Does, Lands, seen, begun, Run, WasOver, IsTimely, LandsInTime, LandsEver}
 use Rattle.core_accepted.specs.FleetLaws.{IsSticky}
-use Rattle.core_accepted.specs.Pipes.{Step, Sends, Moves, Closes, moments_of, is_pipe, behind_first, IsFirstIn, pipe_of, Steps, WasOverOn, CopiesStay}
+use Rattle.core_accepted.specs.Pipes.{PipeStep, Sends, Moves, Closes, moments_of, is_pipe, behind_first, IsFirstIn, pipe_of, Steps, WasOverOn, CopiesStay}
 use Rattle.core_accepted.proofs.Late.{way_begun, over, made}
 
 is_pipe_true : (q t p s : ℕ) → is_pipe q t p s ≡ true → (q ≡ p) × (t ≡ s)
@@ -96,7 +96,7 @@ module _ (line : ℕ → ℕ → ℕ) where
       subst (λ l. Piped past p s (behind_first l)) (sym first_is) (record { begins = whole.begins.1; ordered = whole.ordered.1; behind = λ n home clears. (whole.behind n home clears).1 })
 
   module _ (words : ℕ → Ask → List Call → Answer → Option ℕ → Type 0) (Bars : ℕ → Ask → ℕ → Ask → Type 0) (opening : ℕ → List ℕ → Option Item) where
-    pub run_of : (steps : List Step) → Steps line words Bars opening steps → Run words Bars opening LandsEver (moments_of steps)
+    pub run_of : (steps : List PipeStep) → Steps line words Bars opening steps → Run words Bars opening LandsEver (moments_of steps)
     run_of [] h = tt
     run_of (Sends number server ask origin ∷ past) h = run_of past h.1
     run_of (Moves moment ∷ past) h = (h.0.0, run_of past h.1)
@@ -164,12 +164,12 @@ module _ (line : ℕ → ℕ → ℕ) where
         }
 
     -- a turn in one connection is one in another of its name
-    turn_at : (past : List Step) (number server p s : ℕ) (ask : Ask) (origin : Origin) → is_pipe (line number server) server p s ≡ true → IsFirstIn (pipe_of line past (line number server) server) number ask origin → IsFirstIn (pipe_of line past p s) number ask origin
+    turn_at : (past : List PipeStep) (number server p s : ℕ) (ask : Ask) (origin : Origin) → is_pipe (line number server) server p s ≡ true → IsFirstIn (pipe_of line past (line number server) server) number ask origin → IsFirstIn (pipe_of line past p s) number ask origin
     turn_at past number server p s ask origin here first =
         let e = is_pipe_true (line number server) server p s here in
         subst (λ q. IsFirstIn (pipe_of line past q s) number ask origin) e.0 (subst (λ t. IsFirstIn (pipe_of line past (line number server) t) number ask origin) e.1 first)
 
-    piped : (steps : List Step) → Steps line words Bars opening steps → (p s : ℕ) → Piped (seen (moments_of steps)) p s (pipe_of line steps p s)
+    piped : (steps : List PipeStep) → Steps line words Bars opening steps → (p s : ℕ) → Piped (seen (moments_of steps)) p s (pipe_of line steps p s)
     piped [] h p s = record { begins = tt; ordered = tt; behind = λ n home clears. tt }
     piped (Sends x server ask origin ∷ past) h p s =
         let events = seen (moments_of past) in
@@ -207,7 +207,7 @@ module _ (line : ℕ → ℕ → ℕ) where
         (λ _. piped past h.1 p s)
 
     -- what lands in its turn wasn't over when a delete of its proxy began that has an answer there
-    in_turn : (past : List Step) → Steps line words Bars opening past → (number server : ℕ) (ask : Ask) (origin : Origin) → IsFirstIn (pipe_of line past (line number server) server) number ask origin → (n : ℕ) → line n server ≡ line number server → ClearsIn (calls_so_far (seen (moments_of past)) n) server → HasEnded (before (seen (moments_of past)) n) number → ⊥
+    in_turn : (past : List PipeStep) → Steps line words Bars opening past → (number server : ℕ) (ask : Ask) (origin : Origin) → IsFirstIn (pipe_of line past (line number server) server) number ask origin → (n : ℕ) → line n server ≡ line number server → ClearsIn (calls_so_far (seen (moments_of past)) n) server → HasEnded (before (seen (moments_of past)) n) number → ⊥
     in_turn past h number server ask origin first n home clears ended =
         (subst (NoneOver (before (seen (moments_of past)) n)) first.1 ((piped past h (line number server) server).behind n home clears)).0 ended
 
@@ -231,7 +231,7 @@ module _ (line : ℕ → ℕ → ℕ) where
     pub failed_then : (past : List Moment) → Run words Bars opening LandsEver past → (number n j : ℕ) (call : Call) → slice_get (calls_so_far (seen past) number) j ≡ Some call → HasEnded (before (seen past) n) number → slice_get (calls_so_far (before (seen past) n) number) j ≡ Some call
     failed_then past run number n j call got ended = subst (λ l. slice_get l j ≡ Some call) (sym (calls_stay past run n number ended)) got
 
-    lands_in_time : CopiesStay line words → (past : List Step) → Steps line words Bars opening past → (number server : ℕ) (ask : Ask) (origin : Origin) → (j : ℕ) → slice_get (calls_so_far (seen (moments_of past)) number) j ≡ Some (record { server = server; ask = ask; origin = origin; outcome = Failed }) → IsFirstIn (pipe_of line past (line number server) server) number ask origin → LandsInTime (WasOverOn line) (seen (moments_of past)) number server ask origin
+    lands_in_time : CopiesStay line words → (past : List PipeStep) → Steps line words Bars opening past → (number server : ℕ) (ask : Ask) (origin : Origin) → (j : ℕ) → slice_get (calls_so_far (seen (moments_of past)) number) j ≡ Some (record { server = server; ask = ask; origin = origin; outcome = Failed }) → IsFirstIn (pipe_of line past (line number server) server) number ask origin → LandsInTime (WasOverOn line) (seen (moments_of past)) number server ask origin
     lands_in_time stay past h number server ask Client j got first = λ store n delete begins op same ended clears.
         let call : Call = record { server = server; ask = ask; origin = Client; outcome = Failed } in
         in_turn past h number server ask Client first n (ended.1 j call (failed_then (moments_of past) (run_of past h) number n j call got ended.0) store refl) clears ended.0
@@ -240,7 +240,7 @@ module _ (line : ℕ → ℕ → ℕ) where
         let home = stay number m.0 _ m.2.1 m.2.2 m.2.3 j (record { server = server; ask = ask; origin = CopyOf i; outcome = Failed }) i (get_left (calls_so_far (seen (moments_of past)) number) m.2.0 j _ got) refl n server in
         in_turn past h number server ask (CopyOf i) first n home clears ended
 
-    pub timely : CopiesStay line words → (steps : List Step) → Steps line words Bars opening steps → Run words Bars opening (LandsInTime (WasOverOn line)) (moments_of steps)
+    pub timely : CopiesStay line words → (steps : List PipeStep) → Steps line words Bars opening steps → Run words Bars opening (LandsInTime (WasOverOn line)) (moments_of steps)
     timely stay [] h = tt
     timely stay (Sends number server ask origin ∷ past) h = timely stay past h.1
     timely stay (Closes q server ∷ past) h = timely stay past h.1
@@ -268,7 +268,7 @@ module _ (line : ℕ → ℕ → ℕ) where
       stuck (Turns server key turned ∷ past) h n ask e s = stuck past h n ask e s
       stuck (Restarts server ∷ past) h n ask e s = stuck past h n ask e s
 
-      stuck_in_time : (past : List Step) → Steps line words Bars opening past → IsSticky words Bars line at (seen (moments_of past)) → (number server : ℕ) (ask : Ask) (origin : Origin) → (j : ℕ) → slice_get (calls_so_far (seen (moments_of past)) number) j ≡ Some (record { server = server; ask = ask; origin = origin; outcome = Failed }) → IsFirstIn (pipe_of line past (line number server) server) number ask origin → IsTimely WasOver (seen (moments_of past)) number server ask.key
+      stuck_in_time : (past : List PipeStep) → Steps line words Bars opening past → IsSticky words Bars line at (seen (moments_of past)) → (number server : ℕ) (ask : Ask) (origin : Origin) → (j : ℕ) → slice_get (calls_so_far (seen (moments_of past)) number) j ≡ Some (record { server = server; ask = ask; origin = origin; outcome = Failed }) → IsFirstIn (pipe_of line past (line number server) server) number ask origin → IsTimely WasOver (seen (moments_of past)) number server ask.key
       stuck_in_time past h sticky number server ask origin j got first n delete begins op same ended clears =
           let events = seen (moments_of past) in
           let m = made words Bars opening LandsEver (moments_of past) (run_of past h) number j (record { server = server; ask = ask; origin = origin; outcome = Failed }) got in
@@ -279,7 +279,7 @@ module _ (line : ℕ → ℕ → ℕ) where
       by_origin past number server ask Client timely = λ store. timely
       by_origin past number server ask (CopyOf i) timely = λ store. timely
 
-      pub stuck_timely : (steps : List Step) → Steps line words Bars opening steps → IsSticky words Bars line at (seen (moments_of steps)) → Run words Bars opening (LandsInTime WasOver) (moments_of steps)
+      pub stuck_timely : (steps : List PipeStep) → Steps line words Bars opening steps → IsSticky words Bars line at (seen (moments_of steps)) → Run words Bars opening (LandsInTime WasOver) (moments_of steps)
       stuck_timely [] h sticky = tt
       stuck_timely (Sends number server ask origin ∷ past) h sticky = stuck_timely past h.1 sticky
       stuck_timely (Closes q server ∷ past) h sticky = stuck_timely past h.1 sticky

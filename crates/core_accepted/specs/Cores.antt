@@ -9,7 +9,7 @@ use Rattle.core_proxy.specs.CoreState.{dialect}
 use Rattle.core_accepted.specs.declared.served.ServedCore.{ServedCore}
 use Rattle.core_accepted.specs.Logs.{MayHaveLed}
 use Rattle.core_accepted.specs.Late.{Moment, seen, begun, IsFreshBy, WasOver}
-use Rattle.core_accepted.specs.Pipes.{Step, moments_of, WasOverOn}
+use Rattle.core_accepted.specs.Pipes.{PipeStep, moments_of, WasOverOn}
 use Rattle.core_accepted.specs.FleetLaws.{IsSticky}
 use Rattle.core_accepted.specs.Parts.{AreChanges, renamed, part, NumbersRise, Serves, AreInOrder, NoStoreLands}
 use Rattle.core_accepted.specs.Rollout.{AreOfFleet, AreLoadedWithin, words_by}
@@ -45,12 +45,12 @@ FleetOfCoresIsFresh =
 abbrev pub LateFleetOfCoresIsFresh : Type 0
 LateFleetOfCoresIsFresh =
     (lag : ℕ) (trees : List Route) → AreOfFleet lag trees
-    → (fresh : ℕ → ServedCore) (line : ℕ → ℕ → ℕ) (opening : ℕ → List ℕ → Option Item) (steps : List Step) → AreCoresOf lag trees fresh opening (moments_of steps)
+    → (fresh : ℕ → ServedCore) (line : ℕ → ℕ → ℕ) (opening : ℕ → List ℕ → Option Item) (steps : List PipeStep) → AreCoresOf lag trees fresh opening (moments_of steps)
     → AreInOrder line steps → IsFreshBy opening (WasOverOn line) (moments_of steps)
 
 -- .. where in addition each key has its connections
 abbrev pub StickyFleetOfCoresIsFresh : Type 0
 StickyFleetOfCoresIsFresh =
     (lag : ℕ) (trees : List Route) → AreOfFleet lag trees
-    → (fresh : ℕ → ServedCore) (line : ℕ → ℕ → ℕ) (at : List ℕ → ℕ → ℕ) (opening : ℕ → List ℕ → Option Item) (steps : List Step) → (cores : AreCoresOf lag trees fresh opening (moments_of steps))
+    → (fresh : ℕ → ServedCore) (line : ℕ → ℕ → ℕ) (at : List ℕ → ℕ → ℕ) (opening : ℕ → List ℕ → Option Item) (steps : List PipeStep) → (cores : AreCoresOf lag trees fresh opening (moments_of steps))
     → AreInOrder line steps → IsSticky (words_by cores.tree) nobody_bars line at (seen (moments_of steps)) → IsFreshBy opening WasOver (moments_of steps)

@@ -12,12 +12,12 @@ use Rattle.fresh_runs.specs.Cover.{IsCovered}
 use Rattle.fresh_runs.specs.Single.{server_words}
 use Rattle.fresh_runs.specs.SharingLaws.{StaleSharedRun, nobody_bars, answered_call, refill_words}
 use Rattle.core_accepted.specs.Late.{IsFreshBy, WasOver}
-use Rattle.core_accepted.specs.Pipes.{Step, moments_of, Steps}
+use Rattle.core_accepted.specs.Pipes.{PipeStep, moments_of, Steps}
 
 -- steps that aren't fresh with regard to all stores whose commands were over
 pub record StaleSteps (line : ℕ → ℕ → ℕ) (words : ℕ → Ask → List Call → Answer → Option ℕ → Type 0) (Bars : ℕ → Ask → ℕ → Ask → Type 0) : Type 0 where
   pub opening : ℕ → List ℕ → Option Item
-  pub steps : List Step
+  pub steps : List PipeStep
   pub opens : OpensAtZero opening
   pub run : Steps line words Bars opening steps
   pub stale : IsFreshBy opening WasOver (moments_of steps) → ⊥

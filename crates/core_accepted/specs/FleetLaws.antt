@@ -11,7 +11,7 @@ use Rattle.fresh_runs.specs.Cover.{IsCovered}
 use Rattle.fresh_runs.specs.Sharing.{Event, Begins, Calls, Replies, Breaks, Turns, Restarts, calls_so_far, HasEnded, CopiesBar}
 use Rattle.fresh_runs.specs.Sharing as sharing
 use Rattle.core_accepted.specs.Late.{Moment, seen, Run, IsFreshBy, WasOver, LandsEver, is_store}
-use Rattle.core_accepted.specs.Pipes.{Step, moments_of, Steps, WasOverOn}
+use Rattle.core_accepted.specs.Pipes.{PipeStep, moments_of, Steps, WasOverOn}
 
 -- no call is a copy
 abbrev pub NothingCopies : (ℕ → Ask → List Call → Answer → Option ℕ → Type 0) → Type 0
@@ -23,13 +23,13 @@ module _ (words : ℕ → Ask → List Call → Answer → Option ℕ → Type 0
   -- over connections in order: a fleet's run in which nothing copies is fresh, but for stores that had failed over another connection than the delete's
   abbrev pub FleetIsFresh : Type 0
   FleetIsFresh =
-      IsCovered words → NothingCopies words → (line : ℕ → ℕ → ℕ) (opening : ℕ → List ℕ → Option Item) (steps : List Step)
+      IsCovered words → NothingCopies words → (line : ℕ → ℕ → ℕ) (opening : ℕ → List ℕ → Option Item) (steps : List PipeStep)
       → Steps line words Bars opening steps → IsFreshBy opening (WasOverOn line) (moments_of steps)
 
   -- where all commands send over one connection to each server, every run is fresh, whenever servers apply what was given up
   abbrev pub OneProxyIsFresh : Type 0
   OneProxyIsFresh =
-      IsCovered words → CopiesBar words Bars → (opening : ℕ → List ℕ → Option Item) (steps : List Step)
+      IsCovered words → CopiesBar words Bars → (opening : ℕ → List ℕ → Option Item) (steps : List PipeStep)
       → Steps (λ n s. 0) words Bars opening steps → IsFreshBy opening WasOver (moments_of steps)
 
   -- each command sends over the connections of its key
@@ -45,7 +45,7 @@ module _ (words : ℕ → Ask → List Call → Answer → Option ℕ → Type 0
   -- where all commands on a key send over the same connections, as where each key has its proxy, every run is fresh, whenever servers apply what was given up, and copies as well where what copies bars deletes of its key
   abbrev pub StickyIsFresh : Type 0
   StickyIsFresh =
-      IsCovered words → CopiesBar words Bars → (line : ℕ → ℕ → ℕ) (at : List ℕ → ℕ → ℕ) (opening : ℕ → List ℕ → Option Item) (steps : List Step)
+      IsCovered words → CopiesBar words Bars → (line : ℕ → ℕ → ℕ) (at : List ℕ → ℕ → ℕ) (opening : ℕ → List ℕ → Option Item) (steps : List PipeStep)
       → Steps line words Bars opening steps → IsSticky line at (seen (moments_of steps)) → IsFreshBy opening WasOver (moments_of steps)
 
   -- what lands stores nothing

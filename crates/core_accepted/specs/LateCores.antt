@@ -2,12 +2,15 @@
 use Rattle.std.specs.Prelude.{ℕ, List, Option}
 use Rattle.mc_types.specs.Items.{Item}
 use Rattle.fresh_runs.specs.Overlap.{Entry, run_of}
+use Rattle.route_tree.specs.At.{tree_at}
+use Rattle.core_proxy.specs.Claims.{bars_by}
 use Rattle.core_proxy.specs.CoreState.{dialect}
 use Rattle.core_accepted.specs.declared.served.ServedCore.{ServedCore}
 use Rattle.core_accepted.specs.Logs.{MayHaveLed}
 use Rattle.core_accepted.specs.Late.{Moment, seen, IsFreshBy, WasOver}
-use Rattle.core_accepted.specs.Pipes.{Step, moments_of}
-use Rattle.core_accepted.specs.Parts.{AreChanges, part, NumbersRise, Serves, AreInOrder}
+use Rattle.core_accepted.specs.Pipes.{PipeStep, moments_of}
+use Rattle.core_accepted.specs.Parts.{AreChanges, Own, part, NumbersRise, Serves, AreInOrder}
+use Rattle.core_accepted.specs.Rollout.{words_by}
 
 -- all commands are of one proxy, which has one connection to each server
 abbrev pub only_proxy : ℕ → ℕ
@@ -29,4 +32,18 @@ pub record IsCoreOf (served : ServedCore) (opening : ℕ → List ℕ → Option
 -- where what is sent over a connection is applied in order, however late: a command that begins after a delete of its key was acknowledged shows no item of a store that was over when the delete began
 abbrev pub EveryLateLogIsFresh : ServedCore → Type 0
 EveryLateLogIsFresh served =
-    (opening : ℕ → List ℕ → Option Item) (steps : List Step) → IsCoreOf served opening (moments_of steps) → AreInOrder only_line steps → IsFreshBy opening WasOver (moments_of steps)
+    (opening : ℕ → List ℕ → Option Item) (steps : List PipeStep) → IsCoreOf served opening (moments_of steps) → AreInOrder only_line steps → IsFreshBy opening WasOver (moments_of steps)
+
+-- a log that may have led to the core, and what its commands do by what happened: as the trees by which they run allow by the log, and the rule of sharing, also with calls whose results the log doesn't have yet; and servers do as memcached does, and nobody else writes them
+pub record DoesAsCore (served : ServedCore) (opening : ℕ → List ℕ → Option Item) (moments : List Moment) : Type 0 where
+  -- what the log says that servers held at first
+  pub believes : ℕ → List ℕ → Option Item
+  pub log : List (Entry dialect)
+  pub led : MayHaveLed believes log served
+  pub own : Own (words_by led.tree) (bars_by served.core.limits.sharing (λ n key. tree_at (led.tree n) key)) (part only_proxy 0 (seen moments))
+  pub serves : Serves opening moments
+
+-- the same of all that happened so
+abbrev pub EveryLateRunIsFresh : ServedCore → Type 0
+EveryLateRunIsFresh served =
+    (opening : ℕ → List ℕ → Option Item) (steps : List PipeStep) → DoesAsCore served opening (moments_of steps) → AreInOrder only_line steps → IsFreshBy opening WasOver (moments_of steps)

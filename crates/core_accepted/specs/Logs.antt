@@ -13,11 +13,11 @@ use Rattle.route_tree.specs.Word.{tree_words}
 use Rattle.route_json.specs.Configuration.{Configuration}
 use Rattle.gate_check.specs.Sound.{AreLoaded, IsLast, trees_of}
 use Rattle.gate_growth.specs.Grown.{AreSoundSince, OpensBy}
-use Rattle.core_proxy.specs.declared.limits.Limits.{Limits}
+use Rattle.core_proxy.specs.declared.limits.CoreLimits.{CoreLimits}
 use Rattle.core_commands.specs.declared.sharing.Sharing.{Sharing}
 use Rattle.core_commands.specs.declared.sharing.Sharing.TheVariants.{Alone}
 use Rattle.core_proxy.specs.CoreState as core_state
-use Rattle.core_proxy.specs.CoreState.{dialect, bars_of, Beside, Fits, IsBeside, state_of}
+use Rattle.core_proxy.specs.CoreState.{dialect, bars_of, Beside, FitsBeside, IsBeside, state_of}
 use Rattle.core_accepted.specs.declared.beginnings.Beginnings.{Beginnings}
 use Rattle.core_accepted.specs.declared.served.ServedCore.{ServedCore}
 use Rattle.core_accepted.specs.Begun.{any_begun}
@@ -34,7 +34,7 @@ pub record MayHaveLed (opening : ℕ → List ℕ → Option Item) (past : List 
   pub loaded : MayBeLoaded served.accepted tree
   pub beside : Beside
   pub plain : beside.at ≡ (λ n key. tree_at (tree n) key)
-  pub fits : Fits served.core beside
+  pub fits : FitsBeside served.core beside
   pub leads : LeadsTo (tree_words beside.at) (bars_of served.core beside) opening past (state_of served.core beside)
 
 -- the gate's word stays as it is; and each log that may have led to the core before goes on by entries of this kind, the latest first, and may have led to the core after. Servers stay
@@ -45,7 +45,7 @@ pub record LogsGoBy (old : ServedCore) (IsKind : List (Entry dialect) → Type 0
       → (entries : List (Entry dialect)) × IsKind entries × (led' : MayHaveLed opening (entries ++ past) new) × IsBeside led.beside led'.beside
 
 -- the gate accepted these configurations, the core is a new one on the tree of the last of them, which is its first generation, servers began so, and the empty log led to it
-pub record IsNewFrom (accepted : List Configuration) (begun : Beginnings) (limits : Limits) (served : ServedCore) : Type 0 where
+pub record IsNewFrom (accepted : List Configuration) (begun : Beginnings) (limits : CoreLimits) (served : ServedCore) : Type 0 where
   pub config : Configuration
   pub last : IsLast accepted config
   pub word : served.accepted ≡ Some (first_of config begun)
@@ -53,11 +53,11 @@ pub record IsNewFrom (accepted : List Configuration) (begun : Beginnings) (limit
   pub led : (opening : ℕ → List ℕ → Option Item) → MayHaveLed opening [] served
 
 -- the same where servers may have held anything
-abbrev pub IsNew : List Configuration → Limits → ServedCore → Type 0
+abbrev pub IsNew : List Configuration → CoreLimits → ServedCore → Type 0
 IsNew accepted limits served = IsNewFrom accepted any_begun limits served
 
 -- no gate was asked, the core is a new one on this tree, and the empty log led to it
-pub record IsUnchecked (tree : Route) (limits : Limits) (served : ServedCore) : Type 0 where
+pub record IsUnchecked (tree : Route) (limits : CoreLimits) (served : ServedCore) : Type 0 where
   pub word : served.accepted ≡ None
   pub core_is : core_state.IsFresh tree limits served.core
   pub led : (opening : ℕ → List ℕ → Option Item) → MayHaveLed opening [] served

@@ -10,7 +10,7 @@ use Rattle.fresh_runs.specs.Cover.{IsCovered}
 use Rattle.fresh_runs.specs.Sharing.{Event, Begins, Calls, Replies, Breaks, Turns, Restarts, under_way, calls_so_far, IsNewNumber, IsApart, IsFront}
 use Rattle.fresh_runs.specs.Sharing as sharing
 use Rattle.core_accepted.specs.Late.{Moment, Does, Lands, seen, HasFailed, held, GivesStamp, EndsWell, Run, IsFreshBy, WasOver, LandsEver, is_store}
-use Rattle.core_accepted.specs.Pipes.{Step, Sends, Moves, Closes, moments_of, Obeys, Steps, WasOverOn}
+use Rattle.core_accepted.specs.Pipes.{PipeStep, Sends, Moves, Closes, moments_of, Obeys, Steps, WasOverOn}
 use Rattle.core_accepted.specs.FleetLaws.{NothingCopies}
 
 module _ (words : ℕ → Ask → List Call → Answer → Option ℕ → Type 0) (Bars : ℕ → Ask → ℕ → Ask → Type 0) where
@@ -126,7 +126,7 @@ module _ (opening : ℕ → List ℕ → Option Item) where
   Serves (moment ∷ past) = MayServe past moment × Serves past
 
 -- what is sent is of a command under way, on its key; and what is applied is the first of its connection
-abbrev pub AreInOrder : (ℕ → ℕ → ℕ) → List Step → Type 0
+abbrev pub AreInOrder : (ℕ → ℕ → ℕ) → List PipeStep → Type 0
 AreInOrder line [] = Unit {0}
 AreInOrder line (Sends number server ask origin ∷ past) = ((client : Ask) × (under_way (seen (moments_of past)) number ≡ Some client) × (ask.key ≡ client.key)) × AreInOrder line past
 AreInOrder line (Moves moment ∷ past) = Obeys line past moment × AreInOrder line past
@@ -139,7 +139,7 @@ pub record ArePartsOf (proxy : ℕ → ℕ) (words : ℕ → Ask → List Call �
   pub serves : Serves opening moments
 
 -- and connections by theirs
-pub record IsFleet (proxy : ℕ → ℕ) (line : ℕ → ℕ → ℕ) (words : ℕ → Ask → List Call → Answer → Option ℕ → Type 0) (Bars : ℕ → Ask → ℕ → Ask → Type 0) (opening : ℕ → List ℕ → Option Item) (steps : List Step) : Type 0 where
+pub record IsFleet (proxy : ℕ → ℕ) (line : ℕ → ℕ → ℕ) (words : ℕ → Ask → List Call → Answer → Option ℕ → Type 0) (Bars : ℕ → Ask → ℕ → Ask → Type 0) (opening : ℕ → List ℕ → Option Item) (steps : List PipeStep) : Type 0 where
   pub parts : ArePartsOf proxy words Bars opening (moments_of steps)
   pub order : AreInOrder line steps
 
@@ -153,14 +153,14 @@ PartsAreRun words Bars =
 abbrev pub FleetHasSteps : (ℕ → Ask → List Call → Answer → Option ℕ → Type 0) → (ℕ → Ask → ℕ → Ask → Type 0) → Type 0
 FleetHasSteps words Bars =
     (proxy : ℕ → ℕ) → BarsWithin proxy Bars
-    → (line : ℕ → ℕ → ℕ) (opening : ℕ → List ℕ → Option Item) (steps : List Step) → IsFleet proxy line words Bars opening steps → Steps line words Bars opening steps
+    → (line : ℕ → ℕ → ℕ) (opening : ℕ → List ℕ → Option Item) (steps : List PipeStep) → IsFleet proxy line words Bars opening steps → Steps line words Bars opening steps
 
 -- so it is fresh, where deletes clear what later commands take, at whatever proxy, and nothing copies
 abbrev pub FleetOfPartsIsFresh : (ℕ → Ask → List Call → Answer → Option ℕ → Type 0) → (ℕ → Ask → ℕ → Ask → Type 0) → Type 0
 FleetOfPartsIsFresh words Bars =
     IsCovered words → NothingCopies words
     → (proxy : ℕ → ℕ) → BarsWithin proxy Bars
-    → (line : ℕ → ℕ → ℕ) (opening : ℕ → List ℕ → Option Item) (steps : List Step) → IsFleet proxy line words Bars opening steps → IsFreshBy opening (WasOverOn line) (moments_of steps)
+    → (line : ℕ → ℕ → ℕ) (opening : ℕ → List ℕ → Option Item) (steps : List PipeStep) → IsFleet proxy line words Bars opening steps → IsFreshBy opening (WasOverOn line) (moments_of steps)
 
 -- nothing lands that stores: a store that failed was applied before, or never is
 abbrev pub NoStoreLands : List Moment → Type 0

@@ -12,13 +12,13 @@ use Rattle.fresh_runs.specs.Overlap.{Ticket}
 use Rattle.core_accepted.specs.Late.{Moment, Does, Lands, seen, MayCome, LandsEver, is_store}
 
 -- the next call of a command goes into its connection to the server; something happens; or what stands in a connection is gone, since the server's end of it has closed. A proxy that takes a new connection in place of one whose other end has closed may be seen as one that goes on with it
-pub data Step : Type 0 where
-  Sends : (number server : ℕ) (ask : Ask) (origin : Origin) → Step
-  Moves : Moment → Step
-  Closes : (line server : ℕ) → Step
+pub data PipeStep : Type 0 where
+  Sends : (number server : ℕ) (ask : Ask) (origin : Origin) → PipeStep
+  Moves : Moment → PipeStep
+  Closes : (line server : ℕ) → PipeStep
 
 -- what happens
-abbrev pub moments_of : List Step → List Moment
+abbrev pub moments_of : List PipeStep → List Moment
 moments_of [] = []
 moments_of (Sends number server ask origin ∷ past) = moments_of past
 moments_of (Moves moment ∷ past) = moment ∷ moments_of past
@@ -62,7 +62,7 @@ module _ (line : ℕ → ℕ → ℕ) where
   pipe_after (Lands number server ask origin stamp answer spaces) p s tickets = if is_pipe (line number server) server p s then behind_first tickets else tickets
 
   -- the same after all steps
-  abbrev pub pipe_of : List Step → ℕ → ℕ → List Ticket
+  abbrev pub pipe_of : List PipeStep → ℕ → ℕ → List Ticket
   pipe_of [] p s = []
   pipe_of (Sends number server ask origin ∷ past) p s =
       if is_pipe (line number server) server p s then pipe_of past p s ++ record { number = number; ask = ask; origin = origin } ∷ [] else pipe_of past p s
@@ -70,7 +70,7 @@ module _ (line : ℕ → ℕ → ℕ) where
   pipe_of (Closes q server ∷ past) p s = if is_pipe q server p s then [] else pipe_of past p s
 
   -- what is applied is the first of its connection
-  abbrev pub Obeys : List Step → Moment → Type 0
+  abbrev pub Obeys : List PipeStep → Moment → Type 0
   Obeys past (Does (Calls number server ask origin end)) = IsInTurn (pipe_of past (line number server) server) number ask origin end
   Obeys past (Lands number server ask origin stamp answer spaces) = IsFirstIn (pipe_of past (line number server) server) number ask origin
   Obeys past (Does (Begins number ask)) = Unit {0}
@@ -81,7 +81,7 @@ module _ (line : ℕ → ℕ → ℕ) where
 
   module _ (words : ℕ → Ask → List Call → Answer → Option ℕ → Type 0) (Bars : ℕ → Ask → ℕ → Ask → Type 0) (opening : ℕ → List ℕ → Option Item) where
     -- the step may come after the past
-    abbrev pub MayStep : List Step → Step → Type 0
+    abbrev pub MayStep : List PipeStep → PipeStep → Type 0
     -- a call is sent for a command under way, on its key
     MayStep past (Sends number server ask origin) = (client : Ask) × (under_way (seen (moments_of past)) number ≡ Some client) × (ask.key ≡ client.key)
     -- a call that had failed may land at any time, but in its turn
@@ -89,7 +89,7 @@ module _ (line : ℕ → ℕ → ℕ) where
     MayStep past (Closes q server) = Unit {0}
 
     -- one step after another
-    abbrev pub Steps : List Step → Type 0
+    abbrev pub Steps : List PipeStep → Type 0
     Steps [] = Unit {0}
     Steps (step ∷ past) = MayStep past step × Steps past
 

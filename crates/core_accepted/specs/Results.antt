@@ -14,14 +14,14 @@ use Rattle.core_proxy.specs.declared.fault.CoreFault.{CoreFault}
 use Rattle.core_proxy.specs.declared.fault.CoreFault.TheVariants as faults
 use Rattle.core_proxy.specs.CoreState.{dialect, client_at, dropped_by, IsBeside}
 use Rattle.core_proxy.specs.Steps.{event_of, settled}
-use Rattle.core_proxy.specs.Settles.{HasNoCall, Settles, Breaks, freed}
-use Rattle.core_proxy.specs.Polls.{StopsAt, SoFar, Then}
+use Rattle.core_proxy.specs.Settles.{HasNoCall, Settles, SettlesRefused, freed}
+use Rattle.core_proxy.specs.Polls.{StopsPolling, SoFar, Then}
 use Rattle.core_accepted.specs.declared.served.ServedCore.{ServedCore}
 use Rattle.core_accepted.specs.Logs.{MayHaveLed, LogsGoBy}
 
 -- memory was refused in a poll: nothing is done for the client any more
 pub record StopsFor (old : ServedCore) (client : ℕ) (new : ServedCore) : Type 0 where
-  pub stops : StopsAt old.core client new.core
+  pub stops : StopsPolling old.core client new.core
   pub goes : LogsGoBy old (Then (SoFar client) (λ entries. entries ≡ freed stops.numbers ++ log.Drops client ∷ [])) new
 
 -- after a fault of a poll all is as it was, but where memory was refused
@@ -50,7 +50,7 @@ pub record TakesResult (old : ServedCore) (number : ℕ) (outcome : Outcome) (ne
 -- memory was refused: the command of this number has the result all the same, and nothing is done for its client any more
 pub record BreaksWith (old : ServedCore) (number : ℕ) (outcome : Outcome) (new : ServedCore) : Type 0 where
   pub word : new.accepted ≡ old.accepted
-  pub breaks : Breaks old.core number outcome new.core
+  pub breaks : SettlesRefused old.core number outcome new.core
   pub goes : SettlesOn old number breaks.command outcome (λ more. more ≡ freed breaks.numbers ++ log.Frees number ∷ log.Drops breaks.command.client ∷ []) new
 
 -- no call of this number was out, and all is as it was; or memory was refused

@@ -13,8 +13,8 @@ ghost use Rattle.route_json.specs.Configuration.{Configuration};
 ghost use Rattle.core_accepted.specs.Known.{Known, IsBookOf, is_arbitrary, first_of, more};
 
 use crate::beginnings::Beginnings;
-use crate::numbers::are_kept;
 use gate_check::Accepted;
+use gate_check::numbers::are_kept;
 use gate_growth::ledger::{Beginning, Ledger, Unsound};
 use route_json::Config;
 use std::alloc::{AllocError, Global};

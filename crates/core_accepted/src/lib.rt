@@ -8,7 +8,6 @@ pub mod fleets;
 pub mod generations;
 pub mod laws;
 pub mod loading;
-mod numbers;
 pub mod served;
 
 pub use beginnings::Beginnings;

@@ -15,7 +15,7 @@ ghost use Rattle.core_accepted.specs.Results.{PollStops, TakesResult, SettleStop
 use crate::beginnings::Beginnings;
 use crate::generations::Generations;
 use crate::loading::{LoadFault, load_accepted, load_any};
-use core_proxy::{Core, CoreFault, Limits, Poll, Ticket};
+use core_proxy::{Core, CoreFault, CoreLimits, Poll, Ticket};
 use gate_check::Accepted;
 use mc_types::{Ask, Outcome};
 use route_json::Config;
@@ -38,7 +38,11 @@ pub struct ServedCore {
 impl ServedCore {
     /// A core without clients, on the tree of the accepted configuration in use, which is its first generation. The only error:
     /// memory was refused.
-    pub fn new(alloc: Global, accepted: Accepted, limits: Limits) -> Result<ServedCore, AllocError>
+    pub fn new(
+        alloc: Global,
+        accepted: Accepted,
+        limits: CoreLimits,
+    ) -> Result<ServedCore, AllocError>
         ensures { IfOk result (λ served. IsNew accepted limits served) }
     {
         ServedCore::new_from(alloc, accepted, Beginnings::any(), limits)
@@ -49,7 +53,7 @@ impl ServedCore {
         alloc: Global,
         accepted: Accepted,
         begun: Beginnings,
-        limits: Limits,
+        limits: CoreLimits,
     ) -> Result<ServedCore, AllocError>
         ensures { IfOk result (λ served. IsNewFrom accepted begun limits served) }
     {
@@ -62,7 +66,7 @@ impl ServedCore {
     }
 
     /// A core without clients, on a tree of which no gate was asked.
-    pub fn unchecked(alloc: Global, tree: Tree, limits: Limits) -> ServedCore
+    pub fn unchecked(alloc: Global, tree: Tree, limits: CoreLimits) -> ServedCore
         ensures { IsUnchecked tree limits result }
     {
         ServedCore {

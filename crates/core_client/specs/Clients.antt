@@ -9,7 +9,7 @@ use Rattle.core_client.specs.declared.client.Pending.{Pending}
 use Rattle.core_client.specs.declared.client.Client.{Client}
 
 -- a client that said nothing
-pub record IsNew (x : Client) : Type 0 where
+pub record IsNewClient (x : Client) : Type 0 where
   pub stream : x.stream ≡ Stands Nothing []
   pub index : x.index ≡ 0
   pub waits : x.waits ≡ false

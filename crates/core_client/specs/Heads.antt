@@ -6,7 +6,7 @@ use Rattle.wire_stream.specs.Replies.{shown_text}
 use Rattle.core_client.specs.declared.client.Client.{Client}
 use Rattle.core_client.specs.declared.client.Pending.{Pending}
 use Rattle.core_client.specs.declared.replying.ReplyPlace.{ReplyPlace}
-use Rattle.core_client.specs.Replying.{Answers, IsPlace}
+use Rattle.core_client.specs.Replying.{AnswersAt, IsPlace}
 
 -- whether the command has a reply, and the output after it
 abbrev pub WritesReply : Pending → List ℕ → Bool → List ℕ → Type 0
@@ -50,7 +50,7 @@ pub record AnswersHead (x : Client) (number : ℕ) (reply : Answer) (y : Client)
   pub between : Client
   pub place : ReplyPlace
   pub is : IsPlace x number place
-  pub answers : Answers x place.at is.pending.last reply between
+  pub answers : AnswersAt x place.at is.pending.last reply between
   pub shows : ShowsOne between true y
 
 -- whether this reply came to the command of this number and the head was shown then; where not, nothing changed

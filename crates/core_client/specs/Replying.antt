@@ -83,7 +83,7 @@ abbrev pub HasNoPlace : Client → ℕ → Type 0
 HasNoPlace x number = (pending : Pending) → HasPlace x number pending → ⊥
 
 -- the reply came to the command at this place
-pub record Answers (x : Client) (at : ℕ) (last : Bool) (reply : Answer) (y : Client) : Type 0 where
+pub record AnswersAt (x : Client) (at : ℕ) (last : Bool) (reply : Answer) (y : Client) : Type 0 where
   pub queue : (pending : Pending) → slice_get x.queue.items at ≡ Some pending → y.queue.items ≡ slice_set x.queue.items at (replied reply pending)
   pub front : GoesOn last x reply y
   pub output : bytes_of y.output ≡ bytes_of x.output

@@ -3,7 +3,7 @@
 ghost use Rattle.std.specs.Prelude.{◌≡◌, ◌++◌, [], false, ◌↔◌, IsTrue, OnOk, OnErr, IfOk};
 ghost use Rattle.wire_parts.specs.Sending.{bytes_of};
 ghost use Rattle.wire_stream.specs.Held.{held_at};
-ghost use Rattle.core_client.specs.Clients.{has_own, IsNew, IsEnded, TakesPiece, LosesOutput};
+ghost use Rattle.core_client.specs.Clients.{has_own, IsNewClient, IsEnded, TakesPiece, LosesOutput};
 
 use crate::marked_ask::{MarkedAsk, MarkedKey};
 use mc_types::{Answer, Key};
@@ -52,7 +52,7 @@ fn waits_on(key: &Key, queue: &VecDeque<Pending>) -> bool
 impl Client {
     /// A client that said nothing yet. It takes no memory.
     pub fn new(alloc: Global) -> Client
-        ensures { IsNew result }
+        ensures { IsNewClient result }
     {
         Client {
             stream: ClientStream::new(alloc),

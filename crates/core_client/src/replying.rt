@@ -2,7 +2,7 @@
 
 ghost use Rattle.std.specs.Prelude.{◌≡◌, ◌<◌, ℕ, Bool, false, length, position, slice_set, slice_index_or, IfSome, IfNone};
 ghost use Rattle.core_client.specs.declared.client.Pending.{Pending as PendingOf};
-ghost use Rattle.core_client.specs.Replying.{GoesOn, is_numbered, IsAnswered, HasKeyAtFront, HasPlace, HasNoPlace, KeepsRest, IsPlace, IsOnward, IsOnwardOfSome, replied, Answers};
+ghost use Rattle.core_client.specs.Replying.{GoesOn, is_numbered, IsAnswered, HasKeyAtFront, HasPlace, HasNoPlace, KeepsRest, IsPlace, IsOnward, IsOnwardOfSome, replied, AnswersAt};
 ghost use Rattle.core_client.specs.declared.replying.ReplyPlace.{ReplyPlace as PlaceOf};
 
 use crate::client::{Client, Pending};
@@ -103,7 +103,7 @@ impl Client {
     /// The reply came to the command at this place.
     pub fn answer(&mut self, place: ReplyPlace, reply: Answer)
         requires { (number : ℕ) × IsPlace self.old number place }
-        ensures { (number : ℕ) (is : IsPlace self.old number place) → Answers self.old place.at is.pending.last reply self.new }
+        ensures { (number : ℕ) (is : IsPlace self.old number place) → AnswersAt self.old place.at is.pending.last reply self.new }
     {
         self.go_on_by(&place.onward, &reply);
         put_reply(&mut self.queue, place.at, reply);
@@ -111,7 +111,7 @@ impl Client {
 
     /// The reply of the command of this number came; it is let go where none can come. It takes no memory.
     pub fn take_reply(&mut self, number: u64, reply: Answer)
-        ensures answered { (pending : PendingOf) → HasPlace self.old number pending → (place : PlaceOf) × (is : IsPlace self.old number place) × Answers self.old place.at is.pending.last reply self.new }
+        ensures answered { (pending : PendingOf) → HasPlace self.old number pending → (place : PlaceOf) × (is : IsPlace self.old number place) × AnswersAt self.old place.at is.pending.last reply self.new }
         ensures dropped { self.new.dropped ≡ self.old.dropped }
     {
         match self.place_of(number) {

@@ -14,7 +14,7 @@ use crate::command::Command;
 use crate::held_job::HeldJob;
 use crate::ticket::Ticket;
 use mc_types::SharedAsk;
-use route_job::{Job, Step};
+use route_job::{Job, JobStep};
 use route_tree::Tree;
 use std::alloc::{AllocError, Global};
 
@@ -93,7 +93,7 @@ fn ticket_of(number: u64, job: &HeldJob) -> Result<Ticket, AllocError>
     ensures { IfOk result (λ ticket. ticket ≡ ticket_of number job.now) }
 {
     match job.next() {
-        Step::Call {
+        JobStep::Call {
             server,
             ask,
             origin,
@@ -103,7 +103,7 @@ fn ticket_of(number: u64, job: &HeldJob) -> Result<Ticket, AllocError>
             origin,
             server,
         }),
-        Step::Done(_) => unreachable!(),
+        JobStep::Done(_) => unreachable!(),
     }
 }
 

@@ -12,7 +12,7 @@ use crate::claim::Claim;
 use crate::held_job::HeldJob;
 use crate::ticket::OutCall;
 use mc_types::{Ask, Key, Outcome, ServerId, SharedAsk};
-use route_job::Step;
+use route_job::JobStep;
 use std::alloc::{AllocError, Global};
 
 /// A command that has begun and has not ended.
@@ -76,8 +76,8 @@ impl Command {
             return None;
         }
         match self.job.next() {
-            Step::Call { ask, .. } => Some(ask.get()),
-            Step::Done(_) => None,
+            JobStep::Call { ask, .. } => Some(ask.get()),
+            JobStep::Done(_) => None,
         }
     }
 
@@ -89,7 +89,7 @@ impl Command {
             return None;
         }
         match self.job.next() {
-            Step::Call {
+            JobStep::Call {
                 server,
                 ask,
                 origin,
@@ -98,7 +98,7 @@ impl Command {
                 origin,
                 server,
             }),
-            Step::Done(_) => None,
+            JobStep::Done(_) => None,
         }
     }
 

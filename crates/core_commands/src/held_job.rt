@@ -10,7 +10,7 @@ ghost use Rattle.route_job.specs.Given.{given_of};
 ghost use Rattle.route_job.specs.Jobs.{Comes, call_of, server_in, IsBroken, IsNext, IsCalling, IsDone};
 
 use mc_types::{Outcome, ServerId, SharedAsk};
-use route_job::{Done, Job, Step};
+use route_job::{Done, Job, JobStep};
 use route_tree::Tree;
 use std::alloc::{AllocError, Global};
 use std::marker::Model;
@@ -64,7 +64,7 @@ impl HeldJob {
     }
 
     /// As `Job::next`.
-    pub fn next(&self) -> Step<'_>
+    pub fn next(&self) -> JobStep<'_>
         ensures { IsNext self.now result }
     {
         self.job.as_ref().next()

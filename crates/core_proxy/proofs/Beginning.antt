@@ -27,7 +27,7 @@ use Rattle.core_commands.specs.declared.claim.Claim.{Claim}
 use Rattle.core_proxy.specs.Claims.{claim_by, clears_key, copies_key}
 use Rattle.core_client.specs.Clients.{has_own}
 use Rattle.core_client.specs.ClientState.{dialect, front_by, output_by, dropped_by, IsSlot}
-use Rattle.core_proxy.specs.CoreState.{bars_of, client_at, command_at, Beside, owner_by, MayComeOf, state_of, is_call, AreSlots, IsAtFront, IsWaitedFor, IsQueue, IsHeld, IsOnItsWay, ticket_by, Fits, GoesByOne}
+use Rattle.core_proxy.specs.CoreState.{bars_of, client_at, command_at, Beside, owner_by, MayComeOf, state_of, is_call, AreSlots, IsAtFront, IsWaitedFor, IsQueue, IsHeld, IsOnItsWay, ticket_by, FitsBeside, GoesByOne}
 use Rattle.core_commands.proofs.Commands.{some_command}
 use Rattle.core_proxy.proofs.Commands.{by_number}
 use Rattle.core_proxy.proofs.Claims.{own_there, none_of}
@@ -67,7 +67,7 @@ module _ (old new : Core) (client : ℕ) (x y : Client) (part : Part dialect) (p
   now_waits : is_last part ≡ false → y.waits ≡ true
   now_waits more = ap (λ (f : Front dialect). f.waits) (r.front ∙ ap (λ b. cond b (record { place = part.next; index = 0; waits = false }) (record { place = before.place; index = before.index; waits = true })) more)
 
-  queues_then : (beside : Beside) → Fits old beside → (c : ℕ) → IsQueue (client_at new c) (longer beside.queue c)
+  queues_then : (beside : Beside) → FitsBeside old beside → (c : ℕ) → IsQueue (client_at new c) (longer beside.queue c)
   queues_then beside fits c =
       (elim (nat_eq client c) as (λ b. nat_eq client c ≡ b → IsQueue (client_at new c) (cond b (beside.queue c ++ slot ∷ []) (beside.queue c))) [
         | true ↦ λ same. subst (λ d. IsQueue (client_at new d) (beside.queue d ++ slot ∷ [])) (eqb-true client c same)
@@ -80,7 +80,7 @@ module _ (old new : Core) (client : ℕ) (x y : Client) (part : Part dialect) (p
   just_above : old.number < old.number + 1
   just_above = omega arith
 
-  tickets_then : (beside : Beside) → Fits old beside → (s n : ℕ) → ticket_in (beside.out s) n ≡ ticket_by (command_at new n) n s
+  tickets_then : (beside : Beside) → FitsBeside old beside → (s n : ℕ) → ticket_in (beside.out s) n ≡ ticket_by (command_at new n) n s
   tickets_then beside fits s n =
       fits.tickets s n ∙ (elim (nat_eq (old.number + 1) n) as (λ b. nat_eq (old.number + 1) n ≡ b → ticket_by (command_at old n) n s ≡ ticket_by (cond b (Some command) (command_at old n)) n s) [
         | true ↦ λ same. ap (λ o. ticket_by o n s) (fits.numbers n (subst (λ m. old.number < m) (eqb-true (old.number + 1) n same) just_above)) ∙ sym (none_out n)
@@ -94,7 +94,7 @@ module _ (old new : Core) (client : ℕ) (x y : Client) (part : Part dialect) (p
           by true c a e = contrary true refl e
           by false c a e = refl
 
-  numbers_then : (beside : Beside) → Fits old beside → (n : ℕ) → new.number < n → command_at new n ≡ None
+  numbers_then : (beside : Beside) → FitsBeside old beside → (n : ℕ) → new.number < n → command_at new n ≡ None
   numbers_then beside fits n lt =
       let l : old.number + 1 < n = subst (λ m. m < n) r.number lt in
       r.commands n ∙ (elim (nat_eq (old.number + 1) n) as (λ b. nat_eq (old.number + 1) n ≡ b → cond b (Some command) (command_at old n) ≡ None) [
@@ -108,7 +108,7 @@ module _ (old new : Core) (client : ℕ) (x y : Client) (part : Part dialect) (p
     | false ↦ refl
   ])
 
-  to_come_like : (beside : Beside) → Fits old beside → (n : ℕ) (calls : List Call) (reply : Answer) (from : Option ℕ) → MayComeOf (command_at new n) calls reply from
+  to_come_like : (beside : Beside) → FitsBeside old beside → (n : ℕ) (calls : List Call) (reply : Answer) (from : Option ℕ) → MayComeOf (command_at new n) calls reply from
       → Either (nat_eq (old.number + 1) n) (tree_words beside.at (old.number + 1) part.ask calls reply from) (MayComeOf (command_at old n) calls reply from)
   to_come_like beside fits n calls reply from l =
       (elim (nat_eq (old.number + 1) n) as (λ b. MayComeOf (cond b (Some command) (command_at old n)) calls reply from → Either b (tree_words beside.at (old.number + 1) part.ask calls reply from) (MayComeOf (command_at old n) calls reply from)) [
@@ -127,7 +127,7 @@ module _ (old new : Core) (client : ℕ) (x y : Client) (part : Part dialect) (p
       by (Some c) is e = (c, is, cc)
 
   -- none of the client's own is under way on its key
-  first_is : (beside : Beside) → Fits old beside → (n : ℕ) (o : Owner) → option_map owner_by (command_at old n) ≡ Some o → o.client ≡ client → o.ask.key ≡ part.ask.key → ⊥
+  first_is : (beside : Beside) → FitsBeside old beside → (n : ℕ) (o : Owner) → option_map owner_by (command_at old n) ≡ Some o → o.client ≡ client → o.ask.key ≡ part.ask.key → ⊥
   first_is beside fits n o e own key =
       let c = owned n o e in
       let at : c.0.client ≡ client = ap (λ (p : Owner). p.client) c.2 ∙ own in
@@ -138,7 +138,7 @@ module _ (old new : Core) (client : ℕ) (x y : Client) (part : Part dialect) (p
       contrary (has_own part.ask.key x.queue.items) there r.first
 
   -- what the command claims, by the plain tree that it runs by
-  claim_then : (beside : Beside) → Fits old beside → command.claim ≡ claim_by old.limits.sharing part.ask.op (beside.at (old.number + 1) part.ask.key)
+  claim_then : (beside : Beside) → FitsBeside old beside → command.claim ≡ claim_by old.limits.sharing part.ask.op (beside.at (old.number + 1) part.ask.key)
   claim_then beside fits = r.claim ∙ ap (claim_by old.limits.sharing part.ask.op) (sym (fits.trees (old.number + 1) part.ask.key just_above))
 
   or_left : (a b : Bool) → (a || b) ≡ false → a ≡ false
@@ -154,7 +154,7 @@ module _ (old new : Core) (client : ℕ) (x y : Client) (part : Part dialect) (p
   when_true false b is e = absurd cc
 
   -- each command under way on its key may stand beside the command that begins
-  apart_is : (beside : Beside) → Fits old beside → IsApartNow (bars_of old beside) (state_of old beside) (old.number + 1) part.ask
+  apart_is : (beside : Beside) → FitsBeside old beside → IsApartNow (bars_of old beside) (state_of old beside) (old.number + 1) part.ask
   apart_is beside fits n o e key =
       let c = owned n o e in
       let claim = claim_then beside fits in
@@ -174,7 +174,7 @@ module _ (old new : Core) (client : ℕ) (x y : Client) (part : Part dialect) (p
             (none_of (copies_key part.ask.key) old.commands.entries n c.0 (when_true command.claim.clears any_copies clears (or_left (cond command.claim.clears any_copies false) _ r.apart)) c.1)),
       )
 
-  found_like : (beside : Beside) → Fits old beside → (n : ℕ) → beside.found n ≡ cond (nat_eq (old.number + 1) n) [] (beside.found n)
+  found_like : (beside : Beside) → FitsBeside old beside → (n : ℕ) → beside.found n ≡ cond (nat_eq (old.number + 1) n) [] (beside.found n)
   found_like beside fits n =
       (elim (nat_eq (old.number + 1) n) as (λ b. nat_eq (old.number + 1) n ≡ b → beside.found n ≡ cond b [] (beside.found n)) [
         | true ↦ λ same. fits.unseen n (subst (λ m. old.number < m) (eqb-true (old.number + 1) n same) just_above)
@@ -184,7 +184,7 @@ module _ (old new : Core) (client : ℕ) (x y : Client) (part : Part dialect) (p
   more_numbers : (n : ℕ) → new.number < n → old.number < n
   more_numbers n lt = let l : old.number + 1 < n = subst (λ m. m < n) r.number lt in omega (arith, l)
 
-  numbered_then : (beside : Beside) → Fits old beside → (c n : ℕ) → new.number < n → slot_in (longer beside.queue c) n ≡ None
+  numbered_then : (beside : Beside) → FitsBeside old beside → (c n : ℕ) → new.number < n → slot_in (longer beside.queue c) n ≡ None
   numbered_then beside fits c n lt =
       let l : old.number + 1 < n = subst (λ m. m < n) r.number lt in
       let none = fits.numbered c n (omega (arith, l)) in
@@ -198,7 +198,7 @@ module _ (old new : Core) (client : ℕ) (x y : Client) (part : Part dialect) (p
         | false ↦ none
       ]
 
-  held_then_too : (beside : Beside) → Fits old beside → (n : ℕ) (c : Command) → command_at new n ≡ Some c → IsHeld n c (client_at new c.client) (longer beside.queue c.client)
+  held_then_too : (beside : Beside) → FitsBeside old beside → (n : ℕ) (c : Command) → command_at new n ≡ Some c → IsHeld n c (client_at new c.client) (longer beside.queue c.client)
   held_then_too beside fits =
       by_number old new (old.number + 1) (Some command) r.commands (λ n c. IsHeld n c (client_at new c.client) (longer beside.queue c.client))
       (λ c e. subst (λ (c : Command). IsHeld (old.number + 1) c (client_at new c.client) (longer beside.queue c.client)) (some_command e) mine)
@@ -214,7 +214,7 @@ module _ (old new : Core) (client : ℕ) (x y : Client) (part : Part dialect) (p
         refl,
       )))
 
-  on_its_way_then : (beside : Beside) → Fits old beside → (n : ℕ) (c : Command) → command_at new n ≡ Some c → IsOnItsWay old.limits.sharing (beside.at n c.ask.key) c
+  on_its_way_then : (beside : Beside) → FitsBeside old beside → (n : ℕ) (c : Command) → command_at new n ≡ Some c → IsOnItsWay old.limits.sharing (beside.at n c.ask.key) c
   on_its_way_then beside fits =
       by_number old new (old.number + 1) (Some command) r.commands (λ n c. IsOnItsWay old.limits.sharing (beside.at n c.ask.key) c)
       (λ c e. subst (λ (c : Command). IsOnItsWay old.limits.sharing (beside.at (old.number + 1) c.ask.key) c) (some_command e) mine)

@@ -14,7 +14,7 @@ use Rattle.core_client.specs.declared.client.Client.{Client}
 use Rattle.core_commands.specs.declared.command.Command.{Command}
 use Rattle.core_proxy.specs.declared.proxy.Core.{Core}
 use Rattle.core_client.specs.ClientState.{dialect, front_by, output_by, dropped_by}
-use Rattle.core_proxy.specs.CoreState.{bars_of, client_at, command_at, Beside, owner_by, MayComeOf, state_of, AreSlots, IsWaitedFor, IsQueue, IsHeld, IsOnItsWay, ticket_by, Fits, GoesBy}
+use Rattle.core_proxy.specs.CoreState.{bars_of, client_at, command_at, Beside, owner_by, MayComeOf, state_of, AreSlots, IsWaitedFor, IsQueue, IsHeld, IsOnItsWay, ticket_by, FitsBeside, GoesBy}
 use Rattle.core_proxy.specs.Steps.{event_of, settled, Resolves}
 use Rattle.core_proxy.specs.Ending.{Drops}
 use Rattle.core_proxy.specs.OutSince.{out_since}
@@ -80,17 +80,17 @@ module _ (old new : Core) (number : ℕ) (a : Command) (outcome : Outcome) (came
     same_of : {A : Type 0} (f : Option Client → A) → f (Some y) ≡ f (Some x) → (c : ℕ) → f (client_at new c) ≡ f (client_at old c)
     same_of f e c = by_client a.client c (λ d. f (client_at new d) ≡ f (client_at old d)) (ap f now ∙ e ∙ ap f (sym was)) (λ differs. ap f (r.others c differs))
 
-    queues_then : (beside : Beside) → Fits old beside → (c : ℕ) → IsQueue (client_at new c) (beside.queue c)
+    queues_then : (beside : Beside) → FitsBeside old beside → (c : ℕ) → IsQueue (client_at new c) (beside.queue c)
     queues_then beside fits c =
         by_client a.client c (λ d. IsQueue (client_at new d) (beside.queue d)) (subst (λ o. IsQueue o (beside.queue a.client)) (sym now) (queue_then (beside.queue a.client) (subst (λ o. IsQueue o (beside.queue a.client)) was (fits.queues a.client))))
         (λ differs. subst (λ o. IsQueue o (beside.queue c)) (sym (r.others c differs)) (fits.queues c))
 
-    held_still : (beside : Beside) → Fits old beside → (n : ℕ) (command : Command) → command_at new n ≡ Some command → IsHeld n command (client_at new command.client) (beside.queue command.client)
+    held_still : (beside : Beside) → FitsBeside old beside → (n : ℕ) (command : Command) → command_at new n ≡ Some command → IsHeld n command (client_at new command.client) (beside.queue command.client)
     held_still beside fits =
         by_number old new number None r.commands (λ n command. IsHeld n command (client_at new command.client) (beside.queue command.client)) (λ command e. no_command e)
         (λ n command _ e. held_then (client_at old) (client_at new) a.client (Some x) (Some y) was now r.others beside.queue beside.queue n command (λ _ _ served. contrary y.dropped d.dropped served) (λ _. refl) (fits.held n command e))
 
-    tickets_then : (beside : Beside) → Fits old beside → (end : End) → (s n : ℕ) → ticket_in (out_after (event_of number a end) s (beside.out s)) n ≡ ticket_by (command_at new n) n s
+    tickets_then : (beside : Beside) → FitsBeside old beside → (end : End) → (s n : ℕ) → ticket_in (out_after (event_of number a end) s (beside.out s)) n ≡ ticket_by (command_at new n) n s
     tickets_then beside fits end s n =
         (elim (nat_eq number n) as (λ z. nat_eq number n ≡ z → ticket_in (out_after (event_of number a end) s (beside.out s)) n ≡ ticket_by (cond z None (command_at old n)) n s) [
           | true ↦ λ same. subst (λ m. ticket_in (out_after (event_of number a end) s (beside.out s)) m ≡ None) (eqb-true number n same) (none_then old number a outcome came beside fits end s)
@@ -104,7 +104,7 @@ module _ (old new : Core) (number : ℕ) (a : Command) (outcome : Outcome) (came
           | false ↦ λ l. l
         ]) (subst (λ o. MayComeOf o calls reply from) (r.commands n) l)
 
-    stands_there : (beside : Beside) (end : End) → Fits old beside → Fits new (settled (event_of number a end) beside)
+    stands_there : (beside : Beside) (end : End) → FitsBeside old beside → FitsBeside new (settled (event_of number a end) beside)
     stands_there beside end fits = record {
       queues = queues_then beside fits;
       held = held_still beside fits;

@@ -23,7 +23,7 @@ use Rattle.core_proxy.specs.declared.note.Poll.{Poll}
 use Rattle.core_proxy.specs.declared.note.Poll.TheVariants as polls
 use Rattle.core_proxy.specs.declared.proxy.Core.{Core}
 use Rattle.core_proxy.specs.CoreState as core_state
-use Rattle.core_proxy.specs.CoreState.{client_at, command_at, has_call_out, ticket_by, Beside, Fits, FeedsOpen, Reloads, IsTakenOver, GoesBy}
+use Rattle.core_proxy.specs.CoreState.{client_at, command_at, has_call_out, ticket_by, Beside, FitsBeside, FeedsOpen, Reloads, IsTakenOver, GoesBy}
 use Rattle.core_proxy.specs.OutSince.{out_since}
 use Rattle.core_proxy.specs.Faults.{OpenFault}
 use Rattle.core_proxy.specs.Polls.{IsPassed, IsNothing, HasBegun, IsTicketOf, IsSent, IsEnded, AreShown, Then, Perhaps, BeginsOne, BeginsBelow, EndsOne, SoEnded, SoFar, Polls, PollFault}
@@ -237,7 +237,7 @@ abbrev given_of : OutTicket → Ticket
 given_of ticket = record { number = ticket.number; ask = ticket.ask; origin = ticket.origin }
 
 module _
-    (old new : Core) (ticket : OutTicket) (beside beside' : Beside) (was : Fits old beside) (now : Fits new beside')
+    (old new : Core) (ticket : OutTicket) (beside beside' : Beside) (was : FitsBeside old beside) (now : FitsBeside new beside')
     (out : (s : ℕ) → beside'.out s ≡ cond (nat_eq ticket.server s) (beside.out s ++ given_of ticket ∷ []) (beside.out s)) (is : IsTicketOf new ticket) where
   none_before : called old ticket.number ≡ None
   none_before = by (some_pair (called old ticket.number))
@@ -306,7 +306,7 @@ out_pair : (a : Command) → has_call_out a ≡ true → called_by (Some a) ≡ 
 out_pair a out = ap (λ z. cond z (Some (server_in a.job.pending, ask_under a.job.frames.items a.job.ask)) None) out
 
 module _
-    (old new : Core) (number : ℕ) (a : Command) (beside beside' : Beside) (there : command_at old number ≡ Some a) (is_out : has_call_out a ≡ true) (was : Fits old beside) (now : Fits new beside')
+    (old new : Core) (number : ℕ) (a : Command) (beside beside' : Beside) (there : command_at old number ≡ Some a) (is_out : has_call_out a ≡ true) (was : FitsBeside old beside) (now : FitsBeside new beside')
     (out : (s : ℕ) → beside'.out s ≡ cond (nat_eq (server_in a.job.pending) s) (without number (beside.out s)) (beside.out s)) where
   none_after : called new number ≡ None
   none_after = by (some_pair (called new number))

@@ -15,7 +15,7 @@ use Rattle.route_job.specs.Rest.{ask_under, origin_under}
 use Rattle.route_job.specs.Jobs.{server_in, call_of, IsCalling}
 use Rattle.core_commands.specs.declared.command.Command.{Command}
 use Rattle.core_proxy.specs.declared.proxy.Core.{Core}
-use Rattle.core_proxy.specs.CoreState.{command_at, Beside, owner_by, MayComeOf, state_of, is_call, ticket_by, Fits}
+use Rattle.core_proxy.specs.CoreState.{command_at, Beside, owner_by, MayComeOf, state_of, is_call, ticket_by, FitsBeside}
 use Rattle.core_commands.proofs.Commands.{is_call_true}
 use Rattle.core_proxy.proofs.Commands.{call_key, goes_on}
 use Rattle.core_proxy.proofs.Tickets.{some_none, less_other, less_single, none_without}
@@ -50,12 +50,12 @@ module _ (old : Core) (number : ℕ) (a : Command) (outcome : Outcome) (r : Came
         turn = beside.turn + 1;
       }
 
-  ticket_was : (beside : Beside) → Fits old beside → (s : ℕ) → ticket_in (beside.out s) number ≡ cond (nat_eq server s) (Some (record { number = number; ask = ask; origin = origin })) None
+  ticket_was : (beside : Beside) → FitsBeside old beside → (s : ℕ) → ticket_in (beside.out s) number ≡ cond (nat_eq server s) (Some (record { number = number; ask = ask; origin = origin })) None
   ticket_was beside fits s = fits.tickets s number ∙ ap (λ o. ticket_by o number s) r.was ∙ ap (λ z. cond (cond z (is_call a.job.pending) false) (cond (nat_eq server s) (Some (record { number = number; ask = ask; origin = origin })) None) None) r.waiting
       ∙ ap (λ z. cond z (cond (nat_eq server s) (Some (record { number = number; ask = ask; origin = origin })) None) None) (is_call_true a.job.pending r.calling)
 
   -- the call is out no more
-  pub none_then : (beside : Beside) → Fits old beside → (end : End) → (s : ℕ) → ticket_in (out_after (event end) s (beside.out s)) number ≡ None
+  pub none_then : (beside : Beside) → FitsBeside old beside → (end : End) → (s : ℕ) → ticket_in (out_after (event end) s (beside.out s)) number ≡ None
   none_then beside fits end s = own (nat_eq server s) refl
     where
       own : (z : Bool) → nat_eq server s ≡ z → ticket_in (cond z (without number (beside.out s)) (beside.out s)) number ≡ None
@@ -70,7 +70,7 @@ module _ (old : Core) (number : ℕ) (a : Command) (outcome : Outcome) (r : Came
       other true = less_other (beside.out s) number n differs
       other false = refl
 
-  pub single_then : (beside : Beside) → Fits old beside → (end : End) → (s n : ℕ) → ticket_in (without n (out_after (event end) s (beside.out s))) n ≡ None
+  pub single_then : (beside : Beside) → FitsBeside old beside → (end : End) → (s n : ℕ) → ticket_in (without n (out_after (event end) s (beside.out s))) n ≡ None
   single_then beside fits end s n = by (nat_eq server s)
     where
       by : (z : Bool) → ticket_in (without n (cond z (without number (beside.out s)) (beside.out s))) n ≡ None
@@ -81,18 +81,18 @@ module _ (old : Core) (number : ℕ) (a : Command) (outcome : Outcome) (r : Came
             | false ↦ λ differs. less_single (beside.out s) number n differs ∙ fits.single s n
           ]) refl
 
-  pub below : (beside : Beside) → Fits old beside → (n : ℕ) → old.number < n → nat_eq number n ≡ false
+  pub below : (beside : Beside) → FitsBeside old beside → (n : ℕ) → old.number < n → nat_eq number n ≡ false
   below beside fits n lt =
       (elim (nat_eq number n) as (λ z. nat_eq number n ≡ z → z ≡ false) [
         | true ↦ λ same. some_none a (sym r.was ∙ ap (command_at old) (eqb-true number n same) ∙ fits.numbers n lt)
         | false ↦ λ _. refl
       ]) refl
 
-  pub unseen_then : (beside : Beside) → Fits old beside → (end : End) → (n : ℕ) → old.number < n → found_after (event end) beside.holds beside.found n ≡ []
+  pub unseen_then : (beside : Beside) → FitsBeside old beside → (end : End) → (n : ℕ) → old.number < n → found_after (event end) beside.holds beside.found n ≡ []
   unseen_then beside fits end n lt = ap (λ z. cond z (beside.found n ++ beside.holds server ask.key ∷ []) (beside.found n)) (below beside fits n lt) ∙ fits.unseen n lt
 
   -- the call has its result
-  pub has_result : (beside : Beside) (end : End) → Fits old beside → outcome ≡ outcome_of end → EndsIn (beside.holds server ask.key) (beside.found number) number ask origin end → HasResult (state_of old beside) number server ask origin end
+  pub has_result : (beside : Beside) (end : End) → FitsBeside old beside → outcome ≡ outcome_of end → EndsIn (beside.holds server ask.key) (beside.found number) number ask origin end → HasResult (state_of old beside) number server ask origin end
   has_result beside end fits is ends =
       let more = goes_on old.limits.sharing (beside.at number a.ask.key) a (fits.to_come number a r.was) r.calling outcome r.fits in
       record {

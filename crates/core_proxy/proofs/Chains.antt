@@ -4,7 +4,7 @@ use Rattle.fresh_runs.specs.Overlap.{Entry, Ticket, Feeds, Starts, Sends, Happen
 use Rattle.fresh_runs.specs.OverlapState.{Leads}
 use Rattle.fresh_runs.proofs.OverlapSteps.{leads_on}
 use Rattle.route_tree.specs.Word.{tree_words}
-use Rattle.core_proxy.specs.declared.limits.Limits.{Limits}
+use Rattle.core_proxy.specs.declared.limits.CoreLimits.{CoreLimits}
 use Rattle.core_proxy.specs.declared.proxy.Core.{Core}
 use Rattle.core_proxy.specs.Claims.{bars_by}
 use Rattle.core_client.specs.ClientState.{dialect}
@@ -23,7 +23,7 @@ pub leads_there :
     (mid old new : Core) (beside between : Beside) (entries : List (Entry dialect)) (after : Beside) → between.at ≡ beside.at → mid.limits ≡ old.limits
     → Leads (tree_words between.at) (bars_of mid between) (state_of mid between) entries (state_of new after) → Leads (tree_words beside.at) (bars_of old beside) (state_of mid between) entries (state_of new after)
 leads_there mid old new beside between entries after at limits leads =
-    subst (λ (l : Limits). Leads (tree_words beside.at) (bars_by l.sharing beside.at) (state_of mid between) entries (state_of new after)) limits
+    subst (λ (l : CoreLimits). Leads (tree_words beside.at) (bars_by l.sharing beside.at) (state_of mid between) entries (state_of new after)) limits
     (subst (λ at. Leads (tree_words at) (bars_by mid.limits.sharing at) (state_of mid between) entries (state_of new after)) at leads)
 
 -- the calls that are out, by what came later and by what came before it

@@ -17,21 +17,21 @@ use Rattle.wire_stream.proofs.ReaderLaws.{reader_is}
 use Rattle.core_client.specs.declared.client.Client.{Client}
 use Rattle.core_commands.specs.declared.command.Command.{Command}
 use Rattle.core_proxy.specs.declared.proxy.Core.{Core}
-use Rattle.core_client.specs.Clients.{IsNew, TakesPiece, LosesOutput}
+use Rattle.core_client.specs.Clients.{IsNewClient, TakesPiece, LosesOutput}
 use Rattle.core_proxy.specs.Feeding.{Takes}
 use Rattle.route_tree.specs.Plan.{Plan}
-use Rattle.core_proxy.specs.declared.limits.Limits.{Limits}
+use Rattle.core_proxy.specs.declared.limits.CoreLimits.{CoreLimits}
 use Rattle.core_proxy.specs.Faults.{has_commands}
 use Rattle.core_commands.specs.Lines.{others}
 use Rattle.core_proxy.specs.Steps.{Turns}
 use Rattle.core_proxy.proofs.Slots.{held_then, same_held}
 use Rattle.core_proxy.proofs.Tickets.{contrary}
 use Rattle.core_client.specs.ClientState.{dialect, front_by, output_by, dropped_by}
-use Rattle.core_proxy.specs.CoreState.{bars_of, client_at, command_at, Beside, owner_by, MayComeOf, state_of, AreSlots, IsAtFront, IsWaitedFor, IsQueue, IsHeld, IsOnItsWay, ticket_by, Fits, GoesByOne, Opens, Feeds, FeedsOpen, Gives, Closes}
+use Rattle.core_proxy.specs.CoreState.{bars_of, client_at, command_at, Beside, owner_by, MayComeOf, state_of, AreSlots, IsAtFront, IsWaitedFor, IsQueue, IsHeld, IsOnItsWay, ticket_by, FitsBeside, GoesByOne, Opens, Feeds, FeedsOpen, Gives, Closes}
 
 -- what is left of a command stays so where the limits stay
 pub on_its_way_kept : (old new : Core) (plan : Plan) (command : Command) → new.limits ≡ old.limits → IsOnItsWay old.limits.sharing plan command → IsOnItsWay new.limits.sharing plan command
-on_its_way_kept old new plan command limits l = subst (λ (k : Limits). IsOnItsWay k.sharing plan command) (sym limits) l
+on_its_way_kept old new plan command limits l = subst (λ (k : CoreLimits). IsOnItsWay k.sharing plan command) (sym limits) l
 
 -- a fact of each client, by whether it is the one
 pub by_client : (client c : ℕ) (A : ℕ → Type 0) → A client → (nat_eq client c ≡ false → A c) → A c
@@ -58,7 +58,7 @@ module _ (old new : Core) (client : ℕ) (a b : Option Client) (t : Turns old ne
   command_stays n = t.commands n
 
   -- what stood beside the old core can stand beside the new one, where the client's commands in the log are still those that it keeps
-  pub still_fits : (beside : Beside) → Fits old beside → ((slots : List (Slot dialect)) → IsQueue a slots → IsQueue b slots) → ((n : ℕ) (command : Command) (slots : List (Slot dialect)) → IsHeld n command a slots → IsHeld n command b slots) → Fits new beside
+  pub still_fits : (beside : Beside) → FitsBeside old beside → ((slots : List (Slot dialect)) → IsQueue a slots → IsQueue b slots) → ((n : ℕ) (command : Command) (slots : List (Slot dialect)) → IsHeld n command a slots → IsHeld n command b slots) → FitsBeside new beside
   still_fits beside fits queue held =
       record {
         queues = λ c. by_client client c (λ d. IsQueue (client_at new d) (beside.queue d))
@@ -152,15 +152,15 @@ gives old new client x y bytes t taken p = (
   ),
 )
 
-new_front : (x : Client) → IsNew x → front_by (Some x) ≡ start_front
+new_front : (x : Client) → IsNewClient x → front_by (Some x) ≡ start_front
 new_front x n i = record { place = n.stream i; index = n.index i; waits = n.waits i }
 
-new_queue : (x : Client) → IsNew x → (slots : List (Slot dialect)) → IsQueue None slots → IsQueue (Some x) slots
+new_queue : (x : Client) → IsNewClient x → (slots : List (Slot dialect)) → IsQueue None slots → IsQueue (Some x) slots
 new_queue x n [] e = (subst (λ l. AreSlots l []) (sym n.queue) tt, n.waits, tt)
 new_queue x n (slot ∷ slots) e = absurd cc
 
 -- a new client has a place that was free
-pub opens : (old new : Core) (client : ℕ) (x : Client) → Turns old new client None (Some x) → IsNew x → Opens old client new
+pub opens : (old new : Core) (client : ℕ) (x : Client) → Turns old new client None (Some x) → IsNewClient x → Opens old client new
 opens old new client x t n =
     record {
       free = t.was;

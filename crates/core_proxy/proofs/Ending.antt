@@ -16,7 +16,7 @@ use Rattle.core_client.specs.declared.client.Client.{Client}
 use Rattle.core_commands.specs.declared.command.Command.{Command}
 use Rattle.core_proxy.specs.declared.proxy.Core.{Core}
 use Rattle.core_client.specs.ClientState.{dialect, front_by, output_by, dropped_by}
-use Rattle.core_proxy.specs.CoreState.{bars_of, client_at, command_at, Beside, owner_by, MayComeOf, state_of, is_call, has_call_out, AreSlots, IsAtFront, IsWaitedFor, IsQueue, IsHeld, IsOnItsWay, ticket_by, Fits, GoesBy, GoesByOne}
+use Rattle.core_proxy.specs.CoreState.{bars_of, client_at, command_at, Beside, owner_by, MayComeOf, state_of, is_call, has_call_out, AreSlots, IsAtFront, IsWaitedFor, IsQueue, IsHeld, IsOnItsWay, ticket_by, FitsBeside, GoesBy, GoesByOne}
 use Rattle.core_proxy.specs.Steps.{Turns}
 use Rattle.core_client.specs.Replying.{pending_in, replied_in, GoesOn}
 use Rattle.core_proxy.specs.Ending.{Ends, Drops, Frees}
@@ -196,7 +196,7 @@ module _ (old new : Core) (number : ℕ) (a : Command) (x y : Client) (pending :
   abbrev mine : Beside → List (Slot dialect)
   mine beside = beside.queue a.client
 
-  module _ (beside : Beside) (fits : Fits old beside) where
+  module _ (beside : Beside) (fits : FitsBeside old beside) where
     queue_is : AreSlots x.queue.items (mine beside) × IsAtFront x (mine beside) × IsWaitedFor x.waits (mine beside)
     queue_is = subst (λ o. IsQueue o (mine beside)) r.client_was (fits.queues a.client)
 
@@ -435,7 +435,7 @@ module _ (old new : Core) (number : ℕ) (a : Command) (x : Client) (r : Frees o
     λ s. refl,
   )
     where
-      none_out : (beside : Beside) → Fits old beside → (s : ℕ) → ticket_in (beside.out s) number ≡ None
+      none_out : (beside : Beside) → FitsBeside old beside → (s : ℕ) → ticket_in (beside.out s) number ≡ None
       none_out beside fits s = fits.tickets s number ∙ ap (λ o. ticket_by o number s) r.was ∙ idle_ticket number a s r.idle
 
       none_either : (b : Bool) (c : Option Command) → c ≡ None → cond b None c ≡ None

@@ -11,7 +11,7 @@ use Rattle.core_client.specs.ClientState.{dialect, output_by, dropped_by}
 use Rattle.core_proxy.specs.CoreState.{client_at, command_at, is_call, has_call_out, IsHeld}
 use Rattle.core_proxy.specs.Steps.{Resolves}
 use Rattle.core_commands.specs.Lines as line
-use Rattle.core_proxy.specs.Settles.{TakesOutcome, asked_by, FitsCall, SettlesBy, StandsWithout, Settles, AreIdle, freed, FreesSome, FreesIdle, DropsBy, TakesOut, Breaks}
+use Rattle.core_proxy.specs.Settles.{TakesOutcome, asked_by, FitsCall, SettlesBy, StandsWithout, Settles, AreIdle, freed, FreesSome, FreesIdle, DropsBy, TakesOut, SettlesRefused}
 use Rattle.core_proxy.specs.OutSince.{out_since}
 use Rattle.core_proxy.proofs.Broken.{settles_alone, settles_then, settles_as, stands_alone, stands_then, none_freed, stands_broken, breaks}
 use Rattle.core_proxy.proofs.Came.{Came}
@@ -142,7 +142,7 @@ module _ (old mid out new : Core) (number : ℕ) (a : Command) (outcome : Outcom
   outputs None now d = ap output_by d
   outputs (Some x) now d = ap output_by d.1 ∙ d.2.output
 
-  pub breaks_off : Breaks old number outcome new
+  pub breaks_off : SettlesRefused old number outcome new
   breaks_off =
       record {
         command = a;

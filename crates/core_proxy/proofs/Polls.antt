@@ -33,13 +33,13 @@ use Rattle.core_proxy.specs.Steps.{Turns}
 use Rattle.core_client.specs.Fronts.{Stays, PassesFront, BeginsKey}
 use Rattle.core_commands.specs.Ready.{IsIdle}
 use Rattle.core_commands.specs.Begun.{IsBegun, ticket_of}
-use Rattle.core_proxy.specs.Polls.{ForClient, IsPassed, IsNothing, HasBegun, BeginsAt, CanSend, IsTicketOf, IsSent, IsEnded, IsServed, AreShown, IsShown, queue_len, ShowsNext, StopsFirst, StopsAfter, IsBelowDepth, BeginsBelow, MayAsk, NoneGoesOn, IsNextAsk, bars, stands_before, StandsStill, StandsInLine, Acts, Polls, IsPolled, IsActed, IsWhy, SoEnded, SoFar, ReadFault, Perhaps, BeginsOne, DropsAll, StopsAt}
+use Rattle.core_proxy.specs.Polls.{ForClient, IsPassed, IsNothing, HasBegun, BeginsAt, CanSend, IsTicketOf, IsSent, IsEnded, IsServed, AreShown, IsShown, queue_len, ShowsNext, StopsFirst, StopsAfter, IsBelowDepth, BeginsBelow, MayAsk, NoneGoesOn, IsNextAsk, bars, stands_before, StandsStill, StandsInLine, Acts, Polls, IsPolled, IsActed, IsWhy, SoEnded, SoFar, ReadFault, Perhaps, BeginsOne, DropsAll, StopsPolling}
 use Rattle.core_proxy.specs.Settles.{freed}
 use Rattle.core_commands.specs.Lines as line
 use Rattle.core_commands.proofs.Lines.{others_again}
 use Rattle.core_client.specs.Heads.{HasNoReply, ShowsOne}
 use Rattle.core_client.specs.Nexts.{HasCommand}
-use Rattle.core_client.specs.Replying.{IsPlace, Answers}
+use Rattle.core_client.specs.Replying.{IsPlace, AnswersAt}
 use Rattle.core_proxy.specs.Finishing.{CanEnd, IsNote}
 use Rattle.core_client.specs.ClientState.{dialect, front_by, output_by, dropped_by}
 use Rattle.core_proxy.specs.CoreState.{bars_of, client_at, command_at, owner_by, MayComeOf, state_of, is_call, AreSlots, IsAtFront, IsQueue, IsHeld, IsWaitedFor, ticket_by, GoesBy}
@@ -227,12 +227,12 @@ written_back old new number a was commands clients tree limits number_is =
 pub ended_goes :
     (old new : Core) (client number : ℕ) (x y : Client) (can : CanEnd old client number) (place : ReplyPlace) (is : IsPlace x number place) (given : Given) (ask : Ask) (note : Note) (reply : Answer)
     → client_at old client ≡ Some x → client_at new client ≡ Some y → ((c : ℕ) → nat_eq client c ≡ false → client_at new c ≡ client_at old c) → x.dropped ≡ false
-    → Comes can.command.job [] given → ask ≡ can.command.ask → IsNote number ask given note reply → Answers x place.at is.pending.last reply y
+    → Comes can.command.job [] given → ask ≡ can.command.ask → IsNote number ask given note reply → AnswersAt x place.at is.pending.last reply y
     → ((n : ℕ) → command_at new n ≡ cond (nat_eq number n) None (command_at old n)) → new.tree ≡ old.tree → new.limits ≡ old.limits → new.number ≡ old.number → GoesBy old (IsEnded client note) new
 ended_goes old new client number x y can place is given ask note reply was here others served comes ask_is told replies commands tree limits number_is =
     let a = can.command in
     let own : a.client ≡ client = can.idle.own in
-    let r : Answers x place.at is.pending.last given.reply y = subst (λ (z : Answer). Answers x place.at is.pending.last z y) told.reply_is replies in
+    let r : AnswersAt x place.at is.pending.last given.reply y = subst (λ (z : Answer). AnswersAt x place.at is.pending.last z y) told.reply_is replies in
     goes_as old new (λ entries. (part : Part dialect) × (part.ask ≡ a.ask) × (entries ≡ Ends a.client number part given.reply given.from ∷ [])) (IsEnded client note)
     (λ entries h.
     let same : ask ≡ h.0.ask = ask_is ∙ sym h.1 in (
@@ -487,7 +487,7 @@ pub still_served : (old new : Core) (client : ℕ) (x y : Client) → Turns old 
 still_served old new client x y t p served = subst (λ o. MatchOption o ⊥ IsServed) (sym t.is) (p.dropped ∙ served)
 
 -- memory was refused for one that was served
-pub refused : (old mid new : Core) (client : ℕ) (drops : DropsAll mid client new) → ReadFault old client faults.NoMemory mid → StopsAt old client new
+pub refused : (old mid new : Core) (client : ℕ) (drops : DropsAll mid client new) → ReadFault old client faults.NoMemory mid → StopsPolling old client new
 refused old mid new client d a =
     record {
       numbers = d.numbers;

@@ -10,7 +10,7 @@ use Rattle.route_tree.specs.Word.{Word, tree_words}
 use Rattle.core_commands.specs.declared.command.Command.{Command}
 use Rattle.core_proxy.specs.declared.proxy.Core.{Core}
 use Rattle.core_proxy.specs.Claims.{copies_by, bars_by}
-use Rattle.core_proxy.specs.CoreState.{bars_of, command_at, Beside, state_of, IsOnItsWay, Fits, IsTakenOver, Reloads}
+use Rattle.core_proxy.specs.CoreState.{bars_of, command_at, Beside, state_of, IsOnItsWay, FitsBeside, IsTakenOver, Reloads}
 use Rattle.core_commands.proofs.Commands.{no_command}
 
 -- the words of commands that have begun stay
@@ -23,7 +23,7 @@ bars_stay : (old : Core) (tree : Route) (beside : Beside) (at : ℕ → List ℕ
 bars_stay old tree beside at taken n other ask client lt lt' bars = (sym (ap (copies_by old.limits.sharing ask.op) (taken.begun n ask.key (let l = lt in omega (arith, l)))) ∙ bars.0, bars.1)
 
 -- a command that is under way has begun
-begun : (old : Core) (beside : Beside) → Fits old beside → (n : ℕ) (command : Command) → command_at old n ≡ Some command → n ≤ old.number
+begun : (old : Core) (beside : Beside) → FitsBeside old beside → (n : ℕ) (command : Command) → command_at old n ≡ Some command → n ≤ old.number
 begun old beside fits n command e = ⊎_elim (λ lt. no_command (sym (fits.numbers n lt) ∙ e)) (λ le. le) (cases_lt old.number n)
 
 pub reloaded : (old : Core) (tree : Route) → Reloads old tree (record old { tree = tree; generation = old.generation + 1 })

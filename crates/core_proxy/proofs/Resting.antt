@@ -15,7 +15,7 @@ use Rattle.core_commands.specs.Out.{is_call, has_call_out}
 use Rattle.core_commands.specs.Ready.{IsIdle, IsTurn}
 use Rattle.core_proxy.specs.Resting.{goes_on, IsHeldUp}
 use Rattle.core_client.specs.ClientState.{dialect, IsSlot}
-use Rattle.core_proxy.specs.CoreState.{Beside, client_at, command_at, AreSlots, IsAtFront, IsWaitedFor, IsQueue, IsHeld, Fits}
+use Rattle.core_proxy.specs.CoreState.{Beside, client_at, command_at, AreSlots, IsAtFront, IsWaitedFor, IsQueue, IsHeld, FitsBeside}
 use Rattle.core_commands.proofs.Commands.{is_call_true}
 use Rattle.core_proxy.proofs.Ending.{waited_for}
 use Rattle.core_proxy.proofs.Slots.{some_slot, no_slot}
@@ -62,7 +62,7 @@ placed_in (q ∷ ps) (s ∷ slots) n slot h is =
     ]) (ap (λ m. cond (nat_eq m n) (Some s) (slot_in slots n)) (sym h.0.number) ∙ is)
 
 -- wherever a log led, each command of a client that is served has its place
-pub placed : (core : Core) (beside : Beside) → Fits core beside → (client number : ℕ) (a : Command) (x : Client) → command_at core number ≡ Some a → a.client ≡ client → client_at core client ≡ Some x → x.dropped ≡ false → (pending : Pending) × HasPlace x number pending
+pub placed : (core : Core) (beside : Beside) → FitsBeside core beside → (client number : ℕ) (a : Command) (x : Client) → command_at core number ≡ Some a → a.client ≡ client → client_at core client ≡ Some x → x.dropped ≡ false → (pending : Pending) × HasPlace x number pending
 placed core beside fits client number a x is own was served =
     let slots = beside.queue client in
     let q : AreSlots x.queue.items slots × IsAtFront x slots × IsWaitedFor x.waits slots = subst (λ o. IsQueue o slots) was (fits.queues client) in

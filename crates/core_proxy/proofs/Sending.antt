@@ -15,7 +15,7 @@ use Rattle.route_job.specs.Jobs.{server_in}
 use Rattle.core_commands.specs.declared.command.Command.{Command}
 use Rattle.core_proxy.specs.declared.proxy.Core.{Core}
 use Rattle.core_proxy.specs.Steps.{SendsOut}
-use Rattle.core_proxy.specs.CoreState.{bars_of, client_at, command_at, Beside, owner_by, MayComeOf, state_of, is_call, IsQueue, IsHeld, IsOnItsWay, ticket_by, Fits, GoesByOne}
+use Rattle.core_proxy.specs.CoreState.{bars_of, client_at, command_at, Beside, owner_by, MayComeOf, state_of, is_call, IsQueue, IsHeld, IsOnItsWay, ticket_by, FitsBeside, GoesByOne}
 use Rattle.core_client.specs.ClientState.{front_by, output_by, dropped_by}
 use Rattle.core_commands.proofs.Commands.{some_command, is_call_true}
 use Rattle.core_proxy.proofs.Commands.{by_number, call_key}
@@ -36,13 +36,13 @@ module _ (old new : Core) (number : ℕ) (a : Command) (r : SendsOut old new num
   abbrev ticket : Ticket
   ticket = record { number = number; ask = ask; origin = origin }
 
-  none_out : (beside : Beside) → Fits old beside → (s : ℕ) → ticket_in (beside.out s) number ≡ None
+  none_out : (beside : Beside) → FitsBeside old beside → (s : ℕ) → ticket_in (beside.out s) number ≡ None
   none_out beside fits s = fits.tickets s number ∙ ap (λ o. ticket_by o number s) r.was ∙ ap (λ b. cond (cond b (is_call a.job.pending) false) (cond (nat_eq server s) (Some ticket) None) None) r.idle
 
   abbrev out_then : Beside → ℕ → List Ticket
   out_then beside s = cond (nat_eq server s) (beside.out s ++ ticket ∷ []) (beside.out s)
 
-  tickets_then : (beside : Beside) → Fits old beside → (s n : ℕ) → ticket_in (out_then beside s) n ≡ ticket_by (command_at new n) n s
+  tickets_then : (beside : Beside) → FitsBeside old beside → (s n : ℕ) → ticket_in (out_then beside s) n ≡ ticket_by (command_at new n) n s
   tickets_then beside fits s n =
       (elim (nat_eq number n) as (λ b. nat_eq number n ≡ b → ticket_in (out_then beside s) n ≡ ticket_by (cond b (Some (record a { is_out = true })) (command_at old n)) n s) [
         | true ↦ λ same. subst (λ m. ticket_in (out_then beside s) m ≡ cond (is_call a.job.pending) (cond (nat_eq server s) (Some (record { number = m; ask = ask; origin = origin })) None) None) (eqb-true number n same)
@@ -58,27 +58,27 @@ module _ (old new : Core) (number : ℕ) (a : Command) (r : SendsOut old new num
       other true differs = more_other (beside.out s) ticket n differs
       other false differs = refl
 
-  single_then : (beside : Beside) → Fits old beside → (s n : ℕ) → ticket_in (without n (out_then beside s)) n ≡ None
+  single_then : (beside : Beside) → FitsBeside old beside → (s n : ℕ) → ticket_in (without n (out_then beside s)) n ≡ None
   single_then beside fits s n = by (nat_eq server s)
     where
       by : (b : Bool) → ticket_in (without n (cond b (beside.out s ++ ticket ∷ []) (beside.out s))) n ≡ None
       by true = more_single (beside.out s) ticket n (fits.single s n) (λ same. subst (λ m. ticket_in (beside.out s) m ≡ None) (eqb-true number n same) (none_out beside fits s))
       by false = fits.single s n
 
-  numbers_then : (beside : Beside) → Fits old beside → (n : ℕ) → new.number < n → command_at new n ≡ None
+  numbers_then : (beside : Beside) → FitsBeside old beside → (n : ℕ) → new.number < n → command_at new n ≡ None
   numbers_then beside fits n lt =
       r.commands n ∙ (elim (nat_eq number n) as (λ b. nat_eq number n ≡ b → cond b (Some (record a { is_out = true })) (command_at old n) ≡ None) [
         | true ↦ λ same. some_none a (sym r.was ∙ ap (command_at old) (eqb-true number n same) ∙ fits.numbers n (subst (λ m. m < n) r.number_is lt))
         | false ↦ λ differs. fits.numbers n (subst (λ m. m < n) r.number_is lt)
       ]) refl
 
-  held_still : (beside : Beside) → Fits old beside → (n : ℕ) (command : Command) → command_at new n ≡ Some command → IsHeld n command (client_at old command.client) (beside.queue command.client)
+  held_still : (beside : Beside) → FitsBeside old beside → (n : ℕ) (command : Command) → command_at new n ≡ Some command → IsHeld n command (client_at old command.client) (beside.queue command.client)
   held_still beside fits =
       by_number old new number (Some (record a { is_out = true })) r.commands (λ n command. IsHeld n command (client_at old command.client) (beside.queue command.client))
       (λ command e. subst (λ (c : Command). IsHeld number c (client_at old c.client) (beside.queue c.client)) (some_command e) (held_alike number a (record a { is_out = true }) (client_at old a.client) (beside.queue a.client) refl (fits.held number a r.was)))
       (λ n command _ e. fits.held n command e)
 
-  on_its_way_still : (beside : Beside) → Fits old beside → (n : ℕ) (command : Command) → command_at new n ≡ Some command → IsOnItsWay old.limits.sharing (beside.at n command.ask.key) command
+  on_its_way_still : (beside : Beside) → FitsBeside old beside → (n : ℕ) (command : Command) → command_at new n ≡ Some command → IsOnItsWay old.limits.sharing (beside.at n command.ask.key) command
   on_its_way_still beside fits =
       by_number old new number (Some (record a { is_out = true })) r.commands (λ n command. IsOnItsWay old.limits.sharing (beside.at n command.ask.key) command)
       (λ command e. subst (λ (c : Command). IsOnItsWay old.limits.sharing (beside.at number c.ask.key) c) (some_command e) (let l = fits.to_come number a r.was in record { claim = l.claim; good = l.good; before = l.before; rest = l.rest; some = l.some }))

@@ -19,7 +19,7 @@ use Rattle.route_job.specs.Jobs.{server_in, call_of}
 use Rattle.core_commands.specs.declared.command.Command.{Command}
 use Rattle.core_proxy.specs.declared.proxy.Core.{Core}
 use Rattle.core_proxy.specs.Steps.{Resolves}
-use Rattle.core_proxy.specs.CoreState.{bars_of, client_at, command_at, Beside, owner_by, MayComeOf, state_of, IsQueue, IsHeld, IsOnItsWay, ticket_by, Fits}
+use Rattle.core_proxy.specs.CoreState.{bars_of, client_at, command_at, Beside, owner_by, MayComeOf, state_of, IsQueue, IsHeld, IsOnItsWay, ticket_by, FitsBeside}
 use Rattle.core_client.specs.ClientState.{front_by, output_by, dropped_by}
 use Rattle.core_commands.proofs.Commands.{some_command}
 use Rattle.core_proxy.proofs.Commands.{by_number, to_come_after}
@@ -54,14 +54,14 @@ module _ (old new : Core) (number : ℕ) (a b : Command) (outcome : Outcome) (r 
   abbrev out_came : Came old number a outcome
   out_came = record { was = r.was; waiting = r.waiting; calling = r.calling; fits = r.fits }
 
-  tickets_then : (beside : Beside) → Fits old beside → (end : End) → (s n : ℕ) → ticket_in (out_after (event end) s (beside.out s)) n ≡ ticket_by (command_at new n) n s
+  tickets_then : (beside : Beside) → FitsBeside old beside → (end : End) → (s n : ℕ) → ticket_in (out_after (event end) s (beside.out s)) n ≡ ticket_by (command_at new n) n s
   tickets_then beside fits end s n =
       (elim (nat_eq number n) as (λ z. nat_eq number n ≡ z → ticket_in (out_after (event end) s (beside.out s)) n ≡ ticket_by (cond z (Some b) (command_at old n)) n s) [
         | true ↦ λ same. subst (λ m. ticket_in (out_after (event end) s (beside.out s)) m ≡ ticket_by (Some b) m s) (eqb-true number n same) (none_then old number a outcome out_came beside fits end s ∙ sym (idle_ticket number b s r.idle))
         | false ↦ λ differs. other_then old number a outcome out_came beside end s n differs ∙ fits.tickets s n
       ]) refl ∙ ap (λ o. ticket_by o n s) (sym (r.commands n))
 
-  numbers_then : (beside : Beside) → Fits old beside → (n : ℕ) → new.number < n → command_at new n ≡ None
+  numbers_then : (beside : Beside) → FitsBeside old beside → (n : ℕ) → new.number < n → command_at new n ≡ None
   numbers_then beside fits n lt =
       let l = subst (λ m. m < n) r.number_is lt in
       r.commands n ∙ ap (λ z. cond z (Some b) (command_at old n)) (below old number a outcome out_came beside fits n l) ∙ fits.numbers n l
@@ -85,13 +85,13 @@ module _ (old new : Core) (number : ℕ) (a b : Command) (outcome : Outcome) (r 
         | false ↦ λ differs l. l
       ]) refl (subst (λ o. MayComeOf o calls reply from) (r.commands n) l)
 
-  held_still : (beside : Beside) → Fits old beside → (n : ℕ) (command : Command) → command_at new n ≡ Some command → IsHeld n command (client_at old command.client) (beside.queue command.client)
+  held_still : (beside : Beside) → FitsBeside old beside → (n : ℕ) (command : Command) → command_at new n ≡ Some command → IsHeld n command (client_at old command.client) (beside.queue command.client)
   held_still beside fits =
       by_number old new number (Some b) r.commands (λ n command. IsHeld n command (client_at old command.client) (beside.queue command.client))
       (λ command e. subst (λ (c : Command). IsHeld number c (client_at old c.client) (beside.queue c.client)) (some_command e) (subst (λ c. IsHeld number b (client_at old c) (beside.queue c)) (sym (ap (λ (o : Owner). o.client) r.owner)) (held_alike number a b (client_at old a.client) (beside.queue a.client) (ap (λ (o : Owner). o.ask) r.owner) (fits.held number a r.was))))
       (λ n command _ e. fits.held n command e)
 
-  on_its_way_still : (beside : Beside) → Fits old beside → (n : ℕ) (command : Command) → command_at new n ≡ Some command → IsOnItsWay old.limits.sharing (beside.at n command.ask.key) command
+  on_its_way_still : (beside : Beside) → FitsBeside old beside → (n : ℕ) (command : Command) → command_at new n ≡ Some command → IsOnItsWay old.limits.sharing (beside.at n command.ask.key) command
   on_its_way_still beside fits =
       let same : b.ask ≡ a.ask = ap (λ (o : Owner). o.ask) r.owner in
       by_number old new number (Some b) r.commands (λ n command. IsOnItsWay old.limits.sharing (beside.at n command.ask.key) command)
@@ -99,7 +99,7 @@ module _ (old new : Core) (number : ℕ) (a b : Command) (outcome : Outcome) (r 
       (λ n command _ e. fits.to_come n command e)
 
   -- what stands beside the core without that call
-  pub still_stands : (beside : Beside) (end : End) → Fits old beside → Fits new (settled end beside)
+  pub still_stands : (beside : Beside) (end : End) → FitsBeside old beside → FitsBeside new (settled end beside)
   still_stands beside end fits = record {
     queues = λ c. subst (λ o. IsQueue o (beside.queue c)) (sym (r.clients c)) (fits.queues c);
     held = λ n command e. subst (λ o. IsHeld n command o (beside.queue command.client)) (sym (r.clients command.client)) (held_still beside fits n command e);
@@ -114,8 +114,8 @@ module _ (old new : Core) (number : ℕ) (a b : Command) (outcome : Outcome) (r 
 
   -- the call has its result, where what the server held agrees with that
   pub settles :
-      (beside : Beside) (end : End) → Fits old beside → outcome ≡ outcome_of end → EndsIn (beside.holds server ask.key) (beside.found number) number ask origin end
-      → Fits new (settled end beside) × Leads (tree_words beside.at) (bars_of old beside) (state_of old beside) (Happens (event end) ∷ []) (state_of new (settled end beside))
+      (beside : Beside) (end : End) → FitsBeside old beside → outcome ≡ outcome_of end → EndsIn (beside.holds server ask.key) (beside.found number) number ask origin end
+      → FitsBeside new (settled end beside) × Leads (tree_words beside.at) (bars_of old beside) (state_of old beside) (Happens (event end) ∷ []) (state_of new (settled end beside))
   settles beside end fits is ends = (
     still_stands beside end fits,
     walks_lead (tree_words beside.at) (bars_of old beside) (state_of old beside) (state_of new (settled end beside)) (Happens (event end) ∷ []) (record {

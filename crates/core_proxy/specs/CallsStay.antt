@@ -8,11 +8,11 @@ use Rattle.route_job.specs.Jobs.{server_in}
 use Rattle.core_commands.specs.declared.command.Command.{Command}
 use Rattle.core_commands.specs.declared.ticket.Ticket.{Ticket}
 use Rattle.core_proxy.specs.declared.fault.CoreFault.{CoreFault}
-use Rattle.core_proxy.specs.declared.limits.Limits.{Limits}
+use Rattle.core_proxy.specs.declared.limits.CoreLimits.{CoreLimits}
 use Rattle.core_proxy.specs.declared.note.Poll.{Poll}
 use Rattle.core_proxy.specs.declared.note.Poll.TheVariants as polls
 use Rattle.core_proxy.specs.declared.proxy.Core.{Core}
-use Rattle.core_proxy.specs.CoreState.{command_at, has_call_out, Beside, Fits, IsFresh, Opens, Feeds, Gives, Closes, LeavesLine, Reloads}
+use Rattle.core_proxy.specs.CoreState.{command_at, has_call_out, Beside, FitsBeside, IsFresh, Opens, Feeds, Gives, Closes, LeavesLine, Reloads}
 use Rattle.core_proxy.specs.Faults.{OpenFault}
 use Rattle.core_proxy.specs.Polls.{Polls, PollFault}
 use Rattle.core_proxy.specs.Settles.{asked, Settles, SettleFault}
@@ -28,7 +28,7 @@ called core n = called_by (command_at core n)
 
 -- something can stand beside the core, as the log has it
 abbrev pub CanStand : Core → Type 0
-CanStand core = (beside : Beside) × Fits core beside
+CanStand core = (beside : Beside) × FitsBeside core beside
 
 -- each call that is out stays as it is, and no other goes out
 pub record KeepsCalls (old new : Core) : Type 0 where
@@ -59,7 +59,7 @@ PollsCalls old (polls.Did note) new = KeepsCalls old new
 -- a call that is out stays until it is settled, and asks what it asked; until then no other of its number is given out
 pub record CallsStay : Type 0 where
   pub asks : (core : Core) (n : ℕ) → asked core n ≡ option_map (λ c. c.1) (called core n)
-  pub begins : (tree : Route) (limits : Limits) (core : Core) → IsFresh tree limits core → CanStand core × ((n : ℕ) → called core n ≡ None)
+  pub begins : (tree : Route) (limits : CoreLimits) (core : Core) → IsFresh tree limits core → CanStand core × ((n : ℕ) → called core n ≡ None)
   pub opens : (old new : Core) (client : ℕ) → CanStand old → Opens old client new → KeepsCalls old new
   pub unopened : (old new : Core) (fault : CoreFault) → CanStand old → OpenFault old fault new → KeepsCalls old new
   pub feeds : (old new : Core) (client : ℕ) (bytes : List ℕ) → CanStand old → Feeds old client bytes new → KeepsCalls old new

@@ -21,7 +21,7 @@ use Rattle.route_job.specs.Jobs.{server_in}
 use Rattle.core_client.specs.declared.client.Pending.{Pending}
 use Rattle.core_client.specs.declared.client.Client.{Client}
 use Rattle.core_commands.specs.declared.command.Command.{Command}
-use Rattle.core_proxy.specs.declared.limits.Limits.{Limits}
+use Rattle.core_proxy.specs.declared.limits.CoreLimits.{CoreLimits}
 use Rattle.core_commands.specs.declared.sharing.Sharing.{Sharing}
 use Rattle.core_proxy.specs.Claims.{claim_by, bars_by}
 use Rattle.core_commands.specs.Lines.{others}
@@ -121,7 +121,7 @@ ticket_by (Some command) n s =
     else None
 
 -- these can stand beside the core: it keeps of clients' commands and of calls that are out what agrees with them, a command has one call out at most, and commands to come have not begun, found nothing, and run by its tree
-pub record Fits (core : Core) (beside : Beside) : Type 0 where
+pub record FitsBeside (core : Core) (beside : Beside) : Type 0 where
   pub queues : (c : ℕ) → IsQueue (client_at core c) (beside.queue c)
   pub held : (n : ℕ) (command : Command) → command_at core n ≡ Some command → IsHeld n command (client_at core command.client) (beside.queue command.client)
   pub numbered : (c n : ℕ) → core.number < n → slot_in (beside.queue c) n ≡ None
@@ -137,7 +137,7 @@ abbrev pub nothing_beside : (ℕ → List ℕ → Plan) → (ℕ → List ℕ �
 nothing_beside at opening = record { at = at; queue = λ c. []; out = λ s. []; holds = opening; found = λ n. []; turn = 0 }
 
 -- a core on this tree where nothing happened yet: the empty log leads to it
-pub record IsFresh (tree : Route) (limits : Limits) (core : Core) : Type 0 where
+pub record IsFresh (tree : Route) (limits : CoreLimits) (core : Core) : Type 0 where
   pub clients : (c : ℕ) → client_at core c ≡ None
   pub commands : (n : ℕ) → command_at core n ≡ None
   pub lines : core.lines ≡ []
@@ -145,7 +145,7 @@ pub record IsFresh (tree : Route) (limits : Limits) (core : Core) : Type 0 where
   pub tree_is : core.tree ≡ tree
   pub number : core.number ≡ 0
   pub generation : core.generation ≡ 1
-  pub fits : (at : ℕ → List ℕ → Plan) (opening : ℕ → List ℕ → Option Item) → ((n : ℕ) (key : List ℕ) → 0 < n → at n key ≡ tree_at tree key) → Fits core (nothing_beside at opening)
+  pub fits : (at : ℕ → List ℕ → Plan) (opening : ℕ → List ℕ → Option Item) → ((n : ℕ) (key : List ℕ) → 0 < n → at n key ≡ tree_at tree key) → FitsBeside core (nothing_beside at opening)
   pub leads : (at : ℕ → List ℕ → Plan) (opening : ℕ → List ℕ → Option Item) → LeadsTo (tree_words at) (bars_by limits.sharing at) opening [] (state_of core (nothing_beside at opening))
 
 -- servers and trees are the same
@@ -158,8 +158,8 @@ pub record IsBeside (old new : Beside) : Type 0 where
 -- by entries of this kind, the latest first, each log that led to the core before, with whatever stood beside it, leads to the core after. Servers and limits stay, and so do the calls that are out but for what the entries tell of them
 abbrev pub GoesBy : Core → (List (Entry dialect) → Type 0) → Core → Type 0
 GoesBy old IsKind new =
-    (beside : Beside) → Fits old beside
-    → (beside' : Beside) × (entries : List (Entry dialect)) × Fits new beside' × IsBeside beside beside' × IsKind entries
+    (beside : Beside) → FitsBeside old beside
+    → (beside' : Beside) × (entries : List (Entry dialect)) × FitsBeside new beside' × IsBeside beside beside' × IsKind entries
     × Leads (tree_words beside.at) (bars_of old beside) (state_of old beside) entries (state_of new beside') × (new.limits ≡ old.limits)
     × ((s : ℕ) → beside'.out s ≡ out_since entries beside.out s)
 
@@ -206,7 +206,7 @@ pub record IsTakenOver (old : Core) (tree : Route) (beside : Beside) (at : ℕ �
 -- commands that begin from now on run by this tree, and all else is as it was. Whatever trees commands ran by, each log that led to the core before leads to the core after, with the plain trees of this one for numbers to come
 pub record Reloads (old : Core) (tree : Route) (new : Core) : Type 0 where
   pub core_is : new ≡ record old { tree = tree; generation = old.generation + 1 }
-  pub fits : (beside : Beside) (at : ℕ → List ℕ → Plan) → Fits old beside → IsTakenOver old tree beside at → Fits new (record beside { at = at })
+  pub fits : (beside : Beside) (at : ℕ → List ℕ → Plan) → FitsBeside old beside → IsTakenOver old tree beside at → FitsBeside new (record beside { at = at })
   pub leads :
       (beside : Beside) (at : ℕ → List ℕ → Plan) → IsTakenOver old tree beside at
       → (opening : ℕ → List ℕ → Option Item) (log : List (Entry dialect)) → LeadsTo (tree_words beside.at) (bars_of old beside) opening log (state_of old beside) → LeadsTo (tree_words at) (bars_of new (record beside { at = at })) opening log (state_of new (record beside { at = at }))

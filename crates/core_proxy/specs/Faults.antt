@@ -5,7 +5,7 @@ use Rattle.core_proxy.specs.declared.fault.CoreFault.{CoreFault}
 use Rattle.core_proxy.specs.declared.fault.CoreFault.TheVariants as faults
 use Rattle.mc_types.specs.declared.limits.TheConstants.{SCRIPT_CLIENTS}
 use Rattle.core_proxy.specs.declared.limits.TheConstants.{SCRIPT_HELD}
-use Rattle.core_proxy.specs.declared.limits.Limits.{Limits}
+use Rattle.core_proxy.specs.declared.limits.CoreLimits.{CoreLimits}
 use Rattle.core_commands.specs.declared.sharing.Sharing.TheVariants.{Alone}
 use Rattle.core_proxy.specs.declared.proxy.Core.{Core}
 use Rattle.core_client.specs.Clients.{IsEnded}
@@ -13,7 +13,7 @@ use Rattle.core_proxy.specs.Feeding.{HasRoom, RoomFault}
 use Rattle.core_proxy.specs.CoreState.{client_at}
 pub use Rattle.core_commands.specs.Owned.{has_commands}
 
-abbrev pub script_limits : Limits
+abbrev pub script_limits : CoreLimits
 script_limits = record { clients = SCRIPT_CLIENTS; held = SCRIPT_HELD; depth = 1; window = 1; sharing = Alone }
 
 -- nothing is read of the client any more, or there is none

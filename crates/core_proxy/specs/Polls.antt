@@ -295,7 +295,7 @@ pub record DropsAll (old : Core) (client : ℕ) (new : Core) : Type 0 where
   pub output : (c : ℕ) → output_by (client_at new c) ≡ output_by (client_at old c)
 
 -- memory was refused after a part of a poll, and the client is dropped and stands in no line of a key
-pub record StopsAt (old : Core) (client : ℕ) (new : Core) : Type 0 where
+pub record StopsPolling (old : Core) (client : ℕ) (new : Core) : Type 0 where
   pub numbers : List ℕ
   pub lines : new.lines ≡ others client old.lines
   pub goes : GoesBy old (Then (SoFar client) (λ entries. entries ≡ freed numbers ++ Drops client ∷ [])) new
@@ -305,7 +305,7 @@ pub record StopsAt (old : Core) (client : ℕ) (new : Core) : Type 0 where
 abbrev pub PollFault : Core → ℕ → CoreFault → Core → Type 0
 PollFault old client faults.NoClient new = (client_at old client ≡ None) × (new ≡ old)
 PollFault old client faults.Spent new = (old.number ≡ LAST_COMMAND) × (new ≡ old)
-PollFault old client faults.NoMemory new = StopsAt old client new
+PollFault old client faults.NoMemory new = StopsPolling old client new
 PollFault old client faults.TooManyClients new = ⊥
 PollFault old client faults.InputFull new = ⊥
 PollFault old client faults.UnderWay new = ⊥

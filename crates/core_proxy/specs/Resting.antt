@@ -3,13 +3,13 @@ use Rattle.std.specs.Prelude.{◌≡◌, ℕ, ◌⊎◌, true, List, [], ◌∷�
 use Rattle.indexmap.specs.IndexMap as map
 use Rattle.core_client.specs.declared.client.Pending.{Pending}
 use Rattle.core_commands.specs.declared.command.Command.{Command}
-use Rattle.core_proxy.specs.declared.looking.Ready.{Ready}
+use Rattle.core_proxy.specs.declared.looking.Runnable.{Runnable}
 use Rattle.core_commands.specs.declared.turns.Turn.TheVariants as turns
 use Rattle.core_commands.specs.Ready.{IsTurn}
 pub use Rattle.core_commands.specs.Ready.{goes_on}
 
 -- the command goes on at its turn, which is this
-abbrev pub IsReady : ℕ → ℕ → {S : Type 0} → map.IndexMap ℕ Command S → Ready → Type 0
+abbrev pub IsReady : ℕ → ℕ → {S : Type 0} → map.IndexMap ℕ Command S → Runnable → Type 0
 IsReady client window commands ready = IsTurn client window commands ready.number ready.turn × (goes_on ready.turn ≡ true)
 
 -- the client's command of this number, if it is there, can't go on: its call is out, or its next call waits for its server

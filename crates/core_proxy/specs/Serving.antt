@@ -10,11 +10,11 @@ use Rattle.core_proxy.specs.declared.note.Poll.TheVariants as polls
 use Rattle.core_proxy.specs.declared.note.ServedOne.{ServedOne}
 use Rattle.core_proxy.specs.declared.note.ServedOne.TheVariants as served
 use Rattle.core_proxy.specs.declared.proxy.Core.{Core}
-use Rattle.core_proxy.specs.Settles.{Settles, Breaks}
+use Rattle.core_proxy.specs.Settles.{Settles, SettlesRefused}
 use Rattle.core_proxy.specs.Polls.{Polls, PollFault}
 
 -- the call of this ticket had an outcome that fits what it asks, and is settled by that
-pub record IsAnswered (old : Core) (ticket : Ticket) (new : Core) : Type 0 where
+pub record IsSettledFitting (old : Core) (ticket : Ticket) (new : Core) : Type 0 where
   pub outcome : Outcome
   pub fits : FitsOutcome ticket.ask outcome
   pub settled : Settles old ticket.number outcome new
@@ -23,11 +23,11 @@ pub record IsAnswered (old : Core) (ticket : Ticket) (new : Core) : Type 0 where
 pub record BreaksAnswered (old : Core) (ticket : Ticket) (new : Core) : Type 0 where
   pub outcome : Outcome
   pub fits : FitsOutcome ticket.ask outcome
-  pub breaks : Breaks old ticket.number outcome new
+  pub breaks : SettlesRefused old ticket.number outcome new
 
 -- a poll of the client handed this call out, which is answered and settled
 abbrev pub AnswersOne : Core → ℕ → Ticket → Core → Type 0
-AnswersOne old client ticket new = (mid : Core) × Polls old client (polls.Call ticket) mid × IsAnswered mid ticket new
+AnswersOne old client ticket new = (mid : Core) × Polls old client (polls.Call ticket) mid × IsSettledFitting mid ticket new
 
 -- these calls were handed out, answered and settled one after the other, the latest first here
 abbrev pub Answered : Core → ℕ → List Ticket → Core → Type 0
@@ -52,7 +52,7 @@ abbrev pub IsEnough : List Ticket → Core → ServedOne → Core → Type 0
 IsEnough tickets mid told new = (told ≡ served.Waits) × (length tickets ≡ MOST_CALLS) × (new ≡ mid)
 
 -- the next message or the next key of the client's was done: some calls were answered, and then a poll handed none out
-pub record Serves (old : Core) (client : ℕ) (told : ServedOne) (new : Core) : Type 0 where
+pub record ServesOne (old : Core) (client : ℕ) (told : ServedOne) (new : Core) : Type 0 where
   pub tickets : List Ticket
   pub mid : Core
   pub answered : Answered old client tickets mid

@@ -19,7 +19,7 @@ use Rattle.core_proxy.specs.declared.fault.CoreFault.{CoreFault}
 use Rattle.core_proxy.specs.declared.fault.CoreFault.TheVariants as faults
 use Rattle.core_proxy.specs.declared.proxy.Core.{Core}
 use Rattle.core_client.specs.ClientState.{dialect, output_by, dropped_by}
-use Rattle.core_proxy.specs.CoreState.{bars_of, client_at, command_at, Beside, state_of, has_call_out, Fits, IsBeside, GoesBy}
+use Rattle.core_proxy.specs.CoreState.{bars_of, client_at, command_at, Beside, state_of, has_call_out, FitsBeside, IsBeside, GoesBy}
 use Rattle.core_proxy.specs.Steps.{event_of, settled}
 use Rattle.core_proxy.specs.Ending.{Drops}
 use Rattle.core_commands.specs.Lines as line
@@ -47,16 +47,16 @@ HasNoCall core number = (a : Command) → command_at core number ≡ Some a → 
 -- the call of this number that is out had this outcome: however it ended, if its server held what agrees with that, the log goes on by it, and after it by entries of this kind
 abbrev pub SettlesBy : Core → ℕ → Command → Outcome → (List (Entry dialect) → Type 0) → Core → Type 0
 SettlesBy old number a outcome IsMore new =
-    (beside : Beside) (end : End) → Fits old beside → outcome ≡ outcome_of end
+    (beside : Beside) (end : End) → FitsBeside old beside → outcome ≡ outcome_of end
     → EndsIn (beside.holds (server_in a.job.pending) (ask_under a.job.frames.items a.job.ask).key) (beside.found number) number (ask_under a.job.frames.items a.job.ask) (origin_under a.job.frames.items OfClient) end
-    → (beside' : Beside) × (more : List (Entry dialect)) × Fits new beside' × IsBeside (settled (event_of number a end) beside) beside' × IsMore more
+    → (beside' : Beside) × (more : List (Entry dialect)) × FitsBeside new beside' × IsBeside (settled (event_of number a end) beside) beside' × IsMore more
     × Leads (tree_words beside.at) (bars_of old beside) (state_of old beside) (more ++ Happens (event_of number a end) ∷ []) (state_of new beside') × (new.limits ≡ old.limits)
 
 -- the call of this number that was out is out no more, and all others stay: whatever could stand beside the core, the same without that call can
 abbrev pub StandsWithout : Core → ℕ → Command → Core → Type 0
 StandsWithout old number a new =
-    (beside : Beside) → Fits old beside
-    → (beside' : Beside) × Fits new beside' × ((s : ℕ) → beside'.out s ≡ (if nat_eq (server_in a.job.pending) s then without number (beside.out s) else beside.out s))
+    (beside : Beside) → FitsBeside old beside
+    → (beside' : Beside) × FitsBeside new beside' × ((s : ℕ) → beside'.out s ≡ (if nat_eq (server_in a.job.pending) s then without number (beside.out s) else beside.out s))
 
 -- the command of this number has the result of its call; where nothing is done for its client any more, it is broken off
 pub record Settles (old : Core) (number : ℕ) (outcome : Outcome) (new : Core) : Type 0 where
@@ -115,7 +115,7 @@ pub record TakesOut (old : Core) (number client : ℕ) (new : Core) : Type 0 whe
   pub lines : new.lines ≡ line.others client old.lines
 
 -- memory was refused: the command of this number has the result of its call all the same, nothing is done for its client any more, which keeps its output and stands in no line of a key, and its commands of which no call is out are broken off; of the calls that are out each but this one stays
-pub record Breaks (old : Core) (number : ℕ) (outcome : Outcome) (new : Core) : Type 0 where
+pub record SettlesRefused (old : Core) (number : ℕ) (outcome : Outcome) (new : Core) : Type 0 where
   pub command : Command
   pub was : command_at old number ≡ Some command
   pub out : has_call_out command ≡ true
@@ -130,7 +130,7 @@ pub record Breaks (old : Core) (number : ℕ) (outcome : Outcome) (new : Core) :
 
 abbrev pub SettleFault : Core → ℕ → Outcome → CoreFault → Core → Type 0
 SettleFault old number outcome faults.NoTicket new = HasNoCall old number × (new ≡ old)
-SettleFault old number outcome faults.NoMemory new = Breaks old number outcome new
+SettleFault old number outcome faults.NoMemory new = SettlesRefused old number outcome new
 SettleFault old number outcome faults.TooManyClients new = ⊥
 SettleFault old number outcome faults.NoClient new = ⊥
 SettleFault old number outcome faults.InputFull new = ⊥

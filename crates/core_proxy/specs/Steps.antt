@@ -27,7 +27,7 @@ use Rattle.core_client.specs.Clients.{has_own}
 use Rattle.core_client.specs.ClientState.{dialect, Message, front_by, IsSlot}
 use Rattle.core_client.specs.Fronts.{PassesOne}
 use Rattle.core_client.specs.Heads.{ShowsHead}
-use Rattle.core_proxy.specs.CoreState.{bars_of, client_at, command_at, Beside, owner_by, state_of, Fits, GoesBy, GoesByOne}
+use Rattle.core_proxy.specs.CoreState.{bars_of, client_at, command_at, Beside, owner_by, state_of, FitsBeside, GoesBy, GoesByOne}
 
 -- one client's place changed, and nothing else of the core but the room for clients and the lines of keys
 pub record Turns (old new : Core) (client : ℕ) (a b : Option Client) : Type 0 where
@@ -128,9 +128,9 @@ settled event beside =
 abbrev pub SettlingIsAStep : Type 0
 SettlingIsAStep =
     (old new : Core) (number : ℕ) (a b : Command) (outcome : Outcome) → Resolves old new number a b outcome
-    → (beside : Beside) (end : End) → Fits old beside → outcome ≡ outcome_of end
+    → (beside : Beside) (end : End) → FitsBeside old beside → outcome ≡ outcome_of end
     → EndsIn (beside.holds (server_in a.job.pending) (ask_under a.job.frames.items a.job.ask).key) (beside.found number) number (ask_under a.job.frames.items a.job.ask) (origin_under a.job.frames.items OfClient) end
-    → Fits new (settled (event_of number a end) beside)
+    → FitsBeside new (settled (event_of number a end) beside)
     × Leads (tree_words beside.at) (bars_of old beside) (state_of old beside) (Happens (event_of number a end) ∷ []) (state_of new (settled (event_of number a end) beside))
 
 -- the reply at the head of a client's commands is shown

@@ -15,7 +15,7 @@ use crate::proxy::Core;
 use core_client::Client;
 use core_commands::{Command, CommandTable};
 use mc_types::{Answer, Ask, SharedAsk};
-use route_job::{Done, Step};
+use route_job::{Done, JobStep};
 use std::alloc::Global;
 
 /// What is told of a command that ended, beside its ask.
@@ -45,8 +45,8 @@ fn show_done(number: u64, command: &Command, client: &mut Client) -> Option<Ende
     ensures none { IfNone result (Stays client.old client.new) }
 {
     match command.job.next() {
-        Step::Call { .. } => unreachable!(),
-        Step::Done(done) => match client.show_at_once(number, &done.reply) {
+        JobStep::Call { .. } => unreachable!(),
+        JobStep::Done(done) => match client.show_at_once(number, &done.reply) {
             Ok(true) => Some(told_of(command.ask.get(), done)),
             _ => None,
         },

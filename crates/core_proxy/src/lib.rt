@@ -16,7 +16,7 @@ pub mod serving;
 
 pub use core_commands::{Claim, Command, OutCall, Sharing, Ticket};
 pub use fault::{CoreFault, TreeFault};
-pub use limits::Limits;
+pub use limits::CoreLimits;
 pub use note::{Note, Poll, ServedOne};
 pub use proxy::Core;
 pub use serving::Servers;

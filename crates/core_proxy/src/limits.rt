@@ -20,7 +20,7 @@ pub const MOST_CALLS: u64 = 18_446_744_073_709_551_615;
 
 /// How much a core takes at once, and what may be under way together.
 #[derive(Clone, Copy)]
-pub struct Limits {
+pub struct CoreLimits {
     /// How many clients may be open.
     pub clients: usize,
     /// How many bytes may be held of a client.
@@ -33,13 +33,13 @@ pub struct Limits {
     pub sharing: Sharing,
 }
 
-impl Limits {
+impl CoreLimits {
     /// The limits of scripts: [`SCRIPT_CLIENTS`] clients, [`SCRIPT_HELD`] bytes held of each and one command, one call at each server, and
     /// each key for one command alone.
-    pub fn of_scripts() -> Limits
+    pub fn of_scripts() -> CoreLimits
         ensures { result ≡ script_limits }
     {
-        Limits {
+        CoreLimits {
             clients: SCRIPT_CLIENTS,
             held: SCRIPT_HELD,
             depth: 1,

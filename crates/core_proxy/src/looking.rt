@@ -11,7 +11,7 @@ use std::collections::VecDeque;
 
 /// A command, and what it can do.
 #[derive(Clone, Copy)]
-pub struct Ready {
+pub struct Runnable {
     pub number: u64,
     pub turn: Turn,
 }
@@ -22,7 +22,7 @@ fn ready_of(
     window: usize,
     pending: &Pending,
     commands: &CommandTable,
-) -> Option<Ready>
+) -> Option<Runnable>
     ensures some { IfSome result (λ ready. IsReady client window commands.now ready) }
     ensures none { IfNone result (pending.now.reply ≡ None → IsHeldUp client window commands.now pending.now.number) }
 {
@@ -32,7 +32,7 @@ fn ready_of(
     let number = pending.number;
     let turn = turn_of(client, window, number, commands);
     if turn.goes_on() {
-        Some(Ready { number, turn })
+        Some(Runnable { number, turn })
     } else {
         None
     }
@@ -44,7 +44,7 @@ pub fn first_ready(
     window: usize,
     queue: &VecDeque<Pending>,
     commands: &CommandTable,
-) -> Option<Ready>
+) -> Option<Runnable>
     ensures some { IfSome result (λ ready. IsReady client window commands.now ready) }
     ensures none { IfNone result (AreHeldUp client window commands.now queue.now.items) }
 {

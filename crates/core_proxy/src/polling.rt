@@ -19,7 +19,7 @@ ghost use Rattle.core_commands.specs.declared.turns.Turn.TheVariants.{Full};
 
 use crate::fault::CoreFault;
 use crate::limits::LAST_COMMAND;
-use crate::looking::{Ready, first_full, first_ready};
+use crate::looking::{Runnable, first_full, first_ready};
 use crate::note::Poll;
 use crate::proxy::Core;
 use core_client::Next;
@@ -313,7 +313,7 @@ impl Core {
     }
 
     // The first command of the client that can go on.
-    fn ready(&self, client: usize) -> Option<Ready>
+    fn ready(&self, client: usize) -> Option<Runnable>
         requires { ForClient self.now client IsServed }
         ensures some { IfSome result (λ ready. IsReady client self.now.limits.window self.now.commands ready) }
         ensures none { IfNone result (NoneGoesOn self.now client) }
@@ -367,7 +367,7 @@ impl Core {
         }
     }
 
-    fn act_ready(&mut self, client: usize, ready: Ready) -> Result<Poll, CoreFault>
+    fn act_ready(&mut self, client: usize, ready: Runnable) -> Result<Poll, CoreFault>
         requires served { ForClient self.old client IsServed }
         requires ready { IsReady client self.old.limits.window self.old.commands ready }
         ensures ok { IfOk result (λ poll. Polls self.old client poll self.new) }

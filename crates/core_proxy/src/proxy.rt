@@ -11,7 +11,7 @@ ghost use Rattle.core_proxy.specs.Faults.{IsClosed, CanOpen, CanFeed, CanClose, 
 
 use crate::fault::{CoreFault, TreeFault};
 use crate::feeding::feed_within;
-use crate::limits::{LAST_GENERATION, Limits};
+use crate::limits::{CoreLimits, LAST_GENERATION};
 use core_client::Client;
 use core_commands::owned::has_commands;
 use core_commands::{CommandTable, KeyLines};
@@ -31,7 +31,7 @@ pub struct Core {
     pub(crate) tree: Tree,
     /// The last number that was given to a command.
     pub(crate) number: u64,
-    pub(crate) limits: Limits,
+    pub(crate) limits: CoreLimits,
     /// How many trees were in use so far.
     generation: u32,
     pub(crate) alloc: Global,
@@ -39,7 +39,7 @@ pub struct Core {
 
 impl Core {
     /// A core without clients, on a tree that no gate was asked about. It takes no memory.
-    pub fn unchecked(alloc: Global, tree: Tree, limits: Limits) -> Core
+    pub fn unchecked(alloc: Global, tree: Tree, limits: CoreLimits) -> Core
         ensures { IsFresh tree limits result }
     {
         Core {

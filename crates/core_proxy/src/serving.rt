@@ -4,7 +4,7 @@ ghost use Rattle.std.specs.Prelude.{◌≡◌, OnOk, IfOk, IfErr};
 ghost use Rattle.fresh_runs.specs.Single.{FitsOutcome};
 ghost use Rattle.core_proxy.specs.declared.fault.CoreFault.TheVariants.{NoMemory};
 ghost use Rattle.core_proxy.specs.Polls.{IsTicketOf};
-ghost use Rattle.core_proxy.specs.Serving.{IsAnswered, BreaksAnswered, TellsOne, StopsBy, Serves, ServeFault};
+ghost use Rattle.core_proxy.specs.Serving.{IsSettledFitting, BreaksAnswered, TellsOne, StopsBy, ServesOne, ServeFault};
 
 use crate::fault::CoreFault;
 use crate::limits::MOST_CALLS;
@@ -24,7 +24,7 @@ impl Core {
     // The servers answer the call of this ticket, which is settled by that.
     fn answer_call<S: Servers>(&mut self, ticket: Ticket, servers: &mut S) -> Result<(), CoreFault>
         requires { IsTicketOf self.old ticket }
-        ensures ok { OnOk result (IsAnswered self.old ticket self.new) }
+        ensures ok { OnOk result (IsSettledFitting self.old ticket self.new) }
         ensures err { IfErr result (λ fault. (fault ≡ NoMemory) × BreaksAnswered self.old ticket self.new) }
     {
         let call = OutCall {
@@ -75,7 +75,7 @@ impl Core {
         client: usize,
         servers: &mut S,
     ) -> Result<ServedOne, CoreFault>
-        ensures ok { IfOk result (λ told. Serves self.old client told self.new) }
+        ensures ok { IfOk result (λ told. ServesOne self.old client told self.new) }
         ensures err { IfErr result (λ fault. ServeFault self.old client fault self.new) }
     {
         for _call in 0..MOST_CALLS {

@@ -6,7 +6,7 @@ ghost use Rattle.route_tree.specs.Route as route;
 
 use crate::answering::FixedServers;
 use core_accepted::{Beginnings, LoadFault, ServedCore};
-use core_proxy::{Core, CoreFault, Limits, Poll, ServedOne, Servers, Sharing, Ticket};
+use core_proxy::{Core, CoreFault, CoreLimits, Poll, ServedOne, Servers, Sharing, Ticket};
 use gate_check::judge;
 use gate_growth::ledger::Beginning;
 use mc_types::{Ask, Dialect, Key, Op, Origin, Outcome, ServerId, SharedAsk, Tokens};
@@ -271,15 +271,15 @@ fn config(alloc: Global, text: &str) -> Result<Config, Fail> {
 }
 
 // The limits of the examples: those of scripts, or so many commands of a client and so many calls at a server.
-fn limits(text: &str) -> Limits {
+fn limits(text: &str) -> CoreLimits {
     let (depth, window, sharing) = match text {
         "depth 1, alone" => (1, 4, Sharing::Alone),
         "depth 2, alone" => (2, 4, Sharing::Alone),
         "depth 2, shared" => (2, 4, Sharing::Shared),
         "depth 16, shared" => (16, 16, Sharing::Shared),
-        _ => return Limits::of_scripts(),
+        _ => return CoreLimits::of_scripts(),
     };
-    Limits {
+    CoreLimits {
         clients: 64,
         held: 2_097_152,
         depth,
@@ -298,7 +298,7 @@ fn own_begun() -> Beginnings {
 
 fn gated_core(alloc: Global, text: &str, begun: Beginnings) -> Result<ServedCore, Fail> {
     match judge(alloc, config(alloc, text)?) {
-        Ok(accepted) => Ok(ServedCore::new_from(alloc, accepted, begun, Limits::of_scripts())?),
+        Ok(accepted) => Ok(ServedCore::new_from(alloc, accepted, begun, CoreLimits::of_scripts())?),
         Err(_) => Err("the gate refuses the configuration")?,
     }
 }

@@ -86,6 +86,8 @@ mcgate serve --listen a:1 --config c --metrics b:2 => serve - fail-limit 3 metri
 mcgate serve --listen a:1 --config c --control d => serve - fail-limit 3 control d drain-ms 10000 auto
 mcgate serve --listen a:1 --config c --control d --drain-ms 5 => serve - fail-limit 3 control d drain-ms 5 auto
 mcgate serve --listen a:1 --config c --drain-ms 0 => refused, told
+mcgate serve --listen a:1 --config c --drain-on-eof => serve - fail-limit 3 drain-on-eof auto
+mcgate serve --listen a:1,fd:0 --config c --drain-on-eof => refused
 mcgate serve --listen unix:a --unix-mode 660 --config c => serve - at unix:a 660 fail-limit 3 auto
 mcgate serve --listen unix:a --unix-mode 777 --config c => refused, told
 mcgate serve --listen a:1 --config c --log-level warn => serve - fail-limit 3 log warn auto
@@ -105,7 +107,11 @@ mcgate serve --listen a:1 --config c --opened own => serve - fail-limit 3 auto o
 mcgate serve --listen a:1 --config c --new-servers empty => serve - fail-limit 3 auto empty
 mcgate serve --listen a:1 --config c --opened empty => refused, told
 mcgate serve --listen a:1 --config c --new-servers flush => serve - fail-limit 3 auto empty
-mcgate serve --listen a:1 --config c --new-servers full => refused, told"
+mcgate serve --listen a:1 --config c --new-servers full => refused, told
+mcgate serve --listen a:1 --config c --fleet --history h => serve - fleet after h fail-limit 3 auto
+mcgate serve --listen a:1 --config c --fleet --any => refused, told
+mcgate serve --listen a:1 --config c --opened own --fleet => refused, told
+mcgate serve --listen a:1 --config c --fleet --new-servers empty => refused, told"
 }
 
 // Arguments that the program doesn't have.
@@ -126,9 +132,10 @@ mcgate cache --listen a:1 --capacity 0 => refused, told
 mcgate cache --listen a:1 --capacity 4294967296 => refused, told
 mcgate cache --listen a:1 --capacity 5 --memory-mb 0 => refused, told
 mcgate tell d => refused, told
-mcgate tell d log => refused
-mcgate tell d log all => refused
-mcgate tell d drain k => refused
+mcgate tell d log => refused, told
+mcgate tell d log all => refused, told
+mcgate tell d drain k => refused, told
+mcgate tell d stop => refused, told
 mcgate check f g => refused, told
 mcgate loopback --any => refused, told
 mcgate replay --any --any => refused, told
@@ -219,6 +226,9 @@ fn mode_word(mode: u32) -> &'static str {
 
 fn push_serve(out: &mut String, job: &ServeJob<'_>) -> Result<(), AllocError> {
     write!(out, "serve {}", any_word(job.any))?;
+    if job.fleet {
+        out.push_str(" fleet")?;
+    }
     if job.listen != "a:1" {
         write!(out, " at {} {}", job.listen, mode_word(job.unix_mode))?;
     }
@@ -244,6 +254,11 @@ fn push_serve(out: &mut String, job: &ServeJob<'_>) -> Result<(), AllocError> {
     if let Some(control) = job.control {
         write!(out, " control {control} drain-ms {}", job.drain_ms)?;
     }
+    out.push_str(if job.drain_on_eof {
+        " drain-on-eof"
+    } else {
+        ""
+    })?;
     write!(out, " {}", dialect_word(job.settings.server_dialect))?;
     push_beginning(out, "own", job.begun.opened)?;
     push_beginning(out, "empty", job.begun.added)

@@ -19,6 +19,7 @@ add a: "slots":[0,1] => slots: bad address a
 remove b:1: "slots":[0,1,0,1] => {"pools":{"A":{"servers":["a:1"],"slots":[0,0,0,0]}},"route":"PoolRoute|A"}
 remove b:1: "slots":[0,1,0,1] after {"pools":{"B":{"servers":["b:1","a:1"]}},"route":"NullRoute"} => slots: no way: slots would go to servers that had them
 remove c:1: "slots":[0,1] => slots: not in the pool: c:1
+add c:1: "slots":[0,1,0,1],"retry_ms":5,"call_ms":9 => {"pools":{"A":{"call_ms":9,"retry_ms":5,"servers":["a:1","b:1","c:1"],"slots":[2,1,0,1]}},"route":"PoolRoute|A"}
 add c:1: "slots":[2] => config: bad field slots"#
 }
 

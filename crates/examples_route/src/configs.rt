@@ -6,4 +6,6 @@ mod addresses;
 #[cfg(test)]
 mod configurations;
 #[cfg(test)]
+mod limits;
+#[cfg(test)]
 mod names;

@@ -9,7 +9,7 @@ ghost use Rattle.fresh_runs.specs.Single.{FitsOutcome};
 use crate::trees::tree_of;
 use examples_tables::tellers::{Teller, halves, push_number, push_word, wrong};
 use mc_types::{Answer, Ask, Body, Dialect, Key, Op, Origin, Outcome, ServerId, SharedAsk, Tokens};
-use route_job::{Job, Step};
+use route_job::{Job, JobStep};
 use route_json::ConfigFault;
 use route_json::names::op_of;
 use route_tree::{Tree, TreeForm};
@@ -246,7 +246,7 @@ fn push_end(out: &mut String, reply: &Answer, from: Option<u64>) -> Result<(), A
 // One call with the outcome that the letter means.
 fn step(alloc: Global, job: &mut Job, letter: u8, out: &mut String) -> Result<(), AllocError> {
     let outcome = match job.next() {
-        Step::Call {
+        JobStep::Call {
             server,
             ask,
             origin,
@@ -254,7 +254,7 @@ fn step(alloc: Global, job: &mut Job, letter: u8, out: &mut String) -> Result<()
             push_call(out, server, ask.get().op, origin)?;
             outcome_of(alloc, ask.get(), letter)?
         }
-        Step::Done(_) => return push_word(out, "done too early"),
+        JobStep::Done(_) => return push_word(out, "done too early"),
     };
     job.take(alloc, outcome)
 }
@@ -262,12 +262,12 @@ fn step(alloc: Global, job: &mut Job, letter: u8, out: &mut String) -> Result<()
 // The reply, or what is called next.
 fn push_next(out: &mut String, job: &Job) -> Result<(), AllocError> {
     match job.next() {
-        Step::Call {
+        JobStep::Call {
             server,
             ask,
             origin,
         } => push_call(out, server, ask.get().op, origin),
-        Step::Done(done) => push_end(out, &done.reply, done.from),
+        JobStep::Done(done) => push_end(out, &done.reply, done.from),
     }
 }
 
@@ -341,16 +341,16 @@ fn jobs(rt: HostRuntime) -> Result<(), Fail> {
 // The server that is called next, if one is.
 fn next_server(job: &Job) -> Option<ServerId> {
     match job.next() {
-        Step::Call { server, .. } => Some(server),
-        Step::Done(_) => None,
+        JobStep::Call { server, .. } => Some(server),
+        JobStep::Done(_) => None,
     }
 }
 
 // The next call fails.
 fn fail_next(alloc: Global, job: &mut Job) -> Result<(), Fail> {
     match job.next() {
-        Step::Call { .. } => {}
-        Step::Done(_) => return Err(Fail::from("done too early")),
+        JobStep::Call { .. } => {}
+        JobStep::Done(_) => return Err(Fail::from("done too early")),
     }
     job.take(alloc, Outcome::Failed)?;
     Ok(())

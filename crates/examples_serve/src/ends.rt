@@ -1,4 +1,4 @@
-//! Ends on 127.0.0.1 that are turned by turns: cache servers, a proxy, and the clients' ends of connections.
+//! Ends on 127.0.0.1 that are turned by turns: cache servers, proxies, and the clients' ends of connections.
 
 use cache_tcp::CacheEnd;
 use examples_tables::configs::with_configs;
@@ -9,7 +9,7 @@ use gate_check::{Accepted, judge};
 use route_json::addresses::Servers;
 use route_json::addresses::servers::MAX_SERVERS;
 use route_json::{Config, read_config, read_config_after};
-use serve_proxy::{Beginnings, LinkNews, ProxyEnd, Settings, text_at};
+use serve_proxy::{Beginnings, LinkLimits, LinkNews, ProxyEnd, Settings, text_at};
 use serve_wire::Wire;
 use serve_wire::sockets::Sockets;
 use std::alloc::{AllocError, Global};
@@ -28,12 +28,15 @@ type Proxy = ProxyEnd<Sockets>;
 pub struct TurnedEnds<'a> {
     rt: &'a HostRuntime,
     caches: Vec<Option<Cache>>,
+    // Those of the caches that aren't turned: they read nothing.
+    stalled: Vec<usize>,
     // Where the one listened that was killed last.
     gone: Option<SocketAddr>,
-    proxy: Option<Proxy>,
+    // Clients connect to the last one.
+    proxies: Vec<Proxy>,
     // A proxy that isn't turned any more. Its connections stand.
     ended: Option<Proxy>,
-    // The text of the configuration by which the proxy began.
+    // The text of the configuration by which the last proxy began.
     config: String,
     // When news were asked for last.
     asked: Option<Instant>,
@@ -183,6 +186,14 @@ fn text_of(alloc: Global, address: Option<SocketAddr>, at: usize) -> Result<Stri
     }
 }
 
+// The last of some proxies.
+fn last_of(proxies: &mut Vec<Proxy>) -> Option<&mut Proxy> {
+    match proxies.len().checked_sub(1) {
+        Some(at) => proxies.get_mut(at),
+        None => None,
+    }
+}
+
 fn turn_cache(rt: &HostRuntime, end: &mut Option<Cache>, most: Duration) -> io::Result<()> {
     match end {
         Some(end) => end.turn_within(rt, most),
@@ -226,8 +237,9 @@ impl<'a> TurnedEnds<'a> {
         TurnedEnds {
             rt,
             caches: Vec::new(rt.alloc()),
+            stalled: Vec::new(rt.alloc()),
             gone: None,
-            proxy: None,
+            proxies: Vec::new(rt.alloc()),
             ended: None,
             config: String::new(rt.alloc()),
             asked: None,
@@ -254,9 +266,9 @@ impl<'a> TurnedEnds<'a> {
         text_of(self.rt.alloc(), self.address_of(at)?, at)
     }
 
-    // Where clients connect: to the proxy, or to the first cache where there is none.
+    // Where clients connect: to the last proxy, or to the first cache where there is none.
     fn front(&self) -> Result<SocketAddr, Fail> {
-        if let Some(proxy) = &self.proxy {
+        if let Some(proxy) = self.proxies.last() {
             return Ok(proxy.wire().local_addr()?);
         }
         match self.caches.first() {
@@ -265,33 +277,33 @@ impl<'a> TurnedEnds<'a> {
         }
     }
 
-    fn turn_proxy(&mut self) -> io::Result<()> {
-        match &mut self.proxy {
-            Some(proxy) => proxy.turn_within(self.rt, Duration::from_millis(1)),
-            None => Ok(()),
+    fn turn_proxies(&mut self) -> io::Result<()> {
+        for proxy in self.proxies.as_mut_slice() {
+            proxy.turn_within(self.rt, Duration::from_millis(1))?;
         }
+        Ok(())
     }
 
-    // Whether so many of the proxy's calls are out, and nothing is left for it to do.
+    // Whether so many of the last proxy's calls are out, and nothing is left for it to do.
     fn is_still(&self, calls: usize) -> bool {
-        match &self.proxy {
+        match self.proxies.last() {
             Some(proxy) => proxy.is_still(calls),
             None => false,
         }
     }
 
-    // The proxy is turned until it is so, or until it isn't any more.
+    // Proxies are turned until it is so, or until it isn't any more.
     fn turn_until(&mut self, calls: usize, is_still: bool) -> Result<(), Fail> {
         for _ in 0..4_000 {
             if self.is_still(calls) == is_still {
                 return Ok(());
             }
-            self.turn_proxy()?;
+            self.turn_proxies()?;
         }
         Err("the proxy didn't come to it")?
     }
 
-    // So many of the proxy's calls are out when the caches answer. The turn that settles one of them is the proxy's last: its turns end with
+    // So many of the last proxy's calls are out when the caches answer. The turn that settles one of them is the proxy's last: its turns end with
     // what is held back.
     fn end_turns(&mut self, calls: usize) -> Result<(), Fail> {
         self.turn_until(calls, true)?;
@@ -299,7 +311,7 @@ impl<'a> TurnedEnds<'a> {
             turn_cache(self.rt, end, Duration::from_millis(5))?;
         }
         self.turn_until(calls, false)?;
-        if let Some(mut proxy) = self.proxy.take() {
+        if let Some(mut proxy) = self.proxies.pop() {
             proxy.end_turns();
             self.ended = Some(proxy);
         }
@@ -308,16 +320,27 @@ impl<'a> TurnedEnds<'a> {
 
     // How long a cache waits in a turn where nothing is ready.
     fn wait(&self) -> Duration {
-        Duration::from_millis(if self.proxy.is_some() { 1 } else { 5 })
+        Duration::from_millis(if self.proxies.is_empty() { 5 } else { 1 })
     }
 
     fn turn(&mut self) -> io::Result<()> {
-        self.turn_proxy()?;
+        self.turn_proxies()?;
         let wait = self.wait();
-        for end in self.caches.as_mut_slice() {
-            turn_cache(self.rt, end, wait)?;
+        for at in 0..self.caches.len() {
+            self.turn_cache(at, wait)?;
         }
         Ok(())
+    }
+
+    // One that is stalled isn't turned.
+    fn turn_cache(&mut self, at: usize, most: Duration) -> io::Result<()> {
+        if self.stalled.as_slice().contains(&at) {
+            return Ok(());
+        }
+        match self.caches.get_mut(at) {
+            Some(end) => turn_cache(self.rt, end, most),
+            None => Ok(()),
+        }
     }
 
     fn stream(&mut self, at: usize) -> Option<&mut TcpStream> {
@@ -377,7 +400,10 @@ impl<'a> TurnedEnds<'a> {
 
     fn begin_proxy(&mut self, text: &str, settings: Settings) -> Result<(), Fail> {
         let servers = self.servers()?;
-        self.proxy = Some(proxy_by(self.rt, text, &servers, settings)?);
+        let proxy = proxy_by(self.rt, text, &servers, settings)?;
+        if self.proxies.push(proxy).is_err() {
+            return Err("no memory")?;
+        }
         self.config = text.to_string(self.rt.alloc())?;
         Ok(())
     }
@@ -404,7 +430,7 @@ impl<'a> TurnedEnds<'a> {
         }
     }
 
-    // The proxy is turned until its connection to the server has come: a few turns, as time limits pass meanwhile.
+    // Proxies are turned until a connection to the server has come: a few turns, as time limits pass meanwhile.
     fn accept(&mut self) -> Result<usize, Fail> {
         self.turn_often(10)?;
         let stream = self.accepted()?;
@@ -495,6 +521,19 @@ impl<'a> TurnedEnds<'a> {
         }
     }
 
+    // A cache reads nothing from now on, and answers nothing: its connections stand.
+    fn stall(&mut self, at: usize) -> Result<(), Fail> {
+        if self.stalled.push(at).is_err() {
+            return Err("no memory")?;
+        }
+        Ok(())
+    }
+
+    // All caches read and answer again.
+    fn go_on(&mut self) {
+        self.stalled.clear();
+    }
+
     fn kill(&mut self, at: usize) -> io::Result<()> {
         self.gone = self.address_of(at)?;
         if let Some(place) = self.caches.get_mut(at) {
@@ -578,7 +617,7 @@ impl<'a> TurnedEnds<'a> {
 
     fn loaded(&mut self, config: Config, servers: &Servers) -> Result<String, Fail> {
         let alloc = self.rt.alloc();
-        match self.proxy.as_mut() {
+        match last_of(&mut self.proxies) {
             Some(proxy) => {
                 resolve(self.rt, proxy, servers);
                 load(alloc, proxy, config, servers)
@@ -596,15 +635,26 @@ impl<'a> TurnedEnds<'a> {
         self.loaded(config, &servers)
     }
 
-    // The proxy empties the server before its first call.
+    // The last proxy empties the server before its first call.
     fn empty_first(&mut self, server: usize) {
-        if let Some(proxy) = self.proxy.as_mut() {
+        if let Some(proxy) = last_of(&mut self.proxies) {
             proxy.empty_first(server);
         }
     }
 
+    // A call of the last proxy to the server may take 200 milliseconds from now on.
+    fn limit(&mut self, server: usize) {
+        if let Some(proxy) = last_of(&mut self.proxies) {
+            let limits = LinkLimits {
+                call_ms: 200,
+                ..proxy.usual_limits()
+            };
+            proxy.limit(server, limits);
+        }
+    }
+
     fn next_news(&mut self) -> Option<(usize, LinkNews)> {
-        match &mut self.proxy {
+        match last_of(&mut self.proxies) {
             Some(proxy) => proxy.next_news(),
             None => None,
         }
@@ -672,6 +722,7 @@ impl TurnedEnds<'_> {
             "shut" => self.shut(at),
             "turn" => Ok(self.turn_often(at)?),
             "pause" => self.pause(at),
+            "stall" => self.stall(at),
             "end" => self.end_turns(at),
             "leave" => {
                 self.leave(at);
@@ -681,6 +732,10 @@ impl TurnedEnds<'_> {
             "again" => self.begin_again(at),
             "empty" => {
                 self.empty_first(at);
+                Ok(())
+            }
+            "limit" => {
+                self.limit(at);
                 Ok(())
             }
             _ => Err("no such event")?,
@@ -780,6 +835,10 @@ impl Stage for TurnedEnds<'_> {
             }
             "connect" | "accept" | "clients" => Ok(self.number(verb)?.to_string(self.rt.alloc())?),
             "load" => self.load(text),
+            "go-on" => {
+                self.go_on();
+                Ok(String::new(self.rt.alloc()))
+            }
             "news" => self.news_text(),
             _ => self.answer_of(verb, text, want),
         }

@@ -8,6 +8,8 @@ mod dialects;
 #[cfg(test)]
 mod ends;
 #[cfg(test)]
+mod fleets;
+#[cfg(test)]
 mod link_news;
 #[cfg(test)]
 mod proxies;

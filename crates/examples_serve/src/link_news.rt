@@ -23,6 +23,17 @@ gets 0 => SERVER_ERROR call failed\r\n
 closed 1 => yes
 news => server 0: failed: a connection took too long to stand, 1 in a row
 
+A server with a limit of its own, by which a call to it is late long before others would be.
+server
+strict-proxy <one server>
+limit 0
+connect => 0
+send 0 get a\r\n
+accept => 1
+gets 1 => mn\r\nget a\r\n
+gets 0 => SERVER_ERROR call failed\r\n
+news => server 0: late: a call took too long
+
 What can't be an answer.
 server
 strict-proxy <one server>

@@ -1,7 +1,7 @@
 //! Classic requests: each refusal, cuts, and the one spelling.
 
 ghost use Rattle.std.specs.Prelude.{◌<◌, IfOk, length};
-ghost use Rattle.wire_classic.specs.Message.{IsReadFrom, message_in};
+ghost use Rattle.wire_classic.specs.Message.{IsClassicReadFrom, message_in};
 ghost use Rattle.wire_classic.specs.Asks.{asks_of, IsClassicAsk};
 
 use crate::escapes::{bytes_of, spelled};
@@ -116,7 +116,7 @@ fn cut_told(alloc: Global, bytes: &[u8]) -> Result<String, AllocError> {
 
 // What the asks that a walk comes to are written as.
 fn walked(alloc: Global, request: &ClassicRequest, bytes: &[u8]) -> Result<BytesMut, AllocError>
-    requires { IsReadFrom bytes.now request.now }
+    requires { IsClassicReadFrom bytes.now request.now }
 {
     let mut out = BytesMut::new(alloc);
     let mut walk = request.walk();
@@ -129,7 +129,7 @@ fn walked(alloc: Global, request: &ClassicRequest, bytes: &[u8]) -> Result<Bytes
 }
 
 fn first_ask(alloc: Global, request: &ClassicRequest, bytes: &[u8]) -> Result<Ask, AllocError>
-    requires read { IsReadFrom bytes.now request.now }
+    requires read { IsClassicReadFrom bytes.now request.now }
     requires some { 0 < length (asks_of (message_in bytes.now request.now)) }
     ensures { IfOk result IsClassicAsk }
 {
@@ -140,7 +140,7 @@ fn first_ask(alloc: Global, request: &ClassicRequest, bytes: &[u8]) -> Result<As
 
 // What the first ask is written as, if there is one.
 fn first(alloc: Global, request: &ClassicRequest, bytes: &[u8]) -> Result<BytesMut, AllocError>
-    requires { IsReadFrom bytes.now request.now }
+    requires { IsClassicReadFrom bytes.now request.now }
 {
     let mut out = BytesMut::new(alloc);
     if request.asks() > 0 {
@@ -152,7 +152,7 @@ fn first(alloc: Global, request: &ClassicRequest, bytes: &[u8]) -> Result<BytesM
 
 // What the asks are written as. The first is made in both ways.
 fn asked(alloc: Global, request: &ClassicRequest, bytes: &[u8]) -> Result<String, AllocError>
-    requires { IsReadFrom bytes.now request.now }
+    requires { IsClassicReadFrom bytes.now request.now }
 {
     let walked = walked(alloc, request, bytes)?;
     let first = first(alloc, request, bytes)?;

@@ -1,7 +1,7 @@
 //! Meta requests: refusals by the table, cuts, and the one spelling.
 
 ghost use Rattle.std.specs.Prelude.{◌<◌, IfOk, length};
-ghost use Rattle.wire_meta.specs.Message.{IsReadFrom, message_in};
+ghost use Rattle.wire_meta.specs.Message.{IsMetaReadFrom, message_in};
 ghost use Rattle.wire_meta.specs.Asks.{asks_of, IsMetaAsk};
 
 use crate::escapes::{bytes_of, spelled};
@@ -131,7 +131,7 @@ fn cut_told(alloc: Global, bytes: &[u8]) -> Result<String, AllocError> {
 }
 
 fn first_ask(alloc: Global, request: &MetaRequest, bytes: &[u8]) -> Result<Ask, AllocError>
-    requires read { IsReadFrom bytes.now request.now }
+    requires read { IsMetaReadFrom bytes.now request.now }
     requires some { 0 < length (asks_of (message_in bytes.now request.now)) }
     ensures { IfOk result IsMetaAsk }
 {
@@ -142,7 +142,7 @@ fn first_ask(alloc: Global, request: &MetaRequest, bytes: &[u8]) -> Result<Ask, 
 
 // What its ask is written as, or how many it has.
 fn asked(alloc: Global, request: &MetaRequest, bytes: &[u8]) -> Result<String, AllocError>
-    requires { IsReadFrom bytes.now request.now }
+    requires { IsMetaReadFrom bytes.now request.now }
 {
     let asks = request.asks();
     if asks != 1 {

@@ -1,8 +1,8 @@
 //! A trouble of a configuration in words: the way to it, what is expected there, and what was likely meant.
 
 use crate::fields::{OPERATIONS, ROUTES, fields_of, name_of};
-use crate::place::Place;
-use crate::trouble::{Step, Trouble};
+use crate::place::TextPlace;
+use crate::trouble::{PathStep, Trouble};
 use fault_words::address::AddressTrouble;
 use fault_words::{address_trouble, nearest};
 use route_json::names::{Holder, rest_after};
@@ -19,7 +19,7 @@ const MOST_NAMES: usize = 12;
 pub struct About<'a, 'b> {
     pub file: &'a str,
     /// Where in the file the trouble is, if that was found.
-    pub place: Option<Place>,
+    pub place: Option<TextPlace>,
     /// The pools of the configuration, where they were met.
     pub pools: Option<&'b Map<String, Value>>,
 }
@@ -41,12 +41,12 @@ fn push_name(words: &mut String, name: &str) -> Result<(), AllocError> {
 }
 
 // The way as a JSON pointer; of the whole configuration nothing.
-fn push_way(words: &mut String, way: &[Step<'_>]) -> Result<(), AllocError> {
+fn push_way(words: &mut String, way: &[PathStep<'_>]) -> Result<(), AllocError> {
     for step in way {
         words.push_str("/")?;
         match step {
-            Step::Name(name) => push_name(words, name)?,
-            Step::Number(number) => write!(words, "{number}")?,
+            PathStep::Name(name) => push_name(words, name)?,
+            PathStep::Number(number) => write!(words, "{number}")?,
         }
     }
     if !way.is_empty() {
@@ -284,7 +284,7 @@ impl About<'_, '_> {
     pub fn line(
         &self,
         alloc: Global,
-        way: &[Step<'_>],
+        way: &[PathStep<'_>],
         trouble: Trouble<'_>,
     ) -> Result<String, AllocError> {
         let mut words = String::new(alloc);

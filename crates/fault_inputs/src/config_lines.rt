@@ -1,10 +1,10 @@
 //! The lines of detail that are said of a fault on standard error.
 
 use crate::advice::About;
-use crate::place::{Place, Source};
+use crate::place::{Source, TextPlace};
 use crate::scan::{Slip, place_of, scan_text};
 use crate::slip::SlipIn;
-use crate::trouble::{Step, Stop, Trouble};
+use crate::trouble::{PathStep, Stop, Trouble};
 use crate::walk::Walk;
 use route_json::{ConfigFault, read_config};
 use route_tree::ROUTE_LIMIT;
@@ -41,7 +41,7 @@ fn unknown_slip(alloc: Global, source: Source<'_>) -> Result<String, AllocError>
     } else {
         error.column()
     };
-    let place = Place { line, column };
+    let place = TextPlace { line, column };
     format!(in alloc;
         "mcgate: {}:{place}: a number that is too large, or a text that is no Unicode",
         source.file
@@ -77,9 +77,9 @@ fn plain_line(
 fn place_in(
     alloc: Global,
     source: Source<'_>,
-    way: &[Step<'_>],
+    way: &[PathStep<'_>],
     trouble: Trouble<'_>,
-) -> Result<Option<Place>, AllocError> {
+) -> Result<Option<TextPlace>, AllocError> {
     match place_of(alloc, source.text, way, trouble.is_of_name())? {
         Some(at) => Ok(Some(source.place(at))),
         None => Ok(None),

@@ -23,7 +23,14 @@ pub const OPERATIONS: [&str; 12] = [
 
 const CONFIG: [&str; 2] = ["pools", "route"];
 
-const POOL: [&str; 2] = ["servers", "slots"];
+const POOL: [&str; 6] = [
+    "servers",
+    "slots",
+    "call_ms",
+    "connect_ms",
+    "fail_limit",
+    "retry_ms",
+];
 
 const POOL_ROUTE: [&str; 2] = ["type", "pool"];
 

@@ -5,35 +5,35 @@ use std::fmt::Display;
 
 /// A place in a file, both counted from 1. A column is counted in characters.
 #[derive(Clone, Copy, PartialEq, Eq)]
-pub struct Place {
+pub struct TextPlace {
     pub line: usize,
     pub column: usize,
 }
 
 /// `LINE:COLUMN`.
-impl Display for Place {
+impl Display for TextPlace {
     fn fmt<W: fmt::Write>(&self, f: &mut fmt::Formatter<W>) -> fmt::Result {
         write!(f, "{}:{}", self.line, self.column)
     }
 }
 
-impl Place {
+impl TextPlace {
     /// The first place of a file.
-    pub fn first() -> Place {
-        Place { line: 1, column: 1 }
+    pub fn first() -> TextPlace {
+        TextPlace { line: 1, column: 1 }
     }
 
     // The place after a byte at this one. Only the first byte of a character counts.
-    fn after(self, byte: u8) -> Place {
+    fn after(self, byte: u8) -> TextPlace {
         if byte == b'\n' {
-            Place {
+            TextPlace {
                 line: self.line.saturating_add(1),
                 column: 1,
             }
         } else if byte & 0xc0 == 0x80 {
             self
         } else {
-            Place {
+            TextPlace {
                 line: self.line,
                 column: self.column.saturating_add(1),
             }
@@ -41,7 +41,7 @@ impl Place {
     }
 
     /// The place of a byte of a text that begins at this place.
-    pub fn within(self, text: &str, at: usize) -> Place {
+    pub fn within(self, text: &str, at: usize) -> TextPlace {
         let mut place = self;
         for byte in text.as_bytes().iter().take(at) {
             place = place.after(*byte);
@@ -56,7 +56,7 @@ pub struct Source<'a> {
     /// How the file is called in words.
     pub file: &'a str,
     pub text: &'a str,
-    pub begins: Place,
+    pub begins: TextPlace,
 }
 
 impl<'a> Source<'a> {
@@ -65,12 +65,12 @@ impl<'a> Source<'a> {
         Source {
             file,
             text,
-            begins: Place::first(),
+            begins: TextPlace::first(),
         }
     }
 
     /// The place of a byte of the text.
-    pub fn place(&self, at: usize) -> Place {
+    pub fn place(&self, at: usize) -> TextPlace {
         self.begins.within(self.text, at)
     }
 }

@@ -1,6 +1,6 @@
 //! A text, read as JSON token by token: where it first is none, and which names stand twice in an object.
 
-use crate::trouble::Step;
+use crate::trouble::PathStep;
 use serde_json::Value;
 use std::alloc::{AllocError, Global};
 use std::collections::BTreeMap;
@@ -119,7 +119,7 @@ struct Scan<'a> {
     open: Vec<Open<'a>>,
     twice: Vec<Twice<'a>>,
     /// The way to a value that is looked for.
-    way: &'a [Step<'a>],
+    way: &'a [PathStep<'a>],
     /// Where that value begins, and its name.
     value_at: Option<usize>,
     name_at: Option<usize>,
@@ -127,10 +127,10 @@ struct Scan<'a> {
 
 impl Open<'_> {
     // Whether this step leads to the value that comes or came last.
-    fn is_at(&self, step: &Step<'_>) -> bool {
+    fn is_at(&self, step: &PathStep<'_>) -> bool {
         match step {
-            Step::Name(name) => self.is_object && self.name == *name,
-            Step::Number(number) => !self.is_object && self.number == *number,
+            PathStep::Name(name) => self.is_object && self.name == *name,
+            PathStep::Number(number) => !self.is_object && self.number == *number,
         }
     }
 }
@@ -215,7 +215,7 @@ fn last_quote(bytes: &[u8], from: usize) -> Result<usize, Stop> {
 }
 
 impl<'a> Scan<'a> {
-    fn new(alloc: Global, text: &'a str, way: &'a [Step<'a>]) -> Scan<'a> {
+    fn new(alloc: Global, text: &'a str, way: &'a [PathStep<'a>]) -> Scan<'a> {
         Scan {
             alloc,
             text,
@@ -457,7 +457,7 @@ pub fn scan_text(alloc: Global, text: &str) -> Result<Scanned<'_>, AllocError> {
 pub fn place_of(
     alloc: Global,
     text: &str,
-    way: &[Step<'_>],
+    way: &[PathStep<'_>],
     name: bool,
 ) -> Result<Option<usize>, AllocError> {
     let mut scan = Scan::new(alloc, text, way);

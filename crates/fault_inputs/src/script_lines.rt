@@ -2,7 +2,7 @@
 
 use crate::columns::bad_part;
 use crate::config_lines::push_fault_line;
-use crate::place::{Place, Source};
+use crate::place::{Source, TextPlace};
 use crate::scan::is_json;
 use fault_words::script::trouble::Trouble;
 use fault_words::script::{BadLine, Wrong};
@@ -47,7 +47,7 @@ pub fn lines_of_script(alloc: Global, file: &str, text: &str) -> Result<Vec<Stri
 }
 
 // A part of a file that begins at a place.
-fn source_at<'a>(file: &'a str, text: &'a str, begins: Place) -> Source<'a> {
+fn source_at<'a>(file: &'a str, text: &'a str, begins: TextPlace) -> Source<'a> {
     Source { file, text, begins }
 }
 
@@ -65,7 +65,7 @@ pub fn lines_of_bad_line(
 ) -> Result<Vec<String>, AllocError> {
     let line = line_of(text, bad.number);
     let at = bad_part(line.as_bytes(), bad.wrong);
-    let begins = Place {
+    let begins = TextPlace {
         line: bad.number,
         column: 1,
     };

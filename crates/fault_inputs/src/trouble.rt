@@ -6,7 +6,7 @@ use std::alloc::AllocError;
 
 /// A step on the way from a whole configuration to a part of it.
 #[derive(Clone, Copy)]
-pub enum Step<'a> {
+pub enum PathStep<'a> {
     /// To the value of this name in an object.
     Name(&'a str),
     /// To the value of this number in a list, counted from 0.

@@ -1,9 +1,10 @@
 //! A walk over the JSON of a configuration, in the order in which its faults are looked for: to the first trouble, or through all of it.
 
 use crate::fields::{Part, fields_of, part_of};
-use crate::trouble::{Step, Stop, Trouble};
+use crate::trouble::{PathStep, Stop, Trouble};
 use mc_types::Key;
 use route_json::addresses::read_server;
+use route_json::limits::{LIMIT_FIELDS, MAX_LIMIT};
 use route_json::names::{Holder, Kind, is_field, kind_of, op_of, rest_after};
 use route_tree::{DEPTH_LIMIT, POOL_LIMIT, SLOT_LIMIT};
 use serde_json::{Map, Value};
@@ -21,7 +22,7 @@ const TABLE: &str = "a list of 1 to 2048 places in servers";
 pub struct Walk<'a> {
     pools: Option<&'a Map<String, Value>>,
     /// The way from the whole configuration to where it is.
-    pub way: Vec<Step<'a>>,
+    pub way: Vec<PathStep<'a>>,
     /// The pools that routes name.
     pub used: BTreeMap<&'a str, ()>,
 }
@@ -48,6 +49,14 @@ fn field<'a>(holder: Holder, name: &'static str, value: &'a Value) -> Result<&'a
     match value.get(name) {
         Some(found) => Ok(found),
         None => Err(Stop::Trouble(Trouble::Missing(holder, name))),
+    }
+}
+
+// Whether this may be a limit.
+fn is_limit(value: &Value) -> bool {
+    match value.as_u64() {
+        Some(limit) => 0 < limit && limit <= MAX_LIMIT,
+        None => false,
     }
 }
 
@@ -144,7 +153,7 @@ impl<'a> Walk<'a> {
         self.pools
     }
 
-    fn enter(&mut self, step: Step<'a>) -> Result<(), AllocError> {
+    fn enter(&mut self, step: PathStep<'a>) -> Result<(), AllocError> {
         self.way.push(step)?;
         Ok(())
     }
@@ -157,7 +166,7 @@ impl<'a> Walk<'a> {
     fn only(&mut self, holder: Holder, value: &'a Value) -> Result<(), Stop<'a>> {
         match foreign_field(holder, value) {
             Some(name) => {
-                self.enter(Step::Name(name))?;
+                self.enter(PathStep::Name(name))?;
                 fail(Trouble::NoField(holder, name))
             }
             None => Ok(()),
@@ -172,10 +181,10 @@ impl<'a> Walk<'a> {
         self.only(Holder::Config, value)?;
         let pools = field(Holder::Config, "pools", value)?;
         let root = field(Holder::Config, "route", value)?;
-        self.enter(Step::Name("pools"))?;
+        self.enter(PathStep::Name("pools"))?;
         self.all_pools(pools)?;
         self.leave();
-        self.enter(Step::Name("route"))?;
+        self.enter(PathStep::Name("route"))?;
         self.route(root, DEPTH_LIMIT)?;
         self.leave();
         Ok(())
@@ -187,7 +196,7 @@ impl<'a> Walk<'a> {
         };
         self.pools = Some(map);
         for (name, pool) in map.iter() {
-            self.enter(Step::Name(name.as_str()))?;
+            self.enter(PathStep::Name(name.as_str()))?;
             self.pool(name.as_str(), pool)?;
             self.leave();
         }
@@ -200,18 +209,37 @@ impl<'a> Walk<'a> {
         }
         self.only(Holder::Pool, value)?;
         let servers = field(Holder::Pool, "servers", value)?;
-        self.enter(Step::Name("servers"))?;
+        self.enter(PathStep::Name("servers"))?;
         self.servers(name, servers)?;
         self.leave();
-        match value.get("slots") {
-            Some(slots) => self.table(servers, slots),
-            None => Ok(()),
+        if let Some(slots) = value.get("slots") {
+            self.table(servers, slots)?;
         }
+        self.limits(value)
+    }
+
+    // The limits of a pool's own.
+    fn limits(&mut self, pool: &'a Value) -> Result<(), Stop<'a>> {
+        for name in LIMIT_FIELDS {
+            if let Some(value) = pool.get(name) {
+                self.limit(name, value)?;
+            }
+        }
+        Ok(())
+    }
+
+    fn limit(&mut self, name: &'static str, value: &'a Value) -> Result<(), Stop<'a>> {
+        self.enter(PathStep::Name(name))?;
+        if !is_limit(value) {
+            return fail(Trouble::Wanted("a number in 1..=4294967295"));
+        }
+        self.leave();
+        Ok(())
     }
 
     // A table of slots beside a list of servers.
     fn table(&mut self, servers: &Value, value: &'a Value) -> Result<(), Stop<'a>> {
-        self.enter(Step::Name("slots"))?;
+        self.enter(PathStep::Name("slots"))?;
         let (Value::Array(servers), Value::Array(items)) = (servers, value) else {
             return fail(Trouble::Wanted(TABLE));
         };
@@ -231,7 +259,7 @@ impl<'a> Walk<'a> {
     // The slots of a table, each a place in a list of so many servers.
     fn slots(&mut self, servers: usize, items: &'a [Value]) -> Result<(), Stop<'a>> {
         for (number, item) in items.iter().enumerate() {
-            self.enter(Step::Number(number))?;
+            self.enter(PathStep::Number(number))?;
             if !is_place(servers, item) {
                 return fail(Trouble::NoPlace(servers));
             }
@@ -251,7 +279,7 @@ impl<'a> Walk<'a> {
             return fail(Trouble::TooManyServers(name, items.len()));
         }
         for (number, item) in items.iter().enumerate() {
-            self.enter(Step::Number(number))?;
+            self.enter(PathStep::Number(number))?;
             self.server(item)?;
             self.leave();
         }
@@ -335,7 +363,7 @@ impl<'a> Walk<'a> {
                 "a route, and an object that is one has a type",
             )));
         };
-        self.enter(Step::Name("type"))?;
+        self.enter(PathStep::Name("type"))?;
         let Value::String(name) = found else {
             return Err(Stop::Trouble(Trouble::Wanted("the name of a route, a text")));
         };
@@ -359,7 +387,7 @@ impl<'a> Walk<'a> {
         let Some(found) = value.get(name) else {
             return without(holder, name, part, below);
         };
-        self.enter(Step::Name(name))?;
+        self.enter(PathStep::Name(name))?;
         match part {
             Part::Kind => {}
             Part::Pool => self.pool_name(found)?,
@@ -401,7 +429,7 @@ impl<'a> Walk<'a> {
             return fail(Trouble::NoChildren);
         }
         for (number, item) in items.iter().enumerate() {
-            self.enter(Step::Number(number))?;
+            self.enter(PathStep::Number(number))?;
             self.route(item, below)?;
             self.leave();
         }
@@ -415,7 +443,7 @@ impl<'a> Walk<'a> {
             return fail(Trouble::Wanted(wanted_policies(part)));
         };
         for (name, child) in map.iter() {
-            self.enter(Step::Name(name.as_str()))?;
+            self.enter(PathStep::Name(name.as_str()))?;
             policy_name(part, name.as_str())?;
             self.route(child, below)?;
             self.leave();

@@ -48,11 +48,12 @@ const CHECK_FLAGS: [&str; 8] = [
     "new-servers",
 ];
 
-const SERVE_FLAGS: [&str; 30] = [
+const SERVE_FLAGS: [&str; 32] = [
     "help",
     "check",
     "config",
     "listen",
+    "fleet",
     "unix-mode",
     "any",
     "history",
@@ -71,6 +72,7 @@ const SERVE_FLAGS: [&str; 30] = [
     "metrics",
     "control",
     "drain-ms",
+    "drain-on-eof",
     "log-level",
     "log-json",
     "server-dialect",
@@ -104,6 +106,7 @@ pub fn takes_of(flag: &str) -> Takes {
         | "dot"
         | "fleet"
         | "log-json"
+        | "drain-on-eof"
         | "flush-all" => { Takes::Nothing }
         "config" | "certificate" | "with" | "history" | "after" | "control" => Takes::File,
         "listen" | "metrics" | "add" | "remove" => Takes::Address,
@@ -129,6 +132,9 @@ pub fn words_after(flag: &str) -> &'static [&'static str] {
         _ => &[],
     }
 }
+
+/// What a proxy that runs is told.
+pub const TOLD: [&str; 6] = ["drain", "reload", "status", "servers", "log", "where"];
 
 impl Takes {
     /// What stands for the value in a usage line.
@@ -194,7 +200,7 @@ impl Command {
             }
             Command::Where => "mcgate where --config FILE KEY..",
             Command::Serve => {
-                "mcgate serve --config FILE --listen HOST:PORT [--any] [--check] [FLAG N ..]"
+                "mcgate serve --config FILE --listen HOST:PORT [--fleet | --any] [--check] [FLAG N ..]"
             }
             Command::Cache =>
                 "mcgate cache --listen HOST:PORT --capacity C [--memory-mb N] [--flush-all] [--turns N]",

@@ -35,6 +35,10 @@ pub enum Cause<'a> {
     Beside(&'static str, &'static str),
     /// The word is no key.
     NoKey(&'a str, KeyFault),
+    /// No proxy is told this.
+    NotTold(&'a str),
+    /// The word is no level of lines.
+    NoLevel(&'a str),
 }
 
 /// The first fault of the program's words: what is wrong, after which command, and the name that was likely meant.
@@ -49,11 +53,16 @@ pub struct WordFault<'a> {
     pub meant: Option<&'static str>,
 }
 
+// The levels of lines.
+const LEVELS: &str = "error, warn, info or debug";
+
 // Which word it has to be.
 fn wanted_word(flag: &str) -> &'static str {
     match flag {
         "opened" => "any or own",
         "new-servers" => "any, empty or flush",
+        "log-level" => LEVELS,
+        "unix-mode" => "600, 660 or 666",
         _ => "auto, classic or meta",
     }
 }
@@ -109,6 +118,16 @@ impl Display for Cause<'_> {
                     Escaped(word.as_bytes()),
                     key_words(*fault)
                 )
+            }
+            Cause::NotTold(word) => {
+                write!(
+                    f,
+                    "{} is none of drain, reload, status, servers, log LEVEL and where KEY",
+                    Escaped(word.as_bytes())
+                )
+            }
+            Cause::NoLevel(text) => {
+                write!(f, "log {}: expected {LEVELS}", Escaped(text.as_bytes()))
             }
         }
     }

@@ -1,6 +1,8 @@
 //! The first fault of the program's words.
 
-use crate::commands::{COMMANDS, Command, TOP_FLAGS, Takes, is_repeated, takes_of, words_after};
+use crate::commands::{
+    COMMANDS, Command, TOLD, TOP_FLAGS, Takes, is_repeated, takes_of, words_after,
+};
 use crate::fault::{Cause, WordFault};
 use crate::names::nearest;
 use mc_types::Key;
@@ -169,13 +171,24 @@ impl Reader {
             return Some(Cause::Beside("with", "fleet"));
         }
         self.apart("explain", "dot")
-            .or(self.apart("fleet", "explain"))
-            .or(self.apart("fleet", "dot"))
-            .or(self.apart("fleet", "history"))
+            .or(self.fleet())
             .or(self.apart("dot", "history"))
             .or(self.apart("add", "remove"))
             .or(self.apart("any", "history"))
             .or(self.apart("any", "certificate"))
+    }
+
+    // What is wrong with what stands beside the flag of a fleet.
+    fn fleet<'a>(&self) -> Option<Cause<'a>> {
+        if self.command == Command::Serve {
+            return self
+                .apart("fleet", "any")
+                .or(self.apart("fleet", "opened"))
+                .or(self.apart("fleet", "new-servers"));
+        }
+        self.apart("fleet", "explain")
+            .or(self.apart("fleet", "dot"))
+            .or(self.apart("fleet", "history"))
     }
 
     // What is wrong once there are no more words.
@@ -196,6 +209,31 @@ impl Reader {
     }
 }
 
+// What is wrong with a word that a proxy is told, and what stands after it.
+fn cause_in_told<'a>(word: &'a str, more: Option<&'a str>) -> Option<Cause<'a>> {
+    match (word, more) {
+        ("log", Some(level)) if words_after("log-level").contains(&level) => None,
+        ("log", Some(level)) => Some(Cause::NoLevel(level)),
+        ("log", None) => Some(Cause::NoWord("LEVEL")),
+        ("where", Some(key)) => match Key::read(key.as_bytes()) {
+            Ok(_) => None,
+            Err(fault) => Some(Cause::NoKey(key, fault)),
+        },
+        ("where", None) => Some(Cause::NoWord("KEY")),
+        (word, _) if !TOLD.as_slice().contains(&word) => Some(Cause::NotTold(word)),
+        (_, more) => more.map(Cause::Extra),
+    }
+}
+
+// What is wrong with what a proxy is told, by the words after `tell`.
+fn cause_after_tell<'a>(words: &'a [String]) -> Option<Cause<'a>> {
+    match words {
+        [_, word] => cause_in_told(word.as_str(), None),
+        [_, word, more] => cause_in_told(word.as_str(), Some(more.as_str())),
+        _ => None,
+    }
+}
+
 // What is wrong with the words after a command.
 fn cause_after<'a>(
     alloc: Global,
@@ -208,7 +246,10 @@ fn cause_after<'a>(
             return Ok(Some(cause));
         }
     }
-    Ok(reader.end())
+    match reader.end() {
+        None if command == Command::Tell => Ok(cause_after_tell(words)),
+        cause => Ok(cause),
+    }
 }
 
 // The name that was likely meant, among those of flags.
@@ -235,6 +276,8 @@ fn meant_after(
         Cause::NoCommand(word) => nearest(alloc, word, COMMANDS.as_slice()),
         Cause::NoFlag(word) => meant_flag(alloc, command.flags(), word),
         Cause::BadValue(flag, text) => nearest(alloc, text, words_after(flag)),
+        Cause::NotTold(word) => nearest(alloc, word, TOLD.as_slice()),
+        Cause::NoLevel(text) => nearest(alloc, text, words_after("log-level")),
         _ => Ok(None),
     }
 }

@@ -9,7 +9,7 @@ pub mod gap;
 pub mod gate;
 pub mod judging;
 pub mod laws;
-mod numbers;
+pub mod numbers;
 mod pairs;
 pub mod places;
 pub mod reloading;

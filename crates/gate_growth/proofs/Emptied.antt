@@ -11,7 +11,7 @@ use Rattle.fresh_runs.specs.Run.{Call, End, Read, Unread, Never}
 use Rattle.fresh_runs.specs.Sharing.{Event, Begins, Calls, Replies, Breaks, Turns, Restarts, held, item_at, calls_so_far, GivesStamp, EndsWell, Run, IsShown}
 use Rattle.fresh_runs.proofs.SharingHeld.{held_after, event_same}
 use Rattle.gate_growth.specs.Emptied.{WasEmptied, AreEmptiedFirst, emptied_opening, EmptiedIsFresh}
-use Rattle.gate_growth.proofs.UntouchedFresh.{fresh, fresh_by_number}
+use Rattle.fresh_runs.proofs.UntouchedFresh.{fresh, fresh_by_number}
 
 module _ (emptied : ℕ → Bool) (opening : ℕ → List ℕ → Option Item) where
   abbrev new : ℕ → List ℕ → Option Item

@@ -1,6 +1,3 @@
-pub mod Nothing
-pub mod UntouchedFresh
-pub mod UntouchedAlone
 pub mod Emptied
 pub mod Parted
 pub mod Stored

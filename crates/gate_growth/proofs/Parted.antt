@@ -1,7 +1,7 @@
 -- Calls that put an item on a server, in parts of a list of calls.
 use Rattle.std.proofs.Common.{ℕ, ◌+◌, List, [], ◌++◌, length, ◌⊎◌, inl, inr, ⊎_elim}
 use Rattle.fresh_runs.specs.Run.{Call}
-use Rattle.gate_growth.specs.Untouched.{PutsIn}
+use Rattle.fresh_runs.specs.Untouched.{PutsIn}
 use Rattle.route_tree.proofs.Showing.{get_front, get_back}
 use Rattle.gate_coverage.proofs.Choices.{get_either}
 

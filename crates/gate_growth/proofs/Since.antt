@@ -10,9 +10,9 @@ use Rattle.mc_types.specs.declared.call.Origin.TheVariants.{Client}
 use Rattle.mc_types.specs.Items.{Item}
 use Rattle.fresh_runs.specs.Run.{Call}
 use Rattle.fresh_runs.specs.Cover.{TakesIn, IsCleared}
-use Rattle.gate_growth.specs.Untouched.{IsUntouched, IsCoveredOrUntouched}
-use Rattle.gate_growth.proofs.UntouchedFresh.{fresh, fresh_by_number}
-use Rattle.gate_growth.proofs.UntouchedAlone as alone
+use Rattle.fresh_runs.specs.Untouched.{IsUntouched, IsCoveredOrUntouched}
+use Rattle.fresh_runs.proofs.UntouchedFresh.{fresh, fresh_by_number}
+use Rattle.fresh_runs.proofs.UntouchedAlone as alone
 use Rattle.route_tree.specs.Tag.{key_hash}
 use Rattle.route_tree.specs.Each.{Each}
 use Rattle.route_tree.specs.Plan.{Plan}

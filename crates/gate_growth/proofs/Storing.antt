@@ -12,7 +12,7 @@ use Rattle.mc_types.specs.declared.call.Origin.TheVariants.{Client, CopyOf}
 use Rattle.mc_types.specs.declared.call.Outcome.TheVariants.{Failed}
 use Rattle.mc_types.specs.Asks.{IsAsk}
 use Rattle.fresh_runs.specs.Run.{Call}
-use Rattle.gate_growth.specs.Untouched.{IsPutting, PutsIn}
+use Rattle.fresh_runs.specs.Untouched.{IsPutting, PutsIn}
 use Rattle.route_tree.specs.Operation.{same_op}
 use Rattle.route_tree.specs.Plan.{Plan, Plans, PlanPolicies, Server, Null, Failing, AllSync, Failover, MissFailover, WarmUp, ByOperation, End, More, Otherwise, Policy, IsGood, AreGood, ArePoliciesGood}
 use Rattle.route_tree.specs.Word.{Given, rank, given_by, plain_get, refill, Word, WordOfAll, WordOfFirst, WordOfHead, WordOfPolicy, Then, AfterRefill, Refilled, AfterWarm, AfterCold, WarmUpWord}

@@ -13,7 +13,7 @@ use Rattle.gate_check.specs.Places.{place_at}
 use Rattle.gate_check.specs.Valid.{all_prefixes}
 use Rattle.gate_growth.specs.declared.ledger.page.Page.{Page}
 use Rattle.gate_growth.specs.declared.ledger.class.ClassPages.{ClassPages}
-use Rattle.gate_growth.specs.declared.ledger.turning.Step.{Step}
+use Rattle.gate_growth.specs.declared.ledger.turning.Successor.{Successor}
 use Rattle.gate_growth.specs.declared.ledger.turning.LeftGap.{LeftGap}
 use Rattle.gate_growth.specs.Grown.{plans_at}
 use Rattle.gate_growth.specs.Pages.{IsPageOf}
@@ -28,7 +28,7 @@ use Rattle.gate_growth.proofs.FirstLeft.{earlier_first, one_row}
 
 -- ---- one place
 
-module _ (known : List ClassPages) (step : Step) (prefix : Option (List ℕ)) (class : ClassPages) (i : ℕ) (at : slice_get known i ≡ Some class) (best : IsBestAt known (prefix_text prefix) i) where
+module _ (known : List ClassPages) (step : Successor) (prefix : Option (List ℕ)) (class : ClassPages) (i : ℕ) (at : slice_get known i ≡ Some class) (best : IsBestAt known (prefix_text prefix) i) where
   -- what was known of it
   known_page : (arbitrary : ℕ → Bool) (trees : List Route) (m bound : ℕ) → bound ≤ length step.begun.now → AreKnown arbitrary trees m bound known → (r : ℕ) (page : Page) → slice_get class.pages.items (r % length class.pages.items) ≡ Some page
       → IsPageOf arbitrary (plans_at (place_at prefix r step.modulus) trees) (length step.begun.now) page.cells.items page.others
@@ -71,12 +71,12 @@ module _ (known : List ClassPages) (step : Step) (prefix : Option (List ℕ)) (c
         subst (λ n. IfFirstLeft arbitrary trees step.tree.now (rows_below prefix step.modulus n) (earlier gap here)) on first,
       )
 
-pub turn_none : (known : List ClassPages) (step : Step) (prefix : Option (List ℕ)) (pages : List Page) → TurnsBelow known step prefix pages 0 None
+pub turn_none : (known : List ClassPages) (step : Successor) (prefix : Option (List ℕ)) (pages : List Page) → TurnsBelow known step prefix pages 0 None
 turn_none known step prefix pages arbitrary trees m bound b le k = ((λ r lt. absurd (omega (arith, lt))), tt)
 
 -- ---- a class
 
-pub turn_class : (known : List ClassPages) (step : Step) (prefix : Option (List ℕ)) (pages : List Page) (gap : Option LeftGap) (r : ℕ) → r ≡ step.modulus → length pages ≡ r → TurnsBelow known step prefix pages r gap
+pub turn_class : (known : List ClassPages) (step : Successor) (prefix : Option (List ℕ)) (pages : List Page) (gap : Option LeftGap) (r : ℕ) → r ≡ step.modulus → length pages ≡ r → TurnsBelow known step prefix pages r gap
     → (arbitrary : ℕ → Bool) (trees : List Route) (modulus bound : ℕ) → AreBefore arbitrary trees step.number step.begun.now → bound ≤ length step.begun.now → AreKnown arbitrary trees modulus bound known
     → (((length pages ≡ step.modulus) × ArePagesBelow arbitrary (trees ++ step.tree.now ∷ []) prefix step.modulus (length step.begun.now) pages step.modulus) × Unit {0})
     × IfFirstLeft arbitrary trees step.tree.now (rows_below prefix step.modulus step.modulus ++ []) gap
@@ -88,10 +88,10 @@ turn_class known step prefix pages gap r end size below arbitrary trees m bound 
 
 -- ---- several classes
 
-pub turns_none : (known : List ClassPages) (step : Step) → Turns known step [] None
+pub turns_none : (known : List ClassPages) (step : Successor) → Turns known step [] None
 turns_none known step arbitrary trees m bound b le k = (tt, tt)
 
-pub turns_both : (known : List ClassPages) (step : Step) (xs ys : List ClassPages) (a b : Option LeftGap) → Turns known step xs a → Turns known step ys b → Turns known step (xs ++ ys) (earlier a b)
+pub turns_both : (known : List ClassPages) (step : Successor) (xs ys : List ClassPages) (a b : Option LeftGap) → Turns known step xs a → Turns known step ys b → Turns known step (xs ++ ys) (earlier a b)
 turns_both known step xs ys a b h g arbitrary trees m bound before le k =
     let p = h arbitrary trees m bound before le k in
     let q = g arbitrary trees m bound before le k in

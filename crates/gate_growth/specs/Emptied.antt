@@ -5,7 +5,7 @@ use Rattle.mc_types.specs.declared.answer.Answer.{Answer}
 use Rattle.mc_types.specs.Items.{Item}
 use Rattle.fresh_runs.specs.Run.{Call}
 use Rattle.fresh_runs.specs.Sharing.{Event, Begins, Calls, Replies, Breaks, Turns, Restarts, LosesOnly, Run, CopiesBar, AreAlone, IsFresh, IsFreshByNumber}
-use Rattle.gate_growth.specs.Untouched.{IsCoveredOrUntouched}
+use Rattle.fresh_runs.specs.Untouched.{IsCoveredOrUntouched}
 
 -- the server was emptied
 abbrev pub WasEmptied : List Event → ℕ → Type 0

@@ -4,7 +4,7 @@ use Rattle.mc_types.specs.declared.ask.Ask.{Ask}
 use Rattle.mc_types.specs.Items.{Item}
 use Rattle.fresh_runs.specs.Sharing.{Event, LosesOnly, Run, CopiesBar, AreAlone, IsFresh, IsFreshByNumber}
 use Rattle.fresh_runs.specs.Run as alone
-use Rattle.gate_growth.specs.Untouched.{IsCoveredOrUntouched}
+use Rattle.fresh_runs.specs.Untouched.{IsCoveredOrUntouched}
 use Rattle.route_tree.specs.declared.place.Place.{Place}
 use Rattle.route_tree.specs.Each.{Each}
 use Rattle.route_tree.specs.Plan.{Plan}

@@ -1,4 +1,3 @@
-pub mod Untouched
 pub mod UntouchedLaws
 pub mod UntouchedAlone
 pub mod Emptied

@@ -13,7 +13,7 @@ use Rattle.gate_growth.specs.declared.ledger.page.Beginning.{Beginning}
 use Rattle.gate_growth.specs.declared.ledger.page.Page.{Page}
 use Rattle.gate_growth.specs.declared.ledger.class.ClassPages.{ClassPages}
 use Rattle.gate_growth.specs.declared.ledger.turning.LeftGap.{LeftGap}
-use Rattle.gate_growth.specs.declared.ledger.turning.Step.{Step}
+use Rattle.gate_growth.specs.declared.ledger.turning.Successor.{Successor}
 
 -- so many trees, whose servers began so
 pub record AreBefore (arbitrary : ℕ → Bool) (trees : List Route) (number : ℕ) (begun : List Beginning) : Type 0 where
@@ -32,27 +32,27 @@ AreTurned arbitrary trees tree modulus bound classes gap =
     Each (ArePagesOf arbitrary (trees ++ tree ∷ []) modulus bound) classes × IfFirstLeft arbitrary trees tree (rows_of (prefixes_of classes) modulus) gap
 
 -- whatever the trees were of whose places these classes tell
-abbrev pub Turns : List ClassPages → Step → List ClassPages → Option LeftGap → Type 0
+abbrev pub Turns : List ClassPages → Successor → List ClassPages → Option LeftGap → Type 0
 Turns known step classes gap =
     (arbitrary : ℕ → Bool) (trees : List Route) (modulus bound : ℕ) → AreBefore arbitrary trees step.number step.begun.now → bound ≤ length step.begun.now
     → AreKnown arbitrary trees modulus bound known → AreTurned arbitrary trees step.tree.now step.modulus (length step.begun.now) classes gap
 
 -- the same of the class of this prefix and its places with remainders below n
-abbrev pub TurnsBelow : List ClassPages → Step → Option (List ℕ) → List Page → ℕ → Option LeftGap → Type 0
+abbrev pub TurnsBelow : List ClassPages → Successor → Option (List ℕ) → List Page → ℕ → Option LeftGap → Type 0
 TurnsBelow known step prefix pages n gap =
     (arbitrary : ℕ → Bool) (trees : List Route) (modulus bound : ℕ) → AreBefore arbitrary trees step.number step.begun.now → bound ≤ length step.begun.now
     → AreKnown arbitrary trees modulus bound known
     → ArePagesBelow arbitrary (trees ++ step.tree.now ∷ []) prefix step.modulus (length step.begun.now) pages n × IfFirstLeft arbitrary trees step.tree.now (rows_below prefix step.modulus n) gap
 
 -- the page of a place after the tree, whatever those were of which the old one tells
-abbrev pub TurnsPage : Step → Place → Page → Page → Type 0
+abbrev pub TurnsPage : Successor → Place → Page → Page → Type 0
 TurnsPage step place old new =
     (arbitrary : ℕ → Bool) (trees : List Route) → AreBefore arbitrary trees step.number step.begun.now
     → IsPageOf arbitrary (plans_at place trees) (length step.begun.now) old.cells.items old.others
     → IsPageOf arbitrary (plans_at place (trees ++ step.tree.now ∷ [])) (length step.begun.now) new.cells.items new.others
 
 -- the gap there, whatever those were
-abbrev pub TurnsGap : Step → Place → Page → Option LeftGap → Type 0
+abbrev pub TurnsGap : Successor → Place → Page → Option LeftGap → Type 0
 TurnsGap step place old gap =
     (arbitrary : ℕ → Bool) (trees : List Route) → AreBefore arbitrary trees step.number step.begun.now
     → IsPageOf arbitrary (plans_at place trees) (length step.begun.now) old.cells.items old.others

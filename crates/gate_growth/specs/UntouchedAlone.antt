@@ -4,7 +4,7 @@ use Rattle.mc_types.specs.declared.ask.Ask.{Ask}
 use Rattle.mc_types.specs.declared.answer.Answer.{Answer}
 use Rattle.mc_types.specs.Items.{Item}
 use Rattle.fresh_runs.specs.Run.{Call, Event, Run, IsFresh}
-use Rattle.gate_growth.specs.Untouched.{IsCoveredOrUntouched}
+use Rattle.fresh_runs.specs.Untouched.{IsCoveredOrUntouched}
 
 -- where each server that a later command takes is cleared by the delete or was untouched, every run is fresh
 abbrev pub GrownRunsAreFresh : (ℕ → Ask → List Call → Answer → Option ℕ → Type 0) → (ℕ → List ℕ → Option Item) → Type 0

@@ -6,7 +6,7 @@ use Rattle.mc_types.specs.Items.{Item, after_call}
 use Rattle.fresh_runs.specs.Run.{Call}
 use Rattle.fresh_runs.specs.Cover.{IsCovered}
 use Rattle.fresh_runs.specs.Sharing.{Event, LosesOnly, Run, CopiesBar, AreAlone, IsFresh, IsFreshByNumber}
-use Rattle.gate_growth.specs.Untouched.{IsPutting, IsCoveredOrUntouched}
+use Rattle.fresh_runs.specs.Untouched.{IsPutting, IsCoveredOrUntouched}
 
 -- where nothing is held, a call that doesn't put an item leaves nothing, whatever it is answered
 abbrev pub NothingComesOfNothing : Type 0

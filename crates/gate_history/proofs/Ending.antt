@@ -7,7 +7,7 @@ use Rattle.gate_history.specs.declared.generation.Generation.{Generation}
 use Rattle.gate_history.specs.InFile.{InFile}
 use Rattle.gate_history.specs.Histories.{IsHistoryOf}
 use Rattle.gate_history.specs.Judged.{AreSoundBy}
-use Rattle.gate_history.specs.Standing.{EndsWith, Stands, SaysNext}
+use Rattle.gate_history.specs.Standing.{EndsWith, StandsInHistory, SaysNext}
 use Rattle.gate_history.specs.Written.{IsLineFor}
 use Rattle.gate_history.proofs.ReadBack.{written_is_read}
 
@@ -20,8 +20,8 @@ ends_so number began bytes line text s n true s-is n-is h is e =
 ends_so number began bytes line text s n false s-is n-is h is e = absurd cc
 
 -- a history that stands so in its file
-pub stands_by : (f : InFile) (gs : List Generation) (bytes text : List ℕ) → record { generations = gs; text = bytes } ≡ f → IsHistoryOf gs bytes → AreSoundBy gs → EndsWith bytes text → Stands f.text text
-stands_by f gs bytes text is history sound last = subst (λ (x : InFile). Stands x.text text) is (record { generations = gs; history = history; sound = sound; last = last })
+pub stands_by : (f : InFile) (gs : List Generation) (bytes text : List ℕ) → record { generations = gs; text = bytes } ≡ f → IsHistoryOf gs bytes → AreSoundBy gs → EndsWith bytes text → StandsInHistory f.text text
+stands_by f gs bytes text is history sound last = subst (λ (x : InFile). StandsInHistory x.text text) is (record { generations = gs; history = history; sound = sound; last = last })
 
 -- with its line the configuration stands at the end
 pub stands_next :

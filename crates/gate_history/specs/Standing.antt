@@ -19,7 +19,7 @@ EndsWith bytes text =
     (front : List ℕ) × (number : ℕ) × (began : Beginning) × (said : List ℕ) × (bytes ≡ front ++ (line_of number began said ++ 10 ∷ [])) × (read said ≡ read text)
 
 -- the bytes are a history of generations whose trees are sound, and the text says the last one
-pub record Stands (bytes text : List ℕ) : Type 0 where
+pub record StandsInHistory (bytes text : List ℕ) : Type 0 where
   pub generations : List Generation
   pub history : IsHistoryOf generations bytes
   pub sound : AreSoundBy generations

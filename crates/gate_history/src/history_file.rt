@@ -4,7 +4,7 @@ ghost use Rattle.std.specs.Prelude.{◌≡◌, ◌+◌, ℕ, List, [], ◌++◌,
 ghost use Rattle.gate_growth.specs.declared.ledger.page.Beginning.{Beginning};
 ghost use Rattle.gate_history.specs.declared.generation.Generation.{Generation};
 ghost use Rattle.gate_history.specs.Judged.{IsNoHistory};
-ghost use Rattle.gate_history.specs.Standing.{Stands, SaysNext, IsNoNext};
+ghost use Rattle.gate_history.specs.Standing.{StandsInHistory, SaysNext, IsNoNext};
 ghost use Rattle.gate_history.specs.Written.{IsLineFor};
 
 use crate::fault::{HistoryFault, NextFault};
@@ -167,7 +167,7 @@ impl HistoryFile {
 
     /// Whether the last line says the JSON of the text.
     pub fn ends_with(&self, alloc: Global, text: &str) -> Result<bool, LineFault>
-        ensures { IfOk result (λ ends. IsTrue ends → Stands self.now.text text.now) }
+        ensures { IfOk result (λ ends. IsTrue ends → StandsInHistory self.now.text text.now) }
     {
         let generations = self.history.generations();
         let Some(last) = generations.last() else {
@@ -188,7 +188,7 @@ impl HistoryFile {
         text: &str,
         began: Beginning,
     ) -> Result<String, NextFault>
-        ensures stands { OnOk result (Stands self.new.text text.now) }
+        ensures stands { OnOk result (StandsInHistory self.new.text text.now) }
         ensures old { IfOk result (λ old. string_bytes old ≡ self.old.text) }
         ensures refused { IfErr result (IsNoNext self.old.generations text.now began) }
         ensures same { OnErr result (self.new ≡ self.old) }
@@ -230,7 +230,7 @@ impl HistoryFile {
         text: &str,
         began: Beginning,
     ) -> Result<Option<String>, NextFault>
-        ensures stands { OnOk result (Stands self.new.text text.now) }
+        ensures stands { OnOk result (StandsInHistory self.new.text text.now) }
         ensures refused { IfErr result (IsNoNext self.old.generations text.now began) }
         ensures same { OnErr result (self.new ≡ self.old) }
     {

@@ -11,6 +11,9 @@ use Rattle.serve_wire.specs.Events.{Event}
 use Rattle.serve_wire.specs.declared.sockets.sockets.Sockets.{Sockets}
 use Rattle.serve_links.specs.CoreSteps.{Step, Opened, NotOpened, Fed, Polled, Stopped, Settled, Gave, Closed, LeftLine, Broke, Loaded, Linked, Asked, Greeted, Spelled, Late, CameLate, Lost, Walks, AreOf, IsOfTurn}
 use Rattle.serve_links.specs.Story.{AnEnd, Agrees, AllGoFrom, texts_of}
+use Rattle.serve_links.specs.Called.{TellsCalls}
+use Rattle.serve_links.specs.Talks.{IsOrderly}
+use Rattle.serve_links.proofs.LateWalks.{walks_are_fresh_late}
 use Rattle.serve_links.proofs.Walked.{walks_keep_since}
 use Rattle.serve_proxy.specs.declared.proxy.ProxyEnd.{ProxyEnd}
 use Rattle.serve_proxy.specs.Beginning.{LoadStops}
@@ -25,9 +28,10 @@ use Rattle.core_accepted.specs.declared.loading.LoadFault.TheVariants.{Refused}
 use Rattle.core_accepted.specs.declared.beginnings.Beginnings.{Beginnings}
 use Rattle.core_accepted.specs.Begun.{any_begun}
 use Rattle.core_accepted.specs.Known.{first_of}
+use Rattle.core_accepted.specs.Loading.{IsLoaded}
 use Rattle.core_accepted.specs.Logs.{TreesAreSound, IsAcceptedSince}
 use Rattle.core_accepted.proofs.Keeping.{since_are_fresh}
-use Rattle.core_accepted.specs.LateCores.{EveryLateLogIsFresh}
+use Rattle.core_accepted.specs.LateCores.{EveryLateLogIsFresh, EveryLateRunIsFresh}
 use Rattle.core_accepted.proofs.LateCores.{late_core}
 use Rattle.serve_proxy.specs.LogsGoOn.{LogsAreFresh}
 use Rattle.mcgate.specs.declared.serve.Servable.{Servable}
@@ -36,7 +40,8 @@ use Rattle.mcgate.specs.Sharing.{sharing_for}
 use Rattle.mcgate.specs.declared.serving.Serving.{Serving}
 use Rattle.mcgate.specs.declared.remembering.Kept.{Kept}
 use Rattle.mcgate.specs.Remembers.{StandsIn, StandsIfLoaded}
-use Rattle.mcgate.specs.Serves.{HasTree, HasServers, BeginsBy, Begins, BeginsServing, SaysAfter, IsServed, history_of, proxy_of, Serves, GoFreshly, HasServed, StaysFresh}
+use Rattle.mcgate.specs.InFleet.{StandsBeside, in_use_after}
+use Rattle.mcgate.specs.Serves.{HasTree, IsUsedFirst, HasServers, BeginsBy, Begins, BeginsServing, SaysAfter, MayLoad, LoadsBeside, MayLoadBeside, MayLoadText, LoadsOne, LoadsText, IsServed, history_of, proxy_of, Serves, GoFreshly, GoFreshlyLate, HasServed, StaysFresh}
 
 false_true : false ≡ true → ⊥
 false_true e = cc
@@ -143,26 +148,38 @@ has_freshly : (servable : Servable) (begun : Beginnings) (settings : Settings) (
 has_freshly (servables.Accepted accepted) begun settings steps a b begins walks fresh = (begins.config, begins.last, walks_are_fresh steps a b walks fresh begins.config begun ([], begins.word))
 has_freshly (servables.Unchecked configuration) begun settings steps a b begins walks fresh = tt
 
+-- also where servers apply late what had failed
+late_since : (first : Configuration) (begun : Beginnings) (b : ServedCore) → TreesAreSound b → IsAcceptedSince first begun b → begun ≡ any_begun → EveryLateLogIsFresh b × EveryLateRunIsFresh b
+late_since first begun b sound is any = late_core b sound (record (first_of first begun) { configs = first ∷ is.0 }, is.1, any)
+
+-- over the connections of its steps
+has_freshly_late :
+    (servable : Servable) (begun : Beginnings) (settings : Settings) (steps : List Step) (a b : ServedCore) → BeginsBy servable begun settings a → Walks steps a b → TellsCalls [] a → IsOrderly steps → TreesAreSound b
+    → GoFreshlyLate servable begun steps a b
+has_freshly_late (servables.Accepted accepted) begun settings steps a b begins walks tells orderly sound =
+    λ any. walks_are_fresh_late steps a b tells orderly (late_since begins.config begun b sound (walks_keep_since steps a b walks begins.config begun ([], begins.word)) any).1
+has_freshly_late (servables.Unchecked configuration) begun settings steps a b begins walks tells orderly sound = tt
+
 pub has_served :
     (servable : Servable) (begun : Beginnings) (settings : Settings) (first last : ProxyEnd Sockets) → BeginsServing servable begun settings first → Serves first last → LogsAreFresh last.core.value
-    → HasServed servable begun settings last
-has_served servable begun settings first last begins g fresh = record {
-  first = first;
-  begins = begins;
-  serves = g;
-  agrees = subst (λ l. Agrees l (proxy_of last)) (append-nil g.steps) (g.agree [] begins.agrees);
-  fresh = has_freshly servable begun (record settings { sharing = sharing_for begins.core.0 }) g.steps first.core.value last.core.value begins.core.2 g.walks fresh;
-}
-
--- also where servers apply late what had failed
-late_since : (first : Configuration) (begun : Beginnings) (b : ServedCore) → TreesAreSound b → IsAcceptedSince first begun b → begun ≡ any_begun → EveryLateLogIsFresh b
-late_since first begun b sound is any = late_core b sound (record (first_of first begun) { configs = first ∷ is.0 }, is.1, any)
+    → TreesAreSound last.core.value → HasServed servable begun settings last
+has_served servable begun settings first last begins g fresh sound =
+    let agrees : Agrees g.steps (proxy_of last) = subst (λ l. Agrees l (proxy_of last)) (append-nil g.steps) (g.agree [] begins.agrees) in
+    let shared : Settings = record settings { sharing = sharing_for begins.core.0 } in
+    record {
+      first = first;
+      begins = begins;
+      serves = g;
+      agrees = agrees;
+      fresh = has_freshly servable begun shared g.steps first.core.value last.core.value begins.core.2 g.walks fresh;
+      late = has_freshly_late servable begun shared g.steps first.core.value last.core.value begins.core.2 g.walks begins.agrees.calls agrees.orderly sound;
+    }
 
 by_kind :
     (servable : Servable) (begun : Beginnings) (settings : Settings) (steps : List Step) (a b : ServedCore) → BeginsBy servable begun settings a → Walks steps a b → LogsAreFresh b → TreesAreSound b → StaysFresh servable begun b
 by_kind (servables.Accepted accepted) begun settings steps a b begins walks fresh sound =
     let is = walks_keep_since steps a b walks begins.config begun ([], begins.word) in
-    (begins.config, begins.last, is, since_are_fresh begins.config begun b fresh is, late_since begins.config begun b sound is)
+    (begins.config, begins.last, is, since_are_fresh begins.config begun b fresh is, λ any. (late_since begins.config begun b sound is any).0)
 by_kind (servables.Unchecked configuration) begun settings steps a b begins walks fresh sound = tt
 
 pub stays_fresh :
@@ -170,3 +187,63 @@ pub stays_fresh :
     → TreesAreSound end.core.value → StaysFresh servable begun end.core.value
 stays_fresh servable begun settings end served fresh sound =
     by_kind servable begun (record settings { sharing = sharing_for served.begins.core.0 }) served.serves.steps served.first.core.value end.core.value served.begins.core.2 served.serves.walks fresh sound
+
+-- what was known of the configuration in use as the first one began
+pub used_first_on :
+    {E : Type 0} (fleet : Bool) (servable : Servable) (in_use : Option Configuration) (r : Result Serving E) → IfOk r (λ serving. serving.in_use ≡ in_use) → IsUsedFirst fleet servable in_use → IfOk r (λ serving. IsUsedFirst fleet servable serving.in_use)
+used_first_on fleet servable in_use (Ok serving) is first = subst (λ (x : Option Configuration). IsUsedFirst fleet servable x) (sym is) first
+used_first_on fleet servable in_use (Err fault) is first = tt
+
+-- nothing is done
+pub loads_still : (used : Option Configuration) (servers : Addresses) (text : List ℕ) (core : ServedCore) → LoadsText used used servers text core core
+loads_still used servers text core = inl (refl, refl)
+
+-- nothing was changed since
+pub loads_as :
+    (used in_use in_use' : Option Configuration) (servers : Addresses) (text text' : List ℕ) (a b b' : ServedCore) → in_use' ≡ in_use → text ≡ text' → b' ≡ b → LoadsText used in_use servers text a b → LoadsText used in_use' servers text' a b'
+loads_as used in_use in_use' servers text text' a b b' same said core loads =
+    subst (λ (x : ServedCore). LoadsText used in_use' servers text' a x) (sym core) (subst (λ (x : Option Configuration). LoadsText used x servers text' a b) (sym same) (subst (λ (x : List ℕ). LoadsText used in_use servers x a b) said loads))
+
+-- what a text says is loaded, or not
+pub loads_said :
+    (is : Bool) (used in_use : Option Configuration) (servers : Addresses) (text : List ℕ) (configuration : Configuration) (a b : ServedCore) → SaysAfter servers text configuration
+    → LoadsOne is configuration used in_use a b → LoadsText used in_use servers text a b
+loads_said true used in_use servers text configuration a b says loads = inr (configuration, says, loads.0, loads.1)
+loads_said false used in_use servers text configuration a b says loads = inl loads
+
+pub loads_text :
+    {E : Type 0} (r : Result Bool E) (used in_use : Option Configuration) (servers : Addresses) (text : List ℕ) (configuration : Configuration) (a b : ServedCore) → SaysAfter servers text configuration
+    → IfOk r (λ is. LoadsOne is configuration used in_use a b) → IfOk r (λ _. LoadsText used in_use servers text a b)
+loads_text (Ok is) used in_use servers text configuration a b says loads = loads_said is used in_use servers text configuration a b says loads
+loads_text (Err fault) used in_use servers text configuration a b says loads = tt
+
+pub may_load_said :
+    (used : Option Configuration) (servers : Addresses) (text : List ℕ) (configuration : Configuration) (a b : ServedCore) → SaysAfter servers text configuration → MayLoadBeside used configuration a b → MayLoadText used servers text a b
+may_load_said used servers text configuration a b says may = ⊎_elim (λ e. inl e) (λ loads. inr (configuration, says, loads)) may
+
+-- a load of what stands beside what was in use
+pub may_load_beside : (used : Option Configuration) (configuration : Configuration) (a b : ServedCore) → StandsBeside used configuration → MayLoad configuration a b → MayLoadBeside used configuration a b
+may_load_beside used configuration a b beside may = ⊎_elim (λ e. inl e) (λ loads. inr (beside, loads)) may
+
+-- nothing is loaded
+pub loads_none : (configuration : Configuration) (used : Option Configuration) (core : ServedCore) → LoadsOne false configuration used used core core
+loads_none configuration used core = (refl, refl)
+
+pub load_still : (configuration : Configuration) (end : ProxyEnd Sockets) → AllGrow (IsLoadOf configuration) (proxy_of end) (proxy_of end)
+load_still configuration end = stood end end refl (stay_still (history_of end.sockets.wire) end.sockets.clients end.sockets.links.all.items)
+
+-- it was loaded, and is in use
+pub loads_next :
+    (is : Bool) (configuration : Configuration) (used next : Option Configuration) (a b : ServedCore) → is ≡ true → StandsBeside used configuration → (IsTrue is → (generation : ℕ) × IsLoaded a configuration generation b)
+    → next ≡ in_use_after used configuration → LoadsOne true configuration used next a b
+loads_next is configuration used next a b is_so beside loaded same = ((beside, loaded (subst IsTrue (sym is_so) refl)), same)
+
+-- it wasn't loaded, and what was in use is
+pub loads_kept :
+    (is : Bool) (configuration : Configuration) (used in_use : Option Configuration) (a b : ServedCore) → is ≡ false → IsTrue is ⊎ (b ≡ a) → in_use ≡ used → LoadsOne false configuration used in_use a b
+loads_kept false configuration used in_use a b none or same = (⊎_elim (λ e. absurd (false_true e)) (λ e. e) or, same)
+loads_kept true configuration used in_use a b none or same = absurd (false_true (sym none))
+
+-- what is known of a kind of tree
+pub has_tree_on : (servable known : Servable) (tree : Route) → servable ≡ known → HasTree known tree → HasTree servable tree
+has_tree_on servable known tree is has = subst (λ (x : Servable). HasTree x tree) (sym is) has

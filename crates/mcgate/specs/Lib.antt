@@ -5,3 +5,6 @@ pub mod Certified
 pub mod Remembers
 pub mod OverTcp
 pub mod LooksUp
+pub mod Emptied
+pub mod Limits
+pub mod InFleet

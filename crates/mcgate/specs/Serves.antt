@@ -1,5 +1,5 @@
 -- How a proxy that serves begins, and how its core and the ends of clients and servers go on. Source: mcgate's own.
-use Rattle.std.specs.Prelude.{◌≡◌, ℕ, ◌⊎◌, List, [], IsSome, Ok}
+use Rattle.std.specs.Prelude.{◌≡◌, ℕ, ◌⊎◌, Bool, true, false, List, [], Option, Some, None, IsSome, Ok}
 use Rattle.serde_json.specs.Read.{read}
 use Rattle.route_json.specs.Servers.{Addresses}
 use Rattle.route_json.specs.Configs.{read_after}
@@ -13,6 +13,7 @@ use Rattle.serve_wire.specs.Events.{Event}
 use Rattle.serve_wire.specs.declared.sockets.sockets.Sockets.{Sockets}
 use Rattle.serve_links.specs.CoreSteps.{Step, Opened, NotOpened, Fed, Polled, Stopped, Settled, Gave, Closed, LeftLine, Broke, Loaded, Linked, Asked, Greeted, Spelled, Late, CameLate, Lost}
 use Rattle.serve_links.specs.Story.{AnEnd, Agrees, texts_of}
+use Rattle.serve_links.specs.InOrder.{AreFreshAlong}
 use Rattle.serve_proxy.specs.declared.proxy.ProxyEnd.{ProxyEnd}
 use Rattle.serve_proxy.specs.Ends.{end_of, AllGrow}
 use Rattle.serve_proxy.specs.Beginning.{BeginsFresh, BeginsUnchecked}
@@ -21,9 +22,13 @@ use Rattle.core_accepted.specs.Begun.{any_begun}
 use Rattle.core_accepted.specs.Logs.{IsAcceptedSince, EveryLogSinceIsFresh}
 use Rattle.core_accepted.specs.LateCores.{EveryLateLogIsFresh}
 use Rattle.serve_proxy.specs.LogsGoOn.{LogsGoFreshly}
+use Rattle.core_accepted.specs.Copying.{CopiesNothing}
 use Rattle.mcgate.specs.Sharing.{sharing_for}
+use Rattle.mcgate.specs.InFleet.{StandsBeside, in_use_after}
 use Rattle.mcgate.specs.declared.serve.Servable.{Servable}
 use Rattle.mcgate.specs.declared.serve.Servable.TheVariants as servables
+use Rattle.mcgate.specs.declared.serve.Judged.{Judged}
+use Rattle.mcgate.specs.declared.serve.Judged.TheVariants as judgements
 
 -- it is a new core on the trees that the gate accepted, where servers began so; or on the configuration's tree, of which no gate was asked
 abbrev pub BeginsBy : Servable → Beginnings → Settings → ServedCore → Type 0
@@ -34,6 +39,16 @@ BeginsBy (servables.Unchecked configuration) begun settings core = BeginsUncheck
 abbrev pub HasTree : Servable → Route → Type 0
 HasTree (servables.Accepted accepted) tree = (configuration : Configuration) × IsLast accepted configuration × (tree ≡ configuration.tree)
 HasTree (servables.Unchecked configuration) tree = tree ≡ configuration.tree
+
+-- it may be served, in a fleet as by its tree no command copies; or it is told why not
+abbrev pub ServesIn : (fleet : Bool) → Servable → Judged → Type 0
+ServesIn fleet servable (judgements.Servable served) = (served ≡ servable) × (fleet ≡ true → (tree : Route) × HasTree servable tree × CopiesNothing tree)
+ServesIn fleet servable (judgements.Printed status) = status ≡ 1
+
+-- in a fleet its configuration is the one in use, and else none is known
+abbrev pub IsUsedFirst : (fleet : Bool) → Servable → Option Configuration → Type 0
+IsUsedFirst fleet servable None = fleet ≡ false
+IsUsedFirst fleet servable (Some used) = HasTree servable used.tree
 
 -- the same by these settings, but that commands share their keys by the rule for its tree
 abbrev pub Begins : Servable → Beginnings → Settings → ServedCore → Type 0
@@ -80,9 +95,27 @@ Serves old new = AllGrow IsServed (proxy_of old) (proxy_of new)
 abbrev pub MayLoad : Configuration → ServedCore → ServedCore → Type 0
 MayLoad configuration old new = (new ≡ old) ⊎ ((generation : ℕ) × IsLoaded old configuration generation new)
 
--- nothing is done, or the configuration that this text says is loaded
-abbrev pub MayLoadText : Addresses → List ℕ → ServedCore → ServedCore → Type 0
-MayLoadText servers text old new = (new ≡ old) ⊎ ((configuration : Configuration) × SaysAfter servers text configuration × MayLoad configuration old new)
+-- this configuration is loaded, in a fleet beside the one that was in use
+abbrev pub LoadsBeside : (used : Option Configuration) → Configuration → ServedCore → ServedCore → Type 0
+LoadsBeside used configuration old new = StandsBeside used configuration × ((generation : ℕ) × IsLoaded old configuration generation new)
+
+-- nothing is done, or it is loaded so
+abbrev pub MayLoadBeside : (used : Option Configuration) → Configuration → ServedCore → ServedCore → Type 0
+MayLoadBeside used configuration old new = (new ≡ old) ⊎ LoadsBeside used configuration old new
+
+-- the same of the configuration that this text says
+abbrev pub MayLoadText : (used : Option Configuration) → Addresses → List ℕ → ServedCore → ServedCore → Type 0
+MayLoadText used servers text old new = (new ≡ old) ⊎ ((configuration : Configuration) × SaysAfter servers text configuration × LoadsBeside used configuration old new)
+
+-- it is loaded so, and in use; or nothing is done, and what was in use is
+abbrev pub LoadsOne : Bool → Configuration → (used in_use : Option Configuration) → ServedCore → ServedCore → Type 0
+LoadsOne true configuration used in_use old new = LoadsBeside used configuration old new × (in_use ≡ in_use_after used configuration)
+LoadsOne false configuration used in_use old new = (new ≡ old) × (in_use ≡ used)
+
+-- nothing is done, and what was in use is; or the configuration that this text says is loaded so, and in use
+abbrev pub LoadsText : (used in_use : Option Configuration) → Addresses → List ℕ → ServedCore → ServedCore → Type 0
+LoadsText used in_use servers text old new =
+    ((new ≡ old) × (in_use ≡ used)) ⊎ ((configuration : Configuration) × SaysAfter servers text configuration × LoadsBeside used configuration old new × (in_use ≡ in_use_after used configuration))
 
 -- these are its servers: of configurations that the gate accepted, those of the last one
 abbrev pub HasServers : Servable → Addresses → Type 0
@@ -100,6 +133,11 @@ abbrev pub GoFreshly : Servable → Beginnings → List Step → ServedCore → 
 GoFreshly (servables.Accepted accepted) begun steps first last = (configuration : Configuration) × IsLast accepted configuration × LogsGoFreshly configuration begun steps first last
 GoFreshly (servables.Unchecked configuration) begun steps first last = Unit {0}
 
+-- and if servers may have held anything, it is fresh also however late they apply what had failed, where each applies what came over a connection in its order, and nothing of it after that was closed
+abbrev pub GoFreshlyLate : Servable → Beginnings → List Step → ServedCore → ServedCore → Type 0
+GoFreshlyLate (servables.Accepted accepted) begun steps first last = begun ≡ any_begun → AreFreshAlong steps first last
+GoFreshlyLate (servables.Unchecked configuration) begun steps first last = Unit {0}
+
 -- an end that began so was served: turns and loads alone led to what it is, the ends of its clients and its links agree with them, and each log goes on by them freshly
 pub record HasServed (servable : Servable) (begun : Beginnings) (settings : Settings) (end : ProxyEnd Sockets) : Type 0 where
   pub first : ProxyEnd Sockets
@@ -107,6 +145,7 @@ pub record HasServed (servable : Servable) (begun : Beginnings) (settings : Sett
   pub serves : Serves first end
   pub agrees : Agrees serves.steps (proxy_of end)
   pub fresh : GoFreshly servable begun serves.steps first.core.value end.core.value
+  pub late : GoFreshlyLate servable begun serves.steps first.core.value end.core.value
 
 -- where the gate accepted what is served, the core is one on its configuration and others that it accepted after it, and each log that may have led to it is fresh, if servers began so; and if they may have held anything, also where they apply calls that had failed late, but in the order of their connections
 abbrev pub StaysFresh : Servable → Beginnings → ServedCore → Type 0

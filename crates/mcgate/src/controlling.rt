@@ -7,7 +7,7 @@ use std::net::Net;
 use std::os::fd::RawFd;
 use std::rt::{Clock, Files};
 use std::time::Instant;
-use watch_admin::control::answers::Verdict;
+use watch_admin::control::answers::Ruling;
 use watch_admin::control::callers::Callers;
 use watch_admin::control::paths::listen_at;
 
@@ -78,7 +78,7 @@ impl Controlling {
     }
 
     /// The one at this place is answered so.
-    pub fn answer(&mut self, place: usize, verdict: Verdict, text: &[u8]) {
+    pub fn answer(&mut self, place: usize, verdict: Ruling, text: &[u8]) {
         self.callers.answer(place, verdict, text);
     }
 
@@ -86,12 +86,12 @@ impl Controlling {
     pub fn keep(&mut self, place: usize) {
         if self.waiting.push(place).is_err() {
             self.callers
-                .answer(place, Verdict::Failed, b"out of memory\n");
+                .answer(place, Ruling::Failed, b"out of memory\n");
         }
     }
 
     /// It ends: those who wait for that are answered so, and nothing stands at the path any more.
-    pub fn end<R: Files>(&mut self, rt: &R, verdict: Verdict, text: &[u8]) {
+    pub fn end<R: Files>(&mut self, rt: &R, verdict: Ruling, text: &[u8]) {
         for place in self.waiting.as_slice() {
             self.callers.answer(*place, verdict, text);
         }

@@ -1,6 +1,10 @@
 //! Servers that are to be emptied before their first call. Beside a history a file names them until they were, so that the next run
 //! empties those of which it isn't known.
 
+ghost use Rattle.std.specs.Prelude.{◌≡◌, IfSome};
+ghost use Rattle.route_json.specs.NumberedServers.{texts};
+ghost use Rattle.mcgate.specs.Emptied.{is_among, IsNamedAt};
+
 use crate::remembering::put;
 use crate::serving::Proxy;
 use mcgate_args::input::text_of;
@@ -71,7 +75,9 @@ fn names_in<R: Files + Input + AllocGlobal>(rt: &R, path: &str) -> io::Result<Ve
     }
 }
 
-fn has(names: &[String], name: &str) -> bool {
+fn has(names: &[String], name: &str) -> bool
+    ensures { result ≡ is_among name.now (texts names.now) }
+{
     for known in names {
         if known.as_str() == name {
             return true;
@@ -159,7 +165,9 @@ impl Emptying {
     }
 
     /// The number of the first of them among these servers from this number on.
-    pub fn next(&self, servers: &Servers, from: usize) -> Option<usize> {
+    pub fn next(&self, servers: &Servers, from: usize) -> Option<usize>
+        ensures { IfSome result (IsNamedAt (texts self.now.names.items) servers.now) }
+    {
         for at in from..servers.len() {
             if let Some(name) = text_at(servers, at) {
                 if has(&self.names, name) {

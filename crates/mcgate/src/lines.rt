@@ -9,7 +9,7 @@ use std::fmt::Display;
 use std::rt::Clock;
 use std::time::{SystemTime, UNIX_EPOCH};
 use watch_admin::quoted::Quoted;
-use watch_admin::times::Moment;
+use watch_admin::times::UtcTime;
 
 // An output of the program.
 #[derive(Clone, Copy)]
@@ -118,7 +118,7 @@ impl Lines {
     ) -> Result<String, AllocError> {
         let told = format!(in self.alloc; "{line}")?;
         let told = told.strip_prefix("mcgate: ").unwrap_or(told.as_str());
-        let (time, word) = (Moment(self.now), level.word());
+        let (time, word) = (UtcTime(self.now), level.word());
         if !log.json {
             return format!(in self.alloc; "{time} {word} {told}");
         }

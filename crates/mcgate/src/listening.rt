@@ -23,7 +23,7 @@ impl Given for HostRuntime {
 
 /// What a text says of where to listen.
 #[derive(Clone, Copy, PartialEq, Eq)]
-pub enum Place<'a> {
+pub enum ListenPlace<'a> {
     /// At a host and a port.
     Address(&'a str),
     /// At a path.
@@ -33,11 +33,11 @@ pub enum Place<'a> {
 }
 
 /// The place that a text names: `unix:PATH`, `fd:0`, or else a host and a port.
-pub fn place_of(text: &str) -> Place<'_> {
+pub fn place_of(text: &str) -> ListenPlace<'_> {
     match text.strip_prefix("unix:") {
-        Some(path) => Place::Path(path),
-        None if text == "fd:0" => Place::Input,
-        None => Place::Address(text),
+        Some(path) => ListenPlace::Path(path),
+        None if text == "fd:0" => ListenPlace::Input,
+        None => ListenPlace::Address(text),
     }
 }
 
@@ -52,12 +52,12 @@ fn given_listener<R: Given>(rt: &R) -> io::Result<TcpListener> {
 // It listens where a text says; the file of a path gets this mode.
 fn listener_at<R: Files + Net + Given>(rt: &R, text: &str, mode: u32) -> io::Result<Listener> {
     match place_of(text) {
-        Place::Address(address) => {
+        ListenPlace::Address(address) => {
             let listener = TcpListener::bind(rt, resolve(rt, address)?)?;
             Ok(Listener::Tcp(listener))
         }
-        Place::Path(path) => Ok(Listener::Unix(listen_at(rt, path, mode)?)),
-        Place::Input => Ok(Listener::Tcp(given_listener(rt)?)),
+        ListenPlace::Path(path) => Ok(Listener::Unix(listen_at(rt, path, mode)?)),
+        ListenPlace::Input => Ok(Listener::Tcp(given_listener(rt)?)),
     }
 }
 

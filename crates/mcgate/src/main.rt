@@ -8,6 +8,8 @@ mod descriptors;
 mod draining;
 mod emptying;
 mod histories;
+mod input_end;
+mod limits;
 mod lines;
 mod listening;
 mod outages;
@@ -19,6 +21,7 @@ mod sharing;
 mod slots;
 mod special;
 mod started;
+mod starting;
 mod telling;
 mod warnings;
 mod watching;
@@ -50,11 +53,12 @@ use mcgate_check::status::{BAD_INPUT, DONE, REFUSED};
 use mcgate_replay::Judging;
 use over_tcp::run_over_tcp;
 use route_json::Config;
-use serve::{Judged, Servable, judge_text, look_up_only, serve_to_end};
+use serve::{Judged, Servable, judge_text, look_up_only, serve_in, serve_to_end};
 use serve_proxy::Beginnings;
 use slots::run_slots;
 use special::{is_special, special_line};
-use started::{Begun, Started, begin, refused_after};
+use started::{Begun, Started};
+use starting::{begin, refused_after};
 use std::alloc::{AllocError, Global};
 use std::io;
 use std::io::{BufWriter, ErrorKind, Write};
@@ -509,16 +513,31 @@ fn run_serve<R: Files + Input + AllocGlobal + Net + Clock + Print + Eprint + Giv
             Ok(status)
         }
         Judged::Servable(servable) => {
-            let mut lines = Lines::new(rt.alloc(), job.log);
-            lines.look(rt);
-            say_warnings(rt, &mut lines, job.file, text.as_str());
-            let job = within_descriptors(rt, &mut lines, job, servable.len());
-            if job.check {
-                return check_job(rt, job, &servable, text.as_str(), &mut lines, out, details);
+            match serve_in(rt.alloc(), job.file, job.fleet, servable, out)? {
+                Judged::Printed(status) => Ok(status),
+                Judged::Servable(servable) => serve_text(rt, job, servable, text, out, details),
             }
-            begin_job(rt, job, servable, text, lines, out, details)
         }
     }
+}
+
+/// Serves the configuration of a text, which may be served.
+fn serve_text<R: Files + Input + AllocGlobal + Net + Clock + Print + Eprint + Given, W: Write>(
+    rt: &R,
+    job: ServeJob<'_>,
+    servable: Servable,
+    text: String,
+    out: &mut W,
+    details: &mut Details,
+) -> Result<u8, Stop> {
+    let mut lines = Lines::new(rt.alloc(), job.log);
+    lines.look(rt);
+    say_warnings(rt, &mut lines, job.file, text.as_str());
+    let job = within_descriptors(rt, &mut lines, job, servable.len());
+    if job.check {
+        return check_job(rt, job, &servable, text.as_str(), &mut lines, out, details);
+    }
+    begin_job(rt, job, servable, text, lines, out, details)
 }
 
 /// Runs what the arguments ask for, and answers the exit status.

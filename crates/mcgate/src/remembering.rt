@@ -1,7 +1,7 @@
 //! What a proxy remembers from one run to the next: a history in a file, to which each configuration is added before its tree is used.
 
 ghost use Rattle.std.specs.Prelude.{◌≡◌, ℕ, List, Some, IfOk};
-ghost use Rattle.gate_history.specs.Standing.{Stands};
+ghost use Rattle.gate_history.specs.Standing.{StandsInHistory};
 ghost use Rattle.mcgate.specs.Remembers.{MayStand};
 
 use crate::lines::Lines;
@@ -126,7 +126,7 @@ impl Kept {
         old: String,
         out: &mut W,
     ) -> Result<Remembering, Stop>
-        ensures { (text : List ℕ) → Stands self.old.file.text text → IfOk result (λ r. MayStand r (Some self.new) text) }
+        ensures { (text : List ℕ) → StandsInHistory self.old.file.text text → IfOk result (λ r. MayStand r (Some self.new) text) }
     {
         match put(rt, self.path.as_str(), self.file.text()) {
             Ok(()) => Ok(Remembering::Stands(Some(old))),

@@ -7,11 +7,11 @@ ghost use Rattle.serve_links.specs.Story.{Agrees, texts_of};
 ghost use Rattle.serve_proxy.specs.Ends.{HasNoConns, IsQuiet};
 ghost use Rattle.mcgate.specs.Judging.{Judges, JudgesText};
 ghost use Rattle.mcgate.specs.LooksUp.{AreLookedUp};
-ghost use Rattle.mcgate.specs.Serves.{Begins, HasServers, BeginsServing, HasServed, StaysFresh, history_of, proxy_of};
+ghost use Rattle.mcgate.specs.Serves.{HasTree, ServesIn, IsUsedFirst, Begins, HasServers, BeginsServing, HasServed, StaysFresh, history_of, proxy_of};
 
 use crate::controlling::Controlling;
 use crate::lines::Lines;
-use crate::listening::{Given, Place, listeners_at, place_of};
+use crate::listening::{Given, ListenPlace, listeners_at, place_of};
 use crate::serving::{Proxy, Serving, resolve, tell_if_unknown};
 use crate::sharing::sharing_for;
 use crate::started::Started;
@@ -19,6 +19,7 @@ use crate::watching::Watching;
 use gate_check::{Accepted, judge};
 use mcgate_args::details::Details;
 use mcgate_args::ends::Stop;
+use mcgate_args::fleets::members::refused_first;
 use mcgate_args::serve_arguments::ServeJob;
 use mcgate_check::checking::{print_fault, print_refused};
 use mcgate_check::status::DONE;
@@ -56,6 +57,26 @@ impl Servable {
             Servable::Accepted(accepted) => accepted.config().servers().len(),
             Servable::Unchecked(config) => config.servers().len(),
         }
+    }
+
+    // Its configuration: the last one that was accepted.
+    fn config(&self) -> &Config
+        ensures { HasTree self.now result.now.tree }
+    {
+        match self {
+            Servable::Accepted(accepted) => accepted.config(),
+            Servable::Unchecked(config) => config,
+        }
+    }
+
+    // Its configuration once more, where the proxy is one of a fleet.
+    fn used_first(&self, alloc: Global, fleet: bool) -> Result<Option<Config>, AllocError>
+        ensures { IfOk result (IsUsedFirst fleet self.now) }
+    {
+        if !fleet {
+            return Ok(None);
+        }
+        Ok(Some(self.config().copy(alloc)?))
     }
 
     // Its servers.
@@ -106,6 +127,25 @@ pub fn judge_text<W: Write>(
     match read_config(alloc, text) {
         Ok(config) => take_config(alloc, any, config, out),
         Err(fault) => Ok(Judged::Printed(print_fault(text, &fault, out)?)),
+    }
+}
+
+/// What may be served of this file: in a fleet no tree by which a get copies, of which is printed why.
+pub fn serve_in<W: Write>(
+    alloc: Global,
+    file: &str,
+    fleet: bool,
+    servable: Servable,
+    out: &mut W,
+) -> Result<Judged, Stop>
+    ensures { IfOk result (ServesIn fleet servable) }
+{
+    if !fleet {
+        return Ok(Judged::Servable(servable));
+    }
+    match refused_first(alloc, file, servable.config(), out)? {
+        None => Ok(Judged::Servable(servable)),
+        Some(status) => Ok(Judged::Printed(status)),
     }
 }
 
@@ -258,12 +298,23 @@ fn start<R: Files + Net + Clock + AllocGlobal + Eprint + Given>(
     watching: Option<Watching>,
     controlling: Option<Controlling>,
 ) -> io::Result<Serving>
-    ensures { IfOk result (λ serving. BeginsServing servable job.now.begun job.now.settings serving.end) }
+    ensures begins { IfOk result (λ serving. BeginsServing servable job.now.begun job.now.settings serving.end) }
+    ensures in_use { IfOk result (λ serving. IsUsedFirst job.now.fleet servable serving.in_use) }
 {
     let servers = servable.servers(rt.alloc())?;
+    let in_use = servable.used_first(rt.alloc(), job.fleet)?;
     let mut lines = lines;
     let end = open(rt, &mut lines, job, servable, &servers)?;
-    Serving::new(rt, end, servers, started, lines, watching, controlling)
+    Serving::new(
+        rt,
+        end,
+        servers,
+        in_use,
+        started,
+        lines,
+        watching,
+        controlling,
+    )
 }
 
 /// Serves a configuration, which starts so, and tells it; who asks for numbers gets them, and who tells it things is answered, where it
@@ -312,7 +363,7 @@ fn look_up_places<R: Net + AllocGlobal>(
     details: &mut Details,
 ) -> Result<(), Stop> {
     for text in places.split(',') {
-        if let Place::Address(address) = place_of(text) {
+        if let ListenPlace::Address(address) = place_of(text) {
             look_up_own(rt, address, details)?;
         }
     }

@@ -1,6 +1,6 @@
 //! A proxy that runs: its turns, what is told of its servers, and the configurations that are loaded meanwhile.
 
-ghost use Rattle.std.specs.Prelude.{◌≡◌, ◌≢◌, ◌⊎◌, IsTrue, IfOk, OnOk, string_bytes, ℕ, List, Some, ◌∷◌, length, slice_get};
+ghost use Rattle.std.specs.Prelude.{◌≡◌, ◌≢◌, ◌⊎◌, IsTrue, IfOk, IfSome, OnOk, string_bytes, ℕ, List, Some, ◌∷◌, length, slice_get};
 ghost use Rattle.serve_wire.specs.Events.{looks_up};
 ghost use Rattle.serve_links.specs.Story.{HasHappened};
 ghost use Rattle.core_accepted.specs.declared.loading.LoadFault.TheVariants.{Refused};
@@ -8,13 +8,18 @@ ghost use Rattle.gate_check.specs.declared.reloading.ReloadFault.TheVariants.{No
 ghost use Rattle.serve_proxy.specs.Ends.{Stay, AllGoOn, AllGrow, IsLoadOf};
 ghost use Rattle.core_accepted.specs.Logs.{TreesAreSound};
 ghost use Rattle.serve_proxy.specs.LogsGoOn.{LogsAreFresh};
-ghost use Rattle.mcgate.specs.Serves.{SaysAfter, history_of, proxy_of, Serves, MayLoad, MayLoadText};
+ghost use Rattle.core_accepted.specs.Loading.{IsLoaded};
+ghost use Rattle.mcgate.specs.Serves.{SaysAfter, history_of, proxy_of, Serves, MayLoad, MayLoadBeside, MayLoadText, LoadsOne, LoadsText};
+ghost use Rattle.mcgate.specs.InFleet.{StandsBeside, in_use_after};
 ghost use Rattle.mcgate.specs.Remembers.{StandsIn, StandsIfLoaded};
 ghost use Rattle.mcgate.specs.LooksUp.{AreLookedUp};
+ghost use Rattle.mcgate.specs.Emptied.{IsDueAt, EmptiesOnly};
 
 use crate::controlling::Controlling;
 use crate::draining::Draining;
 use crate::emptying::Emptying;
+use crate::input_end::InputEnd;
+use crate::limits::own_limits;
 use crate::lines::Lines;
 use crate::listening::after_first;
 use crate::outages::Outages;
@@ -26,6 +31,7 @@ use core_accepted::LoadFault;
 use gate_check::ReloadFault;
 use mc_types::{Key, ServerId};
 use mcgate_args::ends::{Stop, find_in_text};
+use mcgate_args::fleets::members::may_follow;
 use mcgate_args::input::text_of;
 use mcgate_args::input_text::InputFault;
 use mcgate_args::log_arguments::level_of;
@@ -33,6 +39,7 @@ use mcgate_args::serve_arguments::ServeJob;
 use mcgate_check::reload_lines::{write_kept, write_loaded, write_unchecked};
 use mcgate_check::status::DONE;
 use route_json::addresses::Servers;
+use route_json::limits::limits_of;
 use route_json::{Config, ConfigFault, read_config_after};
 use serde_json::Value;
 use serve_links::LinkNews;
@@ -44,7 +51,7 @@ use std::io::{ErrorKind, Write};
 use std::net::{Net, SocketAddr, ToSocketAddrs};
 use std::rt::{Clock, Files};
 use std::time::{Duration, Instant};
-use watch_admin::control::answers::Verdict;
+use watch_admin::control::answers::Ruling;
 use watch_admin::control::requests::{Request, request_of};
 use watch_admin::places::PLACES;
 
@@ -85,6 +92,8 @@ pub struct Serving {
     servers: Servers,
     /// What says the configuration in use.
     text: String,
+    /// The configuration in use, where the proxy is one of a fleet.
+    in_use: Option<Config>,
     /// Its generation.
     generation: u32,
     /// How many generations there were before the first one, where a history is kept.
@@ -104,12 +113,16 @@ pub struct Serving {
     watching: Option<Watching>,
     /// Who tells it things, where it listens for them.
     controlling: Option<Controlling>,
+    /// Standard input, where it drains once that has ended.
+    input: Option<InputEnd>,
     /// Since when it drains, if it does.
     draining: Option<Draining>,
     /// Servers that are to be emptied before their first call.
     emptying: Option<Emptying>,
     /// Whether no server waits until those of earlier epochs at its address have no calls any more.
     have_begun: bool,
+    /// Whether each server has the limits that the configuration in use says.
+    are_limited: bool,
 }
 
 // The text of a regular file. Of what is none the program doesn't wait for a text.
@@ -231,17 +244,19 @@ fn before_of(memory: &Option<Kept>) -> u32 {
 }
 
 impl Serving {
-    /// Of this end, by a configuration of these servers, which starts so.
+    /// Of this end, by a configuration of these servers, which starts so. Where the proxy is one of a fleet the configuration is given.
     pub fn new<R: Clock + AllocGlobal>(
         rt: &R,
         end: Proxy,
         servers: Servers,
+        in_use: Option<Config>,
         started: Started,
         lines: Lines,
         watching: Option<Watching>,
         controlling: Option<Controlling>,
     ) -> io::Result<Serving>
-        ensures { IfOk result (λ serving. serving.end ≡ end) }
+        ensures end { IfOk result (λ serving. serving.end ≡ end) }
+        ensures in_use { IfOk result (λ serving. serving.in_use ≡ in_use) }
     {
         let (text, memory) = started.into_parts();
         let before = before_of(&memory);
@@ -249,6 +264,7 @@ impl Serving {
             end,
             servers,
             text,
+            in_use,
             generation: 1,
             before,
             memory,
@@ -260,9 +276,11 @@ impl Serving {
             seen: Seen::new(before.saturating_add(1)),
             watching,
             controlling,
+            input: None,
             draining: None,
             emptying: None,
             have_begun: false,
+            are_limited: false,
         })
     }
 
@@ -288,7 +306,11 @@ impl Serving {
     }
 
     // Tells that it listens, and with a tree of which no gate was asked what that means.
-    fn tell_start<R: Eprint>(&mut self, rt: &R, job: &ServeJob<'_>) -> io::Result<()>
+    fn tell_start<R: Net + AllocGlobal + Eprint>(
+        &mut self,
+        rt: &R,
+        job: &ServeJob<'_>,
+    ) -> io::Result<()>
         ensures { self.new.end ≡ self.old.end }
     {
         if job.any {
@@ -301,7 +323,8 @@ impl Serving {
         self.tell_if_new(rt, job);
         self.tell_if_giving_up(rt, job);
         self.begin_watching(rt)?;
-        self.begin_controlling(rt)
+        self.begin_controlling(rt)?;
+        self.watch_input(rt, job)
     }
 
     // Tells where it listens, and what it serves.
@@ -310,11 +333,12 @@ impl Serving {
     {
         let servers = self.servers.len();
         let generation = self.generation.saturating_add(self.before);
+        let whose = if job.fleet { ", one of a fleet" } else { "" };
         match self.end.wire().local_addr() {
             Ok(address) => self.lines.tell(
                 rt,
                 format_args!(
-                    "mcgate: serving {} on {address}{}, {servers} servers, generation {generation}",
+                    "mcgate: serving {} on {address}{}, {servers} servers, generation {generation}{whose}",
                     job.file,
                     after_first(job.listen)
                 ),
@@ -322,7 +346,7 @@ impl Serving {
             Err(_) => self.lines.tell(
                 rt,
                 format_args!(
-                    "mcgate: serving {} on {}, {servers} servers, generation {generation}",
+                    "mcgate: serving {} on {}, {servers} servers, generation {generation}{whose}",
                     job.file, job.listen
                 ),
             ),
@@ -366,6 +390,31 @@ impl Serving {
         let line = format_args!("mcgate: control at {}", controlling.path());
         self.lines.tell(rt, line);
         Ok(())
+    }
+
+    // From now on it wakes up for the end of standard input, where it drains then. Where that can't be watched, a line tells why.
+    fn watch_input<R: Net + AllocGlobal + Eprint>(
+        &mut self,
+        rt: &R,
+        job: &ServeJob<'_>,
+    ) -> io::Result<()>
+        ensures { self.new.end ≡ self.old.end }
+    {
+        if !job.drain_on_eof {
+            return Ok(());
+        }
+        match InputEnd::watch(rt) {
+            Ok(input) => {
+                self.end.wire().wake_by(input.descriptor())?;
+                self.input = Some(input);
+                Ok(())
+            }
+            Err(error) => {
+                let line = format_args!("mcgate: standard input can't be watched: {error}");
+                self.lines.tell(rt, line);
+                Err(error)
+            }
+        }
     }
 
     // Who asks for numbers gets them, if there is somebody. Where the system doesn't tell, nothing is done.
@@ -440,8 +489,8 @@ impl Serving {
         self.settle_emptying(rt);
         self.look_if_due(rt, job)?;
         self.turn_watching(rt);
-        self.take_words(rt, job)?;
-        self.keep_epochs();
+        self.take_orders(rt, job)?;
+        self.keep_servers(rt.alloc());
         Ok(self.has_drained(rt)?)
     }
 
@@ -466,20 +515,23 @@ impl Serving {
     {
         let emptying = Emptying::read(rt, job.history, job.settings.flushes_new)?;
         self.emptying = Some(emptying);
-        self.keep_epochs();
+        self.keep_servers(rt.alloc());
         Ok(())
     }
 
     // The first of those that are to be emptied, from this server on.
-    fn next_emptying(&self, from: usize) -> Option<usize> {
+    fn next_emptying(&self, from: usize) -> Option<usize>
+        ensures { IfSome result (IsDueAt self.now.emptying self.now.servers) }
+    {
         match &self.emptying {
             Some(emptying) => emptying.next(&self.servers, from),
             None => None,
         }
     }
 
-    // All of them are emptied before their first call.
+    // All of them are emptied before their first call, and no others are by that.
     fn mark_emptying(&mut self)
+        ensures emptied { EmptiesOnly (IsDueAt self.old.emptying self.old.servers) self.old.end.sockets.links.all.items self.new.end.sockets.links.all.items }
         ensures core { self.new.end.core ≡ self.old.end.core }
         ensures ends { Stay history_of self.old.end.sockets self.new.end.sockets }
     {
@@ -512,6 +564,49 @@ impl Serving {
         }
         self.mark_emptying();
         self.have_begun = self.end.keep_epochs(&self.servers);
+    }
+
+    // Calls go to servers as the configuration in use says it: while their epochs last, and within their limits.
+    fn keep_servers(&mut self, alloc: Global)
+        ensures core { self.new.end.core ≡ self.old.end.core }
+        ensures ends { Stay history_of self.old.end.sockets self.new.end.sockets }
+    {
+        self.keep_epochs();
+        self.keep_limits(alloc)
+    }
+
+    // Each server gets the limits that its pools say, where there is another configuration. Where memory is refused that is for the next turn.
+    fn keep_limits(&mut self, alloc: Global)
+        ensures core { self.new.end.core ≡ self.old.end.core }
+        ensures ends { Stay history_of self.old.end.sockets self.new.end.sockets }
+    {
+        if self.are_limited {
+            return;
+        }
+        if let Ok(value) = Value::from_str(alloc, self.text.as_str()) {
+            self.limit_servers(&value);
+            self.are_limited = true;
+        }
+    }
+
+    // Each server gets the limits that its pools say.
+    fn limit_servers(&mut self, config: &Value)
+        ensures core { self.new.end.core ≡ self.old.end.core }
+        ensures ends { Stay history_of self.old.end.sockets self.new.end.sockets }
+    {
+        for at in 0..self.servers.len() {
+            self.limit_server(config, at);
+        }
+    }
+
+    fn limit_server(&mut self, config: &Value, at: usize)
+        ensures core { self.new.end.core ≡ self.old.end.core }
+        ensures ends { Stay history_of self.old.end.sockets self.new.end.sockets }
+    {
+        if let Some(text) = text_at(&self.servers, at) {
+            let limits = own_limits(self.end.usual_limits(), limits_of(config, text));
+            self.end.limit(at, limits);
+        }
     }
 
     fn millis<R: Clock>(&self, rt: &R) -> io::Result<u64> {
@@ -635,6 +730,7 @@ impl Serving {
     fn tell_verdict<R: Eprint>(&mut self, rt: &R, is_used: bool, said: &[u8])
         ensures end { self.new.end ≡ self.old.end }
         ensures memory { self.new.memory ≡ self.old.memory }
+        ensures in_use { self.new.in_use ≡ self.old.in_use }
     {
         if !self.lines.have_time() {
             return;
@@ -708,27 +804,30 @@ impl Serving {
     fn note_text(&mut self, text: String, is_used: bool)
         ensures ends { self.new.end ≡ self.old.end }
         ensures memory { self.new.memory ≡ self.old.memory }
+        ensures in_use { self.new.in_use ≡ self.old.in_use }
     {
         let generation = self.generation.saturating_add(self.before);
         self.seen.note_text(generation, is_used);
         if is_used {
             self.text = text;
             self.refused = None;
+            self.are_limited = false;
         } else {
             self.refused = Some(text);
         }
     }
 
-    #[tactic(auto, using(crate::proofs::Loads::serves_still))]
+    #[tactic(auto, using(crate::proofs::Loads::serves_still, crate::proofs::Loads::loads_still))]
     fn take_text<R: Files + Net + AllocGlobal + Print + Eprint>(
         &mut self,
         rt: &R,
         any: bool,
         text: String,
     ) -> Result<(), Stop>
-        ensures core { MayLoadText self.old.servers (string_bytes text) self.old.end.core.value self.new.end.core.value }
+        ensures core { MayLoadText self.old.in_use self.old.servers (string_bytes text) self.old.end.core.value self.new.end.core.value }
         ensures ends { Serves self.old.end self.new.end }
         ensures remembered { StandsIfLoaded self.old.end.core.value self.new.end.core.value self.new.memory (string_bytes text) }
+        ensures in_use { IfOk result (λ _. LoadsText self.old.in_use self.new.in_use self.old.servers (string_bytes text) self.old.end.core.value self.new.end.core.value) }
     {
         if self.has_seen(text.as_str()) {
             return Ok(());
@@ -748,9 +847,10 @@ impl Serving {
         text: String,
         said: &mut Vec<u8>,
     ) -> Result<bool, Stop>
-        ensures core { MayLoadText self.old.servers (string_bytes text) self.old.end.core.value self.new.end.core.value }
+        ensures core { MayLoadText self.old.in_use self.old.servers (string_bytes text) self.old.end.core.value self.new.end.core.value }
         ensures ends { Serves self.old.end self.new.end }
         ensures remembered { StandsIfLoaded self.old.end.core.value self.new.end.core.value self.new.memory (string_bytes text) }
+        ensures in_use { IfOk result (λ _. LoadsText self.old.in_use self.new.in_use self.old.servers (string_bytes text) self.old.end.core.value self.new.end.core.value) }
     {
         let is_used = self.judge_text(rt, any, text.as_str(), said)?;
         self.note_said(rt, text, is_used, said.as_slice());
@@ -761,10 +861,47 @@ impl Serving {
     fn note_said<R: Print + Eprint>(&mut self, rt: &R, text: String, is_used: bool, said: &[u8])
         ensures ends { self.new.end ≡ self.old.end }
         ensures memory { self.new.memory ≡ self.old.memory }
+        ensures in_use { self.new.in_use ≡ self.old.in_use }
     {
         self.note_text(text, is_used);
         self.lines.print(rt, said);
         self.tell_verdict(rt, is_used, said);
+    }
+
+    // It drains once standard input has ended, where that is asked, and who tells it things is answered.
+    fn take_orders<R: Files + Input + Net + Clock + AllocGlobal + Print + Eprint>(
+        &mut self,
+        rt: &R,
+        job: &ServeJob<'_>,
+    ) -> Result<(), Stop>
+        ensures ends { Serves self.old.end self.new.end }
+    {
+        self.drain_at_end(rt, job)?;
+        self.take_words(rt, job)
+    }
+
+    fn drain_at_end<R: Input + Clock + Eprint>(
+        &mut self,
+        rt: &R,
+        job: &ServeJob<'_>,
+    ) -> Result<(), Stop>
+        ensures ends { Serves self.old.end self.new.end }
+    {
+        if self.has_input_ended(rt) {
+            return self.begin_draining(rt, job);
+        }
+        Ok(())
+    }
+
+    // Whether standard input has ended, where that is asked.
+    fn has_input_ended<R: Input>(&mut self, rt: &R) -> bool
+        ensures { self.new.end ≡ self.old.end }
+    {
+        let is_woken = self.end.wire().was_woken();
+        match &mut self.input {
+            Some(input) if is_woken => input.has_ended(rt),
+            _ => false,
+        }
     }
 
     // Who tells it things is answered, if there is somebody.
@@ -835,13 +972,13 @@ impl Serving {
                 Ok(())
             }
             Request::Unknown => {
-                self.answer(place, Verdict::Unknown, b"no such word\n");
+                self.answer(place, Ruling::Unknown, b"no such word\n");
                 Ok(())
             }
         }
     }
 
-    fn answer(&mut self, place: usize, verdict: Verdict, text: &[u8])
+    fn answer(&mut self, place: usize, verdict: Ruling, text: &[u8])
         ensures { self.new.end ≡ self.old.end }
     {
         if let Some(controlling) = &mut self.controlling {
@@ -856,9 +993,9 @@ impl Serving {
         match level_of(std::str::from_utf8(name).unwrap_or("")) {
             Some(level) => {
                 self.lines.set_level(level);
-                self.answer(place, Verdict::Done, b"log level set\n");
+                self.answer(place, Ruling::Done, b"log level set\n");
             }
-            None => self.answer(place, Verdict::Unknown, b"no such level\n"),
+            None => self.answer(place, Ruling::Unknown, b"no such level\n"),
         }
     }
 
@@ -867,8 +1004,8 @@ impl Serving {
         ensures { self.new.end ≡ self.old.end }
     {
         match written {
-            Ok(()) => self.answer(place, Verdict::Done, text),
-            Err(_) => self.answer(place, Verdict::Failed, b"out of memory\n"),
+            Ok(()) => self.answer(place, Ruling::Done, text),
+            Err(_) => self.answer(place, Ruling::Failed, b"out of memory\n"),
         }
     }
 
@@ -943,9 +1080,9 @@ impl Serving {
         self.tell_drained(rt, clients);
         if let Some(controlling) = &mut self.controlling {
             if clients == 0 {
-                controlling.end(rt, Verdict::Done, b"drained\n");
+                controlling.end(rt, Ruling::Done, b"drained\n");
             } else {
-                controlling.end(rt, Verdict::Refused, b"drained, clients were left\n");
+                controlling.end(rt, Ruling::Refused, b"drained, clients were left\n");
             }
         }
     }
@@ -978,7 +1115,7 @@ impl Serving {
             Err(_) => {
                 self.answer(
                     place,
-                    Verdict::Failed,
+                    Ruling::Failed,
                     b"reload failed: FILE can't be read\n",
                 );
                 Ok(())
@@ -999,9 +1136,9 @@ impl Serving {
         let mut said = Vec::new(rt.alloc());
         let is_used = self.load_new(rt, any, text, &mut said)?;
         let verdict = if is_used {
-            Verdict::Done
+            Ruling::Done
         } else {
-            Verdict::Refused
+            Ruling::Refused
         };
         self.answer(place, verdict, said.as_slice());
         Ok(())
@@ -1029,8 +1166,8 @@ impl Serving {
         ensures { self.new.end ≡ self.old.end }
     {
         match self.stats(rt) {
-            Ok(text) => self.answer(place, Verdict::Done, text.as_slice()),
-            Err(_) => self.answer(place, Verdict::Failed, b"out of memory\n"),
+            Ok(text) => self.answer(place, Ruling::Done, text.as_slice()),
+            Err(_) => self.answer(place, Ruling::Failed, b"out of memory\n"),
         }
     }
 
@@ -1046,20 +1183,20 @@ impl Serving {
         ensures { self.new.end ≡ self.old.end }
     {
         let Ok(key) = Key::read(key) else {
-            return self.answer(place, Verdict::Unknown, b"no key\n");
+            return self.answer(place, Ruling::Unknown, b"no key\n");
         };
         let mut text = Vec::new(rt.alloc());
         let keys = [key];
         let written = find_in_text(rt.alloc(), &keys, self.text.as_str(), &mut text);
         match written {
-            Ok(_) => self.answer(place, Verdict::Done, text.as_slice()),
-            Err(_) => self.answer(place, Verdict::Failed, b"out of memory\n"),
+            Ok(_) => self.answer(place, Ruling::Done, text.as_slice()),
+            Err(_) => self.answer(place, Ruling::Failed, b"out of memory\n"),
         }
     }
 
     // Loads the configuration of the text, unless the text says what the one in use says, and prints what came of that. Whether the
     // configuration in use is that of the text then.
-    #[tactic(auto, using(crate::proofs::Loads::serves_still))]
+    #[tactic(auto, using(crate::proofs::Loads::serves_still, crate::proofs::Loads::loads_still))]
     fn judge_text<R: Files + Net + AllocGlobal + Eprint, W: Write>(
         &mut self,
         rt: &R,
@@ -1067,9 +1204,10 @@ impl Serving {
         text: &str,
         out: &mut W,
     ) -> Result<bool, Stop>
-        ensures core { MayLoadText self.old.servers text.now self.old.end.core.value self.new.end.core.value }
+        ensures core { MayLoadText self.old.in_use self.old.servers text.now self.old.end.core.value self.new.end.core.value }
         ensures ends { Serves self.old.end self.new.end }
         ensures remembered { StandsIfLoaded self.old.end.core.value self.new.end.core.value self.new.memory text.now }
+        ensures in_use { IfOk result (λ _. LoadsText self.old.in_use self.new.in_use self.old.servers text.now self.old.end.core.value self.new.end.core.value) }
     {
         if says_the_same(rt.alloc(), self.text.as_str(), text) {
             let generation = self.generation.saturating_add(self.before);
@@ -1080,7 +1218,7 @@ impl Serving {
     }
 
     // Loads the configuration of the text, once it stands in the history, where one is kept. Whether it was loaded.
-    #[tactic(auto, using(crate::proofs::Loads::serves_still))]
+    #[tactic(auto, using(crate::proofs::Loads::serves_still, crate::proofs::Loads::loads_still))]
     fn remember_and_load<R: Files + Net + AllocGlobal + Eprint, W: Write>(
         &mut self,
         rt: &R,
@@ -1088,9 +1226,10 @@ impl Serving {
         text: &str,
         out: &mut W,
     ) -> Result<bool, Stop>
-        ensures core { MayLoadText self.old.servers text.now self.old.end.core.value self.new.end.core.value }
+        ensures core { MayLoadText self.old.in_use self.old.servers text.now self.old.end.core.value self.new.end.core.value }
         ensures ends { Serves self.old.end self.new.end }
         ensures remembered { StandsIfLoaded self.old.end.core.value self.new.end.core.value self.new.memory text.now }
+        ensures in_use { IfOk result (λ _. LoadsText self.old.in_use self.new.in_use self.old.servers text.now self.old.end.core.value self.new.end.core.value) }
     {
         if !notes_new(
             rt,
@@ -1119,9 +1258,10 @@ impl Serving {
         out: &mut W,
     ) -> Result<bool, Stop>
         requires stands { StandsIn self.old.memory text.now }
-        ensures core { MayLoadText self.old.servers text.now self.old.end.core.value self.new.end.core.value }
+        ensures core { MayLoadText self.old.in_use self.old.servers text.now self.old.end.core.value self.new.end.core.value }
         ensures ends { Serves self.old.end self.new.end }
         ensures remembered { StandsIfLoaded self.old.end.core.value self.new.end.core.value self.new.memory text.now }
+        ensures in_use { IfOk result (λ _. LoadsText self.old.in_use self.new.in_use self.old.servers text.now self.old.end.core.value self.new.end.core.value) }
     {
         if self.load_text(rt, any, text, out)? {
             return Ok(true);
@@ -1131,7 +1271,7 @@ impl Serving {
     }
 
     // Loads the configuration of the text, and prints what came of that, or why the text is none. Whether it was loaded.
-    #[tactic(auto, using(crate::proofs::Loads::serves_still))]
+    #[tactic(auto, using(crate::proofs::Loads::serves_still, crate::proofs::Loads::loads_still))]
     fn load_text<R: Net + AllocGlobal + Eprint, W: Write>(
         &mut self,
         rt: &R,
@@ -1139,17 +1279,90 @@ impl Serving {
         text: &str,
         out: &mut W,
     ) -> Result<bool, Stop>
-        ensures core { MayLoadText self.old.servers text.now self.old.end.core.value self.new.end.core.value }
+        ensures core { MayLoadText self.old.in_use self.old.servers text.now self.old.end.core.value self.new.end.core.value }
         ensures ends { Serves self.old.end self.new.end }
         ensures memory { self.new.memory ≡ self.old.memory }
         ensures unused { IfOk result (λ used. IsTrue used ⊎ (self.new.end.core.value ≡ self.old.end.core.value)) }
+        ensures in_use { IfOk result (λ _. LoadsText self.old.in_use self.new.in_use self.old.servers text.now self.old.end.core.value self.new.end.core.value) }
     {
         match read_after(rt.alloc(), &self.servers, text) {
-            Ok((config, servers)) => self.load(rt, any, config, servers, out),
+            Ok((config, servers)) => self.load_beside(rt, any, config, servers, out),
             Err(fault) => {
                 print_fault(&fault, out)?;
                 Ok(false)
             }
+        }
+    }
+
+    // Loads a configuration of these servers, if it may follow the one in use; else why not is printed. Whether it was loaded.
+    #[tactic(auto, using(crate::proofs::Loads::load_still, crate::proofs::Loads::loads_none))]
+    fn load_beside<R: Net + AllocGlobal + Eprint, W: Write>(
+        &mut self,
+        rt: &R,
+        any: bool,
+        config: Config,
+        servers: Servers,
+        out: &mut W,
+    ) -> Result<bool, Stop>
+        ensures core { MayLoadBeside self.old.in_use config self.old.end.core.value self.new.end.core.value }
+        ensures ends { AllGrow (IsLoadOf config) (proxy_of self.old.end) (proxy_of self.new.end) }
+        ensures memory { self.new.memory ≡ self.old.memory }
+        ensures unused { IfOk result (λ used. IsTrue used ⊎ (self.new.end.core.value ≡ self.old.end.core.value)) }
+        ensures in_use { IfOk result (λ used. LoadsOne used config self.old.in_use self.new.in_use self.old.end.core.value self.new.end.core.value) }
+    {
+        if self.may_follow(rt.alloc(), &config, out)? {
+            return self.load_next(rt, any, config, servers, out);
+        }
+        Ok(false)
+    }
+
+    // Whether a configuration may follow the one in use: in a fleet others run by that meanwhile. If not, why is printed.
+    fn may_follow<W: Write>(
+        &self,
+        alloc: Global,
+        config: &Config,
+        out: &mut W,
+    ) -> Result<bool, Stop>
+        ensures { IfOk result (λ may. IsTrue may → StandsBeside self.now.in_use config.now) }
+    {
+        match &self.in_use {
+            Some(in_use) => Ok(may_follow(alloc, "reload", in_use, config, out)?),
+            None => Ok(true),
+        }
+    }
+
+    // The same, and in a fleet it is in use then.
+    #[tactic(auto, using(crate::proofs::Loads::load_still, crate::proofs::Loads::may_load_beside))]
+    fn load_next<R: Net + AllocGlobal + Eprint, W: Write>(
+        &mut self,
+        rt: &R,
+        any: bool,
+        config: Config,
+        servers: Servers,
+        out: &mut W,
+    ) -> Result<bool, Stop>
+        requires beside { StandsBeside self.old.in_use config }
+        ensures core { MayLoadBeside self.old.in_use config self.old.end.core.value self.new.end.core.value }
+        ensures ends { AllGrow (IsLoadOf config) (proxy_of self.old.end) (proxy_of self.new.end) }
+        ensures memory { self.new.memory ≡ self.old.memory }
+        ensures unused { IfOk result (λ used. IsTrue used ⊎ (self.new.end.core.value ≡ self.old.end.core.value)) }
+        ensures in_use { IfOk result (λ used. LoadsOne used config self.old.in_use self.new.in_use self.old.end.core.value self.new.end.core.value) }
+    {
+        let next = self.in_use_after(rt.alloc(), &config)?;
+        if self.load(rt, any, config, servers, out)? {
+            self.in_use = next;
+            return Ok(true);
+        }
+        Ok(false)
+    }
+
+    // What is in use, as far as it is known, once a configuration was loaded.
+    fn in_use_after(&self, alloc: Global, config: &Config) -> io::Result<Option<Config>>
+        ensures { IfOk result (λ used. used ≡ in_use_after self.now.in_use config.now) }
+    {
+        match &self.in_use {
+            Some(_) => Ok(Some(config.copy(alloc)?)),
+            None => Ok(None),
         }
     }
 
@@ -1159,6 +1372,7 @@ impl Serving {
         ensures core { self.new.end.core ≡ self.old.end.core }
         ensures ends { Stay history_of self.old.end.sockets self.new.end.sockets }
         ensures memory { self.new.memory ≡ self.old.memory }
+        ensures in_use { self.new.in_use ≡ self.old.in_use }
     {
         for at in self.servers.len()..servers.len() {
             self.resolve_at(rt, servers, at)?;
@@ -1177,6 +1391,7 @@ impl Serving {
         ensures core { self.new.end.core ≡ self.old.end.core }
         ensures ends { Stay history_of self.old.end.sockets self.new.end.sockets }
         ensures memory { self.new.memory ≡ self.old.memory }
+        ensures in_use { self.new.in_use ≡ self.old.in_use }
     {
         match text_at(servers, at) {
             Some(text) => self.resolve_one(rt, text),
@@ -1189,6 +1404,7 @@ impl Serving {
         ensures core { self.new.end.core ≡ self.old.end.core }
         ensures ends { Stay history_of self.old.end.sockets self.new.end.sockets }
         ensures memory { self.new.memory ≡ self.old.memory }
+        ensures in_use { self.new.in_use ≡ self.old.in_use }
     {
         let found = self.end.resolve(rt, text);
         tell_if_unknown(rt, &mut self.lines, text, found)?;
@@ -1208,8 +1424,10 @@ impl Serving {
         ensures core { MayLoad config self.old.end.core.value self.new.end.core.value }
         ensures ends { AllGrow (IsLoadOf config) (proxy_of self.old.end) (proxy_of self.new.end) }
         ensures memory { self.new.memory ≡ self.old.memory }
+        ensures in_use { self.new.in_use ≡ self.old.in_use }
         ensures looked { IfOk result (λ used. IsTrue used → AreLookedUp (length self.old.servers) servers (history_of self.new.end.sockets.wire)) }
         ensures noted { IfOk result (λ used. IsTrue used → self.new.servers ≡ servers) }
+        ensures loaded { IfOk result (λ used. IsTrue used → (generation : ℕ) × IsLoaded self.old.end.core.value config generation self.new.end.core.value) }
         ensures unused { IfOk result (λ used. IsTrue used ⊎ (self.new.end.core.value ≡ self.old.end.core.value)) }
     {
         self.resolve(rt, &servers)?;

@@ -9,7 +9,6 @@ use std::io::{Read, Write};
 use std::net::Net;
 use std::os::unix::net::UnixStream;
 use watch_admin::control::answers::read_answer;
-use watch_admin::control::requests::{Request, request_of};
 
 // The line that says it, without its end.
 fn line_of(alloc: Global, job: &TellJob<'_>) -> Result<String, AllocError> {
@@ -29,13 +28,6 @@ fn answer_at<R: Net + AllocGlobal>(rt: &R, path: &str, line: &str) -> io::Result
     Ok(answer)
 }
 
-// What is said where there is no such word.
-fn unknown_line(alloc: Global, word: &str) -> Result<String, AllocError> {
-    format!(in alloc;
-        "mcgate: {word} is none of drain, reload, status, servers, log LEVEL and where KEY"
-    )
-}
-
 // What is said where nothing answers there.
 fn unanswered_line(alloc: Global, path: &str, error: &io::Error) -> Result<String, AllocError> {
     format!(in alloc; "mcgate: cannot tell {path}: {error}")
@@ -48,7 +40,7 @@ fn broken_line(alloc: Global, path: &str) -> Result<String, AllocError> {
 
 /// Tells it, and prints what is answered. The answer is the exit status that it says.
 ///
-/// [`Stop::Usage`] comes where there is no such word, and [`Stop::Device`] where nobody answers there, of which a line of detail says why.
+/// [`Stop::Device`] comes where nobody answers there, of which a line of detail says why.
 pub fn tell<R: Net + AllocGlobal, W: Write>(
     rt: &R,
     job: &TellJob<'_>,
@@ -58,10 +50,6 @@ pub fn tell<R: Net + AllocGlobal, W: Write>(
     let Ok(line) = line_of(rt.alloc(), job) else {
         return Err(Stop::Memory);
     };
-    if request_of(line.as_bytes()) == Request::Unknown {
-        details.add(unknown_line(rt.alloc(), job.word));
-        return Err(Stop::Usage);
-    }
     let answer = match answer_at(rt, job.path, line.as_str()) {
         Ok(answer) => answer,
         Err(error) => {

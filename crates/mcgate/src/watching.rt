@@ -19,8 +19,8 @@ use watch_admin::http::request::Page;
 use watch_admin::http::visitors::Visitors;
 use watch_admin::json::write_json;
 use watch_admin::numbers::{
-    ClientNumbers, CommandNumbers, ConfigNumbers, FailureNumbers, Numbers, ProcessNumbers,
-    ServerNumbers, SpanNumbers, families_of,
+    ClientNumbers, CommandNumbers, ConfigNumbers, FailureNumbers, LimitNumbers, Numbers,
+    ProcessNumbers, ServerNumbers, SpanNumbers, families_of,
 };
 use watch_admin::places::PLACES;
 use watch_admin::prometheus::write_prometheus;
@@ -172,6 +172,17 @@ fn failures_by_cause(alloc: Global, link: &Link) -> Result<Vec<FailureNumbers>, 
     Ok(failures)
 }
 
+// What limits a server has.
+fn limits_told(link: &Link) -> LimitNumbers {
+    let limits = link.limits;
+    LimitNumbers {
+        call_ms: limits.call_ms,
+        connect_ms: limits.connect_ms,
+        failures: u64::from(limits.fail_limit),
+        retry_ms: limits.retry_ms,
+    }
+}
+
 // What is counted of the server of this number and text.
 fn server_of(
     alloc: Global,
@@ -185,6 +196,7 @@ fn server_of(
     let calls = link.calls.tally();
     Ok(Some(ServerNumbers {
         text: String::from_str(alloc, text)?,
+        limits: limits_told(link),
         is_up: link.is_connected && !link.awaits_late(),
         is_late: link.awaits_late(),
         connections: link.tally.stood,
@@ -290,11 +302,15 @@ pub fn write_servers<W: Write>(end: &Proxy, servers: &Servers, out: &mut W) -> i
         };
         writeln!(
             out,
-            "server {text} {} calls_out={} connections={} failures={}",
+            "server {text} {} calls_out={} connections={} failures={} call_ms={} connect_ms={} fail_limit={} retry_ms={}",
             state_of(link),
             link.calls.len(),
             link.tally.stood,
-            failures_of(link)
+            failures_of(link),
+            link.limits.call_ms,
+            link.limits.connect_ms,
+            link.limits.fail_limit,
+            link.limits.retry_ms
         )?;
     }
     Ok(())

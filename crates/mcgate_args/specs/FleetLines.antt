@@ -12,8 +12,8 @@ use Rattle.gate_check.specs.declared.gap.Gap.{Gap}
 use Rattle.gate_gaps.specs.Pointing.{pointed}
 use Rattle.gate_gaps.specs.Sites.{longest_begun}
 use Rattle.mcgate_check.specs.Verdict.{gap_fields}
-use Rattle.mcgate_args.specs.declared.fleets.lines.Step.{Step}
-use Rattle.mcgate_args.specs.declared.fleets.lines.Step.TheVariants as steps
+use Rattle.mcgate_args.specs.declared.fleets.lines.ChildStep.{ChildStep}
+use Rattle.mcgate_args.specs.declared.fleets.lines.ChildStep.TheVariants as steps
 
 -- the line of trees that are accepted together: accepted trees=N
 abbrev pub fleet_line : ℕ → List ℕ
@@ -39,7 +39,7 @@ abbrev pub pair_gap_line : Addresses → (reads deletes : List ℕ) → Gap → 
 pair_gap_line servers reads deletes gap = pair_head reads deletes ++ gap_fields servers gap
 
 -- the steps from selectors to their children
-unfoldable pub step_text : Step → List ℕ
+unfoldable pub step_text : ChildStep → List ℕ
 step_text steps.Default = codes "/default_policy"
 step_text steps.Get = codes "/operation_policies/get"
 step_text steps.Wildcard = codes "/wildcard"

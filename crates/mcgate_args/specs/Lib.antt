@@ -4,4 +4,5 @@ pub mod Program
 pub mod BadLines
 pub mod FleetLines
 pub mod Fleets
+pub mod FleetMembers
 pub mod Planning

@@ -69,7 +69,7 @@ abbrev pub SaysNothing : List ℕ → Option (List ℕ) → Option (List ℕ) �
 SaysNothing text old new = Unit {0}
 
 -- what its call answers: a status, or that memory or the writer failed, or that there were too many calls
-pub record Answers (task : Task) (text : List ℕ) (old new : Option (List ℕ)) (answer : ℕ) : Type 0 where
+pub record AnswersTask (task : Task) (text : List ℕ) (old new : Option (List ℕ)) (answer : ℕ) : Type 0 where
   pub few : answer ≤ 5
   pub does : answer ≤ 2 → Does task text old new answer
   pub refused : answer ≡ 3 → MemoryRefused task text old new

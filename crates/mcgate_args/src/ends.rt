@@ -3,7 +3,7 @@
 ghost use Rattle.std.specs.Prelude.{◌≡◌, ◌≤◌, Ok, option_map};
 ghost use Rattle.script_events.specs.Told.{told_over};
 ghost use Rattle.std.specs.IoError.{error_kind};
-ghost use Rattle.mcgate_args.specs.Program.{Answers, Runs, AnswersInput, RunsBy, AnswersBy, NeverOverruns, SaysNothing, Declines, GivesConfig, ReadsConfig};
+ghost use Rattle.mcgate_args.specs.Program.{AnswersTask, Runs, AnswersInput, RunsBy, AnswersBy, NeverOverruns, SaysNothing, Declines, GivesConfig, ReadsConfig};
 ghost use Rattle.mcgate_replay.specs.Replay.{ReplaysOver, Overran, IsBrokenOff as IsCutShort};
 ghost use Rattle.mcgate_check.specs.Finding.{FindsKeys};
 ghost use Rattle.mcgate_args.specs.Stops.{stop_at, stop_by, stop_of, key_line, calls_line, Ends, end_of};
@@ -145,7 +145,7 @@ pub fn ended(answer: u8) -> Result<u8, Stop>
 
 // What a task answers of a text.
 fn answer<W: Write>(alloc: Global, task: Task, text: &str, out: &mut W) -> u8
-    ensures { Answers task text.now (W.contents out.old) (W.contents out.new) result }
+    ensures { AnswersTask task text.now (W.contents out.old) (W.contents out.new) result }
 {
     match task {
         Task::Check { form } => run_check(alloc, form, text, out),

@@ -3,6 +3,7 @@
 pub mod arguments;
 pub mod checking;
 pub mod lines;
+pub mod members;
 
 pub use arguments::FleetJob;
 pub use checking::{FleetEnd, FleetFile, run_fleet};

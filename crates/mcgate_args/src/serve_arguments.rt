@@ -25,11 +25,15 @@ pub struct ServeJob<'a> {
     pub log: Option<Log>,
     /// When it drains, it ends after so many milliseconds at most.
     pub drain_ms: u64,
+    /// It drains once standard input has ended.
+    pub drain_on_eof: bool,
     pub settings: Settings,
     /// How servers began.
     pub begun: Beginnings,
     /// A tree that the gate refuses is served too.
     pub any: bool,
+    /// It is one of several before the same servers: by its trees no get copies, and each is judged both ways beside the one before it.
+    pub fleet: bool,
     /// The file of a certificate, by which the tree is accepted at the start.
     pub certificate: Option<&'a str>,
     /// The file of what is remembered from one run to the next, if there is one.
@@ -60,7 +64,7 @@ const MEMORY_MB: usize = 1_024;
 const MIB: usize = 1_048_576;
 
 pub const SERVE_HELP: &str =
-    "usage: mcgate serve --config FILE --listen HOST:PORT [--any] [--check] [FLAG N ..]
+    "usage: mcgate serve --config FILE --listen HOST:PORT [--fleet | --any] [--check] [FLAG N ..]
 
 Reads a configuration in JSON, of FILE, and asks the gate. A tree that it accepts is served at HOST:PORT: what clients send goes
 to the configuration's servers, at their addresses. Lines on standard error tell when it listens, and when a server's connection
@@ -82,6 +86,7 @@ opens, fails or comes back.
   --metrics HOST:PORT    answers there over HTTP what it counts: / for people, /metrics in Prometheus' text format, /stats.json in JSON
   --control PATH         it is told things there by mcgate tell: to drain, to reload, and what it counts
   --drain-ms N           when it is told to drain it ends after so many milliseconds at most, 10000
+  --drain-on-eof         it drains once standard input has ended: a pipe, a socket or a terminal; what is read there is of no account
   --log-level WORD       each line on standard error begins with a time and a level, and those of WORD and more urgent ones are told:
                          error, warn, info or debug; without it and the next one, all, as they are
   --log-json             each is an object in JSON with that
@@ -95,6 +100,8 @@ opens, fails or comes back.
   --turns N              ends after so many turns; without it, it doesn't end
   --history FILE         the configurations that were accepted so far stand in FILE: the first one and each new text is judged after
                          them, and written there before it is used; without it, what is promised begins with this start
+  --fleet                it is one of several mcgates before the same servers: a tree by which a get copies is refused, and each new
+                         one is judged both ways beside the one in use; not with --any, --opened or --new-servers
   --any                  serves a tree that the gate refuses too: nothing is promised then
   --certificate FILE     at the start the tree is accepted by this certificate, as mcgate-verify tests it, or refused; not with --any
   --check                serves nothing: it tests the words, FILE, its tree, and that all addresses are known, and ends
@@ -129,6 +136,7 @@ pub fn serve_command<'a>(alloc: Global) -> Result<Command<'a>, AllocError> {
         .arg(option(alloc, "metrics"))?
         .arg(option(alloc, "control"))?
         .arg(option(alloc, "drain-ms"))?
+        .arg(switch(alloc, "drain-on-eof"))?
         .arg(option(alloc, "log-level"))?
         .arg(switch(alloc, "log-json"))?
         .arg(option(alloc, "server-dialect"))?
@@ -139,6 +147,7 @@ pub fn serve_command<'a>(alloc: Global) -> Result<Command<'a>, AllocError> {
         .arg(option(alloc, "turns"))?
         .arg(option(alloc, "history"))?
         .arg(switch(alloc, "any"))?
+        .arg(switch(alloc, "fleet"))?
         .arg(option(alloc, "certificate"))?
         .arg(switch(alloc, "check"))
 }
@@ -198,12 +207,34 @@ fn settings_of(given: &ArgMatches<'_>) -> Result<Settings, ArgumentsFault> {
     })
 }
 
+// Whether it is one of a fleet. What a fleet's servers held before is never known, and its trees are judged.
+fn fleet_of(given: &ArgMatches<'_>) -> Result<bool, ArgumentsFault> {
+    if !given.get_flag("fleet") {
+        return Ok(false);
+    }
+    if given.get_flag("any") || given.contains_id("opened") || given.contains_id("new-servers") {
+        return Err(ArgumentsFault::Refused);
+    }
+    Ok(true)
+}
+
 // The file of what is remembered. Of trees that no gate accepted nothing is.
 fn history_of<'a>(given: &ArgMatches<'a>) -> Result<Option<&'a str>, ArgumentsFault> {
     match given.get_str("history") {
         Some(_) if given.get_flag("any") => Err(ArgumentsFault::Refused),
         history => Ok(history),
     }
+}
+
+// Whether it drains once standard input has ended, which isn't where it listens then.
+fn drains_on_eof(given: &ArgMatches<'_>, listen: &str) -> Result<bool, ArgumentsFault> {
+    let drains = given.get_flag("drain-on-eof");
+    for place in listen.split(',') {
+        if drains && place == "fd:0" {
+            return Err(ArgumentsFault::Refused);
+        }
+    }
+    Ok(drains)
 }
 
 /// What the arguments after `serve` ask for.
@@ -226,9 +257,11 @@ pub fn serve_job<'a>(given: &ArgMatches<'a>) -> Result<Job<'a>, ArgumentsFault> 
         control: given.get_str("control"),
         log: log_of(given)?,
         drain_ms: millis_of(given, "drain-ms", DRAIN_MS)?,
+        drain_on_eof: drains_on_eof(given, listen)?,
         settings: settings_of(given)?,
         begun: begun_of(given)?,
         any,
+        fleet: fleet_of(given)?,
         certificate,
         history: history_of(given)?,
         check: given.get_flag("check"),

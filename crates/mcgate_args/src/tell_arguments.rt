@@ -38,13 +38,13 @@ pub fn tell_command<'a>(alloc: Global) -> Result<Command<'a>, AllocError> {
         .arg(Arg::new(alloc, "MORE"))
 }
 
-// Whether a word can have this after it, or nothing: a key `where`, and a level `log`.
+// Whether a proxy can be told this word, with what stands after it: a key after `where`, and a level after `log`.
 fn fits(word: &str, more: Option<&str>) -> bool {
     match (word, more) {
         ("where", Some(key)) => Key::read(key.as_bytes()).is_ok(),
         ("log", Some(level)) => level_of(level).is_some(),
-        ("where" | "log", None) | (_, Some(_)) => false,
-        (_, None) => true,
+        ("drain" | "reload" | "status" | "servers", None) => true,
+        _ => false,
     }
 }
 

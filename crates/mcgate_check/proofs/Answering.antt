@@ -32,7 +32,7 @@ use Rattle.script_events.specs.Opening.{opening_of}
 use Rattle.script_events.specs.Bad.{first_bad}
 use Rattle.cache_server.specs.Contents.{empty}
 use Rattle.script_events.specs.Limits.{capacity}
-use Rattle.script_events.specs.Servers.{IsNew, count_of}
+use Rattle.script_events.specs.Servers.{AreNewServers, count_of}
 use Rattle.script_events.specs.declared.servers.servers.ScriptServers.{ScriptServers}
 use Rattle.core_proxy.specs.Claims.{bars_by}
 use Rattle.core_commands.specs.declared.sharing.Sharing.TheVariants.{Alone}
@@ -44,7 +44,7 @@ use Rattle.gate_gaps.specs.Scripts.{Leaks}
 use Rattle.gate_gaps.proofs.Beside.{gaps_have_words}
 use Rattle.gate_gaps.proofs.Gaps.{numbers_have_script}
 use Rattle.mcgate_check.specs.declared.leaks.failures.Failures.{Failures}
-use Rattle.mcgate_check.specs.Tried.{IsFirstKey}
+use Rattle.mcgate_check.specs.Tried.{IsFirstKeyTried}
 use Rattle.mcgate_check.specs.Commands.{script_for, delete_text, read_text}
 use Rattle.mcgate_check.specs.Failing.{both, failures_of}
 use Rattle.mcgate_check.specs.Refusals.{IsRealGap, LeaksStepped, IsShowing, IsRefusalRun, IsRoundabout, MayLack, IsAnswer}
@@ -66,7 +66,7 @@ both_none (Some d) None e a b = absurd (cc)
 both_none (Some d) (Some r) e a b = cc
 
 -- the computed script
-module _ (config : Configuration) (gap : Gap) (key : List ℕ) (f : Failures) (taking : IsTaking gap.op) (first : IsFirstKey config.tree gap.place key) (computed : failures_of gap.op gap.server (tree_at config.tree key) ≡ Some f) (good : IsGood (tree_at config.tree key)) (is_tree : IsTree config.tree) (below : IsBelow (length config.servers) config.tree) where
+module _ (config : Configuration) (gap : Gap) (key : List ℕ) (f : Failures) (taking : IsTaking gap.op) (first : IsFirstKeyTried config.tree gap.place key) (computed : failures_of gap.op gap.server (tree_at config.tree key) ≡ Some f) (good : IsGood (tree_at config.tree key)) (is_tree : IsTree config.tree) (below : IsBelow (length config.servers) config.tree) where
   numbers : (acks gap.server (tree_at config.tree key) ≡ Some f.delete) × (finds gap.op gap.server (tree_at config.tree key) ≡ Some f.read)
   numbers = both_are (acks gap.server (tree_at config.tree key)) (finds gap.op gap.server (tree_at config.tree key)) f computed
 
@@ -102,7 +102,7 @@ module _ (config : Configuration) (gap : Gap) (key : List ℕ) (f : Failures) (t
   })
 
 -- a driven script
-pub driven_run : (config : Configuration) (gap : Gap) (key : List ℕ) (script : List Scripted) → IsFirstKey config.tree gap.place key → failures_of gap.op gap.server (tree_at config.tree key) ≡ None → script ≡ script_for gap.server key gap.op 0 0 → IsShowing config script → IsRefusalRun config gap script
+pub driven_run : (config : Configuration) (gap : Gap) (key : List ℕ) (script : List Scripted) → IsFirstKeyTried config.tree gap.place key → failures_of gap.op gap.server (tree_at config.tree key) ≡ None → script ≡ script_for gap.server key gap.op 0 0 → IsShowing config script → IsRefusalRun config gap script
 driven_run config gap key script first none is shows = record {
   key = key;
   first = first;
@@ -114,7 +114,7 @@ driven_run config gap key script first none is shows = record {
 }
 
 -- where no script is computed for a gap, an all-sync or a warm-up stands in the way
-pub none_roundabout : (tree : Route) (gap : Gap) (key : List ℕ) → IsTree tree → IsFirstKey tree gap.place key → IsGood (tree_at tree key) → failures_of gap.op gap.server (tree_at tree key) ≡ None → IsRealGap tree gap → IsRoundabout tree gap
+pub none_roundabout : (tree : Route) (gap : Gap) (key : List ℕ) → IsTree tree → IsFirstKeyTried tree gap.place key → IsGood (tree_at tree key) → failures_of gap.op gap.server (tree_at tree key) ≡ None → IsRealGap tree gap → IsRoundabout tree gap
 none_roundabout tree gap key is_tree first good none real direct1 direct2 =
     let plain = tree_at_place tree gap.place in
     let same : tree_at tree key ≡ plain = place_is_enough tree key gap.place is_tree first.is_key.at in
@@ -123,7 +123,7 @@ none_roundabout tree gap key is_tree first good none real direct1 direct2 =
     (gaps_have_words.kept plain gap.server gap.deleting good' direct1 real.gap_at.uncleared)
     (gaps_have_words.taken plain gap.op gap.server good' direct2 real.gap_at.taken)
 
-pub none_answer : (tree t : Route) (gap : Gap) (key : List ℕ) (f : Option Failures) → t ≡ tree → IsTree t → IsFirstKey tree gap.place key → IsGood (tree_at t key) → f ≡ failures_of gap.op gap.server (tree_at t key) → f ≡ None → IsRealGap tree gap → MayLack tree gap
+pub none_answer : (tree t : Route) (gap : Gap) (key : List ℕ) (f : Option Failures) → t ≡ tree → IsTree t → IsFirstKeyTried tree gap.place key → IsGood (tree_at t key) → f ≡ failures_of gap.op gap.server (tree_at t key) → f ≡ None → IsRealGap tree gap → MayLack tree gap
 none_answer tree t gap key f e is_tree first good computed none real =
     inr (none_roundabout tree gap key (subst IsTree e is_tree) first (subst (λ (r : Route). IsGood (tree_at r key)) e good) (subst (λ (r : Route). failures_of gap.op gap.server (tree_at r key) ≡ None) e (sym computed ∙ none)) real)
 
@@ -132,7 +132,7 @@ answered config gap None h n = n
 answered config gap (Some script) h n = h
 
 -- so many servers as were asked for
-pub counted : (n : ℕ) (servers : ScriptServers) → IsNew n servers → count_of servers ≡ n
+pub counted : (n : ℕ) (servers : ScriptServers) → AreNewServers n servers → count_of servers ≡ n
 counted n servers new = ap length new.caches ∙ length-replicate n (empty capacity)
 
 -- each command has its key alone

@@ -1,5 +1,5 @@
 -- What is printed of a configuration that is accepted or refused, and of a text that is none. Source: mcgate's own.
-use Rattle.std.specs.Prelude.{◌≡◌, ℕ, ◌⊎◌, List, [], ◌∷◌, ◌++◌, Option, Some, None, IsSome, map}
+use Rattle.std.specs.Prelude.{◌≡◌, ℕ, ◌⊎◌, List, [], ◌∷◌, ◌++◌, Option, Some, None, Result, IsSome, map}
 use Rattle.std.specs.Io.KnownBytes.{Appends}
 use Rattle.serde_json.specs.Read.{read}
 use Rattle.route_tree.specs.Route.{Route}
@@ -16,6 +16,8 @@ use Rattle.gate_check.specs.Gate.{IsCertified, IsJudged}
 use Rattle.script_events.specs.declared.script.Script.{Script}
 use Rattle.script_events.specs.Scripted.{Scripted, scripted_of}
 use Rattle.mcgate_check.specs.Refusals.{IsRefusalRun, MayLack}
+use Rattle.script_events.specs.FirstLine.{WhyNot, TellsFault}
+use Rattle.script_events.specs.Told.{Told}
 use Rattle.script_events.specs.Printed.{config_fault_line}
 use Rattle.script_events.specs.ScriptLines.{script_lines}
 use Rattle.script_events.specs.LineLaws.{AreReadBack}
@@ -110,3 +112,9 @@ abbrev pub StopsUnwritten : Option (List ℕ) → Option (List ℕ) → RunFault
 StopsUnwritten old new NoMemory = new ≡ old
 StopsUnwritten old new Writer = Unit {0}
 StopsUnwritten old new TooManyCalls = ⊥
+
+-- of a script's text: its configuration has a fault, and that was written
+pub record HasFaultyConfig (t : Result Told WhyNot) (old new : Option (List ℕ)) : Type 0 where
+  pub fault : ConfigFault
+  pub tells : TellsFault t fault
+  pub printed : Appends old new (config_fault_line fault)

@@ -31,7 +31,7 @@ use Rattle.script_events.specs.Bad.{first_bad}
 use Rattle.gate_gaps.specs.Beside.{IsDirect}
 use Rattle.gate_gaps.specs.Scripts.{Leaks}
 use Rattle.mcgate_check.specs.declared.leaks.failures.Failures.{Failures}
-use Rattle.mcgate_check.specs.Tried.{tried, NoneBefore, IsFirstKey}
+use Rattle.mcgate_check.specs.Tried.{tried, NoneBefore, IsFirstKeyTried}
 use Rattle.mcgate_check.specs.Commands.{script_for}
 use Rattle.mcgate_check.specs.Failing.{failures_of}
 
@@ -66,7 +66,7 @@ pub record IsShowing (config : Configuration) (events : List Scripted) : Type 0 
 -- the script, over the first key that is tried and stands at the gap's place, can be driven and has a run that isn't fresh, none of whose commands is broken; the failed calls are those that it names, not applied. Where each call but one of the delete and one of the read can fail, so many do before it
 pub record IsRefusalRun (config : Configuration) (gap : Gap) (events : List Scripted) : Type 0 where
   pub key : List ℕ
-  pub first : IsFirstKey config.tree gap.place key
+  pub first : IsFirstKeyTried config.tree gap.place key
   pub delete : ℕ
   pub read : ℕ
   pub script_is : events ≡ script_for gap.server key gap.op delete read

@@ -29,7 +29,7 @@ abbrev pub tried : ℕ
 tried = TRIED
 
 -- the key is the first that is tried and stands at the place
-pub record IsFirstKey (tree : Route) (place : Place) (key : List ℕ) : Type 0 where
+pub record IsFirstKeyTried (tree : Route) (place : Place) (key : List ℕ) : Type 0 where
   pub number : ℕ
   pub below : number < tried
   pub text : key ≡ tried_text place.prefix number
@@ -38,4 +38,4 @@ pub record IsFirstKey (tree : Route) (place : Place) (key : List ℕ) : Type 0 w
 
 -- the first such key, or there is none
 abbrev pub IsFirstTried : Route → Place → Option (List ℕ) → Type 0
-IsFirstTried tree place found = MatchOption found (NoneBefore tree place tried) (IsFirstKey tree place)
+IsFirstTried tree place found = MatchOption found (NoneBefore tree place tried) (IsFirstKeyTried tree place)

@@ -3,17 +3,16 @@
 use Rattle.std.specs.Prelude.{◌≡◌, ℕ, ◌++◌, ◌⊎◌, List, length, map, Option, Some, None, Result, Ok}
 use Rattle.std.specs.Io.KnownBytes.{Appends}
 use Rattle.route_json.specs.Configuration.{Configuration}
-use Rattle.route_json.specs.declared.fault.ConfigFault.{ConfigFault}
 use Rattle.gate_check.specs.Gate.{IsCertified}
 use Rattle.script_events.specs.declared.script.Reload.{Reload}
 use Rattle.script_events.specs.Scripted.{Scripted, scripted_of}
 use Rattle.script_events.specs.Bad.{first_bad}
-use Rattle.script_events.specs.FirstLine.{WhyNot, TellsFault}
+use Rattle.script_events.specs.FirstLine.{WhyNot}
 use Rattle.script_events.specs.Told.{Told, told, bad_line, bad_event_line, servers_known, ReadsScript}
 use Rattle.script_events.specs.declared.text.configured.ConfiguredScript.{ConfiguredScript}
 use Rattle.script_events.specs.declared.text.configured.ScriptFault.{ScriptFault}
-use Rattle.script_events.specs.Printed.{bad_line_line, config_fault_line}
-use Rattle.mcgate_check.specs.Checking.{PrintsRefused}
+use Rattle.script_events.specs.Printed.{bad_line_line}
+use Rattle.mcgate_check.specs.Checking.{PrintsRefused, HasFaultyConfig}
 use Rattle.mcgate_check.specs.declared.status.RunFault.{RunFault}
 use Rattle.mcgate_check.specs.declared.status.RunFault.TheVariants.{NoMemory, Writer, TooManyCalls}
 use Rattle.mcgate_loopback.specs.declared.ends.Counts.{Counts}
@@ -81,12 +80,6 @@ pub record HasBadLine (t : Result Told WhyNot) (old new : Option (List ℕ)) : T
   pub bad : bad_line t ≡ Some line
   pub printed : Appends old new (bad_line_line line)
 
--- the configuration has a fault, and that was written
-pub record HasFaultyConfig (t : Result Told WhyNot) (old new : Option (List ℕ)) : Type 0 where
-  pub fault : ConfigFault
-  pub tells : TellsFault t fault
-  pub printed : Appends old new (config_fault_line fault)
-
 -- status 0: it ran; status 1: the gate refused its tree; status 2: the configuration has a fault, or a line is bad
 abbrev pub RunsTold : Result Told WhyNot → Option (List ℕ) → Option (List ℕ) → ℕ → Type 0
 RunsTold t old new status = Ran t old new status ⊎ ((status ≡ 2) × (HasFaultyConfig t old new ⊎ HasBadLine t old new))
@@ -95,11 +88,6 @@ abbrev pub Runs : List ℕ → Option (List ℕ) → Option (List ℕ) → ℕ �
 Runs text = RunsTold (told text)
 
 -- ---- what was read of a text
-
--- some text is read so
-pub record IsReading (read : Result ConfiguredScript ScriptFault) : Type 0 where
-  pub told : Result Told WhyNot
-  pub reads : ReadsScript told read
 
 -- so is each text run that is read so
 abbrev pub RunsRead : Result ConfiguredScript ScriptFault → Option (List ℕ) → Option (List ℕ) → ℕ → Type 0

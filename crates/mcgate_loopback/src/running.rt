@@ -2,7 +2,8 @@
 
 ghost use Rattle.std.specs.Prelude.{◌≡◌, ◌≤◌, IfOk, IfErr, length};
 ghost use Rattle.mcgate_check.specs.Checking.{IsNoOverrun};
-ghost use Rattle.mcgate_loopback.specs.Running.{IsReading, WritesRun, BreaksOff, RunsGood, RunsScript, RunsRead, Runs};
+ghost use Rattle.script_events.specs.Told.{IsReading};
+ghost use Rattle.mcgate_loopback.specs.Running.{WritesRun, BreaksOff, RunsGood, RunsScript, RunsRead, Runs};
 
 use crate::ends::{Counts, Ends, drive};
 use crate::entries::{Entry, write_entries};

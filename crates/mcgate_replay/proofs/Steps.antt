@@ -8,7 +8,7 @@ use Rattle.script_events.specs.Printed.{report_line}
 use Rattle.script_events.specs.declared.text.configured.ConfiguredScript.{ConfiguredScript}
 use Rattle.cache_server.specs.Contents.{empty}
 use Rattle.script_events.specs.Limits.{capacity}
-use Rattle.script_events.specs.Servers.{IsNew, count_of}
+use Rattle.script_events.specs.Servers.{AreNewServers, count_of}
 use Rattle.script_events.specs.declared.servers.servers.ScriptServers.{ScriptServers}
 use Rattle.script_events.specs.declared.script.Reload.{Reload}
 use Rattle.script_events.specs.declared.script.Report.{Report}
@@ -33,19 +33,19 @@ true_is_not_false e = cc
 
 -- ---- servers
 
-pub counted : (servers : ℕ) (made : ScriptServers) → IsNew servers made → count_of made ≡ servers
+pub counted : (servers : ℕ) (made : ScriptServers) → AreNewServers servers made → count_of made ≡ servers
 counted servers made new = ap length new.caches ∙ length-replicate servers (empty capacity)
 
-pub new_servers : (servers : ℕ) (made : ScriptServers) → IsNew servers made → IsNew (count_of made) made
-new_servers servers made new = subst (λ (n : ℕ). IsNew n made) (sym (counted servers made new)) new
+pub new_servers : (servers : ℕ) (made : ScriptServers) → AreNewServers servers made → AreNewServers (count_of made) made
+new_servers servers made new = subst (λ (n : ℕ). AreNewServers n made) (sym (counted servers made new)) new
 
-pub enough : (script : ConfiguredScript) (servers : ℕ) (made : ScriptServers) → servers ≡ servers_of script → IsNew servers made → HasReloads script → length script.config.servers ≤ count_of made
+pub enough : (script : ConfiguredScript) (servers : ℕ) (made : ScriptServers) → servers ≡ servers_of script → AreNewServers servers made → HasReloads script → length script.config.servers ≤ count_of made
 enough script servers made is new has =
     let few = first_few script.config.servers (reloads_of script) has.chained in
     let count = counted servers made new in
     omega (arith, few, is, count)
 
-pub in_order : (script : ConfiguredScript) (reloads : List Reload) (servers : ℕ) (made : ScriptServers) → reloads ≡ reloads_of script → servers ≡ servers_of script → IsNew servers made → HasReloads script → AreInOrder (length script.script.events.items) (count_of made) 0 reloads
+pub in_order : (script : ConfiguredScript) (reloads : List Reload) (servers : ℕ) (made : ScriptServers) → reloads ≡ reloads_of script → servers ≡ servers_of script → AreNewServers servers made → HasReloads script → AreInOrder (length script.script.events.items) (count_of made) 0 reloads
 in_order script reloads servers made same is new has =
     subst (λ (rs : List Reload). AreInOrder (length script.script.events.items) (count_of made) 0 rs) (sym same)
     (subst (λ (n : ℕ). AreInOrder (length script.script.events.items) n 0 (reloads_of script)) (sym (counted servers made new ∙ is)) has.order)

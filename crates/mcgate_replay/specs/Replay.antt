@@ -1,7 +1,6 @@
 -- What a replay prints, by how it ends. Source: mcgate's own.
 use Rattle.std.specs.Prelude.{◌≡◌, ℕ, ◌+◌, ◌-◌, Bool, true, false, ◌++◌, ◌⊎◌, List, [], ◌∷◌, length, map, take, drop, slice_get, Option, Some, None, Result, Ok, Err}
 use Rattle.std.specs.Io.KnownBytes.{Appends}
-use Rattle.route_json.specs.declared.fault.ConfigFault.{ConfigFault}
 use Rattle.route_json.specs.Configuration.{Configuration}
 use Rattle.route_json.specs.Servers.{Addresses}
 use Rattle.gate_check.specs.Gate.{IsCertified}
@@ -21,14 +20,14 @@ use Rattle.script_run.specs.Driving.{DrivesStepped, StepsPart, AreSpentIn, AreMa
 use Rattle.script_run.specs.declared.accepted.judging.Loading.{Loading}
 use Rattle.script_run.specs.declared.accepted.judging.Loading.TheVariants.{Loaded, Refused}
 use Rattle.script_run.specs.Reloads.{Judges, is_refused}
-use Rattle.script_events.specs.FirstLine.{WhyNot, TellsFault}
+use Rattle.script_events.specs.FirstLine.{WhyNot}
 use Rattle.script_events.specs.Events.{◌>>=◌}
 use Rattle.script_events.specs.Told.{Told, told, told_over, bad_line, bad_event_line, either, events_said, lines_said, servers_known, AreChainedFrom, ReadsScript}
 use Rattle.script_events.specs.declared.text.configured.ConfiguredScript.{ConfiguredScript}
 use Rattle.script_events.specs.declared.text.configured.ScriptFault.{ScriptFault}
-use Rattle.script_events.specs.Printed.{shown_lines, report_line, bad_line_line, config_fault_line}
+use Rattle.script_events.specs.Printed.{shown_lines, report_line, bad_line_line}
 use Rattle.script_events.specs.Bad.{first_bad}
-use Rattle.mcgate_check.specs.Checking.{PrintsRefused}
+use Rattle.mcgate_check.specs.Checking.{PrintsRefused, HasFaultyConfig}
 use Rattle.mcgate_check.specs.Reloads.{loaded_line, unchecked_line, kept_line}
 use Rattle.mcgate_check.specs.declared.status.RunFault.{RunFault}
 use Rattle.mcgate_check.specs.declared.status.RunFault.TheVariants.{NoMemory, Writer, TooManyCalls}
@@ -169,13 +168,13 @@ excluded_line judging config events lines = do
   slice_get lines at
 
 -- one can't, or where each can puts on a server what that can't have held at first, and the line of the first was written
-pub record HasBadEvent (judging : Judging) (script : ConfiguredScript) (old new : Option (List ℕ)) : Type 0 where
+pub record HasBadEventBy (judging : Judging) (script : ConfiguredScript) (old new : Option (List ℕ)) : Type 0 where
   pub line : ℕ
   pub bad : either (bad_event_line (servers_of script) (events_of script) script.lines.items) (excluded_line judging script.config (events_of script) script.lines.items) ≡ Some line
   pub printed : Appends old new (bad_line_line line)
 
 abbrev pub RunsScript : Judging → ConfiguredScript → Option (List ℕ) → Option (List ℕ) → ℕ → Type 0
-RunsScript judging script old new status = RanScript judging script old new status ⊎ ((status ≡ 2) × HasBadEvent judging script old new)
+RunsScript judging script old new status = RanScript judging script old new status ⊎ ((status ≡ 2) × HasBadEventBy judging script old new)
 
 abbrev pub BreaksScriptOff : Judging → ConfiguredScript → Option (List ℕ) → Option (List ℕ) → RunFault → Type 0
 BreaksScriptOff judging script old new fault = BreaksTreeOff judging script.config (reloads_of script) (events_of script) old new fault
@@ -193,27 +192,21 @@ bad_line_by judging (Ok t) = either (bad_line (Ok t)) (excluded_line judging t.c
 bad_line_by judging (Err why) = bad_line (Err why)
 
 -- no line is bad, and the script ran or was refused
-pub record Ran (judging : Judging) (t : Result Told WhyNot) (old new : Option (List ℕ)) (status : ℕ) : Type 0 where
+pub record RanBy (judging : Judging) (t : Result Told WhyNot) (old new : Option (List ℕ)) (status : ℕ) : Type 0 where
   pub script : Told
   pub said : t ≡ Ok script
   pub good : bad_line_by judging (Ok script) ≡ None
   pub runs : RunsGood judging script.configuration script.loads (events_said script) old new status
 
 -- a line is bad, and that was written
-pub record HasBadLine (judging : Judging) (t : Result Told WhyNot) (old new : Option (List ℕ)) : Type 0 where
+pub record HasBadLineBy (judging : Judging) (t : Result Told WhyNot) (old new : Option (List ℕ)) : Type 0 where
   pub line : ℕ
   pub bad : bad_line_by judging t ≡ Some line
   pub printed : Appends old new (bad_line_line line)
 
--- the configuration has a fault, and that was written
-pub record HasFaultyConfig (t : Result Told WhyNot) (old new : Option (List ℕ)) : Type 0 where
-  pub fault : ConfigFault
-  pub tells : TellsFault t fault
-  pub printed : Appends old new (config_fault_line fault)
-
 -- status 0: it ran; status 1: the gate refused its tree; status 2: the configuration has a fault, or a line is bad
 abbrev pub ReplaysTold : Judging → Result Told WhyNot → Option (List ℕ) → Option (List ℕ) → ℕ → Type 0
-ReplaysTold judging t old new status = Ran judging t old new status ⊎ ((status ≡ 2) × (HasFaultyConfig t old new ⊎ HasBadLine judging t old new))
+ReplaysTold judging t old new status = RanBy judging t old new status ⊎ ((status ≡ 2) × (HasFaultyConfig t old new ⊎ HasBadLineBy judging t old new))
 
 -- the script ran in part
 pub record RanInPart (judging : Judging) (t : Result Told WhyNot) (old new : Option (List ℕ)) : Type 0 where
@@ -237,11 +230,6 @@ BreaksOff judging t old new TooManyCalls = Overran judging t old new
 BreaksOff judging t old new Writer = Unit {0}
 
 -- ---- what was read of a text
-
--- some text is read so
-pub record IsReading (read : Result ConfiguredScript ScriptFault) : Type 0 where
-  pub told : Result Told WhyNot
-  pub reads : ReadsScript told read
 
 -- so is each text replayed that is read so
 abbrev pub ReplaysRead : Judging → Result ConfiguredScript ScriptFault → Option (List ℕ) → Option (List ℕ) → ℕ → Type 0

@@ -8,7 +8,7 @@ ghost use Rattle.script_events.specs.Bad.{first_bad, Refuses};
 ghost use Rattle.script_events.specs.Opening.{opening_of};
 ghost use Rattle.script_events.specs.Reloads.{AreInOrder};
 ghost use Rattle.script_events.specs.Scripted.{scripted_of, transcript_of};
-ghost use Rattle.script_events.specs.Servers.{IsNew, count_of};
+ghost use Rattle.script_events.specs.Servers.{AreNewServers, count_of};
 ghost use Rattle.script_run.specs.Driving.{AreMarks};
 ghost use Rattle.script_run.specs.Reloads.{is_refused};
 ghost use Rattle.script_run.specs.Stepped.{StepsFreshly, EndsSteps};
@@ -96,7 +96,7 @@ pub fn drive_grown(
     requires servers { length first.now.servers ≤ count_of servers.old }
     requires few { count_of servers.old ≤ MAX_SERVERS }
     requires order { AreInOrder (length script.now.events.items) (count_of servers.old) 0 reloads.now }
-    requires new { IsNew (count_of servers.old) servers.old }
+    requires new { AreNewServers (count_of servers.old) servers.old }
     requires transcript { transcript.old.shown.items ≡ [] }
     requires marks { marks.old.items ≡ [] }
     ensures refuses { MatchResult result (λ _. first_bad (count_of servers.old) (map scripted_of script.now.events.items) ≡ None) (Refuses (count_of servers.old) script.now) }

@@ -2,10 +2,10 @@
 
 ghost use Rattle.std.specs.Prelude.{◌≡◌, ◌≤◌, ◌<◌, Ok, Some, None, IfOk, IfErr, IfSome, MatchOption, length};
 ghost use Rattle.script_events.specs.Bad.{first_bad};
-ghost use Rattle.script_events.specs.Told.{either, told, told_over};
+ghost use Rattle.script_events.specs.Told.{either, IsReading, told, told_over};
 ghost use Rattle.mcgate_replay.specs.Growing.{first_excluded, excluded_by};
 ghost use Rattle.mcgate_replay.specs.declared.judging.Judging.TheVariants.{Asked, Begun};
-ghost use Rattle.mcgate_replay.specs.Replay.{Replays, ReplaysOver, IsReading, ReplaysRead, BreaksReadOff, RunsScript, RunsGood, BreaksTreeOff, BreaksScriptOff, HasReloads, IsBrokenOff, Overran, BreaksOff, servers_of, events_of, reloads_of};
+ghost use Rattle.mcgate_replay.specs.Replay.{Replays, ReplaysOver, ReplaysRead, BreaksReadOff, RunsScript, RunsGood, BreaksTreeOff, BreaksScriptOff, HasReloads, IsBrokenOff, Overran, BreaksOff, servers_of, events_of, reloads_of};
 
 use crate::holds::excluded_event;
 use crate::judging::Judging;

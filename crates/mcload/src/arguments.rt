@@ -11,6 +11,7 @@ pub const USAGE: &str = "usage: mcload fill|load|freshness HOST:PORT [FLAG N ..]
   --commands N   ends after so many commands, 100000
   --seconds N    or after so many seconds, 60
   --gets N       of a hundred commands of load so many are gets, 90
+  --again-ms N   a client whose connection is lost connects anew after so long; else that ends the run
   --seed N       of the choice of commands and keys, 1";
 
 /// What the clients do.
@@ -43,6 +44,8 @@ pub struct LoadSettings<'a> {
     pub seconds: u64,
     /// Of a hundred commands of [`Job::Load`] so many are gets.
     pub gets: u64,
+    /// After so many milliseconds a client connects anew whose connection was lost. `None`: that ends the run.
+    pub again_ms: Option<u64>,
     /// Of the choice of commands and keys.
     pub seed: u64,
 }
@@ -77,6 +80,7 @@ impl<'a> LoadSettings<'a> {
             commands: 100_000,
             seconds: 60,
             gets: 90,
+            again_ms: None,
             seed: 1,
         }
     }
@@ -91,6 +95,7 @@ impl<'a> LoadSettings<'a> {
             "--commands" => self.commands = number_of(word, 1, 1_000_000_000_000)?,
             "--seconds" => self.seconds = number_of(word, 1, 1_000_000)?,
             "--gets" => self.gets = number_of(word, 0, 100)?,
+            "--again-ms" => self.again_ms = Some(number_of(word, 1, 60_000)?),
             "--seed" => self.seed = number_of(word, 0, u64::MAX)?,
             _ => return None,
         }

@@ -2,7 +2,7 @@
 
 use crate::LoadStop;
 use crate::arguments::LoadSettings;
-use crate::commands::Wire;
+use crate::commands::{Answer, Wire};
 use crate::plan::Plan;
 use crate::tally::{Asked, LoadTally};
 use mio::net::TcpStream;
@@ -37,6 +37,8 @@ struct Peer {
     conn: Conn<TcpStream>,
     // Its commands under way, the oldest first.
     asked: VecDeque<Asked>,
+    // When it connects anew, in nanoseconds since the start, if its connection was lost.
+    again: Option<u64>,
 }
 
 impl Peer {
@@ -47,13 +49,32 @@ impl Peer {
         Peer {
             conn,
             asked: VecDeque::new(alloc),
+            again: None,
         }
     }
 
     fn note(&mut self, told: Ready) {
+        if self.again.is_some() {
+            return;
+        }
         self.conn.readable = self.conn.readable || told.reads;
         self.conn.writable = self.conn.writable || told.writes;
         self.conn.closing = self.conn.closing || told.closes;
+    }
+
+    // Its connection was lost: nothing is done on it, until it connects anew at this time.
+    fn lose(&mut self, again: u64) {
+        self.conn.readable = false;
+        self.conn.writable = false;
+        self.again = Some(again);
+    }
+
+    // Whether it connects anew now.
+    fn is_due(&self, now: u64) -> bool {
+        match self.again {
+            Some(again) => again <= now,
+            None => false,
+        }
     }
 
     // Whether a read or a write may do something now.
@@ -97,6 +118,7 @@ impl Peer {
 #[derive(Drop)]
 struct LoadRun<'a> {
     settings: LoadSettings<'a>,
+    address: SocketAddr,
     poll: Poll,
     events: Events,
     none: Events,
@@ -131,11 +153,11 @@ fn address_of<N: Net>(net: &N, text: &str) -> Result<SocketAddr, LoadStop> {
 fn connect_all<R: Net + AllocGlobal>(
     rt: &R,
     poll: &Poll,
-    settings: LoadSettings<'_>,
+    address: SocketAddr,
+    clients: u64,
 ) -> Result<Vec<Peer>, LoadStop> {
-    let address = address_of(rt, settings.address)?;
     let mut peers = Vec::new(rt.alloc());
-    for token in 0..settings.clients as usize {
+    for token in 0..clients as usize {
         let stream = connect(rt, poll, address, token)?;
         if peers.push(Peer::new(rt.alloc(), stream)).is_err() {
             return Err(LoadStop::Failed);
@@ -150,10 +172,12 @@ impl<'a> LoadRun<'a> {
         settings: LoadSettings<'a>,
     ) -> Result<LoadRun<'a>, LoadStop> {
         let alloc = rt.alloc();
+        let address = address_of(rt, settings.address)?;
         let poll = Poll::new(rt)?;
-        let peers = connect_all(rt, &poll, settings)?;
+        let peers = connect_all(rt, &poll, address, settings.clients)?;
         Ok(LoadRun {
             settings,
+            address,
             poll,
             events: Events::with_capacity(alloc, 1_024)?,
             none: Events::with_capacity(alloc, 0)?,
@@ -242,6 +266,36 @@ impl<'a> LoadRun<'a> {
         Ok(())
     }
 
+    // The connection of a client was lost: what it asked counts as errors, and it connects anew later, if it is to.
+    fn lose(&mut self, id: usize) -> Result<(), LoadStop> {
+        let again_ms = self.settings.again_ms.ok_or(LoadStop::Lost)?;
+        let Some(peer) = self.peers.get_mut(id) else {
+            return Ok(());
+        };
+        peer.lose(self.now.saturating_add(again_ms.saturating_mul(1_000_000)));
+        for _ in 0..peer.asked.len() {
+            if let Some(asked) = peer.asked.pop_front() {
+                self.tally.end(asked, Answer::Error, self.now)?;
+            }
+        }
+        Ok(())
+    }
+
+    // A client connects anew, if its time has come.
+    fn connect_again<R: Net + AllocGlobal>(&mut self, rt: &R, id: usize) -> Result<(), LoadStop> {
+        let Some(peer) = self.peers.get_mut(id) else {
+            return Ok(());
+        };
+        if !peer.is_due(self.now) {
+            return Ok(());
+        }
+        match connect(rt, &self.poll, self.address, id) {
+            Ok(stream) => *peer = Peer::new(rt.alloc(), stream),
+            Err(_) => return self.lose(id),
+        }
+        Ok(())
+    }
+
     fn read_some<R: Clock>(&mut self, rt: &R, id: usize) -> Result<(), LoadStop> {
         for _ in 0..STEPS {
             let Some(peer) = self.peers.get_mut(id) else {
@@ -251,7 +305,7 @@ impl<'a> LoadRun<'a> {
                 break;
             }
             if !peer.read()? {
-                return Err(LoadStop::Lost);
+                return self.lose(id);
             }
             self.look_at_clock(rt)?;
             self.settle(id)?;
@@ -264,13 +318,13 @@ impl<'a> LoadRun<'a> {
             return Ok(());
         };
         if !peer.send() {
-            return Err(LoadStop::Lost);
+            return self.lose(id);
         }
         self.has_work = self.has_work || peer.has_work();
         Ok(())
     }
 
-    fn turn<R: Clock>(&mut self, rt: &R) -> Result<(), LoadStop> {
+    fn turn<R: Net + Clock + AllocGlobal>(&mut self, rt: &R) -> Result<(), LoadStop> {
         let limit = if self.has_work { 0 } else { 100 };
         self.poll
             .poll(&mut self.events, Some(Duration::from_millis(limit)))?;
@@ -278,6 +332,7 @@ impl<'a> LoadRun<'a> {
         self.look_at_clock(rt)?;
         self.has_work = false;
         for id in 0..self.peers.len() {
+            self.connect_again(rt, id)?;
             self.read_some(rt, id)?;
             self.ask(id)?;
             self.send(id)?;

@@ -11,8 +11,8 @@ use Rattle.route_job.specs.Settling.{frames_work, pending_work}
 use Rattle.route_job.specs.declared.frame.Pending.{Pending}
 use Rattle.route_job.specs.declared.frame.Pending.TheVariants.{Enter, Call as Calling, Back}
 use Rattle.route_job.specs.declared.job.Job.{Job}
-use Rattle.route_job.specs.declared.job.Step.{Step}
-use Rattle.route_job.specs.declared.job.Step.TheVariants as steps
+use Rattle.route_job.specs.declared.job.JobStep.{JobStep}
+use Rattle.route_job.specs.declared.job.JobStep.TheVariants as steps
 
 -- these calls and then this reply may still come
 abbrev pub Comes : Job → List Call → Given → Type 0
@@ -55,7 +55,7 @@ abbrev pub call_of : Job → Outcome → Call
 call_of job outcome = record { server = server_in job.pending; ask = ask_under job.frames.items job.ask; origin = origin_under job.frames.items Client; outcome = outcome }
 
 -- what is shown: the call with which all begins that may still come, or the reply, where nothing is left to call
-abbrev pub IsNext : Job → Step → Type 0
+abbrev pub IsNext : Job → JobStep → Type 0
 IsNext job (steps.Call server ask origin) =
     IsCalling job
     × (server ≡ server_in job.pending) × (ask.now ≡ ask_under job.frames.items job.ask) × (origin ≡ origin_under job.frames.items Client)

@@ -40,7 +40,7 @@ pub struct Job {
 
 /// What a job shows next.
 #[derive(Drop)]
-pub enum Step<'b> {
+pub enum JobStep<'b> {
     /// This call.
     Call {
         server: ServerId,
@@ -101,16 +101,16 @@ impl Job {
     }
 
     /// The next call, or how the command ended. It takes no memory.
-    pub fn next(&self) -> Step<'_>
+    pub fn next(&self) -> JobStep<'_>
         ensures { IsNext self.now result }
     {
         match &self.pending {
-            Pending::Call(server) => Step::Call {
+            Pending::Call(server) => JobStep::Call {
                 server: *server,
                 ask: ask_under(self.frames.as_slice(), &self.ask),
                 origin: origin_under(self.frames.as_slice(), Origin::Client),
             },
-            Pending::Back(done) => Step::Done(done),
+            Pending::Back(done) => JobStep::Done(done),
             Pending::Enter(_) => unreachable!(),
         }
     }

@@ -10,4 +10,4 @@ pub mod returning;
 pub mod walk;
 
 pub use done::Done;
-pub use job::{Job, Step};
+pub use job::{Job, JobStep};

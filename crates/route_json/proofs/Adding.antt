@@ -12,6 +12,8 @@ use Rattle.route_json.specs.ServerNames.{have_epochs}
 use Rattle.route_json.specs.Fault.{Fault}
 use Rattle.route_json.specs.Fields.{only, value_or, list_or, object_or}
 use Rattle.route_json.specs.Servers.{Addresses, numbered_at, numbered, server_or}
+use Rattle.route_json.specs.Names.{limit_fields}
+use Rattle.route_json.specs.Limits.{limits_or}
 use Rattle.route_json.specs.Pools.{server_of, few_slots, servers_in, pool_list, slots_or, pool_object, pool_of, pools_in, Pools, in_epochs, none_over, first_over_in}
 use Rattle.route_json.specs.Reading.{Reading, then_read, ◌>>=◌, pure, each, named, members, values}
 use Rattle.route_json.specs.Configs.{tree_of, object_after, config_after, read_after}
@@ -93,7 +95,8 @@ pool_object_adds : (name : List ℕ) (d : Data) → Adds (pool_object name d)
 pool_object_adds name d = then_adds (pure (only holders.Pool d)) _ (pure_adds (only holders.Pool d)) (λ u.
     then_adds (pure (list_or (codes "servers") (get (codes "servers") d))) _ (pure_adds _) (λ ds.
     then_adds (pool_list name (values ds)) _ (list_adds name (values ds)) (λ servers.
-    then_adds (pure (slots_or servers (get (codes "slots") d))) _ (pure_adds _) (λ slots. same))))
+    then_adds (pure (slots_or servers (get (codes "slots") d))) _ (pure_adds _) (λ slots.
+    then_adds (pure (limits_or limit_fields d)) _ (pure_adds _) (λ w. same)))))
 
 pool_adds : (name : List ℕ) (d : Data) → Adds (pool_of name d)
 pool_adds name (object ms) = pool_object_adds name (object ms)

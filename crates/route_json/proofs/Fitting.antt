@@ -7,7 +7,7 @@ use Rattle.route_tree.specs.Form.{routes_of, policies_of, prefixes_of}
 use Rattle.route_json.specs.declared.names.kinds.Lists.{Lists}
 use Rattle.route_json.specs.declared.names.kinds.Lists.TheVariants.{AllSync, Failover, MissFailover}
 use Rattle.route_json.specs.Fault.{Fault}
-use Rattle.route_json.specs.Fits.{IsBelow, AreBelow, ArePoliciesBelow, ArePrefixesBelow, Fits, AllFit, NodeFits, seconds, AreKeys}
+use Rattle.route_json.specs.Fits.{IsBelow, AreBelow, ArePoliciesBelow, ArePrefixesBelow, FitsBounds, AllFit, NodeFits, seconds, AreKeys}
 use Rattle.route_json.specs.Reading.{Reading}
 use Rattle.route_json.specs.Routes.{listed}
 use Rattle.route_json.proofs.Each.{Goes, goes}
@@ -30,7 +30,7 @@ count_push : (xs : List Route) (r : Route) → count_of_all (routes_of (xs ++ r 
 count_push [] r = omega arith
 count_push (x ∷ xs) r = omega (arith, count_push xs r)
 
-all_fit_push : (b l w n k m : ℕ) (xs : List Route) (r : Route) → AllFit b l w n xs k → Fits b l w k r m → AllFit b l w n (xs ++ r ∷ []) m
+all_fit_push : (b l w n k m : ℕ) (xs : List Route) (r : Route) → AllFit b l w n xs k → FitsBounds b l w k r m → AllFit b l w n (xs ++ r ∷ []) m
 all_fit_push b l w n k m xs r h g = record {
   good = good_push xs r h.good g.good;
   below = below_push b xs r h.below g.below;
@@ -45,7 +45,7 @@ module _ {X A : Type 0} (read : X → Reading ℕ A) (all : Result (List A × �
     pub fits : AllFit b l w first routes n
     pub counted : n ≤ 4096
 
-  pub reads_go : (xs left : List X) (x : X) (a : A) (r : Route) (done done' : List A) (routes routes' : List Route) (n m : ℕ) → Reads xs done routes n → xs ≡ x ∷ left → read x n ≡ Ok (a, m) → done' ≡ done ++ a ∷ [] → routes' ≡ routes ++ r ∷ [] → Fits b l w n r m → m ≤ 4096 → Reads left done' routes' m
+  pub reads_go : (xs left : List X) (x : X) (a : A) (r : Route) (done done' : List A) (routes routes' : List Route) (n m : ℕ) → Reads xs done routes n → xs ≡ x ∷ left → read x n ≡ Ok (a, m) → done' ≡ done ++ a ∷ [] → routes' ≡ routes ++ r ∷ [] → FitsBounds b l w n r m → m ≤ 4096 → Reads left done' routes' m
   reads_go xs left x a r done done' routes routes' n m h at e is also fit le = record {
     reads = goes read all xs left x a done done' n m h.reads at e is;
     fits = subst (λ rs. AllFit b l w first rs m) (sym also) (all_fit_push b l w first n m routes r h.fits fit);
@@ -104,7 +104,7 @@ module _ (d : Route) where
   prefixes_count [] = omega arith
   prefixes_count (p ∷ ps) = omega (arith, prefixes_count ps)
 
-  module _ (b l w n k m : ℕ) (g : Fits b l w k d m) where
+  module _ (b l w n k m : ℕ) (g : FitsBounds b l w k d m) where
     pub ops_fit : (ps : List (Op × Route)) → AllFit b l w n (seconds ps) k → NodeFits b l w n (ByOperation (policies_of ps d)) m
     ops_fit ps h = record {
       good = ops_good ps h.good g.good;

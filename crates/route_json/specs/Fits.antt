@@ -42,7 +42,7 @@ pub record IsLeaf (bound : ℕ) (r : Route) : Type 0 where
   pub many : count r ≡ 1
 
 -- a route of at most so many levels, by which the count went from n to m
-pub record Fits (bound levels weight n : ℕ) (r : Route) (m : ℕ) : Type 0 where
+pub record FitsBounds (bound levels weight n : ℕ) (r : Route) (m : ℕ) : Type 0 where
   pub good : IsGood r
   pub below : IsBelow bound r
   pub deep : depth r ≤ levels

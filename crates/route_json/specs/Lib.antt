@@ -8,6 +8,7 @@ pub mod Printed
 pub mod Reading
 pub mod Fields
 pub mod Servers
+pub mod Limits
 pub mod Pools
 pub mod Routes
 pub mod Configs

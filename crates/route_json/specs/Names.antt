@@ -19,10 +19,14 @@ own_fields kinds.ByPrefix = codes "policies" ∷ codes "wildcard" ∷ []
 own_fields kinds.Null = []
 own_fields kinds.Error = []
 
+-- the fields of a pool's limits
+abbrev pub limit_fields : List (List ℕ)
+limit_fields = codes "call_ms" ∷ codes "connect_ms" ∷ codes "fail_limit" ∷ codes "retry_ms" ∷ []
+
 -- the fields of each kind of object
 abbrev pub fields_of : Holder → List (List ℕ)
 fields_of holders.Config = codes "pools" ∷ codes "route" ∷ []
-fields_of holders.Pool = codes "servers" ∷ codes "slots" ∷ []
+fields_of holders.Pool = codes "servers" ∷ codes "slots" ∷ limit_fields
 fields_of (holders.Route kind) = codes "type" ∷ own_fields kind
 
 -- the kinds of routes by the names of their types

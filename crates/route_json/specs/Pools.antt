@@ -12,6 +12,8 @@ use Rattle.route_json.specs.declared.pools.Pool.{Pool}
 use Rattle.route_json.specs.declared.pools.WeightedServer.{WeightedServer}
 use Rattle.route_json.specs.Fault.{Fault, BadAddress, BadField, EmptyPool, TooManyServers, TooManySlots}
 use Rattle.route_json.specs.Fields.{only, list_or}
+use Rattle.route_json.specs.Limits.{limits_or}
+use Rattle.route_json.specs.Names.{limit_fields}
 use Rattle.route_json.specs.Reading.{Reading, ◌>>=◌, give, fail, pure, result_of, each, values, members, named}
 use Rattle.route_json.specs.Servers.{Addresses, server_of_text}
 use Rattle.route_json.specs.ServerNames.{have_epochs, is_over}
@@ -128,6 +130,7 @@ pool_object name d = do
   ds ← pure (list_or (codes "servers") (get (codes "servers") d))
   servers ← pool_list name (values ds)
   slots ← pure (slots_or servers (get (codes "slots") d))
+  _ ← pure (limits_or limit_fields d)
   give (record { servers = servers; slots = slots })
 
 -- the pool of this name

@@ -6,7 +6,7 @@ ghost use Rattle.route_tree.specs.Route.{Failing, Server};
 ghost use Rattle.route_tree.specs.Form.{route_of_form, routes_of};
 ghost use Rattle.route_json.specs.Fault.{Gives};
 ghost use Rattle.route_json.specs.Names.{kind_of, rest_after};
-ghost use Rattle.route_json.specs.Fits.{IsLeaf, Fits, AllFit, NodeFits};
+ghost use Rattle.route_json.specs.Fits.{IsLeaf, FitsBounds, AllFit, NodeFits};
 ghost use Rattle.route_json.specs.Pools.{slotted, AreWeighted, IsPool, pool_named};
 ghost use Rattle.route_json.specs.Reading.{each};
 ghost use Rattle.route_json.specs.Routes.{leaf, kind_or, policy_op, prefix_of, listed, known_pool, pool_route, server_routes, short_list, short, text_children};
@@ -22,7 +22,7 @@ use std::alloc::Global;
 /// A default error route, among the children of a route.
 pub fn error_leaf(alloc: Global, count: &mut RouteCount, below: Below) -> Result<Tree, ConfigFault>
     ensures gives { Gives (λ t. (t, count.new.routes)) result (leaf below.levels below.weight Failing count.old.routes) }
-    ensures fits { IfOk result (λ t. (bound : ℕ) → Fits bound below.levels below.weight count.old.routes t count.new.routes) }
+    ensures fits { IfOk result (λ t. (bound : ℕ) → FitsBounds bound below.levels below.weight count.old.routes t count.new.routes) }
 {
     if below.levels == 0 {
         return Err(ConfigFault::TooDeep);
@@ -135,7 +135,7 @@ fn server_leaf(
     server: ServerId,
 ) -> Result<Tree, ConfigFault>
     ensures gives { Gives (λ t. (t, count.new.routes)) result (leaf below.levels below.weight (Server server) count.old.routes) }
-    ensures fits { IfOk result (λ t. (bound : ℕ) → server < bound → Fits bound below.levels below.weight count.old.routes t count.new.routes) }
+    ensures fits { IfOk result (λ t. (bound : ℕ) → server < bound → FitsBounds bound below.levels below.weight count.old.routes t count.new.routes) }
 {
     if below.levels == 0 {
         return Err(ConfigFault::TooDeep);

@@ -8,6 +8,7 @@ pub mod fault;
 mod fields;
 pub mod laws;
 mod leaf;
+pub mod limits;
 pub mod names;
 mod numbering;
 pub mod one_pool;

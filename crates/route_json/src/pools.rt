@@ -10,6 +10,7 @@ use crate::addresses::Servers;
 use crate::addresses::server_text::MAX_WEIGHT;
 use crate::fault::ConfigFault;
 use crate::fields::{list_field, only};
+use crate::limits::check_limits;
 use crate::names::Holder;
 use crate::numbering::server_of_text;
 use crate::table::slots_or;
@@ -211,6 +212,7 @@ fn read_pool_object(
     let items = list_field(alloc, "servers", value)?;
     let listed = read_list(alloc, servers, name, items)?;
     let slots = slots_or(alloc, &listed, value)?;
+    check_limits(alloc, value)?;
     Ok(Pool {
         servers: listed,
         slots,

@@ -5,7 +5,7 @@ ghost use Rattle.serde_json.specs.View.{view, items_view};
 ghost use Rattle.serde_json.specs.Find.{get};
 ghost use Rattle.route_tree.specs.Form.{route_of_form};
 ghost use Rattle.route_json.specs.Fault.{Gives};
-ghost use Rattle.route_json.specs.Fits.{Fits, AllFit, NodeFits};
+ghost use Rattle.route_json.specs.Fits.{FitsBounds, AllFit, NodeFits};
 ghost use Rattle.route_json.specs.Reading.{each, values};
 ghost use Rattle.route_json.specs.Routes.{children_of, warm_up, fields, typed, node, route};
 
@@ -34,7 +34,7 @@ pub fn route(
     value: &Value,
 ) -> Result<Tree, ConfigFault>
     ensures gives { Gives (λ r. (r, count.new.routes)) result (route pools.now.0 place.levels place.weight field.now (view value.now) count.old.routes) }
-    ensures fits { IfOk result (λ r. Fits (length pools.now.1) place.levels place.weight count.old.routes r count.new.routes) }
+    ensures fits { IfOk result (λ r. FitsBounds (length pools.now.1) place.levels place.weight count.old.routes r count.new.routes) }
 {
     if place.levels == 0 {
         return Err(ConfigFault::TooDeep);

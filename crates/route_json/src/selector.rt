@@ -5,7 +5,7 @@ ghost use Rattle.serde_json.specs.View.{view, members_view};
 ghost use Rattle.serde_json.specs.Find.{get};
 ghost use Rattle.route_tree.specs.Form.{route_of_form};
 ghost use Rattle.route_json.specs.Fault.{Gives};
-ghost use Rattle.route_json.specs.Fits.{Fits, AllFit, NodeFits, seconds, AreKeys};
+ghost use Rattle.route_json.specs.Fits.{FitsBounds, AllFit, NodeFits, seconds, AreKeys};
 ghost use Rattle.route_json.specs.Reading.{each, members, named};
 ghost use Rattle.route_json.specs.Routes.{policy_op, prefix_of, default_of, by_operation, by_prefix, route};
 
@@ -69,7 +69,7 @@ fn default_route(
     value: &Value,
 ) -> Result<Tree, ConfigFault>
     ensures gives { Gives (λ r. (r, count.new.routes)) result (default_of pools.now.0 below.levels below.weight (route pools.now.0 below.levels) name.now (get name.now (view value.now)) count.old.routes) }
-    ensures fits { IfOk result (λ r. Fits (length pools.now.1) below.levels below.weight count.old.routes r count.new.routes) }
+    ensures fits { IfOk result (λ r. FitsBounds (length pools.now.1) below.levels below.weight count.old.routes r count.new.routes) }
 {
     let place = RoutePlace {
         levels: below.levels,

@@ -49,7 +49,7 @@ abbrev pub lost_of : ScriptServers → ℕ → List Loss
 lost_of servers t = listed servers.losses t
 
 -- no call was made or named, and nothing is held
-pub record IsNew (count : ℕ) (servers : ScriptServers) : Type 0 where
+pub record AreNewServers (count : ℕ) (servers : ScriptServers) : Type 0 where
   pub caches : caches_of servers ≡ replicate count (empty capacity)
   pub turn : turn_of servers ≡ 0
   pub moment : moment_of servers ≡ pos 0

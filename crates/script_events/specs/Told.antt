@@ -190,3 +190,8 @@ ReadsScript (Err why) (Ok s) = ⊥
 ReadsScript t (Err (Config fault)) = TellsFault t fault
 ReadsScript t (Err (BadLine n)) = IsUnreadable t × (bad_line t ≡ Some n)
 ReadsScript t (Err NoMemory) = Unit {0}
+
+-- some text is read so
+pub record IsReading (read : Result ConfiguredScript ScriptFault) : Type 0 where
+  pub told : Result Told WhyNot
+  pub reads : ReadsScript told read

@@ -23,7 +23,7 @@ use Rattle.script_events.specs.declared.script.Reload.{Reload}
 use Rattle.script_events.specs.declared.script.Transcript.{Transcript}
 use Rattle.script_events.specs.Opening.{opening_of}
 use Rattle.script_events.specs.Scripted.{Scripted, Piece, Add, Result as Results, shown_by, transcript_of, fault_of}
-use Rattle.script_events.specs.Servers.{turn_of, IsNew}
+use Rattle.script_events.specs.Servers.{turn_of, AreNewServers}
 use Rattle.script_events.specs.declared.servers.servers.ScriptServers.{ScriptServers}
 use Rattle.script_run.specs.Laws.{StandingSays}
 use Rattle.script_run.specs.Results.{CallResult, AreTold}
@@ -424,7 +424,7 @@ loads_marked refused reloads next shown x n k l marks a b r place at more within
 -- ---- nothing was done
 
 pub nothing_done :
-    (first : Route) (refused : List Bool) (reloads : List Reload) (events : List Scripted) (t : Transcript) (marks : List ℕ) (count : ℕ) (s u : ScriptServers) (fault : FleetFault) → t.shown.items ≡ [] → marks ≡ [] → IsNew count s → turn_of u ≡ turn_of s → fault ≡ faults.NoMemory
+    (first : Route) (refused : List Bool) (reloads : List Reload) (events : List Scripted) (t : Transcript) (marks : List ℕ) (count : ℕ) (s u : ScriptServers) (fault : FleetFault) → t.shown.items ≡ [] → marks ≡ [] → AreNewServers count s → turn_of u ≡ turn_of s → fault ≡ faults.NoMemory
     → StopsPart first refused reloads events (transcript_of t) marks u fault
 nothing_done first refused reloads events t marks count s u fault none unmarked new same is =
     record {

@@ -21,7 +21,7 @@ use Rattle.script_events.specs.Bad.{first_bad}
 use Rattle.script_events.specs.Opening.{opening_of}
 use Rattle.script_events.specs.Reloads.{is_refused, AreInOrder}
 use Rattle.script_events.specs.Scripted.{Scripted, scripted_of, shown_by, transcript_of}
-use Rattle.script_events.specs.Servers.{caches_of, turn_of, moment_of, named_of, lost_of, IsNew}
+use Rattle.script_events.specs.Servers.{caches_of, turn_of, moment_of, named_of, lost_of, AreNewServers}
 use Rattle.script_events.specs.declared.servers.servers.ScriptServers.{ScriptServers}
 use Rattle.script_run.specs.Standing.{Kept, Stands, tree_by}
 use Rattle.script_run.specs.Laws.{NothingStands, IsBegin}
@@ -212,7 +212,7 @@ handed_none t none = subst (λ (l : List Output). AreHandedInTurn (map shown_by 
 -- new servers, on which is what the script puts there
 abbrev pub begins :
     NothingStands → (first : Route) (refused : List Bool) (reloads : List Reload) (events : List Event) (n : ℕ) (a : Runner) (s t : ScriptServers) (x : Transcript)
-    → ((u : ScriptServers) → turn_of u ≡ 0 → IsBegin first (kept_of a u)) → IsNew n s → caches_of t ≡ put_all_on events (caches_of s) → t ≡ record s { caches = t.caches } → first_bad n (map scripted_of events) ≡ None → x.shown.items ≡ []
+    → ((u : ScriptServers) → turn_of u ≡ 0 → IsBegin first (kept_of a u)) → AreNewServers n s → caches_of t ≡ put_all_on events (caches_of s) → t ≡ record s { caches = t.caches } → first_bad n (map scripted_of events) ≡ None → x.shown.items ≡ []
     → HasCome first refused reloads (map scripted_of events) 0 (map scripted_of events) (transcript_of x) (kept_of a t)
 begins law first refused reloads events n a s t x begin new put rest good none =
     let puts : caches_of t ≡ put_all_on events (replicate n (empty capacity)) = put ∙ ap (put_all_on events) new.caches in

@@ -26,7 +26,7 @@ use Rattle.script_events.specs.Calling.{Ends}
 use Rattle.script_events.specs.Servers.{Answers}
 use Rattle.script_events.specs.declared.servers.servers.ScriptServers.{ScriptServers}
 use Rattle.script_run.specs.Standing.{Kept, calls_at, story_of, Stands, GoesOn, GoesOnFed, IsBesides}
-use Rattle.script_run.specs.Results.{CallResult, AreOfFirst, NumberedCall, call_of, calls_of, AreGiven, GoesOnBy}
+use Rattle.script_run.specs.Results.{CallResult, AreOfFirst, NumberedCall, call_of, calls_of, AreGiven, GoesOnWith}
 use Rattle.script_run.proofs.Told.{has_calls, none_told, same_then, story_then, story_before}
 use Rattle.script_run.proofs.Outs.{called_is_out}
 use Rattle.script_run.specs.Laws.{CountsPoll, PollsGoOn, ResultsGoOn, LoadsGoOn}
@@ -101,8 +101,8 @@ pub by_none : (a b : Runner) (s : ScriptServers) → Moves a s b s → MovesByRe
 by_none a b s m = ([], none_by a b s m)
 
 by_goes_then :
-    (opening : ℕ → List ℕ → Option Item) (tree : ℕ → Route) (log : List (Entry dialect)) (before : ScriptServers) (later first : List CallResult) (k l : Kept) (g : GoesOnBy opening tree log before first k)
-    → GoesOnBy opening tree (g.goes.more ++ log) k.servers later l → GoesOnBy opening tree log before (later ++ first) l
+    (opening : ℕ → List ℕ → Option Item) (tree : ℕ → Route) (log : List (Entry dialect)) (before : ScriptServers) (later first : List CallResult) (k l : Kept) (g : GoesOnWith opening tree log before first k)
+    → GoesOnWith opening tree (g.goes.more ++ log) k.servers later l → GoesOnWith opening tree log before (later ++ first) l
 by_goes_then opening tree log before later first k l g h =
     record { goes = goes_then opening tree log k l g.goes h.goes; told = story_then later first before k.servers l.servers h.goes.more g.goes.more log g.told h.told }
 

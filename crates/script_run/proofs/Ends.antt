@@ -18,7 +18,7 @@ use Rattle.route_tree.specs.Word.{tree_words}
 use Rattle.core_proxy.specs.Claims.{bars_by}
 use Rattle.core_proxy.specs.CoreState.{dialect, nothing_beside, state_of, IsTakenOver, Reloads}
 use Rattle.core_proxy.specs.Faults.{script_limits}
-use Rattle.core_proxy.specs.declared.limits.Limits.{Limits}
+use Rattle.core_proxy.specs.declared.limits.CoreLimits.{CoreLimits}
 use Rattle.core_commands.specs.declared.sharing.Sharing.TheVariants.{Alone}
 use Rattle.script_run.specs.Standing.{Kept, tree_by, calls_at, Stands, IsBesides}
 use Rattle.script_run.specs.Laws.{IsBegin, Says}
@@ -33,7 +33,7 @@ stands_new tree k begin =
       plain = refl;
       fits = begin.fresh.fits plans (held_at k.caches) (λ n key lt. refl);
       leads =
-          subst (λ (l : Limits). LeadsTo (tree_words plans) (bars_by l.sharing plans) (held_at k.caches) [] (state_of k.core (nothing_beside plans (held_at k.caches)))) (sym begin.fresh.limits_are) (begin.fresh.leads plans (held_at k.caches));
+          subst (λ (l : CoreLimits). LeadsTo (tree_words plans) (bars_by l.sharing plans) (held_at k.caches) [] (state_of k.core (nothing_beside plans (held_at k.caches)))) (sym begin.fresh.limits_are) (begin.fresh.leads plans (held_at k.caches));
       limits = begin.fresh.limits_are;
       served = λ c. refl;
       unbroken = refl;
@@ -104,11 +104,11 @@ alone at number other ask client same = (refl, refl)
 
 -- a log of a core of scripts follows so
 follows_alone :
-    (opening : ℕ → List ℕ → Option Item) (at plans : ℕ → List ℕ → Plan) (limits : Limits) (log : List (Entry dialect)) → at ≡ plans → limits ≡ script_limits
+    (opening : ℕ → List ℕ → Option Item) (at plans : ℕ → List ℕ → Plan) (limits : CoreLimits) (log : List (Entry dialect)) → at ≡ plans → limits ≡ script_limits
     → Follows (tree_words at) (bars_by limits.sharing at) opening log → Follows (tree_words plans) (bars_by Alone plans) opening log
 follows_alone opening at plans limits log same is f =
     subst (λ (p : ℕ → List ℕ → Plan). Follows (tree_words p) (bars_by Alone p) opening log) same
-    (subst (λ (l : Limits). Follows (tree_words at) (bars_by l.sharing at) opening log) is f)
+    (subst (λ (l : CoreLimits). Follows (tree_words at) (bars_by l.sharing at) opening log) is f)
 
 pub says : (opening : ℕ → List ℕ → Option Item) (tree : ℕ → Route) (log : List (Entry dialect)) (k : Kept) → Stands opening tree log k → Says opening tree log k
 says opening tree log k s =

@@ -14,7 +14,7 @@ use Rattle.route_tree.specs.Word.{tree_words}
 use Rattle.core_proxy.specs.Claims.{bars_by}
 use Rattle.core_proxy.specs.CoreState.{dialect, Message, Beside, bars_of, state_of}
 use Rattle.core_proxy.specs.Polls.{IsPolled, Perhaps, BeginsBelow}
-use Rattle.core_proxy.specs.declared.limits.Limits.{Limits}
+use Rattle.core_proxy.specs.declared.limits.CoreLimits.{CoreLimits}
 use Rattle.core_proxy.specs.declared.note.Poll.{Poll}
 use Rattle.core_proxy.specs.declared.note.Poll.TheVariants as polls
 use Rattle.core_proxy.specs.declared.proxy.Core.{Core}
@@ -98,11 +98,11 @@ module _ (at : ℕ → List ℕ → Plan) (Bars : ℕ → Ask → ℕ → Ask �
         (begins opening base found base client number part k may.0.0.0 (unseen number high) (unknown number high) t)
 
 -- with the same trees and limits a log leads where it led
-pub same_words : (at at' : ℕ → List ℕ → Plan) (limits limits' : Limits) (opening : ℕ → List ℕ → Option Item) (log : List (Entry dialect)) (core : Core) (beside : Beside) → at' ≡ at → limits' ≡ limits
+pub same_words : (at at' : ℕ → List ℕ → Plan) (limits limits' : CoreLimits) (opening : ℕ → List ℕ → Option Item) (log : List (Entry dialect)) (core : Core) (beside : Beside) → at' ≡ at → limits' ≡ limits
     → LeadsTo (tree_words at) (bars_by limits.sharing at) opening log (state_of core beside) → LeadsTo (tree_words at') (bars_by limits'.sharing at') opening log (state_of core beside)
 same_words at at' limits limits' opening log core beside a l h =
     subst (λ x. LeadsTo (tree_words x) (bars_by limits'.sharing x) opening log (state_of core beside)) (sym a)
-    (subst (λ (x : Limits). LeadsTo (tree_words at) (bars_by x.sharing at) opening log (state_of core beside)) (sym l) h)
+    (subst (λ (x : CoreLimits). LeadsTo (tree_words at) (bars_by x.sharing at) opening log (state_of core beside)) (sym l) h)
 
 -- each poll goes on with the log
 pub polls_go_on : PollsGoOn

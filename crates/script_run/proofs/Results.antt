@@ -27,11 +27,11 @@ use Rattle.route_tree.specs.Word.{tree_words}
 use Rattle.route_job.specs.Jobs.{server_in}
 use Rattle.route_job.specs.Rest.{ask_under, origin_under}
 use Rattle.core_proxy.specs.Claims.{bars_by}
-use Rattle.core_proxy.specs.CoreState.{dialect, bars_of, client_at, command_at, dropped_by, owner_by, Beside, Fits, IsBeside, state_of}
+use Rattle.core_proxy.specs.CoreState.{dialect, bars_of, client_at, command_at, dropped_by, owner_by, Beside, FitsBeside, IsBeside, state_of}
 use Rattle.core_proxy.specs.Settles.{Settles}
 use Rattle.core_proxy.specs.Steps.{event_of, settled}
 use Rattle.core_commands.specs.declared.command.Command.{Command}
-use Rattle.core_proxy.specs.declared.limits.Limits.{Limits}
+use Rattle.core_proxy.specs.declared.limits.CoreLimits.{CoreLimits}
 use Rattle.core_proxy.specs.declared.proxy.Core.{Core}
 use Rattle.core_commands.proofs.Commands.{some_command, no_command}
 use Rattle.script_run.specs.Standing.{Kept, calls_at, story_of, Stands, GoesOn, CountsAsMany}
@@ -46,7 +46,7 @@ led_there :
     (old new : Core) (opening : ℕ → List ℕ → Option Item) (at plans : ℕ → List ℕ → Plan) (log : List (Entry dialect)) (now : OverlapState dialect) → plans ≡ at → new.limits ≡ old.limits
     → LeadsTo (tree_words at) (bars_by old.limits.sharing at) opening log now → LeadsTo (tree_words plans) (bars_by new.limits.sharing plans) opening log now
 led_there old new opening at plans log now same limits leads =
-    subst (λ (l : Limits). LeadsTo (tree_words plans) (bars_by l.sharing plans) opening log now) (sym limits)
+    subst (λ (l : CoreLimits). LeadsTo (tree_words plans) (bars_by l.sharing plans) opening log now) (sym limits)
     (subst (λ (p : ℕ → List ℕ → Plan). LeadsTo (tree_words p) (bars_by old.limits.sharing p) opening log now) (sym same) leads)
 
 -- a log that is like another, and stands, goes on from that one
@@ -60,7 +60,7 @@ goes_on_as opening tree more log new k is alike stands =
     }
 
 -- a command under way has begun
-has_begun : (core : Core) (beside : Beside) → Fits core beside → (number : ℕ) (a : Command) → command_at core number ≡ Some a → (n : ℕ) → core.number < n → nat_eq number n ≡ false
+has_begun : (core : Core) (beside : Beside) → FitsBeside core beside → (number : ℕ) (a : Command) → command_at core number ≡ Some a → (n : ℕ) → core.number < n → nat_eq number n ≡ false
 has_begun core beside fits number a was n lt =
     (elim (nat_eq number n) as (λ z. nat_eq number n ≡ z → z ≡ false) [
       | true ↦ λ is. no_command (sym (fits.numbers n lt) ∙ ap (command_at core) (sym (eqb-true number n is)) ∙ was)
@@ -143,7 +143,7 @@ module _ (opening : ℕ → List ℕ → Option Item) (tree : ℕ → Route) (lo
         subst (λ (o : Outcome). IsFound (record { server = server; ask = ask; origin = origin; outcome = o }) (met.holds server ask.key) made.stamp) step.call.outcome
         (subst (λ item. IsFound (record { server = server; ask = ask; origin = origin; outcome = made.outcome }) item made.stamp) item_is step.found_is)
 
-    module _ (now : Beside) (more : List (Entry dialect)) (fits : Fits new.core now) (is : IsBeside (settled event met) now) (none : more ≡ [])
+    module _ (now : Beside) (more : List (Entry dialect)) (fits : FitsBeside new.core now) (is : IsBeside (settled event met) now) (none : more ≡ [])
         (leads : LeadsTo (tree_words stands.beside.at) (bars_of old.core stands.beside) opening ((more ++ Happens event ∷ []) ++ past) (state_of new.core now)) (limits : new.core.limits ≡ old.core.limits) where
       leads_there : LeadsTo (tree_words now.at) (bars_of new.core now) opening (Happens event ∷ past) (state_of new.core now)
       leads_there =

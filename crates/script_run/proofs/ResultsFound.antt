@@ -21,7 +21,7 @@ use Rattle.route_job.specs.Rest.{origin_under}
 use Rattle.route_job.specs.Jobs.{IsCalling, call_of}
 use Rattle.core_commands.specs.declared.command.Command.{Command}
 use Rattle.core_proxy.specs.declared.proxy.Core.{Core}
-use Rattle.core_proxy.specs.CoreState.{dialect, bars_of, command_at, Beside, owner_by, MayComeOf, Fits, state_of, is_call, has_call_out}
+use Rattle.core_proxy.specs.CoreState.{dialect, bars_of, command_at, Beside, owner_by, MayComeOf, FitsBeside, state_of, is_call, has_call_out}
 use Rattle.core_commands.proofs.Commands.{call_is_true}
 use Rattle.core_proxy.proofs.Commands.{goes_on}
 
@@ -50,7 +50,7 @@ calling_of a e = call_is_true a.job.pending (by a.is_out (is_call a.job.pending)
     by true c e = e
     by false c e = absurd cc
 
-module _ (core : Core) (beside : Beside) (opening : ℕ → List ℕ → Option Item) (log : List (Entry dialect)) (fits : Fits core beside) (leads : LeadsTo (tree_words beside.at) (bars_of core beside) opening log (state_of core beside))
+module _ (core : Core) (beside : Beside) (opening : ℕ → List ℕ → Option Item) (log : List (Entry dialect)) (fits : FitsBeside core beside) (leads : LeadsTo (tree_words beside.at) (bars_of core beside) opening log (state_of core beside))
     (number : ℕ) (a : Command) (was : command_at core number ≡ Some a) (out : has_call_out a ≡ true) where
   -- the calls of a command so far and the one that is out are the first of a word of its plain tree
   in_word : (rest : List Call) × (reply : Answer) × (from : Option ℕ) × tree_words beside.at number a.ask (calls_so_far (run_of log) number ++ call_of a.job Failed ∷ rest) reply from

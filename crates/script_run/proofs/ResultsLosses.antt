@@ -20,7 +20,7 @@ use Rattle.script_events.specs.Losing.{told_of}
 use Rattle.script_events.proofs.Losses.{same_event, same_held}
 use Rattle.route_tree.specs.Word.{tree_words}
 use Rattle.core_proxy.specs.declared.proxy.Core.{Core}
-use Rattle.core_proxy.specs.CoreState.{dialect, bars_of, Beside, Fits, state_of}
+use Rattle.core_proxy.specs.CoreState.{dialect, bars_of, Beside, FitsBeside, state_of}
 use Rattle.script_run.specs.Standing.{calls_at, replied_in, broken_in, story_of, GoesOn}
 use Rattle.script_run.specs.Laws.{LossesGoOn}
 
@@ -34,7 +34,7 @@ happened [] = []
 happened (e ∷ es) = Happens e ∷ happened es
 
 -- the core keeps nothing of what servers hold
-pub still_fits : (x : Core) (beside : Beside) (lost : List Event) → Fits x beside → Fits x (bereft lost beside)
+pub still_fits : (x : Core) (beside : Beside) (lost : List Event) → FitsBeside x beside → FitsBeside x (bereft lost beside)
 still_fits x beside lost f =
     record { queues = f.queues; held = f.held; numbered = f.numbered; to_come = f.to_come; tickets = f.tickets; single = f.single; numbers = f.numbers; unseen = f.unseen; trees = f.trees }
 
@@ -168,7 +168,7 @@ losses_go_on opening tree log loss old new stands lost =
       stands = record {
         beside = beside;
         plain = stands.plain;
-        fits = subst (λ (x : Core). Fits x beside) (sym lost.core) (still_fits old.core stands.beside (event ∷ []) stands.fits);
+        fits = subst (λ (x : Core). FitsBeside x beside) (sym lost.core) (still_fits old.core stands.beside (event ∷ []) stands.fits);
         leads = subst (λ (x : Core). LeadsTo (tree_words beside.at) (bars_of x beside) opening (Happens event ∷ log) (state_of x beside)) (sym lost.core) (losses_lead old.core stands.beside (event ∷ []) are opening log stands.leads);
         limits = ap (λ (x : Core). x.limits) lost.core ∙ stands.limits;
         served = λ c. alike.dropped c ∙ stands.served c;

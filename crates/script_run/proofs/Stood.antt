@@ -17,7 +17,7 @@ use Rattle.route_tree.specs.Word.{tree_words}
 use Rattle.core_proxy.specs.Claims.{bars_by}
 use Rattle.core_proxy.specs.CoreState.{dialect}
 use Rattle.core_proxy.specs.Polls.{IsStalled}
-use Rattle.core_proxy.specs.declared.limits.Limits.{Limits}
+use Rattle.core_proxy.specs.declared.limits.CoreLimits.{CoreLimits}
 use Rattle.core_proxy.specs.declared.proxy.Core.{Core}
 use Rattle.core_commands.specs.declared.sharing.Sharing.TheVariants.{Alone}
 use Rattle.script_events.specs.declared.script.Event.{Event}
@@ -28,13 +28,13 @@ use Rattle.script_events.specs.Bad.{first_bad}
 use Rattle.script_events.specs.Opening.{opening_of}
 use Rattle.script_events.specs.Reloads.{is_refused}
 use Rattle.script_events.specs.Scripted.{Scripted, Piece, Add, Result, Fail, Hold, At, Now, Moment, scripted_of, shown_by, transcript_of}
-use Rattle.script_events.specs.Servers.{caches_of, turn_of, IsNew}
+use Rattle.script_events.specs.Servers.{caches_of, turn_of, AreNewServers}
 use Rattle.script_events.specs.declared.servers.servers.ScriptServers.{ScriptServers}
 use Rattle.script_run.specs.Standing.{Kept, Stands, LeavesAsMuch, tree_by}
 use Rattle.script_run.specs.Laws.{StandingSays, NothingStands, IsBegin}
 use Rattle.script_run.specs.Running.{kept_of, MovesByResults, AreStalled, KeepStalled, IsAtRest}
 use Rattle.script_run.specs.declared.driver.runner.Runner.{Runner}
-use Rattle.script_run.specs.Driving.{said_by, said_in, shown_to, handed, may_be_out, leaves_out, IsDoneFor, IsSettled, HaveAllOutput, IsThrough, AreThrough, IsStep, AreSteps, AreOutputs, IsMarked, AreMarked, one_loaded, trees_loaded, IsReached, CameSo, CameInTurn, RunsBy, DrivesStepped}
+use Rattle.script_run.specs.Driving.{said_by, said_in, shown_to, handed, may_be_out, leaves_out, IsDoneFor, IsSettled, HaveAllOutput, IsThrough, AreThrough, IsStepThrough, AreSteps, AreOutputs, IsMarked, AreMarked, one_loaded, trees_loaded, IsReached, CameSo, CameInTurn, RunsBy, DrivesStepped}
 use Rattle.script_run.specs.Holding.{put_all_on}
 use Rattle.script_run.specs.Stepping.{Befalls, LeavesBy, IsHeard, RestsAfter, IsGivenAll, HandsOutAll, AddsRising, HasCome, HasStood, TakesUp, Loads}
 use Rattle.script_run.specs.World.{World}
@@ -104,7 +104,7 @@ through_as events done log given shown same t =
       settled = t.settled;
     }
 
-pub step_on : (events done : List Scripted) (event : Scripted) (more log : List (Entry dialect)) (given now : List Shown) → IsStep events done event log given now → IsStep events done event (more ++ log) given now
+pub step_on : (events done : List Scripted) (event : Scripted) (more log : List (Entry dialect)) (given now : List Shown) → IsStepThrough events done event log given now → IsStepThrough events done event (more ++ log) given now
 step_on events done event more log given now s =
     record { before = through_on events done more log given s.before; after = through_on events (done ++ event ∷ []) more log now s.after; more = s.more; goes = s.goes; brings = s.brings; comes = s.comes }
 
@@ -327,7 +327,7 @@ loads_one law refused reloads next shown n marks marks' r is a b place at same m
           through = h.through;
           steps = h.steps;
           settled = h.settled;
-          stalled = λ c lt. keeps (ap (λ (l : Limits). l.sharing) come.stands.limits) c (h.stalled c lt);
+          stalled = λ c lt. keeps (ap (λ (l : CoreLimits). l.sharing) come.stands.limits) c (h.stalled c lt);
           heard = h.heard;
           marked = marked;
           counted = mark_count n shown marks marks' more h.counted;
@@ -408,17 +408,17 @@ module _ (first : Route) (refused : List Bool) (reloads : List Reload) (events :
 
   -- the log has a step for one more event
   steps_next : (done left : List Scripted) (event : Scripted) (log : List (Entry dialect)) (outputs : List (List Shown)) (shown : List Shown) → events ≡ (done ++ event ∷ []) ++ left → length outputs ≡ length done → AreSteps events (length done) log outputs
-      → IsStep events done event log (handed outputs) (handed (outputs ++ shown ∷ [])) → AreSteps events (length (done ++ event ∷ [])) log (outputs ++ shown ∷ [])
+      → IsStepThrough events done event log (handed outputs) (handed (outputs ++ shown ∷ [])) → AreSteps events (length (done ++ event ∷ [])) log (outputs ++ shown ∷ [])
   steps_next done left event log outputs shown is each before now n x lt at = elim (cases_lt n (length done)) [
     | inl few ↦ step_as (take n events) x (ap handed (sym (take-append-le n outputs (shown ∷ []) (omega (arith, few, each))))) (ap handed (sym (take-append-le (n + 1) outputs (shown ∷ []) (omega (arith, few, each))))) (before n x few at)
     | inr le ↦ step_as (take n events) x (ap handed (sym (take-append_seam outputs (shown ∷ [])) ∙ ap (λ (m : ℕ). take m (outputs ++ shown ∷ [])) (each ∙ last le)))
         (ap handed (sym (take-length (outputs ++ shown ∷ [])) ∙ ap (λ (m : ℕ). take m (outputs ++ shown ∷ [])) (length-append outputs (shown ∷ []) ∙ ap (λ (m : ℕ). m + 1) (each ∙ last le))))
-        (subst (λ (y : Scripted). IsStep events (take n events) y log (handed outputs) (handed (outputs ++ shown ∷ []))) (same_event event x (found (last le) ∙ at))
-        (subst (λ (l : List Scripted). IsStep events l event log (handed outputs) (handed (outputs ++ shown ∷ []))) (sym (first_done events done (event ∷ left) whole) ∙ ap (λ (m : ℕ). take m events) (last le)) now))
+        (subst (λ (y : Scripted). IsStepThrough events (take n events) y log (handed outputs) (handed (outputs ++ shown ∷ []))) (same_event event x (found (last le) ∙ at))
+        (subst (λ (l : List Scripted). IsStepThrough events l event log (handed outputs) (handed (outputs ++ shown ∷ []))) (sym (first_done events done (event ∷ left) whole) ∙ ap (λ (m : ℕ). take m events) (last le)) now))
   ]
     where
-      step_as : (front : List Scripted) (y : Scripted) {a b p q : List Shown} → a ≡ p → b ≡ q → IsStep events front y log a b → IsStep events front y log p q
-      step_as front y {a} {b} {p} {q} first second s = subst (λ (l : List Shown). IsStep events front y log p l) second (subst (λ (l : List Shown). IsStep events front y log l b) first s)
+      step_as : (front : List Scripted) (y : Scripted) {a b p q : List Shown} → a ≡ p → b ≡ q → IsStepThrough events front y log a b → IsStepThrough events front y log p q
+      step_as front y {a} {b} {p} {q} first second s = subst (λ (l : List Shown). IsStepThrough events front y log p l) second (subst (λ (l : List Shown). IsStepThrough events front y log l b) first s)
 
       last : length done ≤ n → length done ≡ n
       last le = let e = length-append done (event ∷ []) in omega (arith, e, lt, le)
@@ -580,7 +580,7 @@ module _ (first : Route) (refused : List Bool) (reloads : List Reload) (xs : Lis
 -- new servers, on which is what the script puts there
 pub begins_stood :
     NothingStands → (first : Route) (refused : List Bool) (reloads : List Reload) (events : List Event) (n : ℕ) (a : Runner) (s t : ScriptServers) (x : Transcript) (marks : List ℕ)
-    → ((u : ScriptServers) → turn_of u ≡ 0 → IsBegin first (kept_of a u)) → a.clients ≡ 0 → IsNew n s → caches_of t ≡ put_all_on events (caches_of s) → t ≡ record s { caches = t.caches } → first_bad n (map scripted_of events) ≡ None → x.shown.items ≡ [] → marks ≡ []
+    → ((u : ScriptServers) → turn_of u ≡ 0 → IsBegin first (kept_of a u)) → a.clients ≡ 0 → AreNewServers n s → caches_of t ≡ put_all_on events (caches_of s) → t ≡ record s { caches = t.caches } → first_bad n (map scripted_of events) ≡ None → x.shown.items ≡ [] → marks ≡ []
     → HasStood first refused reloads (map scripted_of events) 0 (map scripted_of events) (transcript_of x) marks a.clients (kept_of a t)
 begins_stood law first refused reloads events n a s t x marks begin nobody new put rest good none unmarked =
     let come = begins law first refused reloads events n a s t x begin new put rest good none in

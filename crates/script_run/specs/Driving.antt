@@ -238,7 +238,7 @@ ComesSo done (Moment moment) before after = Unit {0}
 -- ---- one event after another
 
 -- two parts of the log: one after the events before this one, and a later one after this one too, with what results and outputs it brings between them
-pub record IsStep (events done : List Scripted) (event : Scripted) (log : List (Entry dialect)) (given now : List Shown) : Type 0 where
+pub record IsStepThrough (events done : List Scripted) (event : Scripted) (log : List (Entry dialect)) (given now : List Shown) : Type 0 where
   pub before : IsThrough events done log given
   pub after : IsThrough events (done ++ event ∷ []) log now
   pub more : List (Entry dialect)
@@ -248,7 +248,7 @@ pub record IsStep (events done : List Scripted) (event : Scripted) (log : List (
 
 -- the log has a part before and one after each of so many events, with these outputs of each
 abbrev pub AreSteps : List Scripted → ℕ → List (Entry dialect) → List (List Shown) → Type 0
-AreSteps events count log outputs = (n : ℕ) (event : Scripted) → n < count → slice_get events n ≡ Some event → IsStep events (take n events) event log (handed (take n outputs)) (handed (take (n + 1) outputs))
+AreSteps events count log outputs = (n : ℕ) (event : Scripted) → n < count → slice_get events n ≡ Some event → IsStepThrough events (take n events) event log (handed (take n outputs)) (handed (take (n + 1) outputs))
 
 -- what was handed out are the outputs of so many events, and some more after them, those of each event in rising order of clients
 pub record AreOutputs (given : List Shown) (count : ℕ) (outputs : List (List Shown)) (last : List Shown) : Type 0 where

@@ -76,6 +76,6 @@ AreTold (r ∷ rs) old new earlier story =
     (mid : ScriptServers) × (between : List Event) × AreTold rs old mid earlier between × Answers r.stamp mid r.server r.ask r.made new × (new ≡ record mid { caches = new.caches; turn = new.turn }) × IsTold r mid between story
 
 -- the log goes on, and leads there; what befell the servers are these results
-pub record GoesOnBy (opening : ℕ → List ℕ → Option Item) (tree : ℕ → Route) (log : List (Entry dialect)) (before : ScriptServers) (results : List CallResult) (k : Kept) : Type 0 where
+pub record GoesOnWith (opening : ℕ → List ℕ → Option Item) (tree : ℕ → Route) (log : List (Entry dialect)) (before : ScriptServers) (results : List CallResult) (k : Kept) : Type 0 where
   pub goes : GoesOn opening tree log k
   pub told : AreTold results before k.servers (story_of (run_of log)) (story_of (run_of (goes.more ++ log)))

@@ -10,7 +10,7 @@ use Rattle.core_proxy.specs.declared.proxy.Core.{Core}
 use Rattle.script_events.specs.Servers.{caches_of, turn_of}
 use Rattle.script_events.specs.declared.servers.servers.ScriptServers.{ScriptServers}
 use Rattle.script_run.specs.Standing.{Kept, HasSameStory, Stands, GoesOn, GoesOnFed, GoesOnGiven, tree_by}
-use Rattle.script_run.specs.Results.{CallResult, AreOfFirst, AreGiven, GoesOnBy}
+use Rattle.script_run.specs.Results.{CallResult, AreOfFirst, AreGiven, GoesOnWith}
 use Rattle.script_run.specs.Counting.{last_of}
 use Rattle.script_run.specs.Finding.{found_of}
 use Rattle.script_run.specs.declared.driver.runner.Runner.{Runner}
@@ -43,7 +43,7 @@ Stays old before new after =
 -- the servers gave these results, the latest first, and each log that stood before goes on by them, and stands after
 pub record MovesBy (results : List CallResult) (old : Runner) (before : ScriptServers) (new : Runner) (after : ScriptServers) : Type 0 where
   pub given : AreGiven results before after
-  pub goes : (opening : ℕ → List ℕ → Option Item) (tree : ℕ → Route) (log : List (Entry dialect)) → Stands opening tree log (kept_of old before) → GoesOnBy opening tree log before results (kept_of new after)
+  pub goes : (opening : ℕ → List ℕ → Option Item) (tree : ℕ → Route) (log : List (Entry dialect)) → Stands opening tree log (kept_of old before) → GoesOnWith opening tree log before results (kept_of new after)
 
 -- the servers gave some results, and each log that stood before goes on by them, and stands after
 abbrev pub MovesByResults : Runner → ScriptServers → Runner → ScriptServers → Type 0

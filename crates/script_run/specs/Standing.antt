@@ -15,7 +15,7 @@ use Rattle.route_tree.specs.Route.{Route}
 use Rattle.route_tree.specs.Word.{tree_words}
 use Rattle.core_commands.specs.declared.ticket.Ticket.{Ticket}
 use Rattle.core_proxy.specs.Faults.{script_limits}
-use Rattle.core_proxy.specs.CoreState.{dialect, bars_of, Beside, Fits, state_of}
+use Rattle.core_proxy.specs.CoreState.{dialect, bars_of, Beside, FitsBeside, state_of}
 use Rattle.core_proxy.specs.declared.proxy.Core.{Core}
 
 -- what is kept beside the log: the core, the servers of the script, their caches, how many calls had their results, the calls that are out in the order in which they went out, the stamps of what the calls of
@@ -82,7 +82,7 @@ calls_at server (ticket ∷ tickets) =
 pub record Stands (opening : ℕ → List ℕ → Option Item) (tree : ℕ → Route) (log : List (Entry dialect)) (k : Kept) : Type 0 where
   pub beside : Beside
   pub plain : beside.at ≡ (λ n key. tree_at (tree n) key)
-  pub fits : Fits k.core beside
+  pub fits : FitsBeside k.core beside
   pub leads : LeadsTo (tree_words beside.at) (bars_of k.core beside) opening log (state_of k.core beside)
   pub limits : k.core.limits ≡ script_limits
   pub served : (c : ℕ) → is_dropped log c ≡ false

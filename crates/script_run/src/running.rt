@@ -7,7 +7,7 @@ ghost use Rattle.route_json.specs.declared.addresses.servers.TheConstants.{MAX_S
 ghost use Rattle.script_events.specs.Bad.{first_bad, Refuses};
 ghost use Rattle.script_events.specs.Reloads.{AreInOrder, is_refused};
 ghost use Rattle.script_events.specs.Scripted.{Scripted, scripted_of, transcript_of, fault_of};
-ghost use Rattle.script_events.specs.Servers.{IsNew, count_of};
+ghost use Rattle.script_events.specs.Servers.{AreNewServers, count_of};
 ghost use Rattle.script_run.specs.Running.{kept_of};
 ghost use Rattle.script_run.specs.Driving.{DrivesStepped, EndsStepped, AreMarks};
 ghost use Rattle.script_run.specs.Stepping.{HasStood, TakesUp, Loads, LoadsInPart, StopsPart, IsDue};
@@ -170,7 +170,7 @@ fn drive_events(
 ) -> Result<Report, FleetFault>
     requires good { first_bad (count_of servers.old) (map scripted_of script.now.events.items) ≡ None }
     requires order { AreInOrder (length script.now.events.items) (count_of servers.old) 0 reloads.now }
-    requires new { IsNew (count_of servers.old) servers.old }
+    requires new { AreNewServers (count_of servers.old) servers.old }
     requires transcript { transcript.old.shown.items ≡ [] }
     requires marks { marks.old.items ≡ [] }
     ensures ok { IfOk result (λ report. DrivesStepped config.now.tree refused.now reloads.now (map scripted_of script.now.events.items) (transcript_of transcript.new) marks.new.items report) }
@@ -229,7 +229,7 @@ pub fn drive_stepped(
     requires servers { length config.now.servers ≤ count_of servers.old }
     requires few { count_of servers.old ≤ MAX_SERVERS }
     requires order { AreInOrder (length script.now.events.items) (count_of servers.old) 0 reloads.now }
-    requires new { IsNew (count_of servers.old) servers.old }
+    requires new { AreNewServers (count_of servers.old) servers.old }
     requires transcript { transcript.old.shown.items ≡ [] }
     requires marks { marks.old.items ≡ [] }
     ensures refuses { MatchResult result (λ _. first_bad (count_of servers.old) (map scripted_of script.now.events.items) ≡ None) (Refuses (count_of servers.old) script.now) }

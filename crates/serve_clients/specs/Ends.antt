@@ -7,7 +7,7 @@ use Rattle.serve_clients.specs.declared.socket.conn.Sent.{Sent}
 use Rattle.serve_clients.specs.declared.socket.conn.Sent.TheVariants as sent
 
 -- bytes came, and stand after those that are held
-pub record Comes (held held' : List ℕ) (left left' : Option (List ℕ)) : Type 0 where
+pub record ComesIn (held held' : List ℕ) (left left' : Option (List ℕ)) : Type 0 where
   pub bytes : List ℕ
   pub some : 0 < length bytes
   pub held_is : held' ≡ held ++ bytes
@@ -15,7 +15,7 @@ pub record Comes (held held' : List ℕ) (left left' : Option (List ℕ)) : Type
 
 -- what is held, and what the stream has still to give, before and after a read, where so many bytes may be held
 abbrev pub Reads : ℕ → List ℕ → Option (List ℕ) → Got → List ℕ → Option (List ℕ) → Type 0
-Reads limit held left got.Bytes held' left' = (length held < limit) × Comes held held' left left'
+Reads limit held left got.Bytes held' left' = (length held < limit) × ComesIn held held' left left'
 Reads limit held left got.Nothing held' left' = (length held < limit) × (held' ≡ held) × Keeps left left'
 Reads limit held left got.Full held' left' = (limit ≤ length held) × (held' ≡ held) × (left' ≡ left)
 Reads limit held left got.Ended held' left' = (length held < limit) × (held' ≡ held) × IsAtEnd left'
@@ -30,7 +30,7 @@ StaysReadable got.Ended closing left readable readable' = readable' ≡ readable
 StaysReadable got.Failed closing left readable readable' = readable' ≡ readable
 
 -- the stream took the first bytes of what is to be sent, and the others stay
-pub record Goes (unsent unsent' : List ℕ) (taken taken' : Option (List ℕ)) : Type 0 where
+pub record GoesOut (unsent unsent' : List ℕ) (taken taken' : Option (List ℕ)) : Type 0 where
   pub count : ℕ
   pub some : 0 < count
   pub few : count ≤ length unsent
@@ -39,7 +39,7 @@ pub record Goes (unsent unsent' : List ℕ) (taken taken' : Option (List ℕ)) :
 
 -- what is to be sent, and what the stream has taken, before and after a write
 abbrev pub Sends : List ℕ → Option (List ℕ) → Sent → List ℕ → Option (List ℕ) → Type 0
-Sends unsent taken sent.Bytes unsent' taken' = Goes unsent unsent' taken taken'
+Sends unsent taken sent.Bytes unsent' taken' = GoesOut unsent unsent' taken taken'
 Sends unsent taken sent.Nothing unsent' taken' = (unsent' ≡ unsent) × Keeps taken taken'
 Sends unsent taken sent.Failed unsent' taken' = (unsent' ≡ unsent) × Keeps taken taken'
 

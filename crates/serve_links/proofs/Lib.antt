@@ -18,3 +18,6 @@ pub mod LinkGoes
 pub mod LateGoes
 pub mod Taking
 pub mod Away
+pub mod InOrder
+pub mod Alike
+pub mod LateWalks

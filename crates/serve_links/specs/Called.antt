@@ -2,7 +2,7 @@
 use Rattle.std.specs.Prelude.{◌≡◌, ℕ, List, [], ◌∷◌, ◌++◌, Option, Some, None, if◌then◌else◌, nat_eq}
 use Rattle.mc_types.specs.declared.ask.Ask.{Ask}
 use Rattle.route_tree.specs.Route.{Route}
-use Rattle.core_proxy.specs.declared.limits.Limits.{Limits}
+use Rattle.core_proxy.specs.declared.limits.CoreLimits.{CoreLimits}
 use Rattle.core_proxy.specs.declared.note.Poll.{Poll}
 use Rattle.core_proxy.specs.declared.note.Poll.TheVariants as polls
 use Rattle.core_proxy.specs.CoreState.{IsFresh}
@@ -117,5 +117,5 @@ GiveOnce (step ∷ steps) past = GivesOnce step (steps ++ past) × GiveOnce step
 
 -- laws of all walks: something can stand beside a core of which nothing was asked yet; and where those calls are out that the steps before tell to be, so it is after each step of the walk, and no call is given out while one of its number is out
 pub record WalksTellCalls : Type 0 where
-  pub begins : (tree : Route) (limits : Limits) (core : ServedCore) → IsFresh tree limits core.core → TellsCalls [] core
+  pub begins : (tree : Route) (limits : CoreLimits) (core : ServedCore) → IsFresh tree limits core.core → TellsCalls [] core
   pub goes_on : (steps past : List Step) (old new : ServedCore) → TellsCalls past old → Walks steps old new → TellsCalls (steps ++ past) new × GiveOnce steps past

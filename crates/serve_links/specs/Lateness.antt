@@ -4,23 +4,29 @@ use Rattle.std.specs.List.{Any}
 use Rattle.serve_wire.specs.declared.conn.conn.Conn.{Conn}
 use Rattle.serve_links.specs.declared.calls.calls.SentCall.{SentCall}
 use Rattle.serve_links.specs.declared.link.Link.{Link}
+use Rattle.serve_links.specs.declared.settings.LinkLimits.{LinkLimits}
+use Rattle.serve_links.specs.declared.settings.Settings.{Settings}
 use Rattle.serve_links.specs.Dialects.{awaits_flush}
 
 -- a call began more than so many milliseconds before a clock showed this
 abbrev pub IsLate : (most now : ℕ) → SentCall → Type 0
 IsLate most now call = call.since + most < now
 
--- one of the calls that are out did
-abbrev pub HasLate : (most now : ℕ) → Link → Type 0
-HasLate most now link = Any (IsLate most now) link.calls.sent.items
+-- the limits of a server that has none of its own
+abbrev pub usual_limits : Settings → LinkLimits
+usual_limits settings = record { call_ms = settings.call_ms; connect_ms = settings.connect_ms; fail_limit = settings.fail_limit; retry_ms = settings.retry_ms }
+
+-- one of the calls that are out began longer before than its server's limit
+abbrev pub HasLate : (now : ℕ) → Link → Type 0
+HasLate now link = Any (IsLate link.limits.call_ms now) link.calls.sent.items
 
 -- its connection doesn't stand, or its server is still to say that it has emptied itself
 abbrev pub IsUnready : Link → Type 0
 IsUnready link = (link.is_connected ≡ false) ⊎ (awaits_flush link.awaits_dialect ≡ true)
 
--- a connection that takes no calls yet was begun so long before
-abbrev pub IsConnectLate : (most now : ℕ) → Link → Type 0
-IsConnectLate most now link = IsUnready link × (link.opened + most < now)
+-- a connection that takes no calls yet was begun longer before than its server's limit
+abbrev pub IsConnectLate : (now : ℕ) → Link → Type 0
+IsConnectLate now link = IsUnready link × (link.opened + link.limits.connect_ms < now)
 
 -- whether a read of a connection may give more
 abbrev pub may_give : Option Conn → Bool
@@ -35,8 +41,8 @@ IsReadBy now link = (now ≤ link.asked_at) × (may_give link.conn ≡ false)
 abbrev pub IsReadAt : (at now : ℕ) → List Link → Type 0
 IsReadAt at now links = (link : Link) × (slice_get links at ≡ Some link) × IsReadBy now link
 
-abbrev pub HasLateAt : (at most now : ℕ) → List Link → Type 0
-HasLateAt at most now links = (link : Link) × (slice_get links at ≡ Some link) × HasLate most now link
+abbrev pub HasLateAt : (at now : ℕ) → List Link → Type 0
+HasLateAt at now links = (link : Link) × (slice_get links at ≡ Some link) × HasLate now link
 
-abbrev pub IsConnectLateAt : (at most now : ℕ) → List Link → Type 0
-IsConnectLateAt at most now links = (link : Link) × (slice_get links at ≡ Some link) × IsConnectLate most now link
+abbrev pub IsConnectLateAt : (at now : ℕ) → List Link → Type 0
+IsConnectLateAt at now links = (link : Link) × (slice_get links at ≡ Some link) × IsConnectLate now link

@@ -13,3 +13,4 @@ pub mod Talks
 pub mod Called
 pub mod Shut
 pub mod Story
+pub mod InOrder

@@ -2,6 +2,7 @@
 
 ghost use Rattle.serve_links.specs.CoreSteps.{IsOfTurn, IsFailure, IsSending, IsAnyCall};
 ghost use Rattle.serve_links.specs.Called.{WalksTellCalls};
+ghost use Rattle.serve_links.specs.InOrder.{ConnectionsAreInOrder, WalksAreFreshLate};
 ghost use Rattle.serve_links.specs.Story.{StoriesGoOn};
 
 /// What one end of a proxy does, all its ends do, and they go on one after another: by all calls of a core, by all but loads, where calls
@@ -17,4 +18,18 @@ pub fn stories_go_on()
 /// number is given out.
 pub fn walks_tell_calls()
     ensures { WalksTellCalls }
+{}
+
+/// Where what is done to a server's connections is in order, a new one is begun only where none is there: so, if a server applies what came over
+/// each of its connections in its order and nothing of it after that was closed, it is as if it had one connection, and applied what was
+/// sent over that in its order.
+pub fn connections_are_in_order()
+    ensures { ConnectionsAreInOrder }
+{}
+
+/// A core that is fresh over connections in order is so over those of the walk that led to it, where that is in order: however late servers
+/// apply what was sent to them, a command that begins after a delete of its key was acknowledged shows no item of a store that was over when
+/// the delete began.
+pub fn walks_are_fresh_late()
+    ensures { WalksAreFreshLate }
 {}

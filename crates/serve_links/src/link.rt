@@ -14,7 +14,7 @@ ghost use Rattle.serve_links.specs.Shut.{conn_of};
 use crate::calls::{LateCall, LinkCalls, SentCall};
 use crate::greeting::{read_greeting, write_flush};
 use crate::news::{Cause, LinkNews};
-use crate::settings::{Greeting, ServerDialect, Settings};
+use crate::settings::{Greeting, LinkLimits, ServerDialect, Settings};
 use crate::tally::LinkTally;
 use mc_types::Dialect;
 use serve_clients::Clients;
@@ -217,6 +217,8 @@ pub struct Link {
     pub flushes: bool,
     // Whether no call goes out to its server any more.
     is_retired: bool,
+    /// How long its server is waited for, and after how many failures it is left alone.
+    pub limits: LinkLimits,
     /// When the connection was begun, in milliseconds.
     pub opened: u64,
     /// Whether it has stood since.
@@ -246,8 +248,14 @@ pub struct Link {
 }
 
 impl Link {
-    /// A link without a connection, to the server whose address this text names, which is emptied before its first call or isn't.
-    pub fn new(alloc: Global, text: &[u8], flushes: bool) -> Result<Link, AllocError>
+    /// A link without a connection, to the server whose address this text names, which is emptied before its first call or isn't, and has these
+    /// limits.
+    pub fn new(
+        alloc: Global,
+        text: &[u8],
+        flushes: bool,
+        limits: LinkLimits,
+    ) -> Result<Link, AllocError>
         ensures down { IfOk result IsDown }
         ensures drained { IfOk result (λ link. link.draining ≡ None) }
         ensures awaits { IfOk result (λ link. link.awaits_dialect ≡ None) }
@@ -255,12 +263,13 @@ impl Link {
         ensures late { IfOk result (λ link. link.late.items ≡ []) }
         ensures text { IfOk result (λ link. link.text.items ≡ text.now) }
         ensures flushes { IfOk result (λ link. link.flushes ≡ flushes) }
+        ensures limits { IfOk result (λ link. link.limits ≡ limits) }
     {
         let text = text.to_vec(alloc)?;
-        Ok(Link::of(alloc, text, flushes))
+        Ok(Link::of(alloc, text, flushes, limits))
     }
 
-    fn of(alloc: Global, text: Vec<u8>, flushes: bool) -> Link
+    fn of(alloc: Global, text: Vec<u8>, flushes: bool, limits: LinkLimits) -> Link
         ensures down { IsDown result }
         ensures drained { result.draining ≡ None }
         ensures awaits { result.awaits_dialect ≡ None }
@@ -268,6 +277,7 @@ impl Link {
         ensures late { result.late.items ≡ [] }
         ensures text { result.text ≡ text }
         ensures flushes { result.flushes ≡ flushes }
+        ensures limits { result.limits ≡ limits }
     {
         Link {
             text,
@@ -281,6 +291,7 @@ impl Link {
             awaits_dialect: None,
             flushes,
             is_retired: false,
+            limits,
             opened: 0,
             is_connected: false,
             asked_at: 0,
@@ -340,6 +351,14 @@ impl Link {
         ensures line { line_of self.new ≡ line_of self.old }
     {
         self.is_retired = is_retired;
+    }
+
+    /// Its server has these limits from now on.
+    pub fn limit(&mut self, limits: LinkLimits)
+        ensures limits { self.new ≡ record self.old { limits = limits } }
+        ensures line { line_of self.new ≡ line_of self.old }
+    {
+        self.limits = limits;
     }
 
     /// Whether no call is out or waits, none is late, and no end of a connection is awaited.
@@ -440,31 +459,31 @@ impl Link {
     }
 
     /// The first of the calls that wait, if it has waited too long to go out, by the clock of calls that wait, or none goes out for now.
-    pub fn next_too_late(&mut self, pace: u64, settings: &Settings) -> Option<SentCall>
+    pub fn next_too_late(&mut self, pace: u64) -> Option<SentCall>
         ensures waiting { MatchOption result (self.new.waiting.items ≡ self.old.waiting.items) (λ call. self.old.waiting.items ≡ call ∷ self.new.waiting.items) }
         ensures rest { self.new ≡ record self.old { waiting = self.new.waiting } }
     {
-        if !self.has_waited_long(pace, settings) {
+        if !self.has_waited_long(pace) {
             return None;
         }
         self.next_waiting()
     }
 
     // Whether the first of those that wait has waited so long, or late answers are awaited.
-    fn has_waited_long(&self, pace: u64, settings: &Settings) -> bool {
+    fn has_waited_long(&self, pace: u64) -> bool {
         if self.awaits_late() {
             return true;
         }
         match self.waiting.front() {
-            Some(call) => call.paced.saturating_add(settings.call_ms) < pace,
+            Some(call) => call.paced.saturating_add(self.limits.call_ms) < pace,
             None => false,
         }
     }
 
     /// Until when the first of those that wait may wait, in milliseconds.
-    pub fn waiting_limit(&self, settings: &Settings) -> Option<u64> {
+    pub fn waiting_limit(&self) -> Option<u64> {
         match self.waiting.front() {
-            Some(call) => Some(call.since.saturating_add(settings.call_ms)),
+            Some(call) => Some(call.since.saturating_add(self.limits.call_ms)),
             None => None,
         }
     }
@@ -511,10 +530,10 @@ impl Link {
             return self.give_up_limit(settings);
         }
         if self.is_unready() {
-            return Some(self.opened.saturating_add(settings.connect_ms));
+            return Some(self.opened.saturating_add(self.limits.connect_ms));
         }
         match self.calls.oldest() {
-            Some(since) => Some(since.saturating_add(settings.call_ms)),
+            Some(since) => Some(since.saturating_add(self.limits.call_ms)),
             None => self.give_up_limit(settings),
         }
     }
@@ -562,10 +581,10 @@ impl Link {
     }
 
     /// Whether a call that is out began longer ago than a call may take.
-    pub fn has_late(&self, now: u64, settings: &Settings) -> bool
-        ensures { result ≡ true → HasLate settings.now.call_ms now self.now }
+    pub fn has_late(&self, now: u64) -> bool
+        ensures { result ≡ true → HasLate now self.now }
     {
-        self.calls.has_late(settings.call_ms, now)
+        self.calls.has_late(self.limits.call_ms, now)
     }
 
     // Whether its connection doesn't stand, or its server is still to say that it has emptied itself: neither takes calls.
@@ -577,10 +596,10 @@ impl Link {
     }
 
     /// Whether its connection was begun longer ago than one may take to stand, and to empty its server where that is to be, and doesn't take calls yet.
-    pub fn is_connect_late(&self, now: u64, settings: &Settings) -> bool
-        ensures { result ≡ true → IsConnectLate settings.now.connect_ms now self.now }
+    pub fn is_connect_late(&self, now: u64) -> bool
+        ensures { result ≡ true → IsConnectLate now self.now }
     {
-        self.is_unready() && self.opened.saturating_add(settings.connect_ms) < now
+        self.is_unready() && self.opened.saturating_add(self.limits.connect_ms) < now
     }
 
     /// Whether more may have come over it than was read.
@@ -617,13 +636,13 @@ impl Link {
 
     /// Whether a call fails at once: late answers are awaited, or the end of a connection, or no call goes out any more; or the server failed too many times in a row, and either it isn't to be tried
     /// yet, or a call tries.
-    pub fn is_held_back(&self, now: u64, settings: &Settings) -> bool
+    pub fn is_held_back(&self, now: u64) -> bool
         ensures { is_retired self.now ≡ true → result ≡ true }
     {
         if self.awaits_late() || self.draining.is_some() || self.is_retired {
             return true;
         }
-        settings.fail_limit <= self.failures && (now < self.held_until || !self.calls.is_empty())
+        self.limits.fail_limit <= self.failures && (now < self.held_until || !self.calls.is_empty())
     }
 
     /// A read brought whole answers, or none. Whether it has failed by that: where calls are out, and so many reads in a row brought none.
@@ -809,7 +828,7 @@ impl Link {
     }
 
     /// The connection is of no use any more, or could not be made: the number of the one that is to be closed. Late answers are awaited no longer.
-    pub fn close(&mut self, cause: Cause, now: u64, settings: &Settings) -> Option<usize>
+    pub fn close(&mut self, cause: Cause, now: u64) -> Option<usize>
         ensures number { result ≡ option_map (λ x. x.number) self.old.conn }
         ensures conn { self.new.conn ≡ None }
         ensures draining { MatchOption self.old.conn (self.new.draining ≡ self.old.draining) (λ _. self.new.draining ≡ None) }
@@ -819,7 +838,7 @@ impl Link {
         ensures waiting { self.new.waiting ≡ self.old.waiting }
     {
         let number = self.let_go();
-        self.note_failed(cause, now, settings);
+        self.note_failed(cause, now);
         number
     }
 
@@ -835,7 +854,7 @@ impl Link {
     }
 
     /// The connection can't be kept, and its end is awaited: its number. Late answers are awaited no longer.
-    pub fn drain(&mut self, cause: Cause, now: u64, settings: &Settings) -> Option<usize>
+    pub fn drain(&mut self, cause: Cause, now: u64) -> Option<usize>
         ensures number { result ≡ option_map (λ x. x.number) self.old.conn }
         ensures conn { self.new.conn ≡ None }
         ensures drains { conn_of self.new ≡ conn_of self.old }
@@ -847,7 +866,7 @@ impl Link {
     {
         let number = self.hold_back();
         self.late_since = now;
-        self.note_failed(cause, now, settings);
+        self.note_failed(cause, now);
         number
     }
 
@@ -907,7 +926,7 @@ impl Link {
     }
 
     // What becomes of it where a connection is given up: late answers are awaited no longer, and that it failed is news.
-    fn note_failed(&mut self, cause: Cause, now: u64, settings: &Settings)
+    fn note_failed(&mut self, cause: Cause, now: u64)
         ensures conn { self.new.conn ≡ self.old.conn }
         ensures draining { self.new.draining ≡ self.old.draining }
         ensures text { self.new.text ≡ self.old.text }
@@ -925,7 +944,7 @@ impl Link {
         self.was_down = true;
         self.failures = self.failures.saturating_add(1);
         self.tally.note_failed(cause);
-        self.held_until = now.saturating_add(settings.retry_ms);
+        self.held_until = now.saturating_add(self.limits.retry_ms);
         self.news = Some(LinkNews::Failed(cause, self.failures));
     }
 

@@ -14,7 +14,6 @@ ghost use Rattle.serve_links.specs.Settled.{HoldsNoAnswer, SettlesSome, SettlesF
 
 use crate::calls::{LinkCalls, Next, fail_call};
 use crate::link::Link;
-use crate::settings::Settings;
 use bytes::Bytes;
 use core_accepted::ServedCore;
 use serve_clients::Clients;
@@ -81,18 +80,12 @@ pub fn fail_all(link: &mut Link, core: &mut ServedCore, clients: &mut Clients)
 }
 
 /// If a call that is out on the link is late by now, all that are have failed, and keep their places. Else nothing is done.
-pub fn fail_late(
-    link: &mut Link,
-    core: &mut ServedCore,
-    clients: &mut Clients,
-    now: u64,
-    settings: &Settings,
-)
+pub fn fail_late(link: &mut Link, core: &mut ServedCore, clients: &mut Clients, now: u64)
     ensures goes { (at : ℕ) (h : List Event) → LineGoes IsSending at core.old h link.old core.new h link.new }
-    ensures late { HasLate settings.now.call_ms now link.old ⊎ ((link.new ≡ link.old) × (core.new ≡ core.old)) }
+    ensures late { HasLate now link.old ⊎ ((link.new ≡ link.old) × (core.new ≡ core.old)) }
     ensures ends { KeepsEnds clients.old clients.new }
 {
-    if !link.has_late(now, settings) {
+    if !link.has_late(now) {
         return;
     }
     fail_all_late(link, core, clients, now)

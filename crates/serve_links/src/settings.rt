@@ -1,6 +1,7 @@
 //! How a proxy is set: how many clients, commands and calls, how long is waited, and how servers are asked.
 
 ghost use Rattle.std.specs.Prelude.{◌≡◌, ◌≤◌, ◌+◌, ◌⊎◌};
+ghost use Rattle.serve_links.specs.Lateness.{usual_limits};
 
 use core_proxy::Sharing;
 
@@ -23,6 +24,19 @@ pub struct Greeting {
     pub dialect: ServerDialect,
 }
 
+/// How long one server is waited for, and after how many failures it is left alone for how long.
+#[derive(Clone, Copy, PartialEq, Eq)]
+pub struct LinkLimits {
+    /// How many milliseconds a call may take.
+    pub call_ms: u64,
+    /// How many milliseconds a connection may take to stand.
+    pub connect_ms: u64,
+    /// After how many failures in a row its calls fail at once.
+    pub fail_limit: u32,
+    /// For how many milliseconds they do, before one call tries it.
+    pub retry_ms: u64,
+}
+
 /// How many clients there may be, how many calls may be out, how long is waited, and how servers are asked.
 #[derive(Clone, Copy)]
 pub struct Settings {
@@ -36,11 +50,11 @@ pub struct Settings {
     pub places: usize,
     /// Which commands may be under way together on one key.
     pub sharing: Sharing,
-    /// How many milliseconds a call may take.
+    /// How many milliseconds a call may take, where its server has no limits of its own.
     pub call_ms: u64,
-    /// How many milliseconds a connection to a server may take to stand.
+    /// How many milliseconds a connection to such a server may take to stand.
     pub connect_ms: u64,
-    /// After how many failures of a server in a row its calls fail at once.
+    /// After how many failures of such a server in a row its calls fail at once.
     pub fail_limit: u32,
     /// For how many milliseconds they do, before one call tries it.
     pub retry_ms: u64,
@@ -71,6 +85,18 @@ impl Settings {
             polls: None,
             server_dialect: ServerDialect::Auto,
             flushes_new: false,
+        }
+    }
+
+    /// The limits of a server that has none of its own.
+    pub fn link_limits(&self) -> LinkLimits
+        ensures { result ≡ usual_limits self.now }
+    {
+        LinkLimits {
+            call_ms: self.call_ms,
+            connect_ms: self.connect_ms,
+            fail_limit: self.fail_limit,
+            retry_ms: self.retry_ms,
         }
     }
 

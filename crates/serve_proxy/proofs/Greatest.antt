@@ -1,5 +1,5 @@
 -- For which client most is held.
-use Rattle.std.proofs.Common.{◌≡◌, ◌≢◌, ◌⊎◌, inl, inr, ℕ, ◌+◌, ◌-◌, ◌<◌, ◌≤◌, Bool, true, false, if◌then◌else◌, Option, Some, None, length, refl, sym, ap, ◌∙◌, subst, arith}
+use Rattle.std.proofs.Common.{◌≡◌, ◌≢◌, ◌⊎◌, inl, inr, ℕ, ◌+◌, ◌-◌, ◌<◌, ◌≤◌, Bool, true, false, if◌then◌else◌, List, [], ◌∷◌, Option, Some, None, length, refl, sym, ap, ◌∙◌, subst, arith}
 use Rattle.std.proofs.lemmas.Bool.{cases_eq, cases_lt, leb-false}
 use Rattle.std.proofs.lemmas.Option.{slice_get_past}
 use Rattle.std.specs.Prelude.{nat_le, IfSome, slice_get}
@@ -45,6 +45,14 @@ most_there clients n best all was other = split (cases_lt other n)
 pub most_of_all : (clients : Clients) (n : ℕ) (best : Option (ℕ × ℕ)) → length clients.all.items ≤ n → IsMostBelow clients n best → IfSome best (λ found. HasMost clients found.0)
 most_of_all clients n None all was = tt
 most_of_all clients n (Some best) all was = most_there clients n best all was
+
+-- there is none only where nobody is there
+pub none_of_all : (clients : Clients) (n : ℕ) (best : Option (ℕ × ℕ)) → length clients.all.items ≤ n → best ≡ None → IsMostBelow clients n best → clients.all.items ≡ []
+none_of_all clients n best all none was = empty clients.all.items (subst (λ k. length clients.all.items ≤ k) (subst (IsMostBelow clients n) none was) all)
+  where
+    empty : {A : Type 0} (xs : List A) → length xs ≤ 0 → xs ≡ []
+    empty [] few = refl
+    empty (x ∷ xs) few = absurd (omega arith)
 
 -- only it is broken off
 pub only_most :

@@ -1,5 +1,5 @@
 -- What callers of `Clients::get_mut` know of all clients, once the loan has ended.
-use Rattle.std.proofs.Common.{◌≡◌, ◌≢◌, ◌⊎◌, inl, inr, ℕ, Bool, List, Option, Some, refl, sym, ap, ◌∙◌, subst}
+use Rattle.std.proofs.Common.{◌≡◌, ◌≢◌, ◌⊎◌, inl, inr, ℕ, Bool, List, Option, Some, length, length-set, refl, sym, ap, ◌∙◌, subst}
 use Rattle.std.proofs.lemmas.Bool.{cases_eq}
 use Rattle.std.specs.Prelude.{OnSome, slice_set}
 use Rattle.std.specs.Option.{option_map}
@@ -26,6 +26,10 @@ lent_others s n id k y other is = kept s.all.items n.all.items id k (Some y) oth
 pub lent_here : (s n : Clients) (id : ℕ) (x y : Client) → client_of s id ≡ Some x → n ≡ with_client s id y → client_of n id ≡ Some y
 lent_here s n id x y was is =
     changed (λ z. y) s.all.items n.all.items id (ap (λ (c : Clients). c.all.items) is ∙ ap (λ o. slice_set s.all.items id (option_map (λ (z : Client). y) o)) (sym was)) ∙ ap (option_map (λ (z : Client). y)) was
+
+-- and there are as many places
+pub lent_places : (s n : Clients) (id : ℕ) (y : Client) → n ≡ with_client s id y → length n.all.items ≡ length s.all.items
+lent_places s n id y is = ap (λ (c : Clients). length c.all.items) is ∙ length-set s.all.items id (Some y)
 
 -- where its end is the one that it had, all have the ends that they had
 pub lent_keeps : (s n : Clients) (id : ℕ) (x y : Client) → client_of s id ≡ Some x → said_of y ≡ said_of x → n ≡ with_client s id y → KeepsEnds s n

@@ -16,3 +16,4 @@ pub mod Refusing
 pub mod Drained
 pub mod Turns
 pub mod Emptied
+pub mod Shedding

@@ -2,7 +2,7 @@
 use Rattle.mc_types.specs.declared.ask.Ask.{Ask}
 use Rattle.std.proofs.Common.{◌≡◌, ℕ, ◌<◌, zero, suc, false, List, [], ◌∷◌, ◌++◌, length, get_or, Option, Some, None, Result, Ok, ◌⊎◌, inl, inr, refl, sym, ap, ◌∙◌, subst, arith, Bool}
 use Rattle.std.proofs.Math.ListN.{set}
-use Rattle.std.specs.Prelude.{MatchOption, IfOk, IsSome, slice_get}
+use Rattle.std.specs.Prelude.{MatchOption, IfOk, IfSome, IsSome, slice_get}
 use Rattle.std.specs.Option.{option_map}
 use Rattle.mc_types.specs.declared.ask.Dialect.{Dialect}
 use Rattle.mc_types.specs.declared.ask.Dialect.TheVariants.{Classic}
@@ -42,7 +42,7 @@ use Rattle.serve_links.proofs.LinkGoes.{as_lost, line_between, line_settles, lin
 use Rattle.serve_links.proofs.Story.{go_between}
 use Rattle.serve_links.proofs.Due.{one_due, one_apart}
 use Rattle.serve_links.proofs.Shutting.{shut_quiet}
-use Rattle.serve_proxy.specs.Ends.{lines_of, LinksTake, LinksGive, LineTakes, IsOpenAt, AsksIn}
+use Rattle.serve_proxy.specs.Ends.{lines_of, LinksTake, LinksGive, LineTakes, HoldsAwaited, HoldsAwaitedAt, IsOpenAt, AsksIn}
 use Rattle.serve_proxy.proofs.Going.{line_took, line_gave, had_quiet, numbers_kept, told_kept, set_here}
 use Rattle.std.proofs.lemmas.Option.{slice_get_read}
 use Rattle.serve_proxy.proofs.Staying.{line_lent}
@@ -233,7 +233,11 @@ link_there links read at x is within was = subst (λ (l : List Link). slice_get 
 
 -- one of the calls of the link at this place is late, or nothing is done
 pub late_at :
-    {a b : ServedCore} {now t : ℕ} (links : List Link) (x y : Link) (at most : ℕ) → now ≡ t → at < length links → x ≡ get_or links at x → HasLate most now x ⊎ ((y ≡ x) × (b ≡ a))
-    → HasLateAt at most t links ⊎ (b ≡ a)
-late_at links x y at most shown within was (inl late) = inl (x, slice_get_read links (length links) at x refl within was, subst (λ n. HasLate most n x) shown late)
-late_at links x y at most shown within was (inr same) = inr same.1
+    {a b : ServedCore} {now t : ℕ} (links : List Link) (x y : Link) (at : ℕ) → now ≡ t → at < length links → x ≡ get_or links at x → HasLate now x ⊎ ((y ≡ x) × (b ≡ a))
+    → HasLateAt at t links ⊎ (b ≡ a)
+late_at links x y at shown within was (inl late) = inl (x, slice_get_read links (length links) at x refl within was, subst (λ n. HasLate n x) shown late)
+late_at links x y at shown within was (inr same) = inr same.1
+
+-- what holds of a link holds of that at its place
+pub awaited_at : (links : List Link) (at : ℕ) (link : Link) → at < length links → link ≡ get_or links at link → HoldsAwaited link → HoldsAwaitedAt at links
+awaited_at links at link within is holds = subst (λ o. IfSome o HoldsAwaited) (sym (link_there links links at link refl within is)) holds

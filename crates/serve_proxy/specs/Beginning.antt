@@ -3,7 +3,7 @@ use Rattle.std.specs.Prelude.{◌≡◌, ℕ, List, ◌⊎◌}
 use Rattle.route_tree.specs.Route.{Route}
 use Rattle.route_json.specs.Configuration.{Configuration}
 use Rattle.gate_check.specs.declared.reloading.ReloadFault.TheVariants.{NoMemory}
-use Rattle.core_proxy.specs.declared.limits.Limits.{Limits}
+use Rattle.core_proxy.specs.declared.limits.CoreLimits.{CoreLimits}
 use Rattle.core_accepted.specs.declared.beginnings.Beginnings.{Beginnings}
 use Rattle.core_accepted.specs.Logs.{IsNewFrom, IsUnchecked}
 use Rattle.core_accepted.specs.declared.served.ServedCore.{ServedCore}
@@ -14,7 +14,7 @@ use Rattle.serve_links.specs.declared.settings.Settings.{Settings}
 use Rattle.serve_proxy.specs.declared.beginning.TheConstants.{HELD_LIMIT}
 
 -- the core's limits
-abbrev pub limits_by : Settings → Limits
+abbrev pub limits_by : Settings → CoreLimits
 limits_by settings = record { clients = settings.clients; held = HELD_LIMIT; depth = settings.client_window; window = settings.link_window; sharing = settings.sharing }
 
 -- it is a new core on accepted trees, where servers began so

@@ -60,6 +60,13 @@ AsksIn dialect at links = MatchOption (slice_get links at) (dialect ≡ Classic)
 abbrev pub AwaitsLateAt : ℕ → List Link → Type 0
 AwaitsLateAt at links = IfSome (slice_get links at) (λ link. link.late.items ≢ [])
 
+-- where nothing is awaited over a link's connection, neither an answer, nor a late one, nor what its server says to what it was asked first, nothing is held of it: so no byte that came before a call is part of its answer
+abbrev pub HoldsAwaited : Link → Type 0
+HoldsAwaited link = link.calls.sent.items ≡ [] → link.late.items ≡ [] → link.awaits_dialect ≡ None → IfSome link.conn (λ conn. conn.held.items ≡ [])
+
+abbrev pub HoldsAwaitedAt : ℕ → List Link → Type 0
+HoldsAwaitedAt at links = IfSome (slice_get links at) HoldsAwaited
+
 -- of links alone: this call, which may go to this server, was taken over by its link; or it was taken from there
 abbrev pub LinksTake : ℕ → SentCall → List Link → List Link → Type 0
 LinksTake at call ls ls' = (h : List Event) (cs : Clients) → EndsGoFrom (AgreesSent at call) Agrees h h cs cs ls ls'

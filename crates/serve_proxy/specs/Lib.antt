@@ -4,6 +4,7 @@ pub mod Beginning
 pub mod Stillness
 pub mod Epochs
 pub mod Emptying
+pub mod Limiting
 pub mod Stalls
 pub mod Spares
 pub mod Budgets

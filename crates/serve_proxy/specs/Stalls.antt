@@ -1,12 +1,13 @@
 -- Clients that take nothing of much that is to be sent to them, and those for which most is held. Source: mcgate's own.
-use Rattle.std.specs.Prelude.{◌≡◌, ◌⊎◌, ℕ, ◌+◌, ◌<◌, ◌≤◌, length, nat_lt, nat_le, Option, Some, None, IfSome, if◌then◌else◌, slice_get}
+use Rattle.std.specs.Prelude.{◌≡◌, ◌⊎◌, ℕ, ◌+◌, ◌<◌, ◌≤◌, min, length, nat_lt, nat_le, Option, Some, None, IfSome, if◌then◌else◌, slice_get}
 use Rattle.std.specs.Option.{option_map, option_flatten}
+use Rattle.std.specs.List.{sum_by}
 use Rattle.wire_parts.specs.Sending.{bytes_of}
 use Rattle.serve_clients.specs.declared.clients.Client.{Client}
 use Rattle.serve_clients.specs.declared.clients.Clients.{Clients}
 use Rattle.serve_clients.specs.Marks.{client_of}
 use Rattle.serve_clients.specs.Agrees.{said_of}
-use Rattle.serve_clients.specs.Holdings.{held_at}
+use Rattle.serve_clients.specs.Holdings.{held_of, held_at}
 use Rattle.serve_proxy.specs.declared.stalls.TheConstants.{MUCH}
 use Rattle.serve_proxy.specs.declared.stalls.Stalls.{Stalls}
 
@@ -45,3 +46,19 @@ greater_of (Some best) id count = if nat_le count best.1 then Some best else Som
 -- each client has the end that it had, or for none was more held
 abbrev pub OnlyMost : Clients → Clients → Type 0
 OnlyMost old new = (id : ℕ) → (option_map said_of (client_of new id) ≡ option_map said_of (client_of old id)) ⊎ HasMost old id
+
+-- how many bytes are held for all clients together
+abbrev pub held_by_all : Clients → ℕ
+held_by_all clients = sum_by held_of clients.all.items
+
+-- 1 for a client for which something is held; and how many such clients there are
+abbrev pub one_if_held : Option Client → ℕ
+one_if_held client = min (held_of client) 1
+
+abbrev pub holders : Clients → ℕ
+holders clients = sum_by one_if_held clients.all.items
+
+-- there are as many places, and as much is held for each client
+pub record HoldAlike (old new : Clients) : Type 0 where
+  pub places : length new.all.items ≡ length old.all.items
+  pub held : (id : ℕ) → held_at new id ≡ held_at old id

@@ -4,7 +4,7 @@ ghost use Rattle.std.specs.Prelude.{◌≡◌, IfOk};
 ghost use Rattle.serve_proxy.specs.Beginning.{limits_by, BeginsFresh, BeginsUnchecked};
 
 use core_accepted::{Beginnings, ServedCore};
-use core_proxy::Limits;
+use core_proxy::CoreLimits;
 use gate_check::Accepted;
 use route_tree::Tree;
 use serve_links::Settings;
@@ -13,10 +13,10 @@ use std::alloc::{AllocError, Global};
 // How many bytes of a client the core holds.
 const HELD_LIMIT: usize = 2_097_152;
 
-fn limits_of(settings: Settings) -> Limits
+fn limits_of(settings: Settings) -> CoreLimits
     ensures { result ≡ limits_by settings }
 {
-    Limits {
+    CoreLimits {
         clients: settings.clients,
         held: HELD_LIMIT,
         depth: settings.client_window,

@@ -80,14 +80,7 @@ impl Budget {
         is_freed
     }
 
-    /// Whether more are held for all than may be.
-    pub fn is_over(&self) -> bool
-        ensures { IsTrue result ↔ (self.now.most < sum self.now.held.items) }
-    {
-        self.all > self.most
-    }
-
-    /// Whether more than three quarters of that are held.
+    /// Whether more than three quarters of what may be are held.
     pub fn is_scarce(&self) -> bool
         ensures { IsTrue result ↔ (three_quarters self.now.most < sum self.now.held.items) }
     {

@@ -143,7 +143,7 @@ fn begin_waited<W: Wire>(
 {
     sockets.clients.end_waiting(call.client);
     let bulk = sockets.bulk_of(call.client, at, &call.ticket);
-    let call = renewed(call, bulk, sockets.time, sockets.links.settings.call_ms);
+    let call = renewed(call, bulk, sockets.time, sockets.links.call_ms(at));
     begin_call(core, sockets, at, call);
     true
 }

@@ -5,6 +5,7 @@ ghost use Rattle.serve_wire.specs.Calls.{Closes};
 ghost use Rattle.serve_clients.specs.Agrees.{said_of};
 ghost use Rattle.serve_clients.specs.Marks.{client_of};
 ghost use Rattle.serve_clients.specs.Holdings.{MayGoOn};
+ghost use Rattle.serve_proxy.specs.Stalls.{HoldAlike};
 ghost use Rattle.serve_links.specs.Shut.{client_conn};
 ghost use Rattle.serve_proxy.specs.Ends.{Stay, GoAlone, AllGoClosed};
 ghost use Rattle.serve_proxy.specs.Budgets.{share_by};
@@ -189,6 +190,7 @@ impl<W: Wire> Sockets<W> {
     /// It is to be served, if it is so.
     pub fn mark_ready_if(&mut self, id: usize, is_more: bool)
         ensures ends { Stay W.history self.old self.new }
+        ensures held { HoldAlike self.old.clients self.new.clients }
     {
         if is_more {
             self.clients.mark_ready(id);

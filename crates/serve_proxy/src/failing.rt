@@ -39,7 +39,7 @@ fn drain_link<W: Wire>(core: &mut ServedCore, sockets: &mut Sockets<W>, at: usiz
     match sockets.links.all.get_mut(at) {
         None => {}
         Some(link) => {
-            let drained = link.drain(cause, sockets.time, &sockets.links.settings);
+            let drained = link.drain(cause, sockets.time);
             shut_if_any(&mut sockets.wire, drained);
             sockets.links.has_news = true;
             sockets.is_freed = true;
@@ -57,7 +57,7 @@ pub fn shut_link<W: Wire>(core: &mut ServedCore, sockets: &mut Sockets<W>, at: u
     match sockets.links.all.get_mut(at) {
         None => {}
         Some(link) => {
-            let closed = link.close(cause, sockets.time, &sockets.links.settings);
+            let closed = link.close(cause, sockets.time);
             close_if_any(&mut sockets.wire, closed);
             sockets.links.has_news = true;
             sockets.is_freed = true;
@@ -130,7 +130,7 @@ fn give_up<W: Wire>(core: &mut ServedCore, sockets: &mut Sockets<W>, at: usize)
 fn fail_unconnected<W: Wire>(core: &mut ServedCore, sockets: &mut Sockets<W>, at: usize)
     requires read { IsReadAt at (time (W.history sockets.old.wire)) sockets.old.links.all.items }
     ensures ends { AllFailOn W.history core.old sockets.old core.new sockets.new }
-    ensures late { IsConnectLateAt at sockets.old.links.settings.connect_ms (time (W.history sockets.old.wire)) sockets.old.links.all.items ⊎ ((sockets.new ≡ sockets.old) × (core.new ≡ core.old)) }
+    ensures late { IsConnectLateAt at (time (W.history sockets.old.wire)) sockets.old.links.all.items ⊎ ((sockets.new ≡ sockets.old) × (core.new ≡ core.old)) }
 {
     let now = sockets.wire.last_millis();
     if !sockets.links.is_connect_late(at, now) {
@@ -153,7 +153,7 @@ fn fail_calls<W: Wire>(core: &mut ServedCore, sockets: &mut Sockets<W>, at: usiz
 fn fail_sent<W: Wire>(core: &mut ServedCore, sockets: &mut Sockets<W>, at: usize)
     requires read { IsReadAt at (time (W.history sockets.old.wire)) sockets.old.links.all.items }
     ensures ends { AllFailOn W.history core.old sockets.old core.new sockets.new }
-    ensures late { HasLateAt at sockets.old.links.settings.call_ms (time (W.history sockets.old.wire)) sockets.old.links.all.items ⊎ (core.new ≡ core.old) }
+    ensures late { HasLateAt at (time (W.history sockets.old.wire)) sockets.old.links.all.items ⊎ (core.new ≡ core.old) }
 {
     let now = sockets.wire.last_millis();
     match sockets.links.all.get_mut(at) {
@@ -161,13 +161,7 @@ fn fail_sent<W: Wire>(core: &mut ServedCore, sockets: &mut Sockets<W>, at: usize
         Some(link) => {
             sockets.links.has_news = true;
             sockets.is_freed = true;
-            fail_out(
-                link,
-                core,
-                &mut sockets.clients,
-                now,
-                &sockets.links.settings,
-            );
+            fail_out(link, core, &mut sockets.clients, now);
         }
     }
 }

@@ -10,15 +10,16 @@ ghost use Rattle.serve_links.specs.Epochs.{IsQuiet};
 ghost use Rattle.route_json.specs.ServerNames.{is_over};
 ghost use Rattle.serve_proxy.specs.Epochs.{share_address, HaveEnded, IsInTurn, AreInTurn, Retires};
 ghost use Rattle.serve_proxy.specs.Emptying.{AddsEach, EmptiesAt};
+ghost use Rattle.serve_proxy.specs.Limiting.{LimitsAt};
 ghost use Rattle.serve_links.specs.Story.{line_of, texts_of};
-ghost use Rattle.serve_proxy.specs.Ends.{lines_of, LinksTake, LinksGive, LineStands, LineTakes, IsOpenAt, AsksIn, AwaitsLateAt, EndsGo, AddsLines};
+ghost use Rattle.serve_proxy.specs.Ends.{lines_of, LinksTake, LinksGive, LineStands, LineTakes, HoldsAwaited, HoldsAwaitedAt, IsOpenAt, AsksIn, AwaitsLateAt, EndsGo, AddsLines};
 
 use crate::clock::earlier;
 use crate::texts::{is_over, share_address, text_at};
 use mc_types::{Ask, Dialect};
 use route_json::addresses::Servers;
 use serve_links::calls::SentCall;
-use serve_links::{Cause, KEPT_ROOM, Lateness, Link, LinkNews, Opening, Settings};
+use serve_links::{Cause, KEPT_ROOM, Lateness, Link, LinkLimits, LinkNews, Opening, Settings};
 use serve_wire::{Ready, Wire};
 use std::alloc::{AllocError, Global};
 use std::net::Net;
@@ -63,22 +64,51 @@ fn begin<W: Wire, N: Net>(
 {
     match link.connect(alloc, net, wire, at, time, settings.server_dialect) {
         Opening::Failed => {
-            let _ = link.close(Cause::Unreachable, time, settings);
+            let _ = link.close(Cause::Unreachable, time);
             Opening::Failed
         }
         opening => opening,
     }
 }
 
-// The call is written to the link, or given back, as it is where late answers are awaited, or the server is still to empty itself. `now` is in microseconds.
+// Whether nothing is awaited over its connection.
+fn awaits_none(link: &Link) -> bool
+    ensures { (link.now.calls.sent.items ≡ []) → (link.now.late.items ≡ []) → (link.now.awaits_dialect ≡ None) → result ≡ true }
+{
+    let is_late = link.awaits_late();
+    if is_late {
+        return false;
+    }
+    match link.awaits_dialect {
+        Some(_) => false,
+        None => link.calls.is_empty(),
+    }
+}
+
+// Whether bytes are held of its connection though nothing is awaited over it.
+fn holds_unasked(link: &Link) -> bool
+    ensures { result ≡ false → HoldsAwaited link.now }
+{
+    match &link.conn {
+        Some(conn) => awaits_none(link) && !conn.held.is_empty(),
+        None => false,
+    }
+}
+
+// The call is written to the link, or given back, as it is where late answers are awaited, the server is still to empty itself, or bytes are held that no
+// call asked for. `now` is in microseconds.
 fn write_to(link: &mut Link, call: SentCall, now: u64) -> Result<(), SentCall>
     ensures ok { OnOk result (LineTakes call link.old link.new) }
+    ensures awaited { OnOk result (HoldsAwaited link.old) }
     ensures err { IfErr result (λ given. (given ≡ call) × (line_of link.new ≡ line_of link.old)) }
 {
     if link.awaits_late() {
         return Err(call);
     }
     if link.awaits_flush() {
+        return Err(call);
+    }
+    if holds_unasked(link) {
         return Err(call);
     }
     match link.conn.as_mut() {
@@ -89,7 +119,7 @@ fn write_to(link: &mut Link, call: SentCall, now: u64) -> Result<(), SentCall>
 
 // When it is to be looked at if nothing comes: it fails then, or a call has waited too long for it.
 fn limit_of(link: &Link, settings: &Settings) -> Option<u64> {
-    earlier(link.time_limit(settings), link.waiting_limit(settings))
+    earlier(link.time_limit(settings), link.waiting_limit())
 }
 
 // It gives back the room that it doesn't need now. Whether it has much that it needs.
@@ -205,7 +235,8 @@ impl Links {
         ensures texts { OnOk result (texts_of self.new.all.items ≡ texts_of self.old.all.items ++ text.now ∷ []) }
         ensures adds { AddsLines self.old.all.items self.new.all.items }
     {
-        let link = Link::new(self.alloc, text.as_bytes(), self.flushes_new)?;
+        let limits = self.settings.link_limits();
+        let link = Link::new(self.alloc, text.as_bytes(), self.flushes_new, limits)?;
         self.all.push(link)?;
         Ok(())
     }
@@ -217,6 +248,32 @@ impl Links {
     {
         if let Some(link) = self.all.get_mut(at) {
             link.empty_first();
+        }
+    }
+
+    /// The server of this number has these limits from now on.
+    pub fn limit(&mut self, at: usize, limits: LinkLimits)
+        ensures limited { LimitsAt at limits self.old.all.items self.new.all.items }
+        ensures lines { lines_of self.new.all.items ≡ lines_of self.old.all.items }
+    {
+        self.put_limits(at, limits);
+        self.note_limit(at)
+    }
+
+    fn put_limits(&mut self, at: usize, limits: LinkLimits)
+        ensures limited { LimitsAt at limits self.old.all.items self.new.all.items }
+        ensures lines { lines_of self.new.all.items ≡ lines_of self.old.all.items }
+    {
+        if let Some(link) = self.all.get_mut(at) {
+            link.limit(limits);
+        }
+    }
+
+    /// How many milliseconds a call to this server may take.
+    pub fn call_ms(&self, at: usize) -> u64 {
+        match self.all.get(at) {
+            Some(link) => link.limits.call_ms,
+            None => self.settings.call_ms,
         }
     }
 
@@ -471,7 +528,7 @@ impl Links {
         let Some(link) = self.all.get_mut(at) else {
             return false;
         };
-        if link.is_held_back(time, &self.settings) {
+        if link.is_held_back(time) {
             return false;
         }
         if link.conn.is_some() {
@@ -548,13 +605,13 @@ impl Links {
         ensures call { MatchOption result (lines_of self.new.all.items ≡ lines_of self.old.all.items) (λ call. LinksGive at call self.old.all.items self.new.all.items) }
     {
         let pace = self.pace;
-        let settings = self.settings;
-        self.all.get_mut(at)?.next_too_late(pace, &settings)
+        self.all.get_mut(at)?.next_too_late(pace)
     }
 
     /// The call is written to the link, or given back. `now` is in microseconds.
     pub fn write_call(&mut self, at: usize, call: SentCall, now: u64) -> Result<(), SentCall>
         ensures ok { OnOk result (LinksTake at call self.old.all.items self.new.all.items) }
+        ensures awaited { OnOk result (HoldsAwaitedAt at self.old.all.items) }
         ensures err { IfErr result (λ given. (given ≡ call) × (lines_of self.new.all.items ≡ lines_of self.old.all.items)) }
     {
         match self.all.get_mut(at) {
@@ -575,10 +632,10 @@ impl Links {
 
     /// Whether the link's connection was begun longer ago than one may take to stand, and doesn't.
     pub fn is_connect_late(&self, at: usize, now: u64) -> bool
-        ensures { result ≡ true → IsConnectLateAt at self.now.settings.connect_ms now self.now.all.items }
+        ensures { result ≡ true → IsConnectLateAt at now self.now.all.items }
     {
         match self.all.get(at) {
-            Some(link) => link.is_connect_late(now, &self.settings),
+            Some(link) => link.is_connect_late(now),
             None => false,
         }
     }

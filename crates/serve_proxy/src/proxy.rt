@@ -1,18 +1,21 @@
 //! The proxy's end, and its turns: what is ready is read, what was asked goes to the links and what was answered to the
 //! clients, and then each end that has something to send is written once.
 
-ghost use Rattle.std.specs.Prelude.{◌≡◌, ◌↔◌, [], ◌∷◌, ◌++◌, drop, length, true, IsTrue, IfOk, IfErr, OnOk, OnErr};
+ghost use Rattle.std.specs.Prelude.{◌≡◌, ◌↔◌, ◌≤◌, [], ◌∷◌, ◌++◌, drop, length, true, IsTrue, IfOk, IfErr, OnOk, OnErr};
 ghost use Rattle.core_accepted.specs.Loading.{IsLoaded};
 ghost use Rattle.serve_wire.specs.Events.{looks_up};
 ghost use Rattle.serve_links.specs.CoreSteps.{GoesOn, Fails};
+ghost use Rattle.serve_links.specs.Lateness.{usual_limits};
 ghost use Rattle.serve_links.specs.Links.{IsDownAt, IsClosedAt};
 ghost use Rattle.serve_links.specs.Story.{Agrees, texts_of};
 ghost use Rattle.serve_proxy.specs.Ends.{Stay, end_of, AllGoOn, AllDrop, AllLoad, HasNoConns};
 ghost use Rattle.core_accepted.specs.Logs.{TreesAreSound};
 ghost use Rattle.serve_proxy.specs.LogsGoOn.{LogsAreFresh};
+ghost use Rattle.serve_proxy.specs.Stalls.{held_by_all};
 ghost use Rattle.serve_proxy.specs.Stillness.{IsStill};
 ghost use Rattle.serve_proxy.specs.Beginning.{BeginsFresh, BeginsUnchecked, LoadStops};
 ghost use Rattle.serve_proxy.specs.Emptying.{EmptiesAt};
+ghost use Rattle.serve_proxy.specs.Limiting.{LimitsAt};
 ghost use Rattle.serve_proxy.specs.Epochs.{AreInTurn};
 
 use crate::accepting::accept_ready;
@@ -26,14 +29,14 @@ use crate::sending::{send_clients, send_links};
 use crate::serving::{serve_all, serve_asks};
 use crate::showing::give_back_room;
 use crate::sockets::Sockets;
-use crate::stalls::close_slow;
+use crate::stalls::{USUAL_MOST, close_slow};
 use core_accepted::laws::{accepted_trees_are_sound, begun_core_is_fresh};
 use core_accepted::{Beginnings, LoadFault, ServedCore};
 use gate_check::{Accepted, ReloadFault};
 use route_json::Config;
 use route_json::addresses::{Servers, address_in};
 use route_tree::Tree;
-use serve_links::{Cause, Link, LinkNews, Settings, Tally};
+use serve_links::{Cause, Link, LinkLimits, LinkNews, Settings, Tally};
 use serve_wire::Wire;
 use std::alloc::{AllocError, Global};
 use std::io;
@@ -47,6 +50,8 @@ pub struct ProxyEnd<W: Wire> {
     // On the heap, so that whoever owns an end drops it by one call.
     core: Box<ServedCore>,
     sockets: Sockets<W>,
+    // How many bytes are held for all clients after a turn at most. Each one's share is a part of that.
+    most: usize,
 }
 
 // The stages of a turn.
@@ -55,8 +60,10 @@ fn run_turn<W: Wire, R: Net + Clock>(
     core: &mut ServedCore,
     sockets: &mut Sockets<W>,
     limit: Option<Duration>,
+    most: usize,
 ) -> io::Result<()>
     ensures ends { AllGoOn W.history core.old sockets.old core.new sockets.new }
+    ensures bounded { OnOk result (held_by_all sockets.new.clients ≤ most) }
     ensures refused { OnErr result (core.new ≡ core.old) }
 {
     // Something is waited for, and what is ready is noted.
@@ -79,7 +86,7 @@ fn run_turn<W: Wire, R: Net + Clock>(
     // Replies go out.
     send_clients(core, sockets);
     // Clients are closed that take too little.
-    close_slow(core, sockets);
+    close_slow(core, sockets, most);
     Ok(())
 }
 
@@ -131,6 +138,7 @@ impl<W: Wire> ProxyEnd<W> {
         ProxyEnd {
             core,
             sockets: Sockets::new(alloc, wire, links),
+            most: USUAL_MOST,
         }
     }
 
@@ -179,6 +187,22 @@ impl<W: Wire> ProxyEnd<W> {
         self.sockets.links.empty_first(server);
     }
 
+    /// The server of this number has these limits from now on.
+    pub fn limit(&mut self, server: usize, limits: LinkLimits)
+        ensures limited { LimitsAt server limits self.old.sockets.links.all.items self.new.sockets.links.all.items }
+        ensures core { self.new.core ≡ self.old.core }
+        ensures ends { Stay W.history self.old.sockets self.new.sockets }
+    {
+        self.sockets.links.limit(server, limits);
+    }
+
+    /// The limits of a server that has none of its own.
+    pub fn usual_limits(&self) -> LinkLimits
+        ensures { result ≡ usual_limits self.now.sockets.links.settings }
+    {
+        self.sockets.links.settings.link_limits()
+    }
+
     /// Where servers have epochs: calls go to a server while no later one has its address, and once the earlier ones there have no calls any more; all others fail at once.
     /// Whether none is waited for. It is asked after a load, and after each turn until it says so.
     pub fn keep_epochs(&mut self, servers: &Servers) -> bool
@@ -199,11 +223,13 @@ impl<W: Wire> ProxyEnd<W> {
     }
 
     /// A client is closed that takes nothing for so many milliseconds, while more than 1 MiB is to be sent to it; and where more bytes than these
-    /// are to be sent to all, the client to which most are. Without it, ten seconds and 1 GiB.
+    /// are held for all, the client for which most are. Without it, ten seconds and 1 GiB.
     pub fn bound_clients(&mut self, ms: u64, most: usize)
+        ensures most { self.new.most ≡ most }
         ensures core { self.new.core ≡ self.old.core }
         ensures ends { Stay W.history self.old.sockets self.new.sockets }
     {
+        self.most = most;
         self.sockets.stalls.bound(ms, most);
     }
 
@@ -292,21 +318,25 @@ impl<W: Wire> ProxyEnd<W> {
     pub fn turn<R: Net + Clock>(&mut self, rt: &R) -> io::Result<()>
         ensures core { GoesOn self.old.core.value self.new.core.value }
         ensures ends { AllGoOn W.history self.old.core.value self.old.sockets self.new.core.value self.new.sockets }
+        ensures bounded { OnOk result (held_by_all self.new.sockets.clients ≤ self.old.most) }
+        ensures most { self.new.most ≡ self.old.most }
         ensures refused { OnErr result (self.new.core ≡ self.old.core) }
     {
         let limit = self.sockets.wait_limit(rt)?;
-        run_turn(rt, self.core.as_mut(), &mut self.sockets, limit)
+        run_turn(rt, self.core.as_mut(), &mut self.sockets, limit, self.most)
     }
 
     /// The same, but it waits this long at most, so that several ends can be turned in one thread.
     pub fn turn_within<R: Net + Clock>(&mut self, rt: &R, most: Duration) -> io::Result<()>
         ensures core { GoesOn self.old.core.value self.new.core.value }
         ensures ends { AllGoOn W.history self.old.core.value self.old.sockets self.new.core.value self.new.sockets }
+        ensures bounded { OnOk result (held_by_all self.new.sockets.clients ≤ self.old.most) }
+        ensures most { self.new.most ≡ self.old.most }
         ensures refused { OnErr result (self.new.core ≡ self.old.core) }
     {
         let limit = self.sockets.wait_limit(rt)?;
         let limit = Some(at_most(limit, most));
-        run_turn(rt, self.core.as_mut(), &mut self.sockets, limit)
+        run_turn(rt, self.core.as_mut(), &mut self.sockets, limit, self.most)
     }
 
     /// What was held back goes to its clients, as far as they take it: for whoever turns it no more.

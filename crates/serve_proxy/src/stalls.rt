@@ -1,8 +1,8 @@
 //! Clients that take nothing of much that is to be sent to them, or for whom too much is held: since when, and which are closed for that.
 
-ghost use Rattle.std.specs.Prelude.{IfSome, ◌≡◌, ◌≢◌, ◌↔◌, ℕ, ◌<◌, ◌-◌, IsTrue, false, OnOk, None, length, min, sum, slice_set};
+ghost use Rattle.std.specs.Prelude.{IfSome, [], ◌≡◌, ◌≢◌, ◌↔◌, ℕ, ◌<◌, ◌≤◌, ◌-◌, IsTrue, false, OnOk, None, length, min, sum, slice_set};
 ghost use Rattle.serve_proxy.specs.Ends.{Stay, AllGoOn, AllGoBreaking};
-ghost use Rattle.serve_proxy.specs.Stalls.{since_of, since_by, HasStalled, OnlyStalled, HasMost, OnlyMost, greater_of};
+ghost use Rattle.serve_proxy.specs.Stalls.{since_of, since_by, HasStalled, OnlyStalled, HasMost, OnlyMost, greater_of, held_by_all, holders};
 ghost use Rattle.serve_proxy.specs.Budgets.{others_than, share_by};
 ghost use Rattle.serve_clients.specs.Marks.{client_of};
 ghost use Rattle.serve_clients.specs.Holdings.{held_at};
@@ -12,7 +12,7 @@ use crate::clock::earlier;
 use crate::sending::write_client;
 use crate::sockets::Sockets;
 use core_accepted::ServedCore;
-use serve_clients::Client;
+use serve_clients::{Client, Clients};
 use serve_wire::Wire;
 use std::alloc::{AllocError, Global};
 
@@ -22,8 +22,8 @@ const MUCH: usize = 1_048_576;
 // How many milliseconds a client may take nothing, where nothing else is set.
 const USUAL_MS: u64 = 10_000;
 
-// How many bytes are held for all clients at most, where nothing else is set.
-const USUAL_MOST: usize = 1_073_741_824;
+/// How many bytes are held for all clients at most, where nothing else is set.
+pub const USUAL_MOST: usize = 1_073_741_824;
 
 // What is to be told is told once in so many milliseconds at most.
 const QUIET_MS: u64 = 1_000;
@@ -121,13 +121,13 @@ impl Stalls {
         self.is_short = self.is_short || is_so;
     }
 
-    // Whether more bytes are held for all than may be, or memory was refused since that was asked last.
-    fn has_too_much(&mut self) -> bool
+    // Whether memory was refused for what a server sent, since that was asked last.
+    fn was_short(&mut self) -> bool
         ensures { self.new ≡ record self.old { is_short = false } }
     {
         let is_short = self.is_short;
         self.is_short = false;
-        is_short || self.budget.is_over()
+        is_short
     }
 
     // Nobody has stalled before this time, either.
@@ -232,31 +232,50 @@ impl Stalls {
     }
 }
 
-/// After all clients were written, those that have stalled are broken off, and those for which most is held, if too much is for all.
-pub fn close_slow<W: Wire>(core: &ServedCore, sockets: &mut Sockets<W>)
+/// After all clients were written, those that have stalled are broken off, and those for which most is held, until no more than so many bytes
+/// are held for all.
+pub fn close_slow<W: Wire>(core: &ServedCore, sockets: &mut Sockets<W>, most: usize)
     ensures ends { AllGoOn W.history core.now sockets.old core.now sockets.new }
+    ensures bounded { held_by_all sockets.new.clients ≤ most }
 {
     end_stalled(core, sockets);
-    shed(core, sockets);
+    shed(core, sockets, most);
 }
 
-// Where more bytes are held for all clients than may be, the client for which most are is broken off, until no more are than that; and once where
+// Where more bytes than these are held for all clients, the client for which most are is broken off, until no more are than that; and once where
 // memory was refused for what a server sent.
-fn shed<W: Wire>(core: &ServedCore, sockets: &mut Sockets<W>)
+fn shed<W: Wire>(core: &ServedCore, sockets: &mut Sockets<W>, most: usize)
     ensures ends { AllGoOn W.history core.now sockets.old core.now sockets.new }
+    ensures bounded { held_by_all sockets.new.clients ≤ most }
 {
     for _ in 0..sockets.clients.len() {
-        if !sockets.stalls.has_too_much() {
+        if !sockets.has_too_much(most) {
             return;
         }
         shed_one(core, sockets);
     }
 }
 
+// Whether more bytes than these are held for all clients together.
+fn hold_more(clients: &Clients, most: usize) -> bool
+    ensures { IsTrue result ↔ (most < held_by_all clients.now) }
+{
+    let mut left = most;
+    for id in 0..clients.len() {
+        let held = clients.held(id);
+        if held > left {
+            return true;
+        }
+        left -= held;
+    }
+    false
+}
+
 // The client for which most is held is broken off.
 fn shed_one<W: Wire>(core: &ServedCore, sockets: &mut Sockets<W>)
     ensures ends { AllGoOn W.history core.now sockets.old core.now sockets.new }
     ensures only { OnlyMost sockets.old.clients sockets.new.clients }
+    ensures fewer { holders sockets.new.clients ≤ holders sockets.old.clients - 1 }
 {
     let Some(id) = sockets.greatest() else {
         return;
@@ -319,9 +338,20 @@ fn write_again<W: Wire>(core: &ServedCore, sockets: &mut Sockets<W>, id: usize)
 }
 
 impl<W: Wire> Sockets<W> {
-    // The client for which most bytes are held.
+    // Whether more bytes than these are held for all clients, or memory was refused since that was asked last.
+    fn has_too_much(&mut self, most: usize) -> bool
+        ensures ends { Stay W.history self.old self.new }
+        ensures bounded { result ≡ false → held_by_all self.old.clients ≤ most }
+        ensures clients { self.new.clients ≡ self.old.clients }
+    {
+        let is_more = hold_more(&self.clients, most);
+        self.stalls.was_short() || is_more
+    }
+
+    // The client for which most bytes are held. There is none only where nobody is there.
     fn greatest(&self) -> Option<usize>
-        ensures { IfSome result (HasMost self.now.clients) }
+        ensures most { IfSome result (HasMost self.now.clients) }
+        ensures none { result ≡ None → self.now.clients.all.items ≡ [] }
     {
         match self.greatest_with() {
             Some((id, _)) => Some(id),
@@ -331,7 +361,8 @@ impl<W: Wire> Sockets<W> {
 
     // The same, and how many.
     fn greatest_with(&self) -> Option<(usize, usize)>
-        ensures { IfSome result (λ found. HasMost self.now.clients found.0) }
+        ensures most { IfSome result (λ found. HasMost self.now.clients found.0) }
+        ensures none { result ≡ None → self.now.clients.all.items ≡ [] }
     {
         let mut best = None;
         for id in 0..self.clients.len() {
@@ -362,9 +393,12 @@ impl<W: Wire> Sockets<W> {
     fn break_client(&mut self, id: usize)
         ensures ends { AllGoBreaking W.history id self.old self.new }
         ensures others { (other : ℕ) → other ≢ id → client_of self.new.clients other ≡ client_of self.old.clients other }
+        ensures none { held_at self.new.clients id ≡ 0 }
+        ensures places { length self.new.clients.all.items ≡ length self.old.clients.all.items }
     {
-        if let Some(client) = self.clients.get_mut(id) {
-            client.break_off();
+        match self.clients.get_mut(id) {
+            Some(client) => client.break_off(),
+            None => {}
         }
     }
 

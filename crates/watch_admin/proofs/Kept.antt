@@ -3,7 +3,7 @@ use Rattle.std.proofs.Common.{◌≡◌, ◌∙◌, List, ℕ, [], ◌++◌, ap,
 use Rattle.std.proofs.Math.Logic.{∥∥₁_map}
 use Rattle.watch_admin.specs.declared.http.request.Page.{Page}
 use Rattle.watch_admin.specs.declared.http.request.Refusal.{Refusal}
-use Rattle.watch_admin.specs.declared.http.request.Asked.TheVariants.{Unfinished, For, Refused}
+use Rattle.watch_admin.specs.declared.http.request.AskedPage.TheVariants.{Unfinished, For, Refused}
 use Rattle.watch_admin.specs.HttpRequests.{Asks}
 use Rattle.watch_admin.specs.HttpReplies.{page_text, refusal_text, Answers}
 use Rattle.watch_admin.proofs.Empty.{empty_has_none}

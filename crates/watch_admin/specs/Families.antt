@@ -2,8 +2,8 @@
 use Rattle.std.specs.Prelude.{ℕ, ◌/◌, ◌%◌, List, ◌++◌, codes, decimal}
 use Rattle.watch_admin.specs.declared.families.Amount.{Amount}
 use Rattle.watch_admin.specs.declared.families.Amount.TheVariants.{Count, Millis, Micros}
-use Rattle.watch_admin.specs.declared.families.Kind.{Kind}
-use Rattle.watch_admin.specs.declared.families.Kind.TheVariants.{Counter, Gauge, Histogram}
+use Rattle.watch_admin.specs.declared.families.MetricKind.{MetricKind}
+use Rattle.watch_admin.specs.declared.families.MetricKind.TheVariants.{Counter, Gauge, Histogram}
 
 -- the last three digits
 abbrev pub three_digits : ℕ → List ℕ
@@ -15,7 +15,7 @@ amount_text (Count count) = decimal count
 amount_text (Millis millis) = decimal (millis / 1000) ++ codes "." ++ three_digits millis
 amount_text (Micros micros) = decimal (micros / 1000000) ++ codes "." ++ three_digits (micros / 1000) ++ three_digits micros
 
-abbrev pub kind_text : Kind → List ℕ
+abbrev pub kind_text : MetricKind → List ℕ
 kind_text Counter = codes "counter"
 kind_text Gauge = codes "gauge"
 kind_text Histogram = codes "histogram"

@@ -4,7 +4,7 @@ use Rattle.watch_admin.specs.declared.http.request.Page.{Page}
 use Rattle.watch_admin.specs.declared.http.request.Page.TheVariants.{Home, Config, Metrics, Stats}
 use Rattle.watch_admin.specs.declared.http.request.Refusal.{Refusal}
 use Rattle.watch_admin.specs.declared.http.request.Refusal.TheVariants.{Bad, NotFound, NotAllowed, TooLarge}
-use Rattle.watch_admin.specs.declared.http.request.Asked.TheVariants.{For, Refused}
+use Rattle.watch_admin.specs.declared.http.request.AskedPage.TheVariants.{For, Refused}
 use Rattle.watch_admin.specs.HttpRequests.{Asks}
 
 abbrev pub kind_of : Page → List ℕ

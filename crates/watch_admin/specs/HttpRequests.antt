@@ -5,8 +5,8 @@ use Rattle.httparse.specs.Spans.{RequestExceeds}
 use Rattle.watch_admin.specs.declared.http.request.Page.{Page}
 use Rattle.watch_admin.specs.declared.http.request.Page.TheVariants.{Home, Config, Metrics, Stats}
 use Rattle.watch_admin.specs.declared.http.request.Refusal.TheVariants.{Bad, NotFound, NotAllowed, TooLarge}
-use Rattle.watch_admin.specs.declared.http.request.Asked.{Asked}
-use Rattle.watch_admin.specs.declared.http.request.Asked.TheVariants.{Unfinished, For, Refused}
+use Rattle.watch_admin.specs.declared.http.request.AskedPage.{AskedPage}
+use Rattle.watch_admin.specs.declared.http.request.AskedPage.TheVariants.{Unfinished, For, Refused}
 
 -- the path of a page
 abbrev pub path_of : Page → List ℕ
@@ -16,7 +16,7 @@ path_of Metrics = codes "/metrics"
 path_of Stats = codes "/stats.json"
 
 -- a request of this method and path asks for this
-abbrev pub AsksBy : List ℕ → List ℕ → Asked → Type 0
+abbrev pub AsksBy : List ℕ → List ℕ → AskedPage → Type 0
 AsksBy method path Unfinished = ⊥
 AsksBy method path (For page) = (method ≡ codes "GET") × (path ≡ path_of page)
 AsksBy method path (Refused Bad) = ⊥
@@ -25,11 +25,11 @@ AsksBy method path (Refused NotAllowed) = method ≢ codes "GET"
 AsksBy method path (Refused TooLarge) = ⊥
 
 -- the bytes begin with a request that asks for this
-abbrev pub BeginAsking : List ℕ → Asked → Type 0
+abbrev pub BeginAsking : List ℕ → AskedPage → Type 0
 BeginAsking bytes asked = (head : RequestHead) × (rest : List ℕ) × ReadsRequest bytes head rest × AsksBy head.method head.target asked
 
 -- the bytes ask for this: with less than 8 KiB of a head that isn't whole for nothing yet; a head with more than 64 fields is too large
-abbrev pub Asks : List ℕ → Asked → Type 0
+abbrev pub Asks : List ℕ → AskedPage → Type 0
 Asks bytes Unfinished = HasNoRequest bytes × (length bytes < 8192)
 Asks bytes (For page) = BeginAsking bytes (For page)
 Asks bytes (Refused Bad) = NeverHasRequest bytes

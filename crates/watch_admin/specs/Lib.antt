@@ -8,3 +8,4 @@ pub mod HttpExchanges
 pub mod ControlRequests
 pub mod ControlAnswers
 pub mod ControlExchanges
+pub mod Sending

@@ -19,7 +19,7 @@ pub enum Amount {
 
 /// What becomes of a number.
 #[derive(Clone, Copy, PartialEq, Eq)]
-pub enum Kind {
+pub enum MetricKind {
     /// It grows while the program runs.
     Counter,
     /// It goes up and down.
@@ -71,7 +71,7 @@ pub struct Spread {
 pub struct Family {
     /// Letters and `_`.
     pub name: &'static str,
-    pub kind: Kind,
+    pub kind: MetricKind,
     /// What they tell, in a line without a backslash.
     pub help: &'static str,
     pub samples: Samples,
@@ -115,14 +115,14 @@ impl Display for Amount {
 }
 
 /// `counter`, `gauge` or `histogram`.
-impl Display for Kind {
+impl Display for MetricKind {
     ghost output = { λ k. Some (kind_text k) };
 
     fn fmt<W: fmt::Write>(&self, f: &mut fmt::Formatter<W>) -> fmt::Result {
         match *self {
-            Kind::Counter => f.write_str("counter"),
-            Kind::Gauge => f.write_str("gauge"),
-            Kind::Histogram => f.write_str("histogram"),
+            MetricKind::Counter => f.write_str("counter"),
+            MetricKind::Gauge => f.write_str("gauge"),
+            MetricKind::Histogram => f.write_str("histogram"),
         }
     }
 }

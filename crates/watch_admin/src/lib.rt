@@ -2,6 +2,7 @@
 //! HTTP ([`http`]); and what it is told on its control socket ([`control`]).
 #![tactic(auto)]
 
+pub mod connections;
 pub mod control;
 pub mod families;
 pub mod http;

@@ -1,6 +1,6 @@
 //! What a running proxy tells of itself, and the families of these numbers.
 
-use crate::families::{Amount, Family, Kind, Label, Sample, Samples, Spread};
+use crate::families::{Amount, Family, Label, MetricKind, Sample, Samples, Spread};
 use std::alloc::{AllocError, Global};
 
 /// The program and what it uses.
@@ -77,11 +77,25 @@ pub struct SpanNumbers {
     pub count: u64,
 }
 
+/// How long a server is waited for, and after how many failures it is left alone for how long.
+#[derive(Clone, Copy)]
+pub struct LimitNumbers {
+    /// How long a call may take.
+    pub call_ms: u64,
+    /// How long a connection may take to stand.
+    pub connect_ms: u64,
+    /// After how many failures in a row its calls fail at once.
+    pub failures: u64,
+    /// For how long they do.
+    pub retry_ms: u64,
+}
+
 /// One of its servers.
 #[derive(Drop)]
 pub struct ServerNumbers {
     /// Its text in the configuration.
     pub text: String,
+    pub limits: LimitNumbers,
     /// Whether a connection to it stands, and no answer of it is late.
     pub is_up: bool,
     /// Whether answers of it are late.
@@ -114,7 +128,7 @@ pub struct Numbers {
     pub scrapes: u64,
 }
 
-fn one(name: &'static str, kind: Kind, help: &'static str, amount: Amount) -> Family {
+fn one(name: &'static str, kind: MetricKind, help: &'static str, amount: Amount) -> Family {
     Family {
         name,
         kind,
@@ -124,14 +138,14 @@ fn one(name: &'static str, kind: Kind, help: &'static str, amount: Amount) -> Fa
 }
 
 fn counter(name: &'static str, help: &'static str, count: u64) -> Family {
-    one(name, Kind::Counter, help, Amount::Count(count))
+    one(name, MetricKind::Counter, help, Amount::Count(count))
 }
 
 fn gauge(name: &'static str, help: &'static str, count: u64) -> Family {
-    one(name, Kind::Gauge, help, Amount::Count(count))
+    one(name, MetricKind::Gauge, help, Amount::Count(count))
 }
 
-fn each(name: &'static str, kind: Kind, help: &'static str, samples: Vec<Sample>) -> Family {
+fn each(name: &'static str, kind: MetricKind, help: &'static str, samples: Vec<Sample>) -> Family {
     Family {
         name,
         kind,
@@ -187,19 +201,19 @@ fn add_process(
     builds.push(sample(alloc, "version", process.version.as_str(), 1)?)?;
     families.push(each(
         "mcgate_build_info",
-        Kind::Gauge,
+        MetricKind::Gauge,
         "The version that runs.",
         builds,
     ))?;
     families.push(one(
         "mcgate_uptime_seconds",
-        Kind::Gauge,
+        MetricKind::Gauge,
         "For how long it has run.",
         Amount::Millis(process.uptime_ms),
     ))?;
     families.push(one(
         "mcgate_cpu_seconds_total",
-        Kind::Counter,
+        MetricKind::Counter,
         "Processor time that it used.",
         Amount::Millis(process.processor_ms),
     ))?;
@@ -232,7 +246,7 @@ fn add_config(
     reloads.push(sample(alloc, "verdict", "refused", config.refused)?)?;
     families.push(each(
         "mcgate_reloads_total",
-        Kind::Counter,
+        MetricKind::Counter,
         "New texts of its file, by what became of them.",
         reloads,
     ))?;
@@ -254,7 +268,7 @@ fn add_clients(
     came.push(sample(alloc, "verdict", "refused", clients.refused)?)?;
     families.push(each(
         "mcgate_client_connections_total",
-        Kind::Counter,
+        MetricKind::Counter,
         "Clients that came; those refused were too many.",
         came,
     ))?;
@@ -268,7 +282,7 @@ fn add_clients(
     bytes.push(sample(alloc, "direction", "out", clients.sent_bytes)?)?;
     families.push(each(
         "mcgate_client_bytes_total",
-        Kind::Counter,
+        MetricKind::Counter,
         "Bytes that came from clients, and that there were to send to them.",
         bytes,
     ))?;
@@ -311,7 +325,7 @@ fn add_commands(
     }
     families.push(each(
         "mcgate_commands_total",
-        Kind::Counter,
+        MetricKind::Counter,
         "Commands that have ended, one for each key: with an item in the reply, as an acknowledged delete, or otherwise.",
         samples,
     ))?;
@@ -325,15 +339,34 @@ enum ServerCount {
     Late,
     Connections,
     CallsOut,
+    CallLimit,
+    ConnectLimit,
+    FailLimit,
+    Retry,
 }
 
-fn server_count(server: &ServerNumbers, what: ServerCount) -> u64 {
+fn server_amount(server: &ServerNumbers, what: ServerCount) -> Amount {
     match what {
-        ServerCount::Up => u64::from(server.is_up),
-        ServerCount::Late => u64::from(server.is_late),
-        ServerCount::Connections => server.connections,
-        ServerCount::CallsOut => server.calls_out,
+        ServerCount::Up => Amount::Count(u64::from(server.is_up)),
+        ServerCount::Late => Amount::Count(u64::from(server.is_late)),
+        ServerCount::Connections => Amount::Count(server.connections),
+        ServerCount::CallsOut => Amount::Count(server.calls_out),
+        ServerCount::CallLimit => Amount::Millis(server.limits.call_ms),
+        ServerCount::ConnectLimit => Amount::Millis(server.limits.connect_ms),
+        ServerCount::FailLimit => Amount::Count(server.limits.failures),
+        ServerCount::Retry => Amount::Millis(server.limits.retry_ms),
     }
+}
+
+// A number of this server.
+fn amount_sample(
+    alloc: Global,
+    server: &ServerNumbers,
+    what: ServerCount,
+) -> Result<Sample, AllocError> {
+    let mut told = server_sample(alloc, server, 0)?;
+    told.amount = server_amount(server, what);
+    Ok(told)
 }
 
 // A number of each server.
@@ -344,7 +377,7 @@ fn server_samples(
 ) -> Result<Vec<Sample>, AllocError> {
     let mut samples = Vec::new(alloc);
     for server in servers {
-        samples.push(server_sample(alloc, server, server_count(server, what))?)?;
+        samples.push(amount_sample(alloc, server, what)?)?;
     }
     Ok(samples)
 }
@@ -444,16 +477,49 @@ fn add_calls(
 ) -> Result<(), AllocError> {
     families.push(each(
         "mcgate_server_calls_total",
-        Kind::Counter,
+        MetricKind::Counter,
         "Calls that went out to the server, by what became of them.",
         outcomes_of(alloc, servers)?,
     ))?;
     families.push(Family {
         name: "mcgate_server_call_seconds",
-        kind: Kind::Histogram,
+        kind: MetricKind::Histogram,
         help: "How long the server's answers took, from when the call went out.",
         samples: Samples::Times(spread_of(alloc, servers)?),
     })?;
+    Ok(())
+}
+
+// How long servers are waited for, and after how many failures they are left alone for how long.
+fn add_limits(
+    alloc: Global,
+    servers: &[ServerNumbers],
+    families: &mut Vec<Family>,
+) -> Result<(), AllocError> {
+    families.push(each(
+        "mcgate_server_call_limit_seconds",
+        MetricKind::Gauge,
+        "How long a call to the server may take.",
+        server_samples(alloc, servers, ServerCount::CallLimit)?,
+    ))?;
+    families.push(each(
+        "mcgate_server_connect_limit_seconds",
+        MetricKind::Gauge,
+        "How long a connection to the server may take to stand.",
+        server_samples(alloc, servers, ServerCount::ConnectLimit)?,
+    ))?;
+    families.push(each(
+        "mcgate_server_fail_limit",
+        MetricKind::Gauge,
+        "After how many failures in a row calls of the server fail at once.",
+        server_samples(alloc, servers, ServerCount::FailLimit)?,
+    ))?;
+    families.push(each(
+        "mcgate_server_retry_seconds",
+        MetricKind::Gauge,
+        "For how long they do, before one call tries it.",
+        server_samples(alloc, servers, ServerCount::Retry)?,
+    ))?;
     Ok(())
 }
 
@@ -464,34 +530,35 @@ fn add_servers(
 ) -> Result<(), AllocError> {
     families.push(each(
         "mcgate_server_up",
-        Kind::Gauge,
+        MetricKind::Gauge,
         "1 where a connection to the server stands.",
         server_samples(alloc, servers, ServerCount::Up)?,
     ))?;
     families.push(each(
         "mcgate_server_late",
-        Kind::Gauge,
+        MetricKind::Gauge,
         "1 while answers of the server to calls that have failed are still to come.",
         server_samples(alloc, servers, ServerCount::Late)?,
     ))?;
     families.push(each(
         "mcgate_server_connections_total",
-        Kind::Counter,
+        MetricKind::Counter,
         "Connections to the server that stood.",
         server_samples(alloc, servers, ServerCount::Connections)?,
     ))?;
     families.push(each(
         "mcgate_server_calls_out",
-        Kind::Gauge,
+        MetricKind::Gauge,
         "Calls at the server that wait for its answer.",
         server_samples(alloc, servers, ServerCount::CallsOut)?,
     ))?;
     families.push(each(
         "mcgate_server_failures_total",
-        Kind::Counter,
+        MetricKind::Counter,
         "Failures of the link to the server, by cause.",
         failures_of(alloc, servers)?,
     ))?;
+    add_limits(alloc, servers, families)?;
     add_calls(alloc, servers, families)
 }
 

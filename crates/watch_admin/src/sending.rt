@@ -1,6 +1,7 @@
 //! An answer that is sent, as far as it was taken.
 
 ghost use Rattle.std.specs.Prelude.{◌≡◌, ◌≤◌, length};
+ghost use Rattle.watch_admin.specs.Sending.{GoesUpTo};
 
 use std::io;
 use std::io::{ErrorKind, Write};
@@ -22,9 +23,10 @@ impl Sending {
         Sending { answer, sent: 0 }
     }
 
-    /// A stream is sent what it takes. Whether something is left that it may take later.
+    /// A stream is sent what it takes, in order and each byte once, also where an error comes. Whether something is left that it may take later.
     pub fn send<W: Write>(&mut self, stream: &mut W) -> io::Result<bool>
         ensures answer { self.new.answer.items ≡ self.old.answer.items }
+        ensures goes { GoesUpTo self.old.answer.items self.old.sent self.new.sent (W.contents stream.old) (W.contents stream.new) }
     {
         for _ in self.sent..self.answer.len() {
             match stream.write(&self.answer[self.sent..]) {

@@ -5,7 +5,7 @@ use std::fmt::Display;
 
 /// A moment, by how many milliseconds it is after the begin of 1970 in UTC.
 #[derive(Clone, Copy, PartialEq, Eq)]
-pub struct Moment(pub u64);
+pub struct UtcTime(pub u64);
 
 const DAY_MS: u64 = 86_400_000;
 
@@ -57,7 +57,7 @@ fn month_of(year: u64, day: u64) -> (usize, u64) {
     (11, left)
 }
 
-impl Display for Moment {
+impl Display for UtcTime {
     fn fmt<W: fmt::Write>(&self, f: &mut fmt::Formatter<W>) -> fmt::Result {
         let (year, day) = year_of(self.0 / DAY_MS);
         let (month, day) = month_of(year, day);

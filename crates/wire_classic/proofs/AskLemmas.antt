@@ -15,7 +15,7 @@ use Rattle.wire_classic.specs.Places.{order_in, keys_in}
 use Rattle.wire_parts.specs.Places.{IsIn}
 use Rattle.wire_parts.specs.Tests.{Word}
 use Rattle.wire_classic.specs.Order.{Order, Storing, Retrieval, Storage, Swapping, Deletion, Touching, Counting, OfItself}
-use Rattle.wire_classic.specs.Message.{Message, Begins, IsReadFrom, message_in}
+use Rattle.wire_classic.specs.Message.{Message, Begins, IsClassicReadFrom, message_in}
 use Rattle.wire_parts.specs.Message.{Served, Refusal}
 use Rattle.wire_classic.specs.Grammar.{classic_grammar, block_len}
 use Rattle.wire_classic.specs.Asks.{asks_by, asks_of, IsClassicAsk, retrieval_ask, store_ask, bare_ask, count_ask}
@@ -125,11 +125,11 @@ taken_all (x ∷ xs) zero e = absurd cc
 taken_all (x ∷ xs) (suc n) e = taken_all xs n e
 
 -- a request that was read is in its ranges
-pub request_sound : (bytes : List ℕ) (r : ClassicRequest) (command : ClassicCommand) → IsReadFrom bytes r → r.command ≡ command → IsSound (order_in bytes command)
+pub request_sound : (bytes : List ℕ) (r : ClassicRequest) (command : ClassicCommand) → IsClassicReadFrom bytes r → r.command ≡ command → IsSound (order_in bytes command)
 request_sound bytes r command h is = let s = is_served bytes (order_in bytes r.command) (text_at bytes r.block) r.used h.begins in subst (λ (k : ClassicCommand). IsSound (order_in bytes k)) is s.sound
 
 -- the asks of a request that was read are well formed
-pub asks_sound : (bytes : List ℕ) (r : ClassicRequest) → IsReadFrom bytes r → AllByRecursion IsClassicAsk (asks_of (message_in bytes r))
+pub asks_sound : (bytes : List ℕ) (r : ClassicRequest) → IsClassicReadFrom bytes r → AllByRecursion IsClassicAsk (asks_of (message_in bytes r))
 asks_sound bytes r h = of_message bytes (message_in bytes r) r.used h.begins
 
 -- the keys of a line, from its front

@@ -15,14 +15,14 @@ use Rattle.wire_classic.specs.declared.command.ClassicRequest.{ClassicRequest}
 use Rattle.wire_parts.specs.Tests.{Word}
 use Rattle.wire_classic.specs.Order.{Order, Retrieval, Storage, Swapping, Deletion, Touching, Counting, OfItself}
 use Rattle.wire_classic.specs.Places.{order_in, keys_in, AreIn, LiesIn}
-use Rattle.wire_classic.specs.Message.{IsReadFrom}
+use Rattle.wire_classic.specs.Message.{IsClassicReadFrom}
 use Rattle.wire_classic.specs.Asks.{asks_by, single_ask, listed, retrieval_ask, StandsAt, IsAt, IsWalk, first_place}
 use Rattle.wire_classic.specs.Laws.{WalkStill, AsksAreWellFormed}
 use Rattle.wire_classic.proofs.StreamLemmas.{read_still}
 use Rattle.wire_classic.proofs.AskLemmas.{request_sound, keys_line, found, taken_next, taken_all, of_message}
 
 -- a key of a line is one
-pub key_there : (bytes : List ℕ) (r : ClassicRequest) (e : Option ℤ) (w : Bool) (keys : Keys) (i : ℕ) (text : Word) → IsReadFrom bytes r → r.command ≡ commands.Retrieval w e keys → slice_get (keys_in bytes keys) i ≡ Some text → IsKey text
+pub key_there : (bytes : List ℕ) (r : ClassicRequest) (e : Option ℤ) (w : Bool) (keys : Keys) (i : ℕ) (text : Word) → IsClassicReadFrom bytes r → r.command ≡ commands.Retrieval w e keys → slice_get (keys_in bytes keys) i ≡ Some text → IsKey text
 key_there bytes r e w keys i text h is there = found IsKey (keys_in bytes keys) i text (request_sound bytes r (commands.Retrieval w e keys) h is).0 there
 
 pub nth_ask : (bytes block : List ℕ) (command : ClassicCommand) (e : Option ℤ) (w : Bool) (keys : Keys) (i : ℕ) (text : Word) → command ≡ commands.Retrieval w e keys → slice_get (keys_in bytes keys) i ≡ Some text
@@ -91,7 +91,7 @@ back_at bytes command e w keys at taken is h = subst (λ (k : ClassicCommand). I
 pub at_first : (bytes : List ℕ) (keys : Keys) → AreIn bytes keys → StandsAt bytes keys keys.span.start 0
 at_first bytes keys h = record { within = h.span.ordered; rest = keys_line bytes keys h.span }
 
-pub lies : (bytes : List ℕ) (r : ClassicRequest) (e : Option ℤ) (w : Bool) (keys : Keys) → IsReadFrom bytes r → r.command ≡ commands.Retrieval w e keys → AreIn bytes keys
+pub lies : (bytes : List ℕ) (r : ClassicRequest) (e : Option ℤ) (w : Bool) (keys : Keys) → IsClassicReadFrom bytes r → r.command ≡ commands.Retrieval w e keys → AreIn bytes keys
 lies bytes r e w keys h is = subst (λ (k : ClassicCommand). LiesIn bytes k) is h.placed.command
 
 pub first_ask : (o : Order) (block : List ℕ) (a : Ask) (i : ℕ) → single_ask o block ≡ Some a → i ≡ 0 → slice_get (asks_by o block) i ≡ Some a
@@ -117,7 +117,7 @@ at_start bytes (commands.Touching quiet key exptime) lies = tt
 at_start bytes (commands.Counting op quiet key delta) lies = tt
 at_start bytes (commands.Own own) lies = tt
 
-pub starts : (bytes : List ℕ) (r : ClassicRequest) (at : ℕ) → at ≡ first_place r.command → IsReadFrom bytes r → IsWalk bytes (record { request = r; at = at; taken = 0 })
+pub starts : (bytes : List ℕ) (r : ClassicRequest) (at : ℕ) → at ≡ first_place r.command → IsClassicReadFrom bytes r → IsWalk bytes (record { request = r; at = at; taken = 0 })
 starts bytes r at is h = record { read = h; place = subst (λ (n : ℕ). IsAt bytes r.command n 0) (sym is) (at_start bytes r.command h.placed.command) }
 
 front_is : (bytes more : List ℕ) (n : ℕ) → n ≤ length bytes → take n (bytes ++ more) ≡ take n bytes

@@ -15,7 +15,7 @@ use Rattle.wire_classic.specs.declared.asking.Asks.{Asks}
 use Rattle.wire_classic.specs.Order.{Order, Storing, Retrieval, Storage, Swapping, Deletion, Touching, Counting, OfItself}
 use Rattle.wire_classic.specs.Places.{keys_in}
 use Rattle.wire_classic.specs.Grammar.{own_by}
-use Rattle.wire_classic.specs.Message.{Message, IsReadFrom}
+use Rattle.wire_classic.specs.Message.{Message, IsClassicReadFrom}
 use Rattle.wire_parts.specs.Message.{Served, Refusal}
 
 -- an operation on a key, and nothing else
@@ -110,7 +110,7 @@ first_place _ = 0
 
 -- a walk over the asks of a request of these bytes
 pub record IsWalk (bytes : List ℕ) (a : Asks) : Type 0 where
-  pub read : IsReadFrom bytes a.request
+  pub read : IsClassicReadFrom bytes a.request
   pub place : IsAt bytes a.request.command a.at a.taken
 
 -- how many were taken after this answer

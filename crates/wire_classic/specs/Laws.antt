@@ -4,7 +4,7 @@ use Rattle.std.specs.List.{AllByRecursion}
 use Rattle.wire_parts.specs.Laws as laws
 use Rattle.wire_classic.specs.Grammar.{classic_grammar}
 use Rattle.wire_classic.specs.declared.command.ClassicRequest.{ClassicRequest}
-use Rattle.wire_classic.specs.Message.{Message, Begins, IsReadFrom, message_in}
+use Rattle.wire_classic.specs.Message.{Message, Begins, IsClassicReadFrom, message_in}
 use Rattle.wire_classic.specs.declared.asking.Asks.{Asks}
 use Rattle.wire_classic.specs.Asks.{asks_of, IsClassicAsk, IsWalk}
 
@@ -18,7 +18,7 @@ OneMessage = laws.OneMessage classic_grammar
 
 -- a request that was read is the same request when more has come
 abbrev pub ReadStill : Type 0
-ReadStill = (bytes more : List ℕ) (request : ClassicRequest) → IsReadFrom bytes request → IsReadFrom (bytes ++ more) request × (message_in (bytes ++ more) request ≡ message_in bytes request)
+ReadStill = (bytes more : List ℕ) (request : ClassicRequest) → IsClassicReadFrom bytes request → IsClassicReadFrom (bytes ++ more) request × (message_in (bytes ++ more) request ≡ message_in bytes request)
 
 -- no message begins with a line that is too long, whatever follows
 abbrev pub TooLongBeginsNothing : Type 0

@@ -46,7 +46,7 @@ pub record IsPlaced (bytes : List ℕ) (r : ClassicRequest) : Type 0 where
   pub block : IsIn (length bytes) r.block
 
 -- the bytes begin with this request
-pub record IsReadFrom (bytes : List ℕ) (r : ClassicRequest) : Type 0 where
+pub record IsClassicReadFrom (bytes : List ℕ) (r : ClassicRequest) : Type 0 where
   pub placed : IsPlaced bytes r
   pub begins : Begins bytes (message_in bytes r) r.used
 
@@ -59,7 +59,7 @@ IsMeant bytes reads.TooLong found = ⊥
 
 -- what the bytes of a client begin with
 abbrev pub Reads : List ℕ → ClassicRead → Type 0
-Reads bytes (reads.Request r) = IsReadFrom bytes r
+Reads bytes (reads.Request r) = IsClassicReadFrom bytes r
 Reads bytes (reads.Refused why used skip) = Begins bytes (Refusal why skip) used
 Reads bytes reads.TooLong = IsTooLong bytes
 Reads bytes reads.More = (¬ IsTooLong bytes) × ((message : Message) (used : ℕ) → ¬ Begins bytes message used)

@@ -5,7 +5,7 @@ ghost use Rattle.text_words.specs.Word.{text_at};
 ghost use Rattle.mc_types.specs.Parts.{ask_of};
 ghost use Rattle.wire_parts.specs.Places.{IsIn};
 ghost use Rattle.wire_classic.specs.Places.{order_in, storing_in};
-ghost use Rattle.wire_classic.specs.Message.{IsReadFrom, message_in};
+ghost use Rattle.wire_classic.specs.Message.{IsClassicReadFrom, message_in};
 ghost use Rattle.wire_classic.specs.Asks.{asks_of, quiet_of, own_of, bare_ask, retrieval_ask, store_ask, single_ask, first_place, IsClassicAsk, IsWalk, counted};
 
 use crate::command::{ClassicCommand, ClassicRequest, Stored};
@@ -78,7 +78,7 @@ fn single<'a>(
     received: &'a Received,
     request: &ClassicRequest,
 ) -> Result<Option<AskParts<'a>>, AllocError>
-    requires { IsReadFrom received.now request.now }
+    requires { IsClassicReadFrom received.now request.now }
     ensures { IfOk result (λ parts. option_map ask_of parts ≡ single_ask (order_in received.now request.now.command) (text_at received.now request.now.block)) }
 {
     match request.command {
@@ -141,7 +141,7 @@ impl ClassicRequest {
 
     /// How many asks the request is: one for each key, none for a request of mcgate itself. It takes no memory.
     pub fn asks(&self) -> usize
-        ensures { (bytes : List ℕ) → IsReadFrom bytes self.now → result ≡ length (asks_of (message_in bytes self.now)) }
+        ensures { (bytes : List ℕ) → IsClassicReadFrom bytes self.now → result ≡ length (asks_of (message_in bytes self.now)) }
     {
         match self.command {
             ClassicCommand::Retrieval { keys, .. } => keys.count,
@@ -168,7 +168,7 @@ impl ClassicRequest {
     pub fn walk(&self) -> Asks
         ensures request { result.request ≡ self.now }
         ensures first { result.taken ≡ 0 }
-        ensures walk { (bytes : List ℕ) → IsReadFrom bytes self.now → IsWalk bytes result }
+        ensures walk { (bytes : List ℕ) → IsClassicReadFrom bytes self.now → IsWalk bytes result }
     {
         Asks {
             request: *self,
@@ -185,7 +185,7 @@ impl ClassicRequest {
         received: &'a Received,
         i: usize,
     ) -> Result<AskParts<'a>, AllocError>
-        requires read { IsReadFrom received.now self.now }
+        requires read { IsClassicReadFrom received.now self.now }
         requires there { i < length (asks_of (message_in received.now self.now)) }
         ensures value { IfOk result (λ parts. slice_get (asks_of (message_in received.now self.now)) i ≡ Some (ask_of parts)) }
         ensures ask { IfOk result (λ parts. IsClassicAsk (ask_of parts)) }

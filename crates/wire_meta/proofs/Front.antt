@@ -16,10 +16,10 @@ use Rattle.wire_meta.specs.declared.command.MetaRead.{MetaRead}
 use Rattle.wire_meta.specs.declared.command.MetaRead.TheVariants as reads
 use Rattle.wire_meta.specs.declared.command.MetaRequest.{MetaRequest}
 use Rattle.wire_meta.specs.Flags.{values_of}
-use Rattle.wire_meta.specs.Order.{Order, order_of}
+use Rattle.wire_meta.specs.Order.{MetaOrder, order_of}
 use Rattle.wire_meta.specs.Places.{order_in, flags_in, AreFlags, LiesIn}
 use Rattle.wire_meta.specs.Grammar.{meta_grammar, block_len}
-use Rattle.wire_meta.specs.Message.{Message, Begins, Reads, IsMeant, IsPlaced, meaning, message_in, command_block_len}
+use Rattle.wire_meta.specs.Message.{Message, Begins, Reads, IsMeant, IsMetaPlaced, meaning, message_in, command_block_len}
 use Rattle.wire_meta.specs.Laws.{ReadStill}
 
 flags_in-take : (n : ℕ) (bytes : List ℕ) (kind : Kind) (flags : Flags) → AreFlags kind (take n bytes) flags → flags_in (take n bytes) flags ≡ flags_in bytes flags
@@ -47,7 +47,7 @@ pub meaning-asked : (bytes : List ℕ) (end used : ℕ) (command : MetaCommand) 
 meaning-asked bytes end used command line within asked =
     let text = line_text bytes end used line in
     let len = text.1 in
-    let order : order_of (words (without_cr (take (used - 1) bytes))) ≡ Ok (order_in bytes command) = ap (λ (t : List ℕ). order_of (words t)) text.0 ∙ asked ∙ ap (λ (o : Order). Ok o) (order_in-take end bytes command within) in
+    let order : order_of (words (without_cr (take (used - 1) bytes))) ≡ Ok (order_in bytes command) = ap (λ (t : List ℕ). order_of (words t)) text.0 ∙ asked ∙ ap (λ (o : MetaOrder). Ok o) (order_in-take end bytes command within) in
     rw (order, len, block_len-order_in bytes command) refl
 
 -- what is read after the first line is what the stream begins with
@@ -68,13 +68,13 @@ no_word bytes end used line none =
 front_is : (bytes more : List ℕ) → take (length bytes) (bytes ++ more) ≡ bytes
 front_is bytes more = take_at bytes more (length bytes) refl
 
-still_placed : (bytes more : List ℕ) (r : MetaRequest) → IsPlaced bytes r → IsPlaced (bytes ++ more) r
+still_placed : (bytes more : List ℕ) (r : MetaRequest) → IsMetaPlaced bytes r → IsMetaPlaced (bytes ++ more) r
 still_placed bytes more r h = record {
   command = LiesIn-take (length bytes) (bytes ++ more) r.command (subst (λ (t : List ℕ). LiesIn t r.command) (sym (front_is bytes more)) h.command);
   block = record { ordered = h.block.ordered; within = let a = h.block.within in omega (arith, length-append bytes more) };
 }
 
-same_message : (bytes more : List ℕ) (r : MetaRequest) → IsPlaced bytes r → message_in (bytes ++ more) r ≡ message_in bytes r
+same_message : (bytes more : List ℕ) (r : MetaRequest) → IsMetaPlaced bytes r → message_in (bytes ++ more) r ≡ message_in bytes r
 same_message bytes more r h =
     let front = front_is bytes more in
     let lies : LiesIn (take (length bytes) (bytes ++ more)) r.command = subst (λ (t : List ℕ). LiesIn t r.command) (sym front) h.command in

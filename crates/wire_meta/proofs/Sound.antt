@@ -30,10 +30,10 @@ use Rattle.wire_meta.specs.declared.command.Verb.{Verb}
 use Rattle.wire_meta.specs.declared.command.Verb.TheVariants.{Keyed, Noop}
 use Rattle.wire_meta.specs.CommandWords.{verb_of}
 use Rattle.wire_meta.specs.Flags.{letter_of, text_of, or_else, says, read_in, values_of, tokens_in, store_mode, count_mode, mode_of, flags_of}
-use Rattle.wire_meta.specs.Order.{Order, Asking, OfItself, asking, storing, noop, mixes, comparing, ordered_by, order_of}
+use Rattle.wire_meta.specs.Order.{MetaOrder, Asking, OfItself, asking, storing, noop, mixes, comparing, ordered_by, order_of}
 use Rattle.wire_meta.specs.Places.{order_in, flags_in, LiesIn}
 use Rattle.wire_meta.specs.Grammar.{meta_grammar, block_len}
-use Rattle.wire_meta.specs.Message.{Begins, IsReadFrom}
+use Rattle.wire_meta.specs.Message.{Begins, IsMetaReadFrom}
 use Rattle.wire_meta.specs.Asks.{ask_by, asks_by, IsText, IsMetaAsk, get_op, store_op, bare_ask}
 use Rattle.wire_meta.specs.Laws.{AsksAreWellFormed}
 use Rattle.wire_meta.proofs.ServedLemmas.{served_by, are_let_through}
@@ -50,7 +50,7 @@ pub record IsSoundAsking (kind : Kind) (key : Word) (n : Option ℕ) (flags : Li
   pub texts : AllByRecursion IsText (tokens_in flags)
   pub short : IsShort n
 
-abbrev pub IsSound : Order → Type 0
+abbrev pub IsSound : MetaOrder → Type 0
 IsSound (Asking kind key n flags) = IsSoundAsking kind key n flags
 IsSound (OfItself own) = Unit {0}
 
@@ -59,7 +59,7 @@ sound_flags kind key n words flags k s e =
     let a = are_let_through kind [] words flags e in
     record { key_is = k; served = ap (λ ws. are_served (served_by kind) (tokens_in ws)) a.all_are ∙ a.served; texts = subst (λ ws. AllByRecursion IsText (tokens_in ws)) (sym a.all_are) a.texts; short = s }
 
-by_asking : (kind : Kind) (ws : List Word) (o : Order) → asking kind ws ≡ Ok o → IsSound o
+by_asking : (kind : Kind) (ws : List Word) (o : MetaOrder) → asking kind ws ≡ Ok o → IsSound o
 by_asking kind [] o h = absurd cc
 by_asking kind (k ∷ ws) o h =
     let a = passed (key_of k) _ o h in
@@ -73,7 +73,7 @@ compared flags all e = elim (cases_Bool (mixes (values_of Store flags))) [
   | inr other ↦ let f : ◌≡◌ {A = Result (List Word) RefusalReason} (Ok flags) (Ok all) = rw other at e in is_ok flags all f
 ]
 
-by_storing : (ws : List Word) (o : Order) → storing ws ≡ Ok o → IsSound o
+by_storing : (ws : List Word) (o : MetaOrder) → storing ws ≡ Ok o → IsSound o
 by_storing [] o h = absurd cc
 by_storing (k ∷ []) o h = absurd cc
 by_storing (k ∷ n ∷ ws) o h =
@@ -85,11 +85,11 @@ by_storing (k ∷ n ∷ ws) o h =
     let flags : flags_of Store [] ws ≡ Ok d.0 = c.1 ∙ ap (λ fs. Ok fs) (compared c.0 d.0 d.1) in
     subst IsSound e.1 (sound_flags Store a.0 (Some b.0) ws d.0 (a_key k a.0 a.1) e.0 flags)
 
-by_noop : (ws : List Word) (o : Order) → noop ws ≡ Ok o → IsSound o
+by_noop : (ws : List Word) (o : MetaOrder) → noop ws ≡ Ok o → IsSound o
 by_noop [] o h = subst IsSound (is_ok _ o h) tt
 by_noop (w ∷ ws) o h = absurd cc
 
-by_verb : (verb : Option Verb) (ws : List Word) (o : Order) → ordered_by verb ws ≡ Ok o → IsSound o
+by_verb : (verb : Option Verb) (ws : List Word) (o : MetaOrder) → ordered_by verb ws ≡ Ok o → IsSound o
 by_verb None ws o h = absurd cc
 by_verb (Some (Keyed Get)) ws o h = by_asking Get ws o h
 by_verb (Some (Keyed Store)) ws o h = by_storing ws o h
@@ -97,15 +97,15 @@ by_verb (Some (Keyed Delete)) ws o h = by_asking Delete ws o h
 by_verb (Some (Keyed Count)) ws o h = by_asking Count ws o h
 by_verb (Some Noop) ws o h = by_noop ws o h
 
-pub sound : (ws : List Word) (o : Order) → order_of ws ≡ Ok o → IsSound o
+pub sound : (ws : List Word) (o : MetaOrder) → order_of ws ≡ Ok o → IsSound o
 sound [] o h = absurd cc
 sound (w ∷ ws) o h = by_verb (verb_of w) ws o h
 
-block_short : (o : Order) (n : ℕ) → IsSound o → block_len o ≡ Some n → n ≤ data_limit
+block_short : (o : MetaOrder) (n : ℕ) → IsSound o → block_len o ≡ Some n → n ≤ data_limit
 block_short (Asking kind key len flags) n h e = subst IsShort e h.short
 block_short (OfItself own) n h e = absurd cc
 
-pub is_served : (bytes : List ℕ) (o : Order) (block : List ℕ) (used : ℕ) → Begins bytes (Served o block) used → IsServed meta_grammar IsSound o block
+pub is_served : (bytes : List ℕ) (o : MetaOrder) (block : List ℕ) (used : ℕ) → Begins bytes (Served o block) used → IsServed meta_grammar IsSound o block
 is_served = served_sound meta_grammar IsSound sound block_short
 
 one_read : {A : Type 0} (read : Word → Option A) (text : Word) (x : A) (b : Bool) → (if b then read text else None) ≡ Some x → (t : Word) × (read t ≡ Some x)
@@ -232,7 +232,7 @@ is_meta_ask Store key n ws block h le = record { well_formed = is_ask Store key 
 is_meta_ask Delete key n ws block h le = record { well_formed = is_ask Delete key n ws block h le; meta = refl; texts = h.texts }
 is_meta_ask Count key n ws block h le = record { well_formed = is_ask Count key n ws block h le; meta = refl; texts = h.texts }
 
-are_asks : (o : Order) (block : List ℕ) → IsSound o → length block ≤ data_limit → AllByRecursion IsMetaAsk (asks_by o block)
+are_asks : (o : MetaOrder) (block : List ℕ) → IsSound o → length block ≤ data_limit → AllByRecursion IsMetaAsk (asks_by o block)
 are_asks (Asking kind key n flags) block h le = (is_meta_ask kind key n flags block h le, tt)
 are_asks (OfItself own) block h le = tt
 
@@ -241,11 +241,11 @@ asks_are_well_formed bytes (Served o block) used b = let s = is_served bytes o b
 asks_are_well_formed bytes (Refusal why skip) used b = tt
 
 -- a request that was read
-pub request_sound : (bytes : List ℕ) (r : MetaRequest) (command : MetaCommand) → IsReadFrom bytes r → r.command ≡ command → IsSound (order_in bytes command)
+pub request_sound : (bytes : List ℕ) (r : MetaRequest) (command : MetaCommand) → IsMetaReadFrom bytes r → r.command ≡ command → IsSound (order_in bytes command)
 request_sound bytes r command h is = let s = is_served bytes (order_in bytes r.command) (text_at bytes r.block) r.used h.begins in subst (λ (k : MetaCommand). IsSound (order_in bytes k)) is s.sound
 
 -- the ask that is made of it
-pub made : (bytes : List ℕ) (r : MetaRequest) (key : Span) (flags : Flags) (len : Option ℕ) (kind : Kind) (k : Word) (t : List Token) (b : List ℕ) (ask : Ask) → IsReadFrom bytes r → r.command ≡ commands.Keyed kind len key flags → k ≡ text_at bytes key → t ≡ tokens_in (flags_in bytes flags) → b ≡ text_at bytes r.block → ask ≡ ask_by kind k flags.values t b → IsMetaAsk ask
+pub made : (bytes : List ℕ) (r : MetaRequest) (key : Span) (flags : Flags) (len : Option ℕ) (kind : Kind) (k : Word) (t : List Token) (b : List ℕ) (ask : Ask) → IsMetaReadFrom bytes r → r.command ≡ commands.Keyed kind len key flags → k ≡ text_at bytes key → t ≡ tokens_in (flags_in bytes flags) → b ≡ text_at bytes r.block → ask ≡ ask_by kind k flags.values t b → IsMetaAsk ask
 made bytes r key flags len kind k t b ask h is ke te be e =
     let command = commands.Keyed kind len key flags in
     let lies : LiesIn bytes command = subst (LiesIn bytes) is h.placed.command in

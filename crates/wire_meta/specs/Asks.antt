@@ -16,7 +16,7 @@ use Rattle.wire_meta.specs.declared.command.Kind.{Kind}
 use Rattle.wire_meta.specs.declared.command.Kind.TheVariants.{Get, Store, Delete, Count}
 use Rattle.wire_meta.specs.declared.command.Values.{Values}
 use Rattle.wire_meta.specs.Flags.{values_of, tokens_in}
-use Rattle.wire_meta.specs.Order.{Order, Asking, OfItself}
+use Rattle.wire_meta.specs.Order.{MetaOrder, Asking, OfItself}
 use Rattle.wire_meta.specs.Grammar.{own_by}
 use Rattle.wire_meta.specs.Message.{Message}
 
@@ -42,7 +42,7 @@ ask_by Delete key v wanted block = record (bare_ask ops.Delete key wanted) { cas
 ask_by Count key v wanted block = record (bare_ask (unwrap_or v.mode ops.Incr) key wanted) { exptime = v.exptime; cas = v.cas; delta = unwrap_or v.delta 1 }
 
 -- the ask of an order with its data block, if it is one
-abbrev pub single_ask : Order → List ℕ → Option Ask
+abbrev pub single_ask : MetaOrder → List ℕ → Option Ask
 single_ask (Asking kind key n flags) block = Some (ask_by kind key (values_of kind flags) (tokens_in flags) block)
 single_ask (OfItself own) block = None
 
@@ -51,7 +51,7 @@ listed None = []
 listed (Some ask) = ask ∷ []
 
 -- the asks of an order: one, or none
-abbrev pub asks_by : Order → List ℕ → List Ask
+abbrev pub asks_by : MetaOrder → List ℕ → List Ask
 asks_by order block = listed (single_ask order block)
 
 -- the asks of a message: a refused one has none
@@ -60,7 +60,7 @@ asks_of (Served order block) = asks_by order block
 asks_of (Refusal why skip) = []
 
 -- whether `q` stands on the line of an order
-abbrev pub is_quiet : Order → Bool
+abbrev pub is_quiet : MetaOrder → Bool
 is_quiet (Asking kind key n flags) = (values_of kind flags).quiet
 is_quiet (OfItself own) = false
 

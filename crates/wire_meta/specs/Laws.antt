@@ -4,7 +4,7 @@ use Rattle.std.specs.List.{AllByRecursion}
 use Rattle.wire_parts.specs.Laws as laws
 use Rattle.wire_meta.specs.Grammar.{meta_grammar}
 use Rattle.wire_meta.specs.declared.command.MetaRequest.{MetaRequest}
-use Rattle.wire_meta.specs.Message.{Message, Begins, IsReadFrom, message_in}
+use Rattle.wire_meta.specs.Message.{Message, Begins, IsMetaReadFrom, message_in}
 use Rattle.wire_meta.specs.Asks.{asks_of, IsMetaAsk}
 
 -- what the bytes begin with stays, whatever follows
@@ -17,7 +17,7 @@ OneMessage = laws.OneMessage meta_grammar
 
 -- a request that was read is the same request when more has come
 abbrev pub ReadStill : Type 0
-ReadStill = (bytes more : List ℕ) (request : MetaRequest) → IsReadFrom bytes request → IsReadFrom (bytes ++ more) request × (message_in (bytes ++ more) request ≡ message_in bytes request)
+ReadStill = (bytes more : List ℕ) (request : MetaRequest) → IsMetaReadFrom bytes request → IsMetaReadFrom (bytes ++ more) request × (message_in (bytes ++ more) request ≡ message_in bytes request)
 
 -- no message begins with a line that is too long, whatever follows
 abbrev pub TooLongBeginsNothing : Type 0

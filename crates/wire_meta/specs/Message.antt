@@ -10,13 +10,13 @@ use Rattle.wire_meta.specs.declared.command.MetaRead.TheVariants as reads
 use Rattle.wire_meta.specs.declared.command.MetaRequest.{MetaRequest}
 use Rattle.wire_meta.specs.declared.command.MetaCommand.{MetaCommand}
 use Rattle.wire_meta.specs.declared.command.MetaCommand.TheVariants as commands
-use Rattle.wire_meta.specs.Order.{Order}
+use Rattle.wire_meta.specs.Order.{MetaOrder}
 use Rattle.wire_meta.specs.Grammar.{meta_grammar}
 use Rattle.wire_meta.specs.Places.{order_in, LiesIn}
 
 -- a message: one that is served, with its data block, or one that is refused, with what is passed over after it
 abbrev pub Message : Type 0
-Message = parts.Message Order
+Message = parts.Message MetaOrder
 
 -- the length of the data block after a command, where one follows
 abbrev pub command_block_len : MetaCommand → Option ℕ
@@ -25,7 +25,7 @@ command_block_len (commands.Own own) = None
 
 -- a message, and how many bytes it takes; none where more must come
 abbrev pub Found : Type 0
-Found = parts.Found Order
+Found = parts.Found MetaOrder
 
 -- what the line of this text and the bytes after it are, unless more must come
 abbrev pub meaning : List ℕ → List ℕ → Found
@@ -40,25 +40,25 @@ abbrev pub message_in : List ℕ → MetaRequest → Message
 message_in bytes r = Served (order_in bytes r.command) (text_at bytes r.block)
 
 -- the spans of a request lie in the bytes
-pub record IsPlaced (bytes : List ℕ) (r : MetaRequest) : Type 0 where
+pub record IsMetaPlaced (bytes : List ℕ) (r : MetaRequest) : Type 0 where
   pub command : LiesIn bytes r.command
   pub block : IsIn (length bytes) r.block
 
 -- the bytes begin with this request
-pub record IsReadFrom (bytes : List ℕ) (r : MetaRequest) : Type 0 where
-  pub placed : IsPlaced bytes r
+pub record IsMetaReadFrom (bytes : List ℕ) (r : MetaRequest) : Type 0 where
+  pub placed : IsMetaPlaced bytes r
   pub begins : Begins bytes (message_in bytes r) r.used
 
 -- what was read after a line is what it means
 abbrev pub IsMeant : List ℕ → MetaRead → Found → Type 0
-IsMeant bytes (reads.Request r) found = IsPlaced bytes r × (found ≡ Some (message_in bytes r, r.used))
+IsMeant bytes (reads.Request r) found = IsMetaPlaced bytes r × (found ≡ Some (message_in bytes r, r.used))
 IsMeant bytes (reads.Refused why used skip) found = found ≡ Some (Refusal why skip, used)
 IsMeant bytes reads.More found = found ≡ None
 IsMeant bytes reads.TooLong found = ⊥
 
 -- what the bytes of a client begin with
 abbrev pub Reads : List ℕ → MetaRead → Type 0
-Reads bytes (reads.Request r) = IsReadFrom bytes r
+Reads bytes (reads.Request r) = IsMetaReadFrom bytes r
 Reads bytes (reads.Refused why used skip) = Begins bytes (Refusal why skip) used
 Reads bytes reads.TooLong = IsTooLong bytes
 Reads bytes reads.More = (¬ IsTooLong bytes) × ((message : Message) (used : ℕ) → ¬ Begins bytes message used)

@@ -18,9 +18,9 @@ use Rattle.wire_meta.specs.CommandWords.{verb_of}
 use Rattle.wire_meta.specs.Flags.{flags_of, values_of, is_some}
 
 -- what a request line asks: of a key, with the length of the data of `ms`, and the flags as they stand there; or of mcgate itself
-pub data Order : Type 0 where
-  Asking : (kind : Kind) (key : Word) (length : Option ℕ) (flags : List Word) → Order
-  OfItself : (own : ProxyCommand) → Order
+pub data MetaOrder : Type 0 where
+  Asking : (kind : Kind) (key : Word) (length : Option ℕ) (flags : List Word) → MetaOrder
+  OfItself : (own : ProxyCommand) → MetaOrder
 
 -- no mode, or that of a set
 abbrev pub sets : Option Op → Bool
@@ -37,7 +37,7 @@ abbrev pub comparing : List Word → Result (List Word) RefusalReason
 comparing flags = if mixes (values_of Store flags) then Err FlagNotServed else Ok flags
 
 -- `mg`, `md` and `ma`: key, flags
-abbrev pub asking : Kind → List Word → Result Order RefusalReason
+abbrev pub asking : Kind → List Word → Result MetaOrder RefusalReason
 asking kind [] = Err Unknown
 asking kind (key ∷ words) = do
   key ← key_of key
@@ -45,7 +45,7 @@ asking kind (key ∷ words) = do
   Ok (Asking kind key None flags)
 
 -- `ms`: key, length, flags
-abbrev pub storing : List Word → Result Order RefusalReason
+abbrev pub storing : List Word → Result MetaOrder RefusalReason
 storing (key ∷ length ∷ words) = do
   key ← key_of key
   length ← u32_of length
@@ -55,12 +55,12 @@ storing (key ∷ length ∷ words) = do
 storing _ = Err Unknown
 
 -- `mn`: nothing
-abbrev pub noop : List Word → Result Order RefusalReason
+abbrev pub noop : List Word → Result MetaOrder RefusalReason
 noop [] = Ok (OfItself owns.Noop)
 noop (word ∷ words) = Err Unknown
 
 -- what the words after a command word ask
-abbrev pub ordered_by : Option Verb → List Word → Result Order RefusalReason
+abbrev pub ordered_by : Option Verb → List Word → Result MetaOrder RefusalReason
 ordered_by None words = Err Unknown
 ordered_by (Some (Keyed Get)) words = asking Get words
 ordered_by (Some (Keyed Store)) words = storing words
@@ -69,7 +69,7 @@ ordered_by (Some (Keyed Count)) words = asking Count words
 ordered_by (Some Noop) words = noop words
 
 -- what the words of a line ask, or the first test that they fail
-abbrev pub order_of : List Word → Result Order RefusalReason
+abbrev pub order_of : List Word → Result MetaOrder RefusalReason
 order_of [] = Err Unknown
 order_of (word ∷ words) = ordered_by (verb_of word) words
 

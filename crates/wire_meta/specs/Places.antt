@@ -10,14 +10,14 @@ use Rattle.wire_meta.specs.declared.command.MetaCommand.{MetaCommand}
 use Rattle.wire_meta.specs.declared.command.MetaCommand.TheVariants as commands
 use Rattle.wire_meta.specs.declared.command.Values.{Values}
 use Rattle.wire_meta.specs.Flags.{flag_of, stands_in, value_more, values_of}
-use Rattle.wire_meta.specs.Order.{Order, Asking, OfItself}
+use Rattle.wire_meta.specs.Order.{MetaOrder, Asking, OfItself}
 
 -- the flags that stand there
 abbrev pub flags_in : List ℕ → Flags → List Word
 flags_in text flags = words (text_at text flags.span)
 
 -- the order that a command with its spans is
-abbrev pub order_in : List ℕ → MetaCommand → Order
+abbrev pub order_in : List ℕ → MetaCommand → MetaOrder
 order_in text (commands.Keyed kind n key flags) = Asking kind (text_at text key) n (flags_in text flags)
 order_in text (commands.Own own) = OfItself own
 

@@ -11,7 +11,7 @@ use Rattle.wire_parts.specs.Tests.{Word, block_text}
 use Rattle.wire_parts.specs.Message.{Served}
 use Rattle.wire_meta.specs.declared.command.Kind.{Kind}
 use Rattle.wire_meta.specs.declared.command.Kind.TheVariants.{Get, Store, Delete, Count}
-use Rattle.wire_meta.specs.Order.{Order, Asking}
+use Rattle.wire_meta.specs.Order.{MetaOrder, Asking}
 use Rattle.wire_meta.specs.Message.{Message}
 
 -- the command of an operation; no meta command is a touch
@@ -118,7 +118,7 @@ length_for Delete ask = None
 length_for Count ask = None
 
 -- what the line of an ask asks
-abbrev pub order_for : Kind → Ask → Order
+abbrev pub order_for : Kind → Ask → MetaOrder
 order_for kind ask = Asking kind ask.key (length_for kind ask) (flag_words kind ask)
 
 -- the message that an ask is

@@ -5,7 +5,7 @@ ghost use Rattle.mc_types.specs.Parts.{ask_of};
 ghost use Rattle.wire_parts.specs.Places.{IsIn};
 ghost use Rattle.wire_meta.specs.Flags.{letter_of, text_of, wanted, tokens_in, wanted_by};
 ghost use Rattle.wire_meta.specs.Places.{order_in, flags_in};
-ghost use Rattle.wire_meta.specs.Message.{IsReadFrom, message_in};
+ghost use Rattle.wire_meta.specs.Message.{IsMetaReadFrom, message_in};
 ghost use Rattle.wire_meta.specs.Asks.{asks_of, quiet_of, own_of, get_op, store_op, bare_ask, ask_by, IsMetaAsk};
 
 use crate::command::{Flags, Kind, MetaCommand, MetaRequest, Values};
@@ -143,7 +143,7 @@ impl MetaRequest {
 
     /// How many asks the request is: one, none for a request of mcgate itself. It takes no memory.
     pub fn asks(&self) -> usize
-        ensures { (bytes : List ℕ) → IsReadFrom bytes self.now → result ≡ length (asks_of (message_in bytes self.now)) }
+        ensures { (bytes : List ℕ) → IsMetaReadFrom bytes self.now → result ≡ length (asks_of (message_in bytes self.now)) }
     {
         match self.command {
             MetaCommand::Own(_) => 0,
@@ -154,7 +154,7 @@ impl MetaRequest {
     /// Whether `q` stands on its line, which hides what the client expects: `EN` of `mg`, `HD` of `ms`, `HD` and `NF` of
     /// `md` and `ma`. It takes no memory.
     pub fn quiet(&self) -> bool
-        ensures { (bytes : List ℕ) → IsReadFrom bytes self.now → result ≡ quiet_of (message_in bytes self.now) }
+        ensures { (bytes : List ℕ) → IsMetaReadFrom bytes self.now → result ≡ quiet_of (message_in bytes self.now) }
     {
         match self.command {
             MetaCommand::Keyed { flags, .. } => flags.values.quiet,
@@ -172,7 +172,7 @@ impl MetaRequest {
         i: usize,
     ) -> Result<AskParts<'a>, AllocError>
         requires room { room ≡ [] }
-        requires read { IsReadFrom received.now self.now }
+        requires read { IsMetaReadFrom received.now self.now }
         requires there { i < length (asks_of (message_in received.now self.now)) }
         ensures value { IfOk result (λ parts. slice_get (asks_of (message_in received.now self.now)) i ≡ Some (ask_of parts)) }
         ensures ask { IfOk result (λ parts. IsMetaAsk (ask_of parts)) }

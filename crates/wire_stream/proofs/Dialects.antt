@@ -17,7 +17,7 @@ use Rattle.wire_meta.specs.Grammar.{meta_grammar}
 use Rattle.wire_meta.specs.Message as meta_messages
 use Rattle.wire_meta.specs.declared.command.Verb.{Verb}
 use Rattle.wire_meta.specs.CommandWords.{verb_of}
-use Rattle.wire_stream.specs.Both.{Order, Classic, Meta, both_grammar, order_by, order_of, skip_by, skip_of, lift_message, lift_found}
+use Rattle.wire_stream.specs.Both.{AnyOrder, Classic, Meta, both_grammar, order_by, order_of, skip_by, skip_of, lift_message, lift_found}
 use Rattle.wire_stream.specs.Message.{Begins}
 use Rattle.wire_stream.proofs.Lifting.{classic_lifted, meta_lifted}
 use Rattle.wire_stream.proofs.WordLengths.{meta_length, no_classic}
@@ -39,14 +39,14 @@ refused_is : {A : Type 0} (why : RefusalReason) (skip : Skip) (o : A) (block : L
 refused_is why skip o block e = cc
 
 -- a message of both that is one of the dialect
-lowered : {A : Type 0} (f : A → Order) → ((a b : A) → f a ≡ f b → a ≡ b) → (m : parts.Message A) (u : ℕ) (o : A) (block : List ℕ) (n : ℕ) → found_as (lift_message f m) u ≡ found_as (Served (f o) block) n → found_as m u ≡ found_as (Served o block) n
+lowered : {A : Type 0} (f : A → AnyOrder) → ((a b : A) → f a ≡ f b → a ≡ b) → (m : parts.Message A) (u : ℕ) (o : A) (block : List ℕ) (n : ℕ) → found_as (lift_message f m) u ≡ found_as (Served (f o) block) n → found_as m u ≡ found_as (Served o block) n
 lowered f one (Served p b) u o block n e =
     let both = message_is (Served (f p) b) (Served (f o) block) u n e in
     let parts = block_is (f p) (f o) b block both.0 in
     rw (one p o parts.0, parts.1, both.1) refl
 lowered f one (Refusal why skip) u o block n e = absurd (refused_is why skip (f o) block (message_is (Refusal why skip) (Served (f o) block) u n e).0)
 
-found_lowered : {A : Type 0} (f : A → Order) → ((a b : A) → f a ≡ f b → a ≡ b) → (found : Found A) (o : A) (block : List ℕ) (n : ℕ) → lift_found f found ≡ Some (Served (f o) block, n) → found ≡ Some (Served o block, n)
+found_lowered : {A : Type 0} (f : A → AnyOrder) → ((a b : A) → f a ≡ f b → a ≡ b) → (found : Found A) (o : A) (block : List ℕ) (n : ℕ) → lift_found f found ≡ Some (Served (f o) block, n) → found ≡ Some (Served o block, n)
 found_lowered f one None o block n e = absurd cc
 found_lowered f one (Some x) o block n e = lowered f one x.0 x.1 o block n e
 
@@ -57,11 +57,11 @@ refused_never why skip used o block n e = refused_is why skip o block (message_i
 same_classic : (a b : texts.Order) → Classic a ≡ Classic b → a ≡ b
 same_classic a b e = cc
 
-same_meta : (a b : metas.Order) → Meta a ≡ Meta b → a ≡ b
+same_meta : (a b : metas.MetaOrder) → Meta a ≡ Meta b → a ≡ b
 same_meta a b e = cc
 
 -- nothing that is found in one dialect is an order of the other
-never : {A B : Type 0} (f : A → Order) (g : B → Order) → ((a : A) (b : B) → f a ≡ g b → ⊥) → (found : Found A) (o : B) (block : List ℕ) (n : ℕ) → lift_found f found ≡ Some (Served (g o) block, n) → ⊥
+never : {A B : Type 0} (f : A → AnyOrder) (g : B → AnyOrder) → ((a : A) (b : B) → f a ≡ g b → ⊥) → (found : Found A) (o : B) (block : List ℕ) (n : ℕ) → lift_found f found ≡ Some (Served (g o) block, n) → ⊥
 never f g apart None o block n e = absurd cc
 never f g apart (Some x) o block n e = go x.0 x.1 e
   where
@@ -69,20 +69,20 @@ never f g apart (Some x) o block n e = go x.0 x.1 e
     go (Served p b) u e = apart p o (block_is (f p) (g o) b block (message_is (Served (f p) b) (Served (g o) block) u n e).0).0
     go (Refusal why skip) u e = refused_is why skip (g o) block (message_is (Refusal why skip) (Served (g o) block) u n e).0
 
-not_meta : (a : metas.Order) (b : texts.Order) → Meta a ≡ Classic b → ⊥
+not_meta : (a : metas.MetaOrder) (b : texts.Order) → Meta a ≡ Classic b → ⊥
 not_meta a b e = cc
 
-not_classic : (a : texts.Order) (b : metas.Order) → Classic a ≡ Meta b → ⊥
+not_classic : (a : texts.Order) (b : metas.MetaOrder) → Classic a ≡ Meta b → ⊥
 not_classic a b e = cc
 
 -- what a line of these words means
-abbrev among_both : List Word → ℕ → List ℕ → Found Order
+abbrev among_both : List Word → ℕ → List ℕ → Found AnyOrder
 among_both line used rest = meaning_of both_grammar (order_of line) (skip_of line) used rest
 
 abbrev in_classic : List Word → ℕ → List ℕ → Found texts.Order
 in_classic line used rest = meaning_of classic_grammar (texts.order_of line) (texts.skip_of line) used rest
 
-abbrev in_meta : List Word → ℕ → List ℕ → Found metas.Order
+abbrev in_meta : List Word → ℕ → List ℕ → Found metas.MetaOrder
 in_meta line used rest = meaning_of meta_grammar (metas.order_of line) (metas.skip_of line) used rest
 
 by_verb : (v : Option Verb) (line : List Word) (used : ℕ) (rest : List ℕ) (o : texts.Order) (block : List ℕ) (n : ℕ) → meaning_of both_grammar (order_by v line) (skip_by v line) used rest ≡ Some (Served (Classic o) block, n) → in_classic line used rest ≡ Some (Served o block, n)
@@ -93,11 +93,11 @@ classic_line : (line : List Word) (used : ℕ) (rest : List ℕ) (o : texts.Orde
 classic_line [] used rest o block n e = absurd (refused_never Unknown (skip_of []) used (Classic o) block n e)
 classic_line (word ∷ words) used rest o block n e = by_verb (verb_of word) (word ∷ words) used rest o block n e
 
-by_meta_verb : (v : Option Verb) (line : List Word) (used : ℕ) (rest : List ℕ) (o : metas.Order) (block : List ℕ) (n : ℕ) → meaning_of both_grammar (order_by v line) (skip_by v line) used rest ≡ Some (Served (Meta o) block, n) → in_meta line used rest ≡ Some (Served o block, n)
+by_meta_verb : (v : Option Verb) (line : List Word) (used : ℕ) (rest : List ℕ) (o : metas.MetaOrder) (block : List ℕ) (n : ℕ) → meaning_of both_grammar (order_by v line) (skip_by v line) used rest ≡ Some (Served (Meta o) block, n) → in_meta line used rest ≡ Some (Served o block, n)
 by_meta_verb None line used rest o block n e = absurd (never Classic Meta not_classic (in_classic line used rest) o block n (sym (classic_lifted (texts.order_of line) (texts.skip_of line) used rest) ∙ e))
 by_meta_verb (Some v) line used rest o block n e = found_lowered Meta same_meta (in_meta line used rest) o block n (sym (meta_lifted (metas.order_of line) (metas.skip_of line) used rest) ∙ e)
 
-meta_line : (line : List Word) (used : ℕ) (rest : List ℕ) (o : metas.Order) (block : List ℕ) (n : ℕ) → among_both line used rest ≡ Some (Served (Meta o) block, n) → in_meta line used rest ≡ Some (Served o block, n)
+meta_line : (line : List Word) (used : ℕ) (rest : List ℕ) (o : metas.MetaOrder) (block : List ℕ) (n : ℕ) → among_both line used rest ≡ Some (Served (Meta o) block, n) → in_meta line used rest ≡ Some (Served o block, n)
 meta_line [] used rest o block n e = absurd (refused_never Unknown (skip_of []) used (Meta o) block n e)
 meta_line (word ∷ words) used rest o block n e = by_meta_verb (verb_of word) (word ∷ words) used rest o block n e
 
@@ -105,7 +105,7 @@ meta_line (word ∷ words) used rest o block n e = by_meta_verb (verb_of word) (
 pub classic_begins : (bytes : List ℕ) (o : texts.Order) (block : List ℕ) (used : ℕ) → Begins bytes (Served (Classic o) block) used → text_messages.Begins bytes (Served o block) used
 classic_begins bytes o block used b = record { text = b.text; rest = b.rest; line = b.line; says = classic_line (words (without_cr b.text)) (length b.text + 1) b.rest o block used b.says }
 
-pub meta_begins : (bytes : List ℕ) (o : metas.Order) (block : List ℕ) (used : ℕ) → Begins bytes (Served (Meta o) block) used → meta_messages.Begins bytes (Served o block) used
+pub meta_begins : (bytes : List ℕ) (o : metas.MetaOrder) (block : List ℕ) (used : ℕ) → Begins bytes (Served (Meta o) block) used → meta_messages.Begins bytes (Served o block) used
 meta_begins bytes o block used b = record { text = b.text; rest = b.rest; line = b.line; says = meta_line (words (without_cr b.text)) (length b.text + 1) b.rest o block used b.says }
 
 -- a line without a command word of its dialect serves nothing
@@ -123,14 +123,14 @@ classic_among : (line : List Word) (used : ℕ) (rest : List ℕ) (o : texts.Ord
 classic_among [] used rest o block n e = absurd (refused_never Unknown (texts.skip_of []) used o block n e)
 classic_among (word ∷ ws) used rest o block n e = raised_by (verb_of word) word ws used rest o block n refl e
 
-meta_raised_by : (v : Option Verb) (word : Word) (ws : List Word) (used : ℕ) (rest : List ℕ) (o : metas.Order) (block : List ℕ) (n : ℕ) → verb_of word ≡ v → in_meta (word ∷ ws) used rest ≡ Some (Served o block, n) → meaning_of both_grammar (order_by v (word ∷ ws)) (skip_by v (word ∷ ws)) used rest ≡ Some (Served (Meta o) block, n)
+meta_raised_by : (v : Option Verb) (word : Word) (ws : List Word) (used : ℕ) (rest : List ℕ) (o : metas.MetaOrder) (block : List ℕ) (n : ℕ) → verb_of word ≡ v → in_meta (word ∷ ws) used rest ≡ Some (Served o block, n) → meaning_of both_grammar (order_by v (word ∷ ws)) (skip_by v (word ∷ ws)) used rest ≡ Some (Served (Meta o) block, n)
 meta_raised_by None word ws used rest o block n is e =
     let refused : metas.order_of (word ∷ ws) ≡ Err Unknown = rw is refl in
-    let same : in_meta (word ∷ ws) used rest ≡ Some (Refusal Unknown (metas.skip_of (word ∷ ws)), used) = ap (λ (r : Result metas.Order RefusalReason). meaning_of meta_grammar r (metas.skip_of (word ∷ ws)) used rest) refused in
+    let same : in_meta (word ∷ ws) used rest ≡ Some (Refusal Unknown (metas.skip_of (word ∷ ws)), used) = ap (λ (r : Result metas.MetaOrder RefusalReason). meaning_of meta_grammar r (metas.skip_of (word ∷ ws)) used rest) refused in
     absurd (refused_never Unknown (metas.skip_of (word ∷ ws)) used o block n (sym same ∙ e))
 meta_raised_by (Some v) word ws used rest o block n is e = meta_lifted (metas.order_of (word ∷ ws)) (metas.skip_of (word ∷ ws)) used rest ∙ ap (lift_found Meta) e
 
-meta_among : (line : List Word) (used : ℕ) (rest : List ℕ) (o : metas.Order) (block : List ℕ) (n : ℕ) → in_meta line used rest ≡ Some (Served o block, n) → among_both line used rest ≡ Some (Served (Meta o) block, n)
+meta_among : (line : List Word) (used : ℕ) (rest : List ℕ) (o : metas.MetaOrder) (block : List ℕ) (n : ℕ) → in_meta line used rest ≡ Some (Served o block, n) → among_both line used rest ≡ Some (Served (Meta o) block, n)
 meta_among [] used rest o block n e = absurd (refused_never Unknown (metas.skip_of []) used o block n e)
 meta_among (word ∷ ws) used rest o block n e = meta_raised_by (verb_of word) word ws used rest o block n refl e
 
@@ -138,5 +138,5 @@ meta_among (word ∷ ws) used rest o block n e = meta_raised_by (verb_of word) w
 pub begins_classic : (bytes : List ℕ) (o : texts.Order) (block : List ℕ) (used : ℕ) → text_messages.Begins bytes (Served o block) used → Begins bytes (Served (Classic o) block) used
 begins_classic bytes o block used b = record { text = b.text; rest = b.rest; line = b.line; says = classic_among (words (without_cr b.text)) (length b.text + 1) b.rest o block used b.says }
 
-pub begins_meta : (bytes : List ℕ) (o : metas.Order) (block : List ℕ) (used : ℕ) → meta_messages.Begins bytes (Served o block) used → Begins bytes (Served (Meta o) block) used
+pub begins_meta : (bytes : List ℕ) (o : metas.MetaOrder) (block : List ℕ) (used : ℕ) → meta_messages.Begins bytes (Served o block) used → Begins bytes (Served (Meta o) block) used
 begins_meta bytes o block used b = record { text = b.text; rest = b.rest; line = b.line; says = meta_among (words (without_cr b.text)) (length b.text + 1) b.rest o block used b.says }

@@ -17,7 +17,7 @@ use Rattle.wire_stream.specs.declared.requests.reader.Read.{Read}
 use Rattle.wire_stream.specs.declared.requests.reader.Read.TheVariants as reads
 use Rattle.wire_stream.specs.declared.requests.request.Request.{Request}
 use Rattle.wire_stream.specs.declared.requests.request.Request.TheVariants as requests
-use Rattle.wire_stream.specs.Both.{Order, Classic, Meta, both_grammar}
+use Rattle.wire_stream.specs.Both.{AnyOrder, Classic, Meta, both_grammar}
 use Rattle.wire_stream.specs.OtherProtocol.{IsText}
 use Rattle.wire_stream.specs.Message.{Message, Reads, IsReadFrom, message_in, used_of}
 use Rattle.wire_stream.specs.Asks.{asks_by}
@@ -28,7 +28,7 @@ use Rattle.wire_stream.specs.Fronts.{IsFront}
 use Rattle.wire_stream.proofs.OtherProtocols.{served_text}
 
 -- a request with an ask is no `quit`: after it the stream goes on
-pub served_after : (order : Order) (block rest : List ℕ) (i : ℕ) (ask : Ask) → slice_get (asks_by order block) i ≡ Some ask → after_order order rest ≡ Stands Nothing rest
+pub served_after : (order : AnyOrder) (block rest : List ℕ) (i : ℕ) (ask : Ask) → slice_get (asks_by order block) i ≡ Some ask → after_order order rest ≡ Stands Nothing rest
 served_after (Classic (OfItself own)) block rest i ask e = absurd (cc)
 served_after (Classic (Retrieval exptime with_cas keys)) block rest i ask e = refl
 served_after (Classic (Storage kind stored quiet)) block rest i ask e = refl

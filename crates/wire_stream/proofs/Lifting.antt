@@ -22,7 +22,7 @@ use Rattle.wire_meta.specs.declared.command.Verb.{Verb}
 use Rattle.wire_meta.specs.CommandWords.{verb_of}
 use Rattle.wire_stream.specs.declared.requests.reader.Read.{Read}
 use Rattle.wire_stream.specs.declared.requests.reader.Read.TheVariants as reads
-use Rattle.wire_stream.specs.Both.{Order, Classic, Meta, both_grammar, order_by, order_of, skip_by, skip_of, mapped, lift_found}
+use Rattle.wire_stream.specs.Both.{AnyOrder, Classic, Meta, both_grammar, order_by, order_of, skip_by, skip_of, mapped, lift_found}
 use Rattle.wire_stream.specs.OtherProtocol.{is_binary, ends_as_http, IsHttp, IsText, is_http}
 use Rattle.wire_stream.specs.Message.{IsMeant, Reads, message_in, used_of}
 use Rattle.wire_stream.proofs.OtherProtocols.{refused_order, order_refused, same_reason, http_line, http_text}
@@ -40,7 +40,7 @@ pub classic_lifted : (r : Result texts.Order RefusalReason) (skip : Skip) (used 
 classic_lifted (Err why) skip used rest = refl
 classic_lifted (Ok o) skip used rest = rest_lifted Classic o used rest _
 
-pub meta_lifted : (r : Result metas.Order RefusalReason) (skip : Skip) (used : ℕ) (rest : List ℕ) → meaning_of both_grammar (mapped Meta r) skip used rest ≡ lift_found Meta (meaning_of meta_grammar r skip used rest)
+pub meta_lifted : (r : Result metas.MetaOrder RefusalReason) (skip : Skip) (used : ℕ) (rest : List ℕ) → meaning_of both_grammar (mapped Meta r) skip used rest ≡ lift_found Meta (meaning_of meta_grammar r skip used rest)
 meta_lifted (Err why) skip used rest = refl
 meta_lifted (Ok o) skip used rest = rest_lifted Meta o used rest _
 
@@ -60,7 +60,7 @@ meta_by : (line : List Word) (word : Word) (ws : List Word) (used : ℕ) (rest :
 meta_by line word ws used rest is none =
     let order : order_of line ≡ mapped Meta (metas.order_of line) = ap order_of is ∙ order_meta (verb_of word) word ws refl none ∙ ap (λ (l : List Word). mapped Meta (metas.order_of l)) (sym is) in
     let skip : skip_of line ≡ metas.skip_of line = ap skip_of is ∙ skip_meta (verb_of word) word ws refl none ∙ ap (λ (l : List Word). metas.skip_of l) (sym is) in
-    ap (λ (r : Result Order RefusalReason). meaning_of both_grammar r (skip_of line) used rest) order ∙ ap (λ (k : Skip). meaning_of both_grammar (mapped Meta (metas.order_of line)) k used rest) skip ∙ meta_lifted (metas.order_of line) (metas.skip_of line) used rest
+    ap (λ (r : Result AnyOrder RefusalReason). meaning_of both_grammar r (skip_of line) used rest) order ∙ ap (λ (k : Skip). meaning_of both_grammar (mapped Meta (metas.order_of line)) k used rest) skip ∙ meta_lifted (metas.order_of line) (metas.skip_of line) used rest
 
 -- the first word of a line that was taken
 module _ (bytes : List ℕ) (end used : ℕ) (line : TakesLine bytes end used) where
@@ -79,7 +79,7 @@ module _ (bytes : List ℕ) (end used : ℕ) (line : TakesLine bytes end used) w
   abbrev rest : List ℕ
   rest = drop used bytes
 
-  abbrev meant : Found Order
+  abbrev meant : Found AnyOrder
   meant = meaning both_grammar text rest
 
   -- a line of HTTP is refused as no command
@@ -115,7 +115,7 @@ module _ (bytes : List ℕ) (end used : ℕ) (line : TakesLine bytes end used) w
 
   more_text : is_binary bytes ≡ false → meant ≡ None → IsText bytes
   more_text is_not e (inl is) = cc
-  more_text is_not e (inr h) = let is = http_meant h in let apart : ◌≡◌ {A = Found Order} None (Some (Refusal Unknown is.0, is.1)) = sym e ∙ is.2 in cc
+  more_text is_not e (inr h) = let is = http_meant h in let apart : ◌≡◌ {A = Found AnyOrder} None (Some (Refusal Unknown is.0, is.1)) = sym e ∙ is.2 in cc
 
   -- what is read after the first line is what the bytes begin with, where that is no binary message
   pub reads_meant : (r : Read) → is_binary bytes ≡ false → IsMeant (take end bytes) bytes r meant → Reads bytes r

@@ -16,7 +16,7 @@ use Rattle.wire_parts.specs.declared.block.End.TheVariants.{Open, Good, Bad}
 use Rattle.wire_parts.specs.Tests.{Word}
 use Rattle.wire_parts.specs.Message.{Served, Refusal, meaning_of, with_rest, with_block, end_of}
 use Rattle.wire_classic.specs.CommandWords as text_words
-use Rattle.wire_stream.specs.Both.{Order, both_grammar, order_of, skip_of}
+use Rattle.wire_stream.specs.Both.{AnyOrder, both_grammar, order_of, skip_of}
 use Rattle.wire_stream.specs.Message.{Message, Begins}
 use Rattle.wire_stream.specs.Asks.{asks_of}
 use Rattle.wire_stream.specs.OtherProtocol.{is_binary, ends_as_http, IsHttp, IsOtherProtocol, IsText, is_http}
@@ -31,7 +31,7 @@ some_is x y e = cc
 same_found : (one other : Message) (m n : ℕ) → found_as one m ≡ found_as other n → one ≡ other
 same_found one other m n e = ap (λ x. x.0) (some_is (one, m) (other, n) e)
 
-not_served : (why : RefusalReason) (skip : Skip) (order : Order) (block : List ℕ) → Served order block ≡ Refusal why skip → ⊥
+not_served : (why : RefusalReason) (skip : Skip) (order : AnyOrder) (block : List ℕ) → Served order block ≡ Refusal why skip → ⊥
 not_served why skip order block e = cc
 
 other_reason : (skip passed : Skip) → ◌≡◌ {A = Message} (Refusal BadChunk skip) (Refusal Unknown passed) → ⊥
@@ -45,7 +45,7 @@ same_reason v w s t m n e = reason (same_found (Refusal v s) (Refusal w t) m n e
     reason e = cc
 
 -- a line that is refused as no command is none
-pub refused_order : (r : Result Order RefusalReason) (skip : Skip) (used : ℕ) (rest : List ℕ) (passed : Skip) (n : ℕ) → meaning_of both_grammar r skip used rest ≡ Some (Refusal Unknown passed, n) → r ≡ Err Unknown
+pub refused_order : (r : Result AnyOrder RefusalReason) (skip : Skip) (used : ℕ) (rest : List ℕ) (passed : Skip) (n : ℕ) → meaning_of both_grammar r skip used rest ≡ Some (Refusal Unknown passed, n) → r ≡ Err Unknown
 refused_order (Err why) skip used rest passed n e = ap (λ w. Err w) (same_reason why Unknown skip passed used n e)
 refused_order (Ok order) skip used rest passed n e = absurd (by_len (both_grammar.block_len order) e)
   where
@@ -59,8 +59,8 @@ refused_order (Ok order) skip used rest passed n e = absurd (by_len (both_gramma
     by_len (Some len) e = by_end (take len rest) (end_of (drop len rest)) e
 
 -- a line that is none is refused so
-pub order_refused : (r : Result Order RefusalReason) (skip : Skip) (used : ℕ) (rest : List ℕ) → r ≡ Err Unknown → meaning_of both_grammar r skip used rest ≡ Some (Refusal Unknown skip, used)
-order_refused r skip used rest e = ap (λ (o : Result Order RefusalReason). meaning_of both_grammar o skip used rest) e
+pub order_refused : (r : Result AnyOrder RefusalReason) (skip : Skip) (used : ℕ) (rest : List ℕ) → r ≡ Err Unknown → meaning_of both_grammar r skip used rest ≡ Some (Refusal Unknown skip, used)
+order_refused r skip used rest e = ap (λ (o : Result AnyOrder RefusalReason). meaning_of both_grammar o skip used rest) e
 
 http_still : (bytes more : List ℕ) → IsHttp bytes → IsHttp (bytes ++ more)
 http_still bytes more h = record { text = h.text; rest = h.rest ++ more; line = lines_stay bytes h.text h.rest more h.line; unknown = h.unknown; ends = h.ends }
@@ -146,14 +146,14 @@ binary_unknown (x ∷ xs) rest e = (elim (eqb x 128) as (λ t. eqb x 128 ≡ t �
   | false ↦ λ h. subst (λ y. order_of (words (without_cr (y ∷ xs))) ≡ Err Unknown) (sym (eqb-true x 129 (rw h at e))) (response_unknown xs)
 ]) refl
 
-serves_none : (bytes : List ℕ) (order : Order) (block : List ℕ) (used : ℕ) → (b : Begins bytes (Served order block) used) → order_of (words (without_cr b.text)) ≡ Err Unknown → ⊥
+serves_none : (bytes : List ℕ) (order : AnyOrder) (block : List ℕ) (used : ℕ) → (b : Begins bytes (Served order block) used) → order_of (words (without_cr b.text)) ≡ Err Unknown → ⊥
 serves_none bytes order block used b e =
     let line = words (without_cr b.text) in
     let refused = order_refused (order_of line) (skip_of line) (length b.text + 1) b.rest e in
     not_served Unknown (skip_of line) order block (same_found (Served order block) (Refusal Unknown (skip_of line)) used (length b.text + 1) (sym b.says ∙ refused))
 
 -- what is served is text
-pub served_text : (bytes : List ℕ) (order : Order) (block : List ℕ) (used : ℕ) → Begins bytes (Served order block) used → IsText bytes
+pub served_text : (bytes : List ℕ) (order : AnyOrder) (block : List ℕ) (used : ℕ) → Begins bytes (Served order block) used → IsText bytes
 served_text bytes order block used b (inl e) = serves_none bytes order block used b (binary_unknown b.text b.rest (subst (λ l. is_binary l ≡ true) b.line.whole e))
 served_text bytes order block used b (inr h) = serves_none bytes order block used b (ap (λ t. order_of (words (without_cr t))) (sym (http_line bytes b.text b.rest b.line h)) ∙ h.unknown)
 

@@ -37,10 +37,10 @@ use Rattle.wire_stream.specs.Laws.{ReadStill, WalkStill, AsksAreWellFormed, Asks
 use Rattle.wire_stream.proofs.Dialects.{classic_begins, meta_begins, begins_classic, begins_meta}
 
 -- a request that was read, in its dialect
-pub classic_read : (bytes : List ℕ) (r : ClassicRequest) → IsReadFrom bytes (requests.Classic r) → texts.IsReadFrom bytes r
+pub classic_read : (bytes : List ℕ) (r : ClassicRequest) → IsReadFrom bytes (requests.Classic r) → texts.IsClassicReadFrom bytes r
 classic_read bytes r h = record { placed = h.placed; begins = classic_begins bytes _ _ r.used h.begins }
 
-pub meta_read : (bytes : List ℕ) (r : MetaRequest) → IsReadFrom bytes (requests.Meta r) → metas.IsReadFrom bytes r
+pub meta_read : (bytes : List ℕ) (r : MetaRequest) → IsReadFrom bytes (requests.Meta r) → metas.IsMetaReadFrom bytes r
 meta_read bytes r h = record { placed = h.placed; begins = meta_begins bytes _ _ r.used h.begins }
 
 pub read_still : ReadStill

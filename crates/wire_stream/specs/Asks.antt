@@ -13,11 +13,11 @@ use Rattle.wire_stream.specs.declared.requests.request.Request.{Request}
 use Rattle.wire_stream.specs.declared.requests.request.Request.TheVariants as requests
 use Rattle.wire_stream.specs.declared.requests.request.Asks.{Asks}
 use Rattle.wire_stream.specs.declared.requests.request.Asks.TheVariants as walks
-use Rattle.wire_stream.specs.Both.{Order, Classic, Meta, own_by}
+use Rattle.wire_stream.specs.Both.{AnyOrder, Classic, Meta, own_by}
 use Rattle.wire_stream.specs.Message.{Message}
 
 -- the asks of an order with its data block
-abbrev pub asks_by : Order → List ℕ → List Ask
+abbrev pub asks_by : AnyOrder → List ℕ → List Ask
 asks_by (Classic order) block = texts.asks_by order block
 asks_by (Meta order) block = metas.asks_by order block
 
@@ -27,7 +27,7 @@ asks_of (Served order block) = asks_by order block
 asks_of (Refusal why skip) = []
 
 -- whether `noreply` stands on the line of an order, or `q`
-abbrev pub is_quiet : Order → Bool
+abbrev pub is_quiet : AnyOrder → Bool
 is_quiet (Classic order) = texts.is_quiet order
 is_quiet (Meta order) = metas.is_quiet order
 
@@ -59,7 +59,7 @@ taken_of (walks.Meta a) = a.taken
 -- a walk over the asks of a request of these bytes
 abbrev pub IsWalk : List ℕ → Asks → Type 0
 IsWalk bytes (walks.Classic a) = texts.IsWalk bytes a
-IsWalk bytes (walks.Meta a) = meta_messages.IsReadFrom bytes a.request
+IsWalk bytes (walks.Meta a) = meta_messages.IsMetaReadFrom bytes a.request
 
 -- how many were taken after this answer
 abbrev pub counted : Option Ask → ℕ → ℕ

@@ -16,20 +16,20 @@ use Rattle.wire_meta.specs.declared.command.Verb.{Verb}
 use Rattle.wire_meta.specs.CommandWords.{verb_of}
 
 -- what a line asks, in its dialect
-pub data Order : Type 0 where
-  Classic : (order : texts.Order) → Order
-  Meta : (order : metas.Order) → Order
+pub data AnyOrder : Type 0 where
+  Classic : (order : texts.Order) → AnyOrder
+  Meta : (order : metas.MetaOrder) → AnyOrder
 
 abbrev pub mapped : {A B : Type 0} → (A → B) → Result A RefusalReason → Result B RefusalReason
 mapped f (Ok x) = Ok (f x)
 mapped f (Err why) = Err why
 
 -- a line whose first word means this among the meta commands
-abbrev pub order_by : Option Verb → List Word → Result Order RefusalReason
+abbrev pub order_by : Option Verb → List Word → Result AnyOrder RefusalReason
 order_by None line = mapped Classic (texts.order_of line)
 order_by (Some verb) line = mapped Meta (metas.order_of line)
 
-abbrev pub order_of : List Word → Result Order RefusalReason
+abbrev pub order_of : List Word → Result AnyOrder RefusalReason
 order_of [] = Err Unknown
 order_of (word ∷ words) = order_by (verb_of word) (word ∷ words)
 
@@ -41,16 +41,16 @@ abbrev pub skip_of : List Word → Skip
 skip_of [] = Nothing
 skip_of (word ∷ words) = skip_by (verb_of word) (word ∷ words)
 
-abbrev pub block_len : Order → Option ℕ
+abbrev pub block_len : AnyOrder → Option ℕ
 block_len (Classic order) = text_lines.block_len order
 block_len (Meta order) = meta_lines.block_len order
 
-abbrev pub own_by : Order → Option ProxyCommand
+abbrev pub own_by : AnyOrder → Option ProxyCommand
 own_by (Classic order) = text_lines.own_by order
 own_by (Meta order) = meta_lines.own_by order
 
 abbrev pub both_grammar : Grammar
-both_grammar = record { Order = Order; order_of = order_of; skip_of = skip_of; block_len = block_len; own_by = own_by }
+both_grammar = record { Order = AnyOrder; order_of = order_of; skip_of = skip_of; block_len = block_len; own_by = own_by }
 
 -- a message of one dialect, as one of both
 abbrev pub lift_message : {A B : Type 0} → (A → B) → Message A → Message B

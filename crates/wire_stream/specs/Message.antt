@@ -14,16 +14,16 @@ use Rattle.wire_stream.specs.declared.requests.request.Request.{Request}
 use Rattle.wire_stream.specs.declared.requests.request.Request.TheVariants as requests
 use Rattle.wire_stream.specs.declared.requests.reader.Read.{Read}
 use Rattle.wire_stream.specs.declared.requests.reader.Read.TheVariants as reads
-use Rattle.wire_stream.specs.Both.{Order, Classic, Meta, both_grammar}
+use Rattle.wire_stream.specs.Both.{AnyOrder, Classic, Meta, both_grammar}
 use Rattle.wire_stream.specs.OtherProtocol.{IsOtherProtocol, IsText, is_http}
 
 -- a message: one that is served, with its data block, or one that is refused, with what is passed over after it
 abbrev pub Message : Type 0
-Message = parts.Message Order
+Message = parts.Message AnyOrder
 
 -- a message, and how many bytes it takes; none where more must come
 abbrev pub Found : Type 0
-Found = parts.Found Order
+Found = parts.Found AnyOrder
 
 -- the bytes begin with this message, which takes so many of them
 abbrev pub Begins : List ℕ → Message → ℕ → Type 0
@@ -42,7 +42,7 @@ used_of (requests.Meta r) = r.used
 -- the spans of a request lie in the bytes
 abbrev pub IsPlaced : List ℕ → Request → Type 0
 IsPlaced bytes (requests.Classic r) = texts.IsPlaced bytes r
-IsPlaced bytes (requests.Meta r) = metas.IsPlaced bytes r
+IsPlaced bytes (requests.Meta r) = metas.IsMetaPlaced bytes r
 
 -- the bytes begin with this request
 pub record IsReadFrom (bytes : List ℕ) (r : Request) : Type 0 where

@@ -2,11 +2,11 @@
 use Rattle.std.specs.Prelude.{ℕ, List}
 use Rattle.wire_parts.specs.Stream as streams
 use Rattle.wire_parts.specs.Stream.{Place, after_own}
-use Rattle.wire_stream.specs.Both.{Order, both_grammar, own_by}
+use Rattle.wire_stream.specs.Both.{AnyOrder, both_grammar, own_by}
 use Rattle.wire_stream.specs.Message.{Message}
 
 -- where a reader stands after a request
-abbrev pub after_order : Order → List ℕ → Place
+abbrev pub after_order : AnyOrder → List ℕ → Place
 after_order order rest = after_own (own_by order) rest
 
 -- where a reader stands after a message, with these bytes after it

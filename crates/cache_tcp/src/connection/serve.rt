@@ -8,7 +8,7 @@ ghost use Rattle.wire_parts.specs.Stream.{Place, Stands};
 ghost use Rattle.wire_stream.specs.Held.{held_at, IsReadAt};
 ghost use Rattle.wire_stream.specs.Fronts.{AsksNone};
 ghost use Rattle.wire_stream.specs.Replies.{is_failure, shown_text};
-ghost use Rattle.cache_tcp.specs.Steps.{IsAskAt, IsKeyAt, IsOnWay, IsAnswered, ShowsNext, ServesNext, PassesOn, RunsOn, Stops, StopsAtAsk, StopsNext, HasStopped, IsWithin, spot_at, place_by, count_of};
+ghost use Rattle.cache_tcp.specs.Steps.{IsAskOf, IsKeyOf, IsOnWay, IsAnswered, ShowsNext, ServesNext, PassesOn, RunsOn, Stops, StopsAtAsk, StopsNext, HasStopped, IsWithin, spot_at, place_by, count_of};
 
 use crate::connection::moment::Moment;
 use crate::connection::reply::reply_to;
@@ -62,7 +62,7 @@ fn show(
     reply: &Answer,
     out: &mut SendBuffer,
 ) -> Result<bool, AllocError>
-    requires { IsAskAt stream.old request.now index ask.now }
+    requires { IsAskOf stream.old request.now index ask.now }
     ensures ok { IfOk result (λ ended. ShowsNext stream.old request.now index ask.now reply.now (bytes_of out.old) ended stream.new (bytes_of out.new)) }
     ensures err { OnErr result (bytes_of out.new ≡ bytes_of out.old) }
 {
@@ -83,7 +83,7 @@ fn serve_ask(
     uses: &mut Uses,
     out: &mut SendBuffer,
 ) -> Result<bool, AllocError>
-    requires at { IsAskAt stream.old request.now index ask.now }
+    requires at { IsAskOf stream.old request.now index ask.now }
     requires ask { IsAsk ask.now }
     ensures ok { IfOk result (λ ended. ServesNext moment.seconds stream.old index cache.old (bytes_of out.old) ended stream.new cache.new (bytes_of out.new)) }
     ensures err { OnErr result (StopsAtAsk moment.seconds ask.now cache.old cache.new) }
@@ -107,7 +107,7 @@ fn serve_key(
     uses: &mut Uses,
     out: &mut SendBuffer,
 ) -> Result<bool, AllocError>
-    requires { IsKeyAt stream.old request.now index }
+    requires { IsKeyOf stream.old request.now index }
     ensures ok { IfOk result (λ ended. ServesNext moment.seconds stream.old index cache.old (bytes_of out.old) ended stream.new cache.new (bytes_of out.new)) }
     ensures err { OnErr result (StopsNext moment.seconds stream.old index cache.old cache.new) }
     ensures kept { OnErr result (bytes_of out.new ≡ bytes_of out.old) }
@@ -131,7 +131,7 @@ fn serve_request(
     out: &mut SendBuffer,
     most: usize,
 ) -> Result<Option<usize>, AllocError>
-    requires { IsKeyAt stream.old request.now first }
+    requires { IsKeyOf stream.old request.now first }
     ensures ok { IfOk result (λ next. RunsOn moment.seconds (spot_at stream.old first) cache.old (bytes_of out.old) (spot_at stream.new (count_of next)) cache.new (bytes_of out.new)) }
     ensures stopped { IfOk result (λ next. HasStopped most next stream.old stream.new (bytes_of out.new)) }
     ensures err { OnErr result (Stops moment.seconds (spot_at stream.old first) cache.old cache.new) }

@@ -1,7 +1,7 @@
 //! The laws of a fleet of cores, and of one.
 
 ghost use Rattle.core_accepted.specs.Logs.{IsAccepted};
-ghost use Rattle.core_accepted.specs.LateCores.{EveryLateLogIsFresh};
+ghost use Rattle.core_accepted.specs.LateCores.{EveryLateLogIsFresh, EveryLateRunIsFresh};
 ghost use Rattle.core_accepted.specs.Cores.{FleetOfCoresIsFresh, LateFleetOfCoresIsFresh, StickyFleetOfCoresIsFresh};
 
 use crate::ServedCore;
@@ -28,9 +28,9 @@ pub fn sticky_fleet_of_cores_is_fresh()
 
 /// One core on trees that the gate accepted, whose reads may copy, before servers which only it writes, and which apply what comes over its
 /// connection in order, however late, also what had failed: whatever it and they do, a command that begins after a delete of its key was
-/// acknowledged shows no item of a store that was over when the delete began.
+/// acknowledged shows no item of a store that was over when the delete began. The same of calls whose results the log doesn't have yet.
 pub fn late_core_is_fresh(core: &ServedCore)
-    ensures { IsAccepted core.now → EveryLateLogIsFresh core.now }
+    ensures { IsAccepted core.now → EveryLateLogIsFresh core.now × EveryLateRunIsFresh core.now }
 {
     accepted_trees_are_sound(core);
 }

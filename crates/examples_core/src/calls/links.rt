@@ -1,7 +1,7 @@
 //! Two gets of one client, whose calls are out at one server.
 
 use core_accepted::ServedCore;
-use core_proxy::{Limits, Poll, Sharing, Ticket};
+use core_proxy::{CoreLimits, Poll, Sharing, Ticket};
 use examples_tables::configs::with_configs;
 use examples_tables::playing::{Stage, cut, first_line, plain, play_lines, shown};
 use gate_check::judge;
@@ -48,7 +48,7 @@ poll => did
 output => END\r\nVALUE b 5 1\r\nx\r\nEND\r\n"
 }
 
-const LIMITS: Limits = Limits {
+const LIMITS: CoreLimits = CoreLimits {
     clients: 1,
     held: 64,
     depth: 2,

@@ -72,8 +72,8 @@ route: {"type":"PrefixSelectorRoute","policies":{},"wildcard":"C"} => /route/wil
 fn pools() -> &'static str {
     r#"pools: [] => /pools: expected an object that has a pool under each name
 pools: {"A":[]} => /pools/A: expected a pool: an object with servers
-pools: {"A":{}} => /pools/A: the field servers is missing: a pool has servers, slots
-pools: {"A":{"server":[]}} => /pools/A/server: no field server here: a pool has servers, slots; did you mean servers?
+pools: {"A":{}} => /pools/A: the field servers is missing: a pool has servers, slots, call_ms, connect_ms, fail_limit, retry_ms
+pools: {"A":{"server":[]}} => /pools/A/server: no field server here: a pool has servers, slots, call_ms, connect_ms, fail_limit, retry_ms; did you mean servers?
 pools: {"A":{"servers":"a:1"}} => /pools/A/servers: expected a list of addresses, HOST:PORT
 pools: {"A":{"servers":[]}} => /pools/A/servers: the pool has no servers
 pools: {"A":{"servers":["a:1",2]}} => /pools/A/servers/1: expected the text of an address, HOST:PORT
@@ -82,6 +82,9 @@ pools: {"A":{"servers":["a:1"],"slots":[]}} => /pools/A/slots: expected a list o
 pools: {"A":{"servers":["a:1:2"],"slots":[0]}} => /pools/A/slots: expected servers without weights: a table says how many slots each has
 pools: {"A":{"servers":["a:1","b:1"],"slots":[1,2]}} => /pools/A/slots/1: expected a place in servers: there are 2, counted from 0
 pools: {"A":{"servers":["a:1"],"slots":["a:1"]}} => /pools/A/slots/0: expected a place in servers: there are 1, counted from 0
+pools: {"A":{"servers":["a:1"],"call_ms":"1s"}} => /pools/A/call_ms: expected a number in 1..=4294967295
+pools: {"A":{"servers":["a:1"],"retry_ms":0}} => /pools/A/retry_ms: expected a number in 1..=4294967295
+pools: {"A":{"servers":["a:1"],"retry-ms":1}} => /pools/A/retry-ms: no field retry-ms here: a pool has servers, slots, call_ms, connect_ms, fail_limit, retry_ms; did you mean retry_ms?
 pools: {"A":{"servers":["10.0.0.1"]}} => /pools/A/servers/0: "10.0.0.1" is no address: no port: expected HOST:PORT
 pools: {"A":{"servers":["a:99999"]}} => /pools/A/servers/0: "a:99999" is no address: port 99999 is above 65535
 pools: {"A":{"servers":["a:1:17"]}} => /pools/A/servers/0: "a:1:17" is no address: expected HOST:PORT or HOST:PORT:WEIGHT, a port in 1..=65535 and a weight in 1..=16"#

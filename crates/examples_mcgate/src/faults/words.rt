@@ -45,6 +45,20 @@ words: mcgate serve --config c --listen a:1 --new-servers emtpy => mcgate serve:
 words: mcgate serve f => mcgate serve: one word too many: f
 words: mcgate cache --listen a:1 => mcgate cache: --capacity N is missing
 words: mcgate cache --listen a:1 --capacity 4294967296 => mcgate cache: --capacity 4294967296: expected a number in 1..=4294967295
+words: mcgate serve --config c --listen a:1 --log-level all => mcgate serve: --log-level all: expected error, warn, info or debug
+words: mcgate serve --config c --listen a:1 --unix-mode 777 => mcgate serve: --unix-mode 777: expected 600, 660 or 666
+words: mcgate serve --config c --listen a:1 --drain-on-eof=1 => mcgate serve: --drain-on-eof takes no value
+words: mcgate tell p => mcgate tell: a PATH, WORD is missing
+words: mcgate tell p drain => 
+words: mcgate tell p drain x => mcgate tell: one word too many: x
+words: mcgate tell p drian => mcgate tell: drian is none of drain, reload, status, servers, log LEVEL and where KEY; did you mean drain?
+words: mcgate tell p log debug => 
+words: mcgate tell p log => mcgate tell: a LEVEL is missing
+words: mcgate tell p log inof => mcgate tell: log inof: expected error, warn, info or debug; did you mean info?
+words: mcgate tell p where k => 
+words: mcgate tell p where => mcgate tell: a KEY is missing
+words: mcgate tell p where a\tb => mcgate tell: \"a\\x09b\" is no key: it has a space or a control character
+words: mcgate tell p where k l => mcgate tell: one word too many: l
 words: mcgate loopback --any => mcgate loopback: unknown flag --any
 words: mcgate replay -- --any f => mcgate replay: one word too many: f
 words: mcgate  => mcgate: unknown command 

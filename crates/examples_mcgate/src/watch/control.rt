@@ -4,7 +4,7 @@ use examples_tables::tables::unfolded;
 use examples_tables::tellers::{Teller, wrong};
 use std::alloc::{AllocError, Global};
 use std::test::Fail;
-use watch_admin::control::answers::{Verdict, put_answer, read_answer};
+use watch_admin::control::answers::{Ruling, put_answer, read_answer};
 use watch_admin::control::exchange::Exchange;
 use watch_admin::control::requests::{Request, request_of};
 
@@ -79,10 +79,10 @@ fn lines_ask(rt: HostRuntime) -> Result<(), Fail> {
 #[test]
 fn answers_are_read_back(rt: HostRuntime) -> Result<(), Fail> {
     let mut bytes = Vec::new(rt.alloc());
-    put_answer(Verdict::Refused, b"no\n", &mut bytes)?;
+    put_answer(Ruling::Refused, b"no\n", &mut bytes)?;
     assert_eq!(rt; bytes.as_slice(), b"1\nno\n".as_slice());
     let read = read_answer(bytes.as_slice());
-    assert!(rt; matches!(read, Some((Verdict::Refused, b"no\n"))));
+    assert!(rt; matches!(read, Some((Ruling::Refused, b"no\n"))));
     assert!(rt; read_answer(b"4\nno\n").is_none());
     assert!(rt; read_answer(b"0").is_none());
     Ok(())

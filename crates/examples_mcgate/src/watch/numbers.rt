@@ -6,8 +6,8 @@ use std::test::Fail;
 use watch_admin::families::Family;
 use watch_admin::json::write_json;
 use watch_admin::numbers::{
-    ClientNumbers, CommandNumbers, ConfigNumbers, FailureNumbers, Numbers, ProcessNumbers,
-    ServerNumbers, SpanNumbers, families_of,
+    ClientNumbers, CommandNumbers, ConfigNumbers, FailureNumbers, LimitNumbers, Numbers,
+    ProcessNumbers, ServerNumbers, SpanNumbers, families_of,
 };
 use watch_admin::prometheus::write_prometheus;
 
@@ -69,6 +69,18 @@ mcgate_server_calls_out{server="\"a\\:1?"} 15
 # HELP mcgate_server_failures_total Failures of the link to the server, by cause.
 # TYPE mcgate_server_failures_total counter
 mcgate_server_failures_total{server="\"a\\:1?",cause="closed"} 16
+# HELP mcgate_server_call_limit_seconds How long a call to the server may take.
+# TYPE mcgate_server_call_limit_seconds gauge
+mcgate_server_call_limit_seconds{server="\"a\\:1?"} 1.000
+# HELP mcgate_server_connect_limit_seconds How long a connection to the server may take to stand.
+# TYPE mcgate_server_connect_limit_seconds gauge
+mcgate_server_connect_limit_seconds{server="\"a\\:1?"} 60.020
+# HELP mcgate_server_fail_limit After how many failures in a row calls of the server fail at once.
+# TYPE mcgate_server_fail_limit gauge
+mcgate_server_fail_limit{server="\"a\\:1?"} 21
+# HELP mcgate_server_retry_seconds For how long they do, before one call tries it.
+# TYPE mcgate_server_retry_seconds gauge
+mcgate_server_retry_seconds{server="\"a\\:1?"} 0.022
 # HELP mcgate_server_calls_total Calls that went out to the server, by what became of them.
 # TYPE mcgate_server_calls_total counter
 mcgate_server_calls_total{server="\"a\\:1?",outcome="answered"} 18
@@ -103,6 +115,10 @@ fn stats() -> &'static str {
 "mcgate_server_connections_total":[{"server":"\"a\\:1?","value":14}],
 "mcgate_server_calls_out":[{"server":"\"a\\:1?","value":15}],
 "mcgate_server_failures_total":[{"server":"\"a\\:1?","cause":"closed","value":16}],
+"mcgate_server_call_limit_seconds":[{"server":"\"a\\:1?","value":1.000}],
+"mcgate_server_connect_limit_seconds":[{"server":"\"a\\:1?","value":60.020}],
+"mcgate_server_fail_limit":[{"server":"\"a\\:1?","value":21}],
+"mcgate_server_retry_seconds":[{"server":"\"a\\:1?","value":0.022}],
 "mcgate_server_calls_total":[{"server":"\"a\\:1?","outcome":"answered","value":18},{"server":"\"a\\:1?","outcome":"failed","value":19}],
 "mcgate_server_call_seconds":{"le":[{"server":"\"a\\:1?","le":"0.0001","value":10},{"server":"\"a\\:1?","le":"+Inf","value":18}],"sum":[{"server":"\"a\\:1?","value":3.004050}],"n":[{"server":"\"a\\:1?","value":18}]},
 "mcgate_scrapes_total":17}
@@ -152,6 +168,12 @@ fn servers(alloc: Global) -> Result<Vec<ServerNumbers>, AllocError> {
     let mut servers = Vec::new(alloc);
     servers.push(ServerNumbers {
         text: String::from_str(alloc, "\"a\\:1\n")?,
+        limits: LimitNumbers {
+            call_ms: 1_000,
+            connect_ms: 60_020,
+            failures: 21,
+            retry_ms: 22,
+        },
         is_up: true,
         is_late: false,
         connections: 14,

@@ -7,7 +7,7 @@ use std::io;
 use std::test::Fail;
 use watch_admin::http::answers::{write_page, write_refusal};
 use watch_admin::http::exchange::{Asking, Exchange};
-use watch_admin::http::request::{Asked, Page, Refusal, what_is_asked};
+use watch_admin::http::request::{AskedPage, Page, Refusal, what_is_asked};
 
 // Bytes, and what they ask for, or the status of a refusal.
 fn requests() -> &'static str {
@@ -40,17 +40,17 @@ GET /«8187 a» => 431
 GET /«8200 a» => 431"
 }
 
-fn told_of(asked: Asked) -> &'static str {
+fn told_of(asked: AskedPage) -> &'static str {
     match asked {
-        Asked::Unfinished => "unfinished",
-        Asked::For(Page::Home) => "home",
-        Asked::For(Page::Config) => "config",
-        Asked::For(Page::Metrics) => "metrics",
-        Asked::For(Page::Stats) => "stats",
-        Asked::Refused(Refusal::Bad) => "400",
-        Asked::Refused(Refusal::NotFound) => "404",
-        Asked::Refused(Refusal::NotAllowed) => "405",
-        Asked::Refused(Refusal::TooLarge) => "431",
+        AskedPage::Unfinished => "unfinished",
+        AskedPage::For(Page::Home) => "home",
+        AskedPage::For(Page::Config) => "config",
+        AskedPage::For(Page::Metrics) => "metrics",
+        AskedPage::For(Page::Stats) => "stats",
+        AskedPage::Refused(Refusal::Bad) => "400",
+        AskedPage::Refused(Refusal::NotFound) => "404",
+        AskedPage::Refused(Refusal::NotAllowed) => "405",
+        AskedPage::Refused(Refusal::TooLarge) => "431",
     }
 }
 

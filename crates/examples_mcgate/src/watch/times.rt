@@ -3,7 +3,7 @@
 use examples_tables::tellers::{Teller, wrong};
 use std::alloc::{AllocError, Global};
 use std::test::Fail;
-use watch_admin::times::Moment;
+use watch_admin::times::UtcTime;
 
 fn moments() -> &'static str {
     "0 => 1970-01-01T00:00:00.000Z
@@ -26,7 +26,7 @@ struct OfMoments;
 
 impl Teller for OfMoments {
     fn told(alloc: Global, millis: &str) -> Result<String, AllocError> {
-        let moment = Moment(millis.parse::<u64>().unwrap_or(0));
+        let moment = UtcTime(millis.parse::<u64>().unwrap_or(0));
         format!(in alloc; "{moment}")
     }
 }

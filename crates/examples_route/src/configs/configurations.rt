@@ -81,6 +81,25 @@ fn tables() -> &'static str {
 ["a:1"],"slots":[1],"slot":[0] => bad field slot"#
 }
 
+// The same of a pool that has limits of its own.
+fn limits() -> &'static str {
+    r#"["a:1"],"call_ms":1,"connect_ms":4294967295,"fail_limit":1,"retry_ms":4294967295 => accepted
+["a:1"],"call_ms":0 => bad field call_ms
+["a:1"],"call_ms":4294967296 => bad field call_ms
+["a:1"],"call_ms":1.0 => bad field call_ms
+["a:1"],"call_ms":"1" => bad field call_ms
+["a:1"],"call_ms":null => bad field call_ms
+["a:1"],"connect_ms":-1 => bad field connect_ms
+["a:1"],"fail_limit":18446744073709551616 => bad field fail_limit
+["a:1"],"retry_ms":[1] => bad field retry_ms
+["a:1"],"retry_ms":0,"fail_limit":0,"connect_ms":0,"call_ms":0 => bad field call_ms
+["a:1"],"retry_ms":0,"fail_limit":0,"connect_ms":0 => bad field connect_ms
+# Servers and slots come first.
+["a:0"],"call_ms":0 => bad address a:0
+["a:1"],"slots":[1],"call_ms":0 => bad field slots
+["a:1"],"call_ms":0,"give_up_ms":1 => bad field give_up_ms"#
+}
+
 // Routes over pool A of two servers and B of one.
 fn routes() -> &'static str {
     r#""PoolRoute|Z" => no pool Z
@@ -467,6 +486,12 @@ fn faults_of_servers(rt: HostRuntime) -> Result<(), Fail> {
 #[test]
 fn faults_of_tables(rt: HostRuntime) -> Result<(), Fail> {
     assert_eq!(rt; wrong::<OfServers>(rt.alloc(), tables())?.as_str(), "");
+    Ok(())
+}
+
+#[test]
+fn faults_of_limits(rt: HostRuntime) -> Result<(), Fail> {
+    assert_eq!(rt; wrong::<OfServers>(rt.alloc(), limits())?.as_str(), "");
     Ok(())
 }
 

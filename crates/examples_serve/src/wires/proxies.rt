@@ -808,6 +808,29 @@ taken 3 => END\r\n
 taken 9 => get c\r\n
 news => 1 stalled; server 0: connected
 
+Of those that hold too much together as many are closed in one turn as it takes.
+host 127.0.0.1:5001
+peer 1
+sends set a 0 0 1000000\r\n«2 <data>»
+calls 0
+peer 2
+sends set b 0 0 1000000\r\n«2 <data>»
+calls 100
+peer 3
+sends set c 0 0 1000000\r\n«2 <data>»
+calls 200
+proxy <one server>
+bounds 10000 1000000
+turn 40
+open 1 => yes
+bounds 10000 250000
+turn 1
+news => 2 stalled
+turn 1
+open 1 => no
+open 2 => no
+open 3 => yes
+
 While more than three quarters of 450,000 bytes are held, no command begins of a client that takes little. It does when another one is gone.
 host 127.0.0.1:5001
 peer 9

@@ -7,7 +7,7 @@ use crate::ledger::begun::all_begun;
 use crate::ledger::class::ClassPages;
 use crate::ledger::page::{Beginning, Page};
 use crate::ledger::refining::finer_rows;
-use crate::ledger::turning::{Step, TurnedAll, turned_classes};
+use crate::ledger::turning::{Successor, TurnedAll, turned_classes};
 use crate::ledger::unsound::Unsound;
 use route_json::Config;
 use std::alloc::{AllocError, Global};
@@ -107,7 +107,7 @@ impl Ledger {
             Some(finer) => finer,
         };
         let begun = all_begun(alloc, &self.begun, config.servers().len(), new)?;
-        let step = Step {
+        let step = Successor {
             tree,
             number: self.count,
             begun: &begun,

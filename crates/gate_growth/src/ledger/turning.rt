@@ -26,7 +26,7 @@ use std::alloc::{AllocError, Global};
 
 /// A tree that is to follow.
 #[derive(Clone, Copy)]
-pub struct Step<'a> {
+pub struct Successor<'a> {
     pub tree: &'a Tree,
     /// Its number, counted from 0.
     pub number: u32,
@@ -71,7 +71,7 @@ pub fn turned_classes(
     alloc: Global,
     known: &[ClassPages],
     texts: &[Key],
-    step: &Step,
+    step: &Successor,
 ) -> Result<TurnedAll, AllocError>
     requires some { 0 < length known.now }
     requires counted { 0 < step.now.modulus }
@@ -96,7 +96,7 @@ fn add_class(
     alloc: Global,
     known: &[ClassPages],
     prefix: &Option<Key>,
-    step: &Step,
+    step: &Successor,
     all: &mut TurnedAll,
 ) -> Result<(), AllocError>
     requires some { 0 < length known.now }
@@ -117,7 +117,7 @@ fn turned_class(
     alloc: Global,
     known: &[ClassPages],
     prefix: &Option<Key>,
-    step: &Step,
+    step: &Successor,
 ) -> Result<TurnedClass, AllocError>
     requires some { 0 < length known.now }
     requires counted { 0 < step.now.modulus }
@@ -158,7 +158,7 @@ fn turned_row(
     alloc: Global,
     page: &Page,
     place: &Place,
-    step: &Step,
+    step: &Successor,
 ) -> Result<TurnedRow, AllocError>
     requires below { Each (λ s. s < length step.now.begun.now) (tree_servers step.now.tree.now) }
     requires few { length step.now.begun.now < 2 ^ 32 }

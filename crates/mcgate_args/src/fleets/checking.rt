@@ -118,8 +118,8 @@ fn name_at<'a>(files: &[FleetFile<'a>], index: usize) -> &'a str
     }
 }
 
-// Writes the line of a fault; running out of memory has none.
-fn write_fleet_fault<W: Write>(
+/// Writes the line of a fault; running out of memory has none.
+pub(super) fn write_fleet_fault<W: Write>(
     files: &[FleetFile<'_>],
     configs: &[Config],
     fault: &FleetFault,

@@ -129,24 +129,24 @@ fn write_copy_path_in<W: Write>(
 
 // A step from a selector to a child.
 #[derive(Clone, Copy)]
-enum Step {
+enum ChildStep {
     Default,
     Get,
     Wildcard,
 }
 
 #[tactic(auto, unfolding(crate::specs::FleetLines::step_text))]
-fn step_text(step: Step) -> &'static str
+fn step_text(step: ChildStep) -> &'static str
     ensures { result.now ≡ step_text step }
 {
     match step {
-        Step::Default => "/default_policy",
-        Step::Get => "/operation_policies/get",
-        Step::Wildcard => "/wildcard",
+        ChildStep::Default => "/default_policy",
+        ChildStep::Get => "/operation_policies/get",
+        ChildStep::Wildcard => "/wildcard",
     }
 }
 
-fn write_step<W: Write>(step: Step, out: &mut W) -> io::Result<()>
+fn write_step<W: Write>(step: ChildStep, out: &mut W) -> io::Result<()>
     ensures { OnOk result (Appends (W.contents out.old) (W.contents out.new) (step_text step)) }
 {
     let text = step_text(step);
@@ -165,12 +165,12 @@ fn write_copy_path_by<W: Write>(
 {
     match policies {
         [] => {
-            write_step(Step::Default, out)?;
+            write_step(ChildStep::Default, out)?;
             write_copy_path(text, default, out)
         }
         [(op, child), rest @ ..] => {
             if is_op(*op, Op::Get) {
-                write_step(Step::Get, out)?;
+                write_step(ChildStep::Get, out)?;
                 write_copy_path(text, child, out)
             } else {
                 write_copy_path_by(text, rest, default, out)
@@ -199,7 +199,7 @@ fn write_copy_path_begun<W: Write>(
 {
     match policies {
         [] => {
-            write_step(Step::Wildcard, out)?;
+            write_step(ChildStep::Wildcard, out)?;
             write_copy_path(text, wildcard, out)
         }
         [(own, child), rest @ ..] => {

@@ -5,8 +5,9 @@ use crate::slots::choosing::{Table, chosen, servers_after, slots_before, table_a
 use crate::slots::fault::SlotsFault;
 use gate_gaps::read_pools;
 use mc_types::ServerId;
+use route_json::limits::LIMIT_FIELDS;
 use route_json::{ConfigFault, Servers, read_config};
-use serde_json::{Value, json};
+use serde_json::{Map, Value, json, put};
 use std::alloc::{AllocError, Global};
 
 // The addresses of a list.
@@ -37,19 +38,45 @@ fn place_values(
     Ok(values)
 }
 
-fn pool_value(alloc: Global, servers: &Servers, table: &Table) -> Result<Value, AllocError> {
+// The limits of a pool are put into what is told of it.
+fn put_limits(
+    alloc: Global,
+    pool: &Value,
+    told: &mut Map<String, Value>,
+) -> Result<(), AllocError> {
+    for name in LIMIT_FIELDS {
+        if let Some(limit) = pool.get(name) {
+            put(told, alloc, name, limit.clone()?)?;
+        }
+    }
+    Ok(())
+}
+
+// The pool with this table.
+fn pool_value(
+    alloc: Global,
+    servers: &Servers,
+    table: &Table,
+    pool: Option<&Value>,
+) -> Result<Value, AllocError> {
     let list = address_values(alloc, servers, &table.servers)?;
     let slots = place_values(alloc, &table.servers, &table.slots)?;
-    json!(in alloc; {"servers": list, "slots": slots})
+    let mut told = json!(in alloc; {"servers": list, "slots": slots})?;
+    if let (Some(pool), Value::Object(told)) = (pool, &mut told) {
+        put_limits(alloc, pool, told)?;
+    }
+    Ok(told)
+}
+
+// The pool of this name.
+fn pool_named<'a>(value: &'a Value, name: &str) -> Option<&'a Value> {
+    value.get("pools")?.get(name)
 }
 
 // Whether the pool of this name has a table.
 fn has_table(value: &Value, name: &str) -> bool {
-    match value.get("pools") {
-        Some(pools) => match pools.get(name) {
-            Some(pool) => pool.get("slots").is_some(),
-            None => false,
-        },
+    match pool_named(value, name) {
+        Some(pool) => pool.get("slots").is_some(),
         None => false,
     }
 }
@@ -111,7 +138,7 @@ pub fn rewritten_text<'a>(
     let mut value = value_of(alloc, text)?;
     let has_table = has_table(&value, pool.name());
     let table = table_after(alloc, &mut servers, pool, has_table, job.change, &before)?;
-    let told = pool_value(alloc, &servers, &table)?;
+    let told = pool_value(alloc, &servers, &table, pool_named(&value, pool.name()))?;
     put_pool(&mut value, pool.name(), told);
     Ok(value.to_string(alloc)?)
 }

@@ -8,8 +8,8 @@ ghost use Rattle.gate_check.specs.Tables.{IsTable};
 ghost use Rattle.script_events.specs.Scripted.{scripted_of};
 ghost use Rattle.mcgate_check.specs.Stepped.{is_stepped};
 ghost use Rattle.route_json.specs.declared.addresses.servers.TheConstants.{MAX_SERVERS};
-ghost use Rattle.script_events.specs.Servers.{IsNew};
-ghost use Rattle.mcgate_check.specs.Tried.{IsFirstKey};
+ghost use Rattle.script_events.specs.Servers.{AreNewServers};
+ghost use Rattle.mcgate_check.specs.Tried.{IsFirstKeyTried};
 ghost use Rattle.mcgate_check.specs.Failing.{failures_of};
 ghost use Rattle.mcgate_check.specs.Refusals.{MayLack, IsShowing, IsRefusalRun, IsRealGap, IsAnswer};
 
@@ -37,7 +37,7 @@ fn is_read(op: Op) -> bool
 
 // New servers, one for each of the configuration's.
 fn servers_for(alloc: Global, config: &Config) -> Result<ScriptServers, AllocError>
-    ensures new { IfOk result (IsNew (length config.now.servers)) }
+    ensures new { IfOk result (AreNewServers (length config.now.servers)) }
     ensures few { length config.now.servers ≤ MAX_SERVERS }
 {
     let count = config.servers().len();
@@ -81,7 +81,7 @@ fn computed_run(
     failures: Failures,
 ) -> Result<Script, AllocError>
     requires taking { IsTaking gap.now.op }
-    requires first { IsFirstKey config.now.tree gap.now.place key.now }
+    requires first { IsFirstKeyTried config.now.tree gap.now.place key.now }
     requires computed { failures_of gap.now.op gap.now.server (tree_at config.now.tree key.now) ≡ Some failures }
     requires good { IsGood (tree_at config.now.tree key.now) }
     ensures { IfOk result (λ script. IsRefusalRun config.now gap.now (map scripted_of script.events.items)) }
@@ -104,7 +104,7 @@ fn driven_run(
     gap: &Gap,
     key: &Key,
 ) -> Result<Option<Script>, AllocError>
-    requires first { IsFirstKey config.now.tree gap.now.place key.now }
+    requires first { IsFirstKeyTried config.now.tree gap.now.place key.now }
     requires none { failures_of gap.now.op gap.now.server (tree_at config.now.tree key.now) ≡ None }
     ensures { IfOk result (λ found. IfSome found (λ script. IsRefusalRun config.now gap.now (map scripted_of script.events.items))) }
 {
@@ -122,7 +122,7 @@ fn run_over(
     key: &Key,
 ) -> Result<Option<Script>, AllocError>
     requires taking { IsTaking gap.now.op }
-    requires first { IsFirstKey config.now.tree gap.now.place key.now }
+    requires first { IsFirstKeyTried config.now.tree gap.now.place key.now }
     ensures { IfOk result (IsAnswer config.now gap.now) }
 {
     let tree = config.tree();

@@ -5,7 +5,7 @@
 ghost use Rattle.std.specs.Prelude.{◌≡◌};
 ghost use Rattle.std.specs.List.{list_any};
 ghost use Rattle.std.specs.Str.{bytes_eq};
-ghost use Rattle.route_json.specs.Names.{fields_of, own_fields};
+ghost use Rattle.route_json.specs.Names.{fields_of, limit_fields, own_fields};
 
 use crate::names::kinds::Kind;
 
@@ -25,9 +25,15 @@ pub fn is_field(holder: Holder, name: &str) -> bool
 {
     match holder {
         Holder::Config => name == "pools" || name == "route",
-        Holder::Pool => name == "servers" || name == "slots",
+        Holder::Pool => name == "servers" || name == "slots" || is_limit_field(name),
         Holder::Route(kind) => name == "type" || is_route_field(kind, name),
     }
+}
+
+fn is_limit_field(name: &str) -> bool
+    ensures { result ≡ list_any (bytes_eq name.now) limit_fields }
+{
+    name == "call_ms" || name == "connect_ms" || name == "fail_limit" || name == "retry_ms"
 }
 
 fn is_route_field(kind: Kind, name: &str) -> bool

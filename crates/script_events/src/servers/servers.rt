@@ -39,12 +39,12 @@ pub struct ScriptServers {
 
 impl ScriptServers {
     ghost use Rattle.script_events.specs.declared.servers.event.FleetFault.TheVariants.{Spent};
-    ghost use Rattle.script_events.specs.Servers.{manner_of, caches_of, count_of, turn_of, moment_of, named_of, lost_of, IsNew, Answers, Stops};
+    ghost use Rattle.script_events.specs.Servers.{manner_of, caches_of, count_of, turn_of, moment_of, named_of, lost_of, AreNewServers, Answers, Stops};
 
     /// So many servers, each of which holds nothing yet and then at most 1,024 items, at moment 0. The only error is running out
     /// of memory.
     pub fn new(alloc: Global, servers: u32) -> Result<ScriptServers, AllocError>
-        ensures { IfOk result (IsNew servers) }
+        ensures { IfOk result (AreNewServers servers) }
     {
         let mut caches = Vec::new(alloc);
         for _place in 0..servers {

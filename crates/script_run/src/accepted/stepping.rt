@@ -1,7 +1,7 @@
 //! A script, run through configurations that the gate was asked for.
 
 ghost use Rattle.std.specs.Prelude.{◌≡◌, ◌≤◌, [], length, map, None, IfOk, IfErr, OnOk, MatchResult};
-ghost use Rattle.script_events.specs.Servers.{IsNew, count_of};
+ghost use Rattle.script_events.specs.Servers.{AreNewServers, count_of};
 ghost use Rattle.script_events.specs.Scripted.{scripted_of, transcript_of};
 ghost use Rattle.route_json.specs.declared.addresses.servers.TheConstants.{MAX_SERVERS};
 ghost use Rattle.script_events.specs.Bad.{first_bad, Refuses};
@@ -42,7 +42,7 @@ pub fn drive_judged(
     requires servers { length first.now.servers ≤ count_of servers.old }
     requires few { count_of servers.old ≤ MAX_SERVERS }
     requires order { AreInOrder (length script.now.events.items) (count_of servers.old) 0 reloads.now }
-    requires new { IsNew (count_of servers.old) servers.old }
+    requires new { AreNewServers (count_of servers.old) servers.old }
     requires transcript { transcript.old.shown.items ≡ [] }
     requires marks { marks.old.items ≡ [] }
     ensures refuses { MatchResult result (λ _. first_bad (count_of servers.old) (map scripted_of script.now.events.items) ≡ None) (Refuses (count_of servers.old) script.now) }

@@ -20,7 +20,7 @@ use crate::driver::tally::Tally;
 use crate::log::laws::{
     feeds_go_on, gives_go_on, loads_go_on, openings_go_on, polls_go_on, results_go_on,
 };
-use core_proxy::{Core, CoreFault, Limits, Note, Poll, Ticket};
+use core_proxy::{Core, CoreFault, CoreLimits, Note, Poll, Ticket};
 use mc_types::{Ask, ServerId, is_ask};
 use route_tree::Tree;
 use script_events::servers::{FleetFault, Made, ScriptServers};
@@ -144,7 +144,7 @@ impl Runner {
         ensures clients { result.clients ≡ 0 }
     {
         Runner {
-            core: Core::unchecked(alloc, tree, Limits::of_scripts()),
+            core: Core::unchecked(alloc, tree, CoreLimits::of_scripts()),
             clients: 0,
             out: Vec::new(alloc),
             found: FoundStamps::new(alloc),

@@ -13,12 +13,12 @@ pub struct Tally {
 }
 
 impl Tally {
-    ghost use Rattle.script_run.specs.Tallying.{IsOneMore};
+    ghost use Rattle.script_run.specs.Tallying.{IsOneMoreCommand};
 
     /// One more command, which is stale or not. The only error is `Spent`, where 2^64 - 1 commands ended.
     pub fn one_more(self, stale: u64) -> Result<Tally, FleetFault>
         requires { stale ≤ 1 }
-        ensures { IfOk result (IsOneMore self stale) }
+        ensures { IfOk result (IsOneMoreCommand self stale) }
     {
         if self.commands == u64::MAX {
             return Err(FleetFault::Spent);

@@ -1,13 +1,13 @@
 //! The bytes of answers: a digit that says what became of the request, the end of a line, and the text.
 
-ghost use Rattle.std.specs.Prelude.{◌≡◌, ◌≢◌, ◌++◌, List, ℕ, MatchOption, OnOk};
+ghost use Rattle.std.specs.Prelude.{◌≡◌, ◌≢◌, ◌+◌, ◌++◌, List, ℕ, MatchOption, OnOk};
 ghost use Rattle.watch_admin.specs.ControlAnswers.{digit_of, answer_of};
 
 use std::alloc::AllocError;
 
 /// What became of a request.
 #[derive(Clone, Copy, PartialEq, Eq, Debug)]
-pub enum Verdict {
+pub enum Ruling {
     /// It is done.
     Done,
     /// The gate refuses it, or it could not be ended in time.
@@ -18,14 +18,16 @@ pub enum Verdict {
     Failed,
 }
 
-impl Verdict {
+impl Ruling {
     /// As an exit status.
-    pub fn status(self) -> u8 {
+    pub fn status(self) -> u8
+        ensures { digit_of self ≡ 48 + result }
+    {
         match self {
-            Verdict::Done => 0,
-            Verdict::Refused => 1,
-            Verdict::Unknown => 2,
-            Verdict::Failed => 3,
+            Ruling::Done => 0,
+            Ruling::Refused => 1,
+            Ruling::Unknown => 2,
+            Ruling::Failed => 3,
         }
     }
 
@@ -33,16 +35,16 @@ impl Verdict {
         ensures { result ≡ digit_of self }
     {
         match self {
-            Verdict::Done => b'0',
-            Verdict::Refused => b'1',
-            Verdict::Unknown => b'2',
-            Verdict::Failed => b'3',
+            Ruling::Done => b'0',
+            Ruling::Refused => b'1',
+            Ruling::Unknown => b'2',
+            Ruling::Failed => b'3',
         }
     }
 }
 
 /// Adds the answer of this verdict and text.
-pub fn put_answer(verdict: Verdict, text: &[u8], out: &mut Vec<u8>) -> Result<(), AllocError>
+pub fn put_answer(verdict: Ruling, text: &[u8], out: &mut Vec<u8>) -> Result<(), AllocError>
     ensures { OnOk result (out.new.items ≡ out.old.items ++ answer_of verdict text.now) }
 {
     out.push(verdict.digit())?;
@@ -51,14 +53,14 @@ pub fn put_answer(verdict: Verdict, text: &[u8], out: &mut Vec<u8>) -> Result<()
 }
 
 /// The verdict and the text of an answer, if these bytes are one.
-pub fn read_answer(bytes: &[u8]) -> Option<(Verdict, &[u8])>
-    ensures { MatchOption result ((verdict : Verdict) (text : List ℕ) → bytes.now ≢ answer_of verdict text) (λ read. bytes.now ≡ answer_of read.0 read.1.now) }
+pub fn read_answer(bytes: &[u8]) -> Option<(Ruling, &[u8])>
+    ensures { MatchOption result ((verdict : Ruling) (text : List ℕ) → bytes.now ≢ answer_of verdict text) (λ read. bytes.now ≡ answer_of read.0 read.1.now) }
 {
     match bytes {
-        [b'0', b'\n', text @ ..] => Some((Verdict::Done, text)),
-        [b'1', b'\n', text @ ..] => Some((Verdict::Refused, text)),
-        [b'2', b'\n', text @ ..] => Some((Verdict::Unknown, text)),
-        [b'3', b'\n', text @ ..] => Some((Verdict::Failed, text)),
+        [b'0', b'\n', text @ ..] => Some((Ruling::Done, text)),
+        [b'1', b'\n', text @ ..] => Some((Ruling::Refused, text)),
+        [b'2', b'\n', text @ ..] => Some((Ruling::Unknown, text)),
+        [b'3', b'\n', text @ ..] => Some((Ruling::Failed, text)),
         _ => None,
     }
 }

@@ -3,7 +3,7 @@
 ghost use Rattle.std.specs.Prelude.{◌≡◌, IfOk};
 ghost use Rattle.watch_admin.specs.ControlAnswers.{answer_of};
 
-use crate::control::answers::{Verdict, put_answer};
+use crate::control::answers::{Ruling, put_answer};
 use crate::sending::Sending;
 use std::alloc::{AllocError, Global};
 use text_words::{Line, line};
@@ -37,7 +37,7 @@ impl Exchange {
 }
 
 /// The answer of this verdict and text, to be sent. The only error is that memory was refused.
-pub fn answering(alloc: Global, verdict: Verdict, text: &[u8]) -> Result<Sending, AllocError>
+pub fn answering(alloc: Global, verdict: Ruling, text: &[u8]) -> Result<Sending, AllocError>
     ensures answer { IfOk result (λ sending. sending.answer.items ≡ answer_of verdict text.now) }
     ensures sent { IfOk result (λ sending. sending.sent ≡ 0) }
 {

@@ -1,12 +1,13 @@
 //! A client's request and its answer.
 
 ghost use Rattle.std.specs.Prelude.{◌≡◌, ◌≤◌, ◌+◌, [], ◌++◌, IfOk, length};
-ghost use Rattle.watch_admin.specs.declared.http.request.Asked.TheVariants.{Unfinished, For, Refused};
+ghost use Rattle.watch_admin.specs.declared.http.request.AskedPage.TheVariants.{Unfinished, For, Refused};
 ghost use Rattle.watch_admin.specs.HttpRequests.{Asks};
 ghost use Rattle.watch_admin.specs.HttpReplies.{page_text, Answers};
+ghost use Rattle.watch_admin.specs.Sending.{GoesUpTo};
 
 use crate::http::answers::{write_page, write_refusal};
-use crate::http::request::{Asked, MOST_BYTES, Page, Refusal, what_is_asked};
+use crate::http::request::{AskedPage, MOST_BYTES, Page, Refusal, what_is_asked};
 use crate::sending::Sending;
 use std::alloc::Global;
 use std::io;
@@ -60,14 +61,14 @@ impl Exchange {
     }
 
     // Where a client stands whose bytes ask for this.
-    fn of(alloc: Global, came: Vec<u8>, asked: Asked) -> io::Result<Exchange>
+    fn of(alloc: Global, came: Vec<u8>, asked: AskedPage) -> io::Result<Exchange>
         requires { Asks came.items asked }
         ensures { IfOk result (λ exchange. Holds exchange came.items) }
     {
         match asked {
-            Asked::Unfinished => Ok(Exchange::Asking(Asking { came })),
-            Asked::For(page) => Ok(Exchange::Waiting(Waiting { came, page })),
-            Asked::Refused(refusal) => Exchange::refused(alloc, came, refusal),
+            AskedPage::Unfinished => Ok(Exchange::Asking(Asking { came })),
+            AskedPage::For(page) => Ok(Exchange::Waiting(Waiting { came, page })),
+            AskedPage::Refused(refusal) => Exchange::refused(alloc, came, refusal),
         }
     }
 }
@@ -120,9 +121,10 @@ impl Waiting {
 }
 
 impl Answering {
-    /// A stream is sent what it takes of the answer. Whether something is left that it may take later.
+    /// A stream is sent what it takes of the answer, in order and each byte once. Whether something is left that it may take later.
     pub fn send<W: Write>(&mut self, stream: &mut W) -> io::Result<bool>
-        ensures { self.new.sending.answer.items ≡ self.old.sending.answer.items }
+        ensures answer { self.new.sending.answer.items ≡ self.old.sending.answer.items }
+        ensures goes { GoesUpTo self.old.sending.answer.items self.old.sending.sent self.new.sending.sent (W.contents stream.old) (W.contents stream.new) }
     {
         self.sending.send(stream)
     }

@@ -35,7 +35,7 @@ pub enum Refusal {
 
 /// What the bytes of a client ask for.
 #[derive(Clone, Copy, PartialEq, Eq)]
-pub enum Asked {
+pub enum AskedPage {
     /// More bytes may make them a request.
     Unfinished,
     For(Page),
@@ -49,54 +49,54 @@ pub const MOST_BYTES: usize = 8_192;
 pub const MOST_FIELDS: usize = 64;
 
 // What a GET of this path asks for.
-fn page_at(path: &[u8]) -> Asked
+fn page_at(path: &[u8]) -> AskedPage
     ensures { AsksBy (codes "GET") path.now result }
 {
     if path == b"/".as_slice() {
-        Asked::For(Page::Home)
+        AskedPage::For(Page::Home)
     } else if path == b"/config.json".as_slice() {
-        Asked::For(Page::Config)
+        AskedPage::For(Page::Config)
     } else if path == b"/metrics".as_slice() {
-        Asked::For(Page::Metrics)
+        AskedPage::For(Page::Metrics)
     } else if path == b"/stats.json".as_slice() {
-        Asked::For(Page::Stats)
+        AskedPage::For(Page::Stats)
     } else {
-        Asked::Refused(Refusal::NotFound)
+        AskedPage::Refused(Refusal::NotFound)
     }
 }
 
 // What a request of this method and path asks for.
-fn asked_by(method: &[u8], path: &[u8]) -> Asked
+fn asked_by(method: &[u8], path: &[u8]) -> AskedPage
     ensures { AsksBy method.now path.now result }
 {
     if method == b"GET".as_slice() {
         page_at(path)
     } else {
-        Asked::Refused(Refusal::NotAllowed)
+        AskedPage::Refused(Refusal::NotAllowed)
     }
 }
 
 // What bytes ask for that are no request so far.
-fn unfinished(bytes: &[u8]) -> Asked
+fn unfinished(bytes: &[u8]) -> AskedPage
     requires { HasNoRequest bytes.now }
     ensures { Asks bytes.now result }
 {
     if bytes.len() < MOST_BYTES {
-        Asked::Unfinished
+        AskedPage::Unfinished
     } else {
-        Asked::Refused(Refusal::TooLarge)
+        AskedPage::Refused(Refusal::TooLarge)
     }
 }
 
 /// What the bytes that a client has sent so far ask for.
-pub fn what_is_asked(bytes: &[u8]) -> Asked
+pub fn what_is_asked(bytes: &[u8]) -> AskedPage
     ensures { Asks bytes.now result }
 {
     let mut headers = [EMPTY_HEADER_SPAN; MOST_FIELDS];
     match parse_request(bytes, &mut headers) {
         Ok(Status::Complete(head)) => asked_by(head.method.of(bytes), head.path.of(bytes)),
         Ok(Status::Partial) => unfinished(bytes),
-        Err(Error::TooManyHeaders) => Asked::Refused(Refusal::TooLarge),
-        Err(_) => Asked::Refused(Refusal::Bad),
+        Err(Error::TooManyHeaders) => AskedPage::Refused(Refusal::TooLarge),
+        Err(_) => AskedPage::Refused(Refusal::Bad),
     }
 }

@@ -120,7 +120,7 @@ impl Request {
 
 impl MetaAsks {
     fn next(&mut self, alloc: Global, received: &Received) -> Result<Option<Ask>, AllocError>
-        requires { metas.IsReadFrom received.now self.old.request }
+        requires { metas.IsMetaReadFrom received.now self.old.request }
         ensures value { IfOk result (λ next. next ≡ slice_get (meta_asks.asks_of (metas.message_in received.now self.old.request)) self.old.taken) }
         ensures ask { IfOk result (λ next. IfSome next IsClientAsk) }
         ensures taken { IfOk result (λ next. self.new.taken ≡ counted next self.old.taken) }

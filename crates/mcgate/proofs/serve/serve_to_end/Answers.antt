@@ -4,5 +4,5 @@ use Rattle.mcgate.proofs.serve.serve_to_end.Goals as goal
 pub returns : goal.returns
 returns g c =
     let last = c.tell_and_run-ended.new.self.end in
-    let served = has_served c.args.servable c.args.job.now.begun c.args.job.now.settings c.in_ok-serving.serving.end last c.in_ok-serving.ensures c.tell_and_run-ended.ensures.ends c.logs_are_fresh.ensures.fresh in
+    let served = has_served c.args.servable c.args.job.now.begun c.args.job.now.settings c.in_ok-serving.serving.end last c.in_ok-serving.ensures.begins c.tell_and_run-ended.ensures.ends c.logs_are_fresh.ensures.fresh c.logs_are_fresh.ensures.sound in
     record { served = served; fresh = stays_fresh c.args.servable c.args.job.now.begun c.args.job.now.settings last served c.logs_are_fresh.ensures.fresh c.logs_are_fresh.ensures.sound }

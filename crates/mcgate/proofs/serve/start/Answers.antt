@@ -1,5 +1,8 @@
-use Rattle.mcgate.proofs.Loads.{begins_serving}
+use Rattle.mcgate.proofs.Loads.{begins_serving, used_first_on}
 use Rattle.mcgate.proofs.serve.start.Goals as goal
 
 pub returns : goal.returns
-returns g c = begins_serving c.args.servable c.args.job.now.begun c.args.job.now.settings c.in_ok-servers.servers c.in_ok-end.end c.new.result c.new.ensures c.in_ok-end.ensures.core c.in_ok-end.ensures.ends c.in_ok-end.ensures.texts c.in_ok-servers.ensures
+returns g c = record {
+  begins = begins_serving c.args.servable c.args.job.now.begun c.args.job.now.settings c.in_ok-servers.servers c.in_ok-end.end c.new.result c.new.ensures.end c.in_ok-end.ensures.core c.in_ok-end.ensures.ends c.in_ok-end.ensures.texts c.in_ok-servers.ensures;
+  in_use = used_first_on c.args.job.now.fleet c.args.servable c.in_ok-in_use.in_use c.new.result c.new.ensures.in_use c.in_ok-in_use.ensures;
+}

@@ -13,5 +13,5 @@ returns-in-Some g c = record {
   ends = and_then
       (line_goes_to None c.args.sockets.now.links.all.items c.args.at c.in-Some.link.now c.fail_late.new.link c.in-Some.ensures.item.3.0 c.in-Some.ensures.value (c.fail_late.ensures.goes c.args.at (g.W.Wire.history c.args.sockets.now.wire)))
       (stays c.fail_late.new.core (stay_clients _ _ _ _ c.fail_late.ensures.ends));
-  late = late_at c.args.sockets.now.links.all.items c.in-Some.link.now c.fail_late.new.link c.args.at c.args.sockets.now.links.settings.call_ms c.last_millis-now.ensures c.in-Some.ensures.item.3.0 c.in-Some.ensures.value c.fail_late.ensures.late;
+  late = late_at c.args.sockets.now.links.all.items c.in-Some.link.now c.fail_late.new.link c.args.at c.last_millis-now.ensures c.in-Some.ensures.item.3.0 c.in-Some.ensures.value c.fail_late.ensures.late;
 }

@@ -10,5 +10,5 @@ returns-then-not-is_connect_late g c = record { ends = still; late = inr (refl, 
 pub returns : goal.returns
 returns g c = record {
   ends = unconnected c.args.at c.fail_link.ensures.ends;
-  late = inl (subst (λ t. IsConnectLateAt c.args.at c.args.sockets.now.links.settings.connect_ms t c.args.sockets.now.links.all.items) c.last_millis-now.ensures (c.is_connect_late.ensures c.if-not-is_connect_late.false));
+  late = inl (subst (λ t. IsConnectLateAt c.args.at t c.args.sockets.now.links.all.items) c.last_millis-now.ensures (c.is_connect_late.ensures c.if-not-is_connect_late.false));
 }

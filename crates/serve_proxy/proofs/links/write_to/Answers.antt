@@ -14,5 +14,6 @@ returns-in-Some c =
     let y : Link = record x { calls = c.begin.new.self; conn = Some d } in
     record {
       ok = on_ok c.begin.result _ _ (λ did. asked x y k d c.args.call (sym c.in-Some.ensures.value) (c.awaits_late.ensures.none c.if-awaits_late.false) (sym c.awaits_flush.ensures ∙ c.if-awaits_flush.false) refl refl did) c.begin.ensures.ok;
+      awaited = on_ok c.begin.result _ _ (λ did. c.holds_unasked.ensures c.if-holds_unasked.false) c.begin.ensures.ok;
       err = IfErr-weaker c.begin.result _ _ (λ given did. not_asked x y k d c.args.call given (sym c.in-Some.ensures.value) refl refl did) c.begin.ensures.err;
     }

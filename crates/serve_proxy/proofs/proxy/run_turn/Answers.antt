@@ -9,3 +9,6 @@ returns-clause-ends g c =
     and_then (and_then (and_then (and_then (and_then (and_then (and_then (and_then (and_then (and_then (stays c.args.core.now c.wait.ensures.ends) (stays c.args.core.now c.list_again.ensures.ends))
     c.give_back_room.ensures.ends) c.accept_ready.ensures.ends) c.serve_asks.ensures.ends) c.read_links.ensures.ends) c.fail_late.ensures.ends) c.serve_all.ensures.ends) (failing c.send_links.ensures.ends)) c.send_clients.ensures.ends)
     c.close_slow.ensures.ends
+
+pub returns-clause-bounded : goal.returns-clause-bounded
+returns-clause-bounded g c = c.close_slow.ensures.bounded

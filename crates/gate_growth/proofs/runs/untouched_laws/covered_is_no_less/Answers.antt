@@ -1,4 +1,4 @@
-use Rattle.gate_growth.proofs.UntouchedFresh.{no_less}
+use Rattle.fresh_runs.proofs.NoLess.{no_less}
 use Rattle.gate_growth.proofs.runs.untouched_laws.covered_is_no_less.Goals as goal
 
 pub returns : goal.returns

@@ -1,4 +1,4 @@
-use Rattle.gate_growth.proofs.UntouchedFresh.{fresh}
+use Rattle.fresh_runs.proofs.UntouchedFresh.{fresh}
 use Rattle.gate_growth.proofs.runs.untouched_laws.grown_is_fresh.Goals as goal
 
 pub returns : goal.returns

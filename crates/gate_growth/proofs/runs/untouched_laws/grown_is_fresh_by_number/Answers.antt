@@ -1,4 +1,4 @@
-use Rattle.gate_growth.proofs.UntouchedFresh.{fresh_by_number}
+use Rattle.fresh_runs.proofs.UntouchedFresh.{fresh_by_number}
 use Rattle.gate_growth.proofs.runs.untouched_laws.grown_is_fresh_by_number.Goals as goal
 
 pub returns : goal.returns

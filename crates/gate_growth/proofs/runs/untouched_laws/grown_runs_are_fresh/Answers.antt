@@ -1,4 +1,4 @@
-use Rattle.gate_growth.proofs.UntouchedAlone.{fresh}
+use Rattle.fresh_runs.proofs.UntouchedAlone.{fresh}
 use Rattle.gate_growth.proofs.runs.untouched_laws.grown_runs_are_fresh.Goals as goal
 
 pub returns : goal.returns

@@ -1,6 +1,8 @@
 use Rattle.serve_proxy.proofs.Growing.{then_grows}
 use Rattle.std.proofs.Common.{ap, inr, sym, subst, length}
 use Rattle.serve_wire.specs.declared.sockets.sockets.Sockets.{Sockets}
+use Rattle.core_accepted.specs.declared.served.ServedCore.{ServedCore}
+use Rattle.core_accepted.specs.Loading.{IsLoaded}
 use Rattle.mcgate.specs.LooksUp.{AreLookedUp}
 use Rattle.mcgate.specs.Serves.{history_of}
 use Rattle.serve_proxy.specs.declared.proxy.ProxyEnd.{ProxyEnd}
@@ -28,3 +30,7 @@ returns-in_ok-print_kept-in-Err-clause-unused g c =
 
 pub returns-in_ok-print_loaded-in-Ok-clause-looked : goal.returns-in_ok-print_loaded-in-Ok-clause-looked
 returns-in_ok-print_loaded-in-Ok-clause-looked g c = λ used. subst (λ (w : Sockets). AreLookedUp (length c.args.self.now.servers) c.args.servers (history_of w)) (sym c.load.ensures.wire) c.in_ok-resolve.ensures.looked
+
+pub returns-in_ok-print_loaded-in-Ok-clause-loaded : goal.returns-in_ok-print_loaded-in-Ok-clause-loaded
+returns-in_ok-print_loaded-in-Ok-clause-loaded g c = λ used.
+    (c.in-Ok.generation, subst (λ (x : ServedCore). IsLoaded x c.args.config c.in-Ok.generation c.load.new.self.core.value) (ap (λ x. x.value) c.resolve.ensures.core) c.in-Ok.ensures.loaded)

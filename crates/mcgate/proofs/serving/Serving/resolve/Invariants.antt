@@ -10,4 +10,5 @@ invariant-loop-at g l = record {
   core : l.self.end.core ≡ l.fn.self.end.core;
   ends : Stay history_of l.fn.self.end.sockets l.self.end.sockets;
   memory : l.self.memory ≡ l.fn.self.memory;
+  in_use : l.self.in_use ≡ l.fn.self.in_use;
 }

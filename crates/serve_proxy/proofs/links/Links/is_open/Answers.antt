@@ -31,3 +31,6 @@ returns-then-is_some-clause-there g c = λ is. open_set c.args.self.now.all.item
 
 pub begin-requires : goal.begin-requires
 begin-requires g c = not_some c.in-Some.link.now.conn (sym c.is_some.ensures ∙ c.if-is_some.false)
+
+pub returns-then-is_held_back-clause-ends : goal.returns-then-is_held_back-clause-ends
+returns-then-is_held_back-clause-ends g c = λ clients. line_goes c.args.self.now.all.items c.args.at c.in-Some.link.now c.in-Some.link.now c.in-Some.ensures.item.3.0 c.in-Some.ensures.value (λ core. line_still c.in-Some.link.now)

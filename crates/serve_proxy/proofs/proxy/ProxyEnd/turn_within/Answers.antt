@@ -18,3 +18,6 @@ returns-clause-ends g c = and_then (stays c.args.self.now.core.value c.wait_limi
 
 pub returns-clause-refused : goal.returns-clause-refused
 returns-clause-refused g c = on_err_weaker c.run_turn.result (λ e. ap (λ v. with_value c.args.self.now.core v) (e ∙ c.as_mut.ensures.value)) c.run_turn.ensures.refused
+
+pub returns-clause-bounded : goal.returns-clause-bounded
+returns-clause-bounded g c = c.run_turn.ensures.bounded
