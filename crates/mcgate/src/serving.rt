@@ -1,6 +1,6 @@
 //! A proxy that runs: its turns, what is told of its servers, and the configurations that are loaded meanwhile.
 
-ghost use Rattle.std.specs.Prelude.{◌≡◌, ◌≢◌, ◌⊎◌, IsTrue, IfOk, IfSome, OnOk, string_bytes, ℕ, List, Some, ◌∷◌, length, slice_get};
+ghost use Rattle.std.specs.Prelude.{◌≡◌, ◌≢◌, ◌⊎◌, ◌≤◌, IsTrue, IfOk, IfSome, OnOk, string_bytes, ℕ, List, Some, ◌∷◌, length, slice_get};
 ghost use Rattle.serve_wire.specs.Events.{looks_up};
 ghost use Rattle.serve_links.specs.Story.{HasHappened};
 ghost use Rattle.core_accepted.specs.declared.loading.LoadFault.TheVariants.{Refused};
@@ -8,6 +8,7 @@ ghost use Rattle.gate_check.specs.declared.reloading.ReloadFault.TheVariants.{No
 ghost use Rattle.serve_proxy.specs.Ends.{Stay, AllGoOn, AllGrow, IsLoadOf};
 ghost use Rattle.core_accepted.specs.Logs.{TreesAreSound};
 ghost use Rattle.serve_proxy.specs.LogsGoOn.{LogsAreFresh};
+ghost use Rattle.serve_proxy.specs.Stalls.{held_by_all};
 ghost use Rattle.core_accepted.specs.Loading.{IsLoaded};
 ghost use Rattle.mcgate.specs.Serves.{SaysAfter, history_of, proxy_of, Serves, MayLoad, MayLoadBeside, MayLoadText, LoadsOne, LoadsText};
 ghost use Rattle.mcgate.specs.InFleet.{StandsBeside, in_use_after};
@@ -451,7 +452,6 @@ impl Serving {
     ) -> Result<u8, Stop>
         ensures ends { Serves self.old.end self.new.end }
     {
-        self.end.bound_clients(job.stall_ms, job.memory);
         self.begin_emptying(rt, job)?;
         self.run_turns(rt, job)?;
         Ok(self.end_all(rt))
@@ -639,12 +639,14 @@ impl Serving {
         Ok(until.map(Duration::from_millis))
     }
 
-    // One turn, which doesn't wait longer than that.
+    // One turn, which doesn't wait longer than that. After it no more is held for all clients than the job's memory.
     #[tactic(auto, using(crate::proofs::Loads::goes_still))]
     fn turn<R: Net + Clock>(&mut self, rt: &R, job: &ServeJob<'_>) -> io::Result<()>
         ensures ends { AllGoOn history_of self.old.end.core.value self.old.end.sockets self.new.end.core.value self.new.end.sockets }
+        ensures bounded { OnOk result (held_by_all self.new.end.sockets.clients ≤ job.now.memory) }
     {
         self.turns = self.turns.saturating_add(1);
+        self.end.bound_clients(job.stall_ms, job.memory);
         match self.most_wait(rt, job)? {
             Some(most) => self.end.turn_within(rt, most),
             None => self.end.turn(rt),
