@@ -1,6 +1,6 @@
--- How an end begins, a turn and a load as what may be done to it, and what its core stays.
-use Rattle.std.proofs.Common.{◌≡◌, ℕ, Bool, true, false, List, [], ◌∷◌, Result, Ok, Err, refl, sym, ap, subst, append-nil, Option, ◌++◌, ◌∙◌, ⊎_elim, inl, inr, ◌⊎◌, Some, None}
-use Rattle.std.specs.Prelude.{IfOk, IsTrue}
+-- How an end begins, and what its core stays.
+use Rattle.std.proofs.Common.{◌≡◌, Bool, List, [], ◌∷◌, Result, Ok, Err, refl, sym, subst, append-nil, Option}
+use Rattle.std.specs.Prelude.{IfOk}
 use Rattle.route_json.specs.Servers.{Addresses}
 use Rattle.route_json.specs.Configuration.{Configuration}
 use Rattle.route_tree.specs.Route.{Route}
@@ -9,26 +9,18 @@ use Rattle.core_accepted.specs.declared.served.ServedCore.{ServedCore}
 use Rattle.serve_links.specs.declared.settings.Settings.{Settings}
 use Rattle.serve_wire.specs.Events.{Event}
 use Rattle.serve_wire.specs.declared.sockets.sockets.Sockets.{Sockets}
-use Rattle.serve_links.specs.CoreSteps.{Step, Opened, NotOpened, Fed, Polled, Stopped, Settled, Gave, Closed, LeftLine, Broke, Loaded, Linked, Asked, Greeted, Spelled, Late, CameLate, Lost, Walks, AreOf, IsOfTurn}
-use Rattle.serve_links.specs.Story.{AnEnd, Agrees, AllGoFrom, texts_of}
+use Rattle.serve_links.specs.CoreSteps.{Step, Walks}
+use Rattle.serve_links.specs.Story.{Agrees, texts_of}
 use Rattle.serve_links.specs.Called.{TellsCalls}
 use Rattle.serve_links.specs.Talks.{IsOrderly}
 use Rattle.serve_links.proofs.LateWalks.{walks_are_fresh_late}
 use Rattle.serve_links.proofs.Walked.{walks_keep_since}
 use Rattle.serve_proxy.specs.declared.proxy.ProxyEnd.{ProxyEnd}
-use Rattle.serve_proxy.specs.Beginning.{LoadStops}
-use Rattle.serve_proxy.specs.Ends.{Stay, AllGoOn, AllGrowFrom, AllGrow, IsLoadOf, HasNoConns}
-use Rattle.serve_proxy.proofs.Going.{still, and_then, stays, same_core}
-use Rattle.serve_proxy.proofs.Growing.{grows}
+use Rattle.serve_proxy.specs.Ends.{HasNoConns}
 use Rattle.serve_proxy.proofs.LogWalks.{walks_are_fresh}
-use Rattle.serve_proxy.proofs.Staying.{stay_still}
-use Rattle.gate_check.specs.declared.reloading.ReloadFault.TheVariants.{NoMemory}
-use Rattle.core_accepted.specs.declared.loading.LoadFault.{LoadFault}
-use Rattle.core_accepted.specs.declared.loading.LoadFault.TheVariants.{Refused}
 use Rattle.core_accepted.specs.declared.beginnings.Beginnings.{Beginnings}
 use Rattle.core_accepted.specs.Begun.{any_begun}
 use Rattle.core_accepted.specs.Known.{first_of}
-use Rattle.core_accepted.specs.Loading.{IsLoaded}
 use Rattle.core_accepted.specs.Logs.{TreesAreSound, IsAcceptedSince}
 use Rattle.core_accepted.proofs.Keeping.{since_are_fresh}
 use Rattle.core_accepted.specs.LateCores.{EveryLateLogIsFresh, EveryLateRunIsFresh}
@@ -37,14 +29,9 @@ use Rattle.serve_proxy.specs.LogsGoOn.{LogsAreFresh}
 use Rattle.mcgate.specs.declared.serve.Servable.{Servable}
 use Rattle.mcgate.specs.declared.serve.Servable.TheVariants as servables
 use Rattle.mcgate.specs.Sharing.{sharing_for}
-use Rattle.mcgate.specs.declared.serving.Serving.{Serving}
-use Rattle.mcgate.specs.declared.remembering.Kept.{Kept}
-use Rattle.mcgate.specs.Remembers.{StandsIn, StandsIfLoaded}
-use Rattle.mcgate.specs.InFleet.{StandsBeside, in_use_after}
-use Rattle.mcgate.specs.Serves.{HasTree, IsUsedFirst, HasServers, BeginsBy, Begins, BeginsServing, SaysAfter, MayLoad, LoadsBeside, MayLoadBeside, MayLoadText, LoadsOne, LoadsText, IsServed, history_of, proxy_of, Serves, GoFreshly, GoFreshlyLate, HasServed, StaysFresh}
-
-false_true : false ≡ true → ⊥
-false_true e = cc
+use Rattle.mcgate_serve.specs.declared.serving.Serving.{Serving}
+use Rattle.mcgate_serve.specs.Serves.{proxy_of, Serves}
+use Rattle.mcgate.specs.Served.{HasTree, IsUsedFirst, HasServers, BeginsBy, Begins, BeginsServing, GoFreshly, GoFreshlyLate, HasServed, StaysFresh}
 
 -- an end that began by these settings but for its sharing, which is that of its tree
 pub begins_on :
@@ -53,30 +40,6 @@ pub begins_on :
 begins_on core servable known begun settings sharing tree (Ok end) is has sharing_is begins =
     subst (λ (x : Servable). Begins x begun settings (core end)) (sym is) (tree, has, subst (λ (s : Sharing). BeginsBy known begun (record settings { sharing = s }) (core end)) sharing_is begins)
 begins_on core servable known begun settings sharing tree (Err fault) is has sharing_is begins = tt
-
-of_turn : (step : Step) → IsOfTurn step → IsServed step
-of_turn (Loaded configuration generation) is = absurd is
-of_turn (Opened client) is = tt
-of_turn (NotOpened fault) is = tt
-of_turn (Fed client piece) is = tt
-of_turn (Polled client poll) is = tt
-of_turn (Stopped client fault) is = tt
-of_turn (Settled number outcome) is = tt
-of_turn (Gave client bytes) is = tt
-of_turn (Closed client) is = tt
-of_turn (LeftLine client) is = tt
-of_turn (Broke client) is = tt
-of_turn (Linked at dialect) is = tt
-of_turn (Asked at number dialect ask) is = tt
-of_turn (Greeted at dialect bytes) is = tt
-of_turn (Late at number) is = tt
-of_turn (CameLate at number ask answer bytes) is = tt
-of_turn (Spelled at number ask answer bytes) is = tt
-of_turn (Lost at why) is = is
-
-each_of_turn : (steps : List Step) → AreOf IsOfTurn steps → AreOf IsServed steps
-each_of_turn [] kinds = tt
-each_of_turn (step ∷ steps) kinds = (of_turn step kinds.0, each_of_turn steps kinds.1)
 
 -- nothing has happened
 pub no_conns : (h : List Event) → h ≡ [] → HasNoConns h
@@ -95,53 +58,6 @@ pub begins_serving :
 begins_serving servable begun settings servers end (Ok serving) is begins agrees texts has =
     subst (λ x. BeginsServing servable begun settings x) (sym is) (record { core = begins; agrees = agrees; servers = subst (λ (l : Addresses). HasServers servable l) (sym texts) has })
 begins_serving servable begun settings servers end (Err fault) is begins agrees texts has = tt
-
--- a turn
-pub turned : {P Q : List Step → AnEnd → Type 0} {a b : AnEnd} → AllGoFrom P Q IsOfTurn a b → AllGrowFrom P Q IsServed a b
-turned g = grows (record { steps = g.steps; kinds = each_of_turn g.steps g.kinds; walks = g.walks; agree = g.agree; texts = g.texts })
-
--- nothing is done with the core, nor on any connection
-pub stood : {Is : Step → Type 0} (old new : ProxyEnd Sockets) → new.core ≡ old.core → Stay history_of old.sockets new.sockets → AllGrow Is (proxy_of old) (proxy_of new)
-stood old new core ends = grows (and_then (stays old.core.value ends) (same_core (ap (λ c. c.value) core)))
-
-pub same_end : (old new : ProxyEnd Sockets) → new ≡ old → Serves old new
-same_end old new same = subst (λ x. Serves old x) (sym same) (stood old old refl (stay_still (history_of old.sockets.wire) old.sockets.clients old.sockets.links.all.items))
-
--- nothing is done at all
-pub serves_still : (end : ProxyEnd Sockets) → Serves end end
-serves_still end = same_end end end refl
-
-pub goes_still : (end : ProxyEnd Sockets) → AllGoOn history_of end.core.value end.sockets end.core.value end.sockets
-goes_still end = still
-
-pub from_end : (old mid new : ProxyEnd Sockets) → mid ≡ old → Serves mid new → Serves old new
-from_end old mid new same g = subst (λ x. Serves x new) same g
-
--- it wasn't loaded
-pub not_loaded : (old mid new : ServedCore) (configuration : Configuration) (fault : LoadFault) → mid ≡ old → LoadStops mid configuration fault new → (fault ≡ Refused NoMemory → ⊥) → new ≡ old
-not_loaded old mid new configuration fault same stops other = ⊎_elim (λ e. e ∙ same) (λ h. absurd (other h.0)) stops
-
--- the text stands in the history's file, also after a load that leaves the history as it was
-pub stands_still : (a b : ServedCore) (memory after : Option Kept) (text : List ℕ) → after ≡ memory → StandsIn memory text → StandsIfLoaded a b after text
-stands_still a b memory after text same stands = inr (subst (λ (m : Option Kept). StandsIn m text) (sym same) stands)
-
--- nothing was changed since
-pub stands_as : (a b b' : ServedCore) (m m' : Option Kept) (text text' : List ℕ) → b' ≡ b → m' ≡ m → text ≡ text' → StandsIfLoaded a b m text → StandsIfLoaded a b' m' text'
-stands_as a b b' m m' text text' core memory said stands =
-    subst (λ (x : ServedCore). StandsIfLoaded a x m' text') (sym core) (subst (λ (x : Option Kept). StandsIfLoaded a b x text') (sym memory) (subst (λ (x : List ℕ). StandsIfLoaded a b m x) said stands))
-
--- it wasn't loaded
-pub stands_unused : (a b : ServedCore) (memory : Option Kept) (text : List ℕ) (used : Bool) → used ≡ false → IsTrue used ⊎ (b ≡ a) → StandsIfLoaded a b memory text
-stands_unused a b memory text false none or = ⊎_elim (λ e. absurd (false_true e)) (λ e. inl e) or
-stands_unused a b memory text true none or = absurd (false_true (sym none))
-
--- a load of what a text says
-pub loaded : (servers : Addresses) (text : List ℕ) (configuration : Configuration) {a b : AnEnd} → SaysAfter servers text configuration → AllGrow (IsLoadOf configuration) a b → AllGrow IsServed a b
-loaded servers text configuration says g = record { steps = g.steps; kinds = each g.steps g.kinds; walks = g.walks; agree = g.agree; texts = g.texts }
-  where
-    each : (steps : List Step) → AreOf (IsLoadOf configuration) steps → AreOf IsServed steps
-    each [] kinds = tt
-    each (step ∷ steps) kinds = (subst IsServed (sym kinds.0.1) (servers, text, says), each steps kinds.1)
 
 -- an end that agreed with nothing at first agrees with all that was done since, and where the gate accepted, each log goes on by that freshly
 has_freshly : (servable : Servable) (begun : Beginnings) (settings : Settings) (steps : List Step) (a b : ServedCore) → BeginsBy servable begun settings a → Walks steps a b → LogsAreFresh b → GoFreshly servable begun steps a b
@@ -193,56 +109,6 @@ pub used_first_on :
     {E : Type 0} (fleet : Bool) (servable : Servable) (in_use : Option Configuration) (r : Result Serving E) → IfOk r (λ serving. serving.in_use ≡ in_use) → IsUsedFirst fleet servable in_use → IfOk r (λ serving. IsUsedFirst fleet servable serving.in_use)
 used_first_on fleet servable in_use (Ok serving) is first = subst (λ (x : Option Configuration). IsUsedFirst fleet servable x) (sym is) first
 used_first_on fleet servable in_use (Err fault) is first = tt
-
--- nothing is done
-pub loads_still : (used : Option Configuration) (servers : Addresses) (text : List ℕ) (core : ServedCore) → LoadsText used used servers text core core
-loads_still used servers text core = inl (refl, refl)
-
--- nothing was changed since
-pub loads_as :
-    (used in_use in_use' : Option Configuration) (servers : Addresses) (text text' : List ℕ) (a b b' : ServedCore) → in_use' ≡ in_use → text ≡ text' → b' ≡ b → LoadsText used in_use servers text a b → LoadsText used in_use' servers text' a b'
-loads_as used in_use in_use' servers text text' a b b' same said core loads =
-    subst (λ (x : ServedCore). LoadsText used in_use' servers text' a x) (sym core) (subst (λ (x : Option Configuration). LoadsText used x servers text' a b) (sym same) (subst (λ (x : List ℕ). LoadsText used in_use servers x a b) said loads))
-
--- what a text says is loaded, or not
-pub loads_said :
-    (is : Bool) (used in_use : Option Configuration) (servers : Addresses) (text : List ℕ) (configuration : Configuration) (a b : ServedCore) → SaysAfter servers text configuration
-    → LoadsOne is configuration used in_use a b → LoadsText used in_use servers text a b
-loads_said true used in_use servers text configuration a b says loads = inr (configuration, says, loads.0, loads.1)
-loads_said false used in_use servers text configuration a b says loads = inl loads
-
-pub loads_text :
-    {E : Type 0} (r : Result Bool E) (used in_use : Option Configuration) (servers : Addresses) (text : List ℕ) (configuration : Configuration) (a b : ServedCore) → SaysAfter servers text configuration
-    → IfOk r (λ is. LoadsOne is configuration used in_use a b) → IfOk r (λ _. LoadsText used in_use servers text a b)
-loads_text (Ok is) used in_use servers text configuration a b says loads = loads_said is used in_use servers text configuration a b says loads
-loads_text (Err fault) used in_use servers text configuration a b says loads = tt
-
-pub may_load_said :
-    (used : Option Configuration) (servers : Addresses) (text : List ℕ) (configuration : Configuration) (a b : ServedCore) → SaysAfter servers text configuration → MayLoadBeside used configuration a b → MayLoadText used servers text a b
-may_load_said used servers text configuration a b says may = ⊎_elim (λ e. inl e) (λ loads. inr (configuration, says, loads)) may
-
--- a load of what stands beside what was in use
-pub may_load_beside : (used : Option Configuration) (configuration : Configuration) (a b : ServedCore) → StandsBeside used configuration → MayLoad configuration a b → MayLoadBeside used configuration a b
-may_load_beside used configuration a b beside may = ⊎_elim (λ e. inl e) (λ loads. inr (beside, loads)) may
-
--- nothing is loaded
-pub loads_none : (configuration : Configuration) (used : Option Configuration) (core : ServedCore) → LoadsOne false configuration used used core core
-loads_none configuration used core = (refl, refl)
-
-pub load_still : (configuration : Configuration) (end : ProxyEnd Sockets) → AllGrow (IsLoadOf configuration) (proxy_of end) (proxy_of end)
-load_still configuration end = stood end end refl (stay_still (history_of end.sockets.wire) end.sockets.clients end.sockets.links.all.items)
-
--- it was loaded, and is in use
-pub loads_next :
-    (is : Bool) (configuration : Configuration) (used next : Option Configuration) (a b : ServedCore) → is ≡ true → StandsBeside used configuration → (IsTrue is → (generation : ℕ) × IsLoaded a configuration generation b)
-    → next ≡ in_use_after used configuration → LoadsOne true configuration used next a b
-loads_next is configuration used next a b is_so beside loaded same = ((beside, loaded (subst IsTrue (sym is_so) refl)), same)
-
--- it wasn't loaded, and what was in use is
-pub loads_kept :
-    (is : Bool) (configuration : Configuration) (used in_use : Option Configuration) (a b : ServedCore) → is ≡ false → IsTrue is ⊎ (b ≡ a) → in_use ≡ used → LoadsOne false configuration used in_use a b
-loads_kept false configuration used in_use a b none or same = (⊎_elim (λ e. absurd (false_true e)) (λ e. e) or, same)
-loads_kept true configuration used in_use a b none or same = absurd (false_true (sym none))
 
 -- what is known of a kind of tree
 pub has_tree_on : (servable known : Servable) (tree : Route) → servable ≡ known → HasTree known tree → HasTree servable tree

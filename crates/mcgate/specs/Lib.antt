@@ -1,10 +1,5 @@
 pub mod Sharing
-pub mod Serves
+pub mod Served
 pub mod Judging
 pub mod Certified
-pub mod Remembers
 pub mod OverTcp
-pub mod LooksUp
-pub mod Emptied
-pub mod Limits
-pub mod InFleet

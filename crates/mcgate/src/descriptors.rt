@@ -1,9 +1,9 @@
 //! How many clients can be served with the descriptors that the process may have.
 
-use crate::lines::Lines;
 use libc::types::rlimit;
 use libc::{RLIMIT_NOFILE, getrlimit};
 use mcgate_args::serve_arguments::ServeJob;
+use mcgate_serve::lines::Lines;
 use watch_admin::places::PLACES;
 
 // So many descriptors are kept for what is neither a client nor a server of the configuration: the standard ones, the listener, what it

@@ -1,6 +1,6 @@
 //! Where a proxy listens: at hosts and ports, at paths of the machine, and on a socket that it was given.
 
-use crate::serving::resolve;
+use mcgate_serve::serving::resolve;
 use mio::net::TcpListener;
 use serve_wire::sockets::Listener;
 use std::io;
@@ -72,12 +72,4 @@ pub fn listeners_at<R: Files + Net + Given + AllocGlobal>(
         listeners.push(listener_at(rt, text, mode)?)?;
     }
     Ok(listeners)
-}
-
-/// What stands after the first of these places.
-pub fn after_first(places: &str) -> &str {
-    match places.find(',') {
-        Some(at) => places.get(at..).unwrap_or(""),
-        None => "",
-    }
 }

@@ -3,36 +3,19 @@
 
 mod cache;
 mod certified;
-mod controlling;
 mod descriptors;
-mod draining;
-mod emptying;
-mod histories;
-mod input_end;
-mod limits;
-mod lines;
 mod listening;
-mod outages;
 mod over_tcp;
-mod remembering;
 mod serve;
-mod serving;
 mod sharing;
 mod slots;
-mod special;
-mod started;
-mod starting;
 mod telling;
 mod warnings;
-mod watching;
 
 use cache::serve_cache;
 use certified::judge_text_by;
-use controlling::Controlling;
 use descriptors::within_descriptors;
 use fault_words::script::BadLine;
-use histories::{run_after, run_history};
-use lines::Lines;
 use listening::Given;
 use mc_types::Key;
 use mcgate_args::arguments::{Job, Task, read_arguments};
@@ -51,14 +34,18 @@ use mcgate_args::serve_arguments::ServeJob;
 use mcgate_check::Form;
 use mcgate_check::status::{BAD_INPUT, DONE, REFUSED};
 use mcgate_replay::Judging;
+use mcgate_serve::controlling::Controlling;
+use mcgate_serve::histories::{run_after, run_history};
+use mcgate_serve::lines::Lines;
+use mcgate_serve::special::{is_special, special_line};
+use mcgate_serve::started::{Begun, Started};
+use mcgate_serve::starting::{begin, refused_after};
+use mcgate_serve::watching::Watching;
 use over_tcp::run_over_tcp;
 use route_json::Config;
 use serve::{Judged, Servable, judge_text, look_up_only, serve_in, serve_to_end};
 use serve_proxy::Beginnings;
 use slots::run_slots;
-use special::{is_special, special_line};
-use started::{Begun, Started};
-use starting::{begin, refused_after};
 use std::alloc::{AllocError, Global};
 use std::io;
 use std::io::{BufWriter, ErrorKind, Write};
@@ -67,7 +54,6 @@ use std::process::ExitCode;
 use std::rt::{Clock, Env, Files};
 use telling::tell;
 use warnings::say_warnings;
-use watching::Watching;
 
 /// The arguments, the program's name first. One that isn't UTF-8 is refused as the program has none such.
 fn arguments_of<R: AllocGlobal + Env>(rt: &R, details: &mut Details) -> Result<Vec<String>, Stop> {

@@ -1,5 +1,5 @@
 use Rattle.mcgate.proofs.Loads.{no_conns}
-use Rattle.mcgate.proofs.LookedUp.{still_none}
+use Rattle.mcgate_serve.proofs.LookedUp.{still_none}
 use Rattle.mcgate.proofs.serve.listen.Goals as goal
 
 pub returns-in_ok-look_up-in-Ok-clause-none : goal.returns-in_ok-look_up-in-Ok-clause-none

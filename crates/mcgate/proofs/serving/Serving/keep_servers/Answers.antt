@@ -1,6 +1,0 @@
-use Rattle.std.proofs.Common.{◌∙◌}
-use Rattle.serve_proxy.proofs.Staying.{stay_then}
-use Rattle.mcgate.proofs.serving.Serving.keep_servers.Goals as goal
-
-pub returns : goal.returns
-returns c = record { core = c.keep_limits.ensures.core ∙ c.keep_epochs.ensures.core; ends = stay_then c.keep_epochs.ensures.ends c.keep_limits.ensures.ends }

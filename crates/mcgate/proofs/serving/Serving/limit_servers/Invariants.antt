@@ -1,7 +1,0 @@
-use Rattle.std.proofs.Common.{◌≡◌}
-use Rattle.serve_proxy.specs.Ends.{Stay}
-use Rattle.mcgate.specs.Serves.{history_of}
-use Rattle.mcgate.proofs.serving.Serving.limit_servers.Given as goal
-
-abbrev pub invariant-loop-at : goal.invariant-loop-at
-invariant-loop-at l = record { core : l.self.end.core ≡ l.fn.self.end.core; ends : Stay history_of l.fn.self.end.sockets l.self.end.sockets }

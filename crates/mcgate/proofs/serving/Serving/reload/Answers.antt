@@ -1,5 +1,0 @@
-use Rattle.mcgate.proofs.Loads.{same_end}
-use Rattle.mcgate.proofs.serving.Serving.reload.Goals as goal
-
-pub returns-in-Err : goal.returns-in-Err
-returns-in-Err g c = record { ends = same_end c.args.self.now.end c.answer.new.self.end c.answer.ensures }

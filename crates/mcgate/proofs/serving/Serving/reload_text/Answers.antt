@@ -1,6 +1,0 @@
-use Rattle.serve_proxy.proofs.Growing.{then_grows}
-use Rattle.mcgate.proofs.Loads.{same_end}
-use Rattle.mcgate.proofs.serving.Serving.reload_text.Goals as goal
-
-pub returns : goal.returns
-returns g c = record { ends = then_grows c.load_new.ensures.ends (same_end _ c.answer.new.self.end c.answer.ensures) }

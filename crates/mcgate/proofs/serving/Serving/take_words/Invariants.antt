@@ -1,5 +1,0 @@
-use Rattle.mcgate.specs.Serves.{Serves}
-use Rattle.mcgate.proofs.serving.Serving.take_words.Given as goal
-
-abbrev pub invariant-loop : goal.invariant-loop
-invariant-loop g l = Serves l.fn.self.end l.self.end

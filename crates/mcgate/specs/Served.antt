@@ -1,0 +1,87 @@
+-- How a proxy that serves begins, and what it was in the end. Source: mcgate's own.
+use Rattle.std.specs.Prelude.{◌≡◌, Bool, true, false, List, [], Option, Some, None}
+use Rattle.route_json.specs.Servers.{Addresses}
+use Rattle.route_json.specs.Configuration.{Configuration}
+use Rattle.route_tree.specs.Route.{Route}
+use Rattle.gate_check.specs.Sound.{IsLast}
+use Rattle.core_accepted.specs.declared.served.ServedCore.{ServedCore}
+use Rattle.serve_links.specs.declared.settings.Settings.{Settings}
+use Rattle.serve_wire.specs.declared.sockets.sockets.Sockets.{Sockets}
+use Rattle.serve_links.specs.CoreSteps.{Step}
+use Rattle.serve_links.specs.Story.{Agrees, texts_of}
+use Rattle.serve_links.specs.InOrder.{AreFreshAlong}
+use Rattle.serve_proxy.specs.declared.proxy.ProxyEnd.{ProxyEnd}
+use Rattle.serve_proxy.specs.Beginning.{BeginsFresh, BeginsUnchecked}
+use Rattle.core_accepted.specs.declared.beginnings.Beginnings.{Beginnings}
+use Rattle.core_accepted.specs.Begun.{any_begun}
+use Rattle.core_accepted.specs.Logs.{IsAcceptedSince, EveryLogSinceIsFresh}
+use Rattle.core_accepted.specs.LateCores.{EveryLateLogIsFresh}
+use Rattle.serve_proxy.specs.LogsGoOn.{LogsGoFreshly}
+use Rattle.core_accepted.specs.Copying.{CopiesNothing}
+use Rattle.mcgate_serve.specs.Serves.{proxy_of, Serves}
+use Rattle.mcgate.specs.Sharing.{sharing_for}
+use Rattle.mcgate.specs.declared.serve.Servable.{Servable}
+use Rattle.mcgate.specs.declared.serve.Servable.TheVariants as servables
+use Rattle.mcgate.specs.declared.serve.Judged.{Judged}
+use Rattle.mcgate.specs.declared.serve.Judged.TheVariants as judgements
+
+-- it is a new core on the trees that the gate accepted, where servers began so; or on the configuration's tree, of which no gate was asked
+abbrev pub BeginsBy : Servable → Beginnings → Settings → ServedCore → Type 0
+BeginsBy (servables.Accepted accepted) begun settings core = BeginsFresh accepted begun settings core
+BeginsBy (servables.Unchecked configuration) begun settings core = BeginsUnchecked configuration.tree settings core
+
+-- this is its tree: of configurations that the gate accepted, that of the last one
+abbrev pub HasTree : Servable → Route → Type 0
+HasTree (servables.Accepted accepted) tree = (configuration : Configuration) × IsLast accepted configuration × (tree ≡ configuration.tree)
+HasTree (servables.Unchecked configuration) tree = tree ≡ configuration.tree
+
+-- it may be served, in a fleet as by its tree no command copies; or it is told why not
+abbrev pub ServesIn : (fleet : Bool) → Servable → Judged → Type 0
+ServesIn fleet servable (judgements.Servable served) = (served ≡ servable) × (fleet ≡ true → (tree : Route) × HasTree servable tree × CopiesNothing tree)
+ServesIn fleet servable (judgements.Printed status) = status ≡ 1
+
+-- in a fleet its configuration is the one in use, and else none is known
+abbrev pub IsUsedFirst : (fleet : Bool) → Servable → Option Configuration → Type 0
+IsUsedFirst fleet servable None = fleet ≡ false
+IsUsedFirst fleet servable (Some used) = HasTree servable used.tree
+
+-- the same by these settings, but that commands share their keys by the rule for its tree
+abbrev pub Begins : Servable → Beginnings → Settings → ServedCore → Type 0
+Begins servable begun settings core = (tree : Route) × HasTree servable tree × BeginsBy servable begun (record settings { sharing = sharing_for tree }) core
+
+-- these are its servers: of configurations that the gate accepted, those of the last one
+abbrev pub HasServers : Servable → Addresses → Type 0
+HasServers (servables.Accepted accepted) servers = (configuration : Configuration) × IsLast accepted configuration × (servers ≡ configuration.servers)
+HasServers (servables.Unchecked configuration) servers = servers ≡ configuration.servers
+
+-- an end of a proxy that begins with a new core of this: nothing was fed or given, each link is to its server, and no link has a connection
+pub record BeginsServing (servable : Servable) (begun : Beginnings) (settings : Settings) (end : ProxyEnd Sockets) : Type 0 where
+  pub core : Begins servable begun settings end.core.value
+  pub agrees : Agrees [] (proxy_of end)
+  pub servers : HasServers servable (texts_of end.sockets.links.all.items)
+
+-- where the gate accepted what is served, each log that may have led to the first core goes on by just these calls, and is fresh then, if servers began as is said of its configuration
+abbrev pub GoFreshly : Servable → Beginnings → List Step → ServedCore → ServedCore → Type 0
+GoFreshly (servables.Accepted accepted) begun steps first last = (configuration : Configuration) × IsLast accepted configuration × LogsGoFreshly configuration begun steps first last
+GoFreshly (servables.Unchecked configuration) begun steps first last = Unit {0}
+
+-- and if servers may have held anything, it is fresh also however late they apply what had failed, where each applies what came over a connection in its order, and nothing of it after that was closed
+abbrev pub GoFreshlyLate : Servable → Beginnings → List Step → ServedCore → ServedCore → Type 0
+GoFreshlyLate (servables.Accepted accepted) begun steps first last = begun ≡ any_begun → AreFreshAlong steps first last
+GoFreshlyLate (servables.Unchecked configuration) begun steps first last = Unit {0}
+
+-- an end that began so was served: turns and loads alone led to what it is, the ends of its clients and its links agree with them, and each log goes on by them freshly
+pub record HasServed (servable : Servable) (begun : Beginnings) (settings : Settings) (end : ProxyEnd Sockets) : Type 0 where
+  pub first : ProxyEnd Sockets
+  pub begins : BeginsServing servable begun settings first
+  pub serves : Serves first end
+  pub agrees : Agrees serves.steps (proxy_of end)
+  pub fresh : GoFreshly servable begun serves.steps first.core.value end.core.value
+  pub late : GoFreshlyLate servable begun serves.steps first.core.value end.core.value
+
+-- where the gate accepted what is served, the core is one on its configuration and others that it accepted after it, and each log that may have led to it is fresh, if servers began so; and if they may have held anything, also where they apply calls that had failed late, but in the order of their connections
+abbrev pub StaysFresh : Servable → Beginnings → ServedCore → Type 0
+StaysFresh (servables.Accepted accepted) begun core =
+    (configuration : Configuration) × IsLast accepted configuration × IsAcceptedSince configuration begun core × EveryLogSinceIsFresh configuration begun core
+    × (begun ≡ any_begun → EveryLateLogIsFresh core)
+StaysFresh (servables.Unchecked configuration) begun core = Unit {0}

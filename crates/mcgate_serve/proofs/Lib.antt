@@ -1,0 +1,4 @@
+pub mod Loads
+pub mod LookedUp
+pub mod InHistories
+pub mod Emptied

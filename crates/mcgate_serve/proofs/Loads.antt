@@ -1,0 +1,147 @@
+-- A turn and a load as what may be done to an end.
+use Rattle.std.proofs.Common.{◌≡◌, ℕ, Bool, true, false, List, [], ◌∷◌, Result, Ok, Err, refl, sym, ap, subst, Option, ◌∙◌, ⊎_elim, inl, inr, ◌⊎◌}
+use Rattle.std.specs.Prelude.{IfOk, IsTrue}
+use Rattle.route_json.specs.Servers.{Addresses}
+use Rattle.route_json.specs.Configuration.{Configuration}
+use Rattle.core_accepted.specs.declared.served.ServedCore.{ServedCore}
+use Rattle.serve_wire.specs.declared.sockets.sockets.Sockets.{Sockets}
+use Rattle.serve_links.specs.CoreSteps.{Step, Opened, NotOpened, Fed, Polled, Stopped, Settled, Gave, Closed, LeftLine, Broke, Loaded, Linked, Asked, Greeted, Spelled, Late, CameLate, Lost, AreOf, IsOfTurn}
+use Rattle.serve_links.specs.Story.{AnEnd, AllGoFrom}
+use Rattle.serve_proxy.specs.declared.proxy.ProxyEnd.{ProxyEnd}
+use Rattle.serve_proxy.specs.Beginning.{LoadStops}
+use Rattle.serve_proxy.specs.Ends.{Stay, AllGoOn, AllGrowFrom, AllGrow, IsLoadOf}
+use Rattle.serve_proxy.proofs.Going.{still, and_then, stays, same_core}
+use Rattle.serve_proxy.proofs.Growing.{grows}
+use Rattle.serve_proxy.proofs.Staying.{stay_still}
+use Rattle.gate_check.specs.declared.reloading.ReloadFault.TheVariants.{NoMemory}
+use Rattle.core_accepted.specs.declared.loading.LoadFault.{LoadFault}
+use Rattle.core_accepted.specs.declared.loading.LoadFault.TheVariants.{Refused}
+use Rattle.core_accepted.specs.Loading.{IsLoaded}
+use Rattle.mcgate_serve.specs.declared.remembering.Kept.{Kept}
+use Rattle.mcgate_serve.specs.Remembers.{StandsIn, StandsIfLoaded}
+use Rattle.mcgate_serve.specs.InFleet.{StandsBeside, in_use_after}
+use Rattle.mcgate_serve.specs.Serves.{SaysAfter, MayLoad, MayLoadBeside, MayLoadText, LoadsOne, LoadsText, IsServed, history_of, proxy_of, Serves}
+
+false_true : false ≡ true → ⊥
+false_true e = cc
+
+of_turn : (step : Step) → IsOfTurn step → IsServed step
+of_turn (Loaded configuration generation) is = absurd is
+of_turn (Opened client) is = tt
+of_turn (NotOpened fault) is = tt
+of_turn (Fed client piece) is = tt
+of_turn (Polled client poll) is = tt
+of_turn (Stopped client fault) is = tt
+of_turn (Settled number outcome) is = tt
+of_turn (Gave client bytes) is = tt
+of_turn (Closed client) is = tt
+of_turn (LeftLine client) is = tt
+of_turn (Broke client) is = tt
+of_turn (Linked at dialect) is = tt
+of_turn (Asked at number dialect ask) is = tt
+of_turn (Greeted at dialect bytes) is = tt
+of_turn (Late at number) is = tt
+of_turn (CameLate at number ask answer bytes) is = tt
+of_turn (Spelled at number ask answer bytes) is = tt
+of_turn (Lost at why) is = is
+
+each_of_turn : (steps : List Step) → AreOf IsOfTurn steps → AreOf IsServed steps
+each_of_turn [] kinds = tt
+each_of_turn (step ∷ steps) kinds = (of_turn step kinds.0, each_of_turn steps kinds.1)
+
+-- a turn
+pub turned : {P Q : List Step → AnEnd → Type 0} {a b : AnEnd} → AllGoFrom P Q IsOfTurn a b → AllGrowFrom P Q IsServed a b
+turned g = grows (record { steps = g.steps; kinds = each_of_turn g.steps g.kinds; walks = g.walks; agree = g.agree; texts = g.texts })
+
+-- nothing is done with the core, nor on any connection
+pub stood : {Is : Step → Type 0} (old new : ProxyEnd Sockets) → new.core ≡ old.core → Stay history_of old.sockets new.sockets → AllGrow Is (proxy_of old) (proxy_of new)
+stood old new core ends = grows (and_then (stays old.core.value ends) (same_core (ap (λ c. c.value) core)))
+
+pub same_end : (old new : ProxyEnd Sockets) → new ≡ old → Serves old new
+same_end old new same = subst (λ x. Serves old x) (sym same) (stood old old refl (stay_still (history_of old.sockets.wire) old.sockets.clients old.sockets.links.all.items))
+
+-- nothing is done at all
+pub serves_still : (end : ProxyEnd Sockets) → Serves end end
+serves_still end = same_end end end refl
+
+pub goes_still : (end : ProxyEnd Sockets) → AllGoOn history_of end.core.value end.sockets end.core.value end.sockets
+goes_still end = still
+
+pub from_end : (old mid new : ProxyEnd Sockets) → mid ≡ old → Serves mid new → Serves old new
+from_end old mid new same g = subst (λ x. Serves x new) same g
+
+-- it wasn't loaded
+pub not_loaded : (old mid new : ServedCore) (configuration : Configuration) (fault : LoadFault) → mid ≡ old → LoadStops mid configuration fault new → (fault ≡ Refused NoMemory → ⊥) → new ≡ old
+not_loaded old mid new configuration fault same stops other = ⊎_elim (λ e. e ∙ same) (λ h. absurd (other h.0)) stops
+
+-- the text stands in the history's file, also after a load that leaves the history as it was
+pub stands_still : (a b : ServedCore) (memory after : Option Kept) (text : List ℕ) → after ≡ memory → StandsIn memory text → StandsIfLoaded a b after text
+stands_still a b memory after text same stands = inr (subst (λ (m : Option Kept). StandsIn m text) (sym same) stands)
+
+-- nothing was changed since
+pub stands_as : (a b b' : ServedCore) (m m' : Option Kept) (text text' : List ℕ) → b' ≡ b → m' ≡ m → text ≡ text' → StandsIfLoaded a b m text → StandsIfLoaded a b' m' text'
+stands_as a b b' m m' text text' core memory said stands =
+    subst (λ (x : ServedCore). StandsIfLoaded a x m' text') (sym core) (subst (λ (x : Option Kept). StandsIfLoaded a b x text') (sym memory) (subst (λ (x : List ℕ). StandsIfLoaded a b m x) said stands))
+
+-- it wasn't loaded
+pub stands_unused : (a b : ServedCore) (memory : Option Kept) (text : List ℕ) (used : Bool) → used ≡ false → IsTrue used ⊎ (b ≡ a) → StandsIfLoaded a b memory text
+stands_unused a b memory text false none or = ⊎_elim (λ e. absurd (false_true e)) (λ e. inl e) or
+stands_unused a b memory text true none or = absurd (false_true (sym none))
+
+-- a load of what a text says
+pub loaded : (servers : Addresses) (text : List ℕ) (configuration : Configuration) {a b : AnEnd} → SaysAfter servers text configuration → AllGrow (IsLoadOf configuration) a b → AllGrow IsServed a b
+loaded servers text configuration says g = record { steps = g.steps; kinds = each g.steps g.kinds; walks = g.walks; agree = g.agree; texts = g.texts }
+  where
+    each : (steps : List Step) → AreOf (IsLoadOf configuration) steps → AreOf IsServed steps
+    each [] kinds = tt
+    each (step ∷ steps) kinds = (subst IsServed (sym kinds.0.1) (servers, text, says), each steps kinds.1)
+
+-- nothing is done
+pub loads_still : (used : Option Configuration) (servers : Addresses) (text : List ℕ) (core : ServedCore) → LoadsText used used servers text core core
+loads_still used servers text core = inl (refl, refl)
+
+-- nothing was changed since
+pub loads_as :
+    (used in_use in_use' : Option Configuration) (servers : Addresses) (text text' : List ℕ) (a b b' : ServedCore) → in_use' ≡ in_use → text ≡ text' → b' ≡ b → LoadsText used in_use servers text a b → LoadsText used in_use' servers text' a b'
+loads_as used in_use in_use' servers text text' a b b' same said core loads =
+    subst (λ (x : ServedCore). LoadsText used in_use' servers text' a x) (sym core) (subst (λ (x : Option Configuration). LoadsText used x servers text' a b) (sym same) (subst (λ (x : List ℕ). LoadsText used in_use servers x a b) said loads))
+
+-- what a text says is loaded, or not
+pub loads_said :
+    (is : Bool) (used in_use : Option Configuration) (servers : Addresses) (text : List ℕ) (configuration : Configuration) (a b : ServedCore) → SaysAfter servers text configuration
+    → LoadsOne is configuration used in_use a b → LoadsText used in_use servers text a b
+loads_said true used in_use servers text configuration a b says loads = inr (configuration, says, loads.0, loads.1)
+loads_said false used in_use servers text configuration a b says loads = inl loads
+
+pub loads_text :
+    {E : Type 0} (r : Result Bool E) (used in_use : Option Configuration) (servers : Addresses) (text : List ℕ) (configuration : Configuration) (a b : ServedCore) → SaysAfter servers text configuration
+    → IfOk r (λ is. LoadsOne is configuration used in_use a b) → IfOk r (λ _. LoadsText used in_use servers text a b)
+loads_text (Ok is) used in_use servers text configuration a b says loads = loads_said is used in_use servers text configuration a b says loads
+loads_text (Err fault) used in_use servers text configuration a b says loads = tt
+
+pub may_load_said :
+    (used : Option Configuration) (servers : Addresses) (text : List ℕ) (configuration : Configuration) (a b : ServedCore) → SaysAfter servers text configuration → MayLoadBeside used configuration a b → MayLoadText used servers text a b
+may_load_said used servers text configuration a b says may = ⊎_elim (λ e. inl e) (λ loads. inr (configuration, says, loads)) may
+
+-- a load of what stands beside what was in use
+pub may_load_beside : (used : Option Configuration) (configuration : Configuration) (a b : ServedCore) → StandsBeside used configuration → MayLoad configuration a b → MayLoadBeside used configuration a b
+may_load_beside used configuration a b beside may = ⊎_elim (λ e. inl e) (λ loads. inr (beside, loads)) may
+
+-- nothing is loaded
+pub loads_none : (configuration : Configuration) (used : Option Configuration) (core : ServedCore) → LoadsOne false configuration used used core core
+loads_none configuration used core = (refl, refl)
+
+pub load_still : (configuration : Configuration) (end : ProxyEnd Sockets) → AllGrow (IsLoadOf configuration) (proxy_of end) (proxy_of end)
+load_still configuration end = stood end end refl (stay_still (history_of end.sockets.wire) end.sockets.clients end.sockets.links.all.items)
+
+-- it was loaded, and is in use
+pub loads_next :
+    (is : Bool) (configuration : Configuration) (used next : Option Configuration) (a b : ServedCore) → is ≡ true → StandsBeside used configuration → (IsTrue is → (generation : ℕ) × IsLoaded a configuration generation b)
+    → next ≡ in_use_after used configuration → LoadsOne true configuration used next a b
+loads_next is configuration used next a b is_so beside loaded same = ((beside, loaded (subst IsTrue (sym is_so) refl)), same)
+
+-- it wasn't loaded, and what was in use is
+pub loads_kept :
+    (is : Bool) (configuration : Configuration) (used in_use : Option Configuration) (a b : ServedCore) → is ≡ false → IsTrue is ⊎ (b ≡ a) → in_use ≡ used → LoadsOne false configuration used in_use a b
+loads_kept false configuration used in_use a b none or same = (⊎_elim (λ e. absurd (false_true e)) (λ e. e) or, same)
+loads_kept true configuration used in_use a b none or same = absurd (false_true (sym none))

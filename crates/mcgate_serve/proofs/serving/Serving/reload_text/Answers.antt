@@ -1,0 +1,6 @@
+use Rattle.serve_proxy.proofs.Growing.{then_grows}
+use Rattle.mcgate_serve.proofs.Loads.{same_end}
+use Rattle.mcgate_serve.proofs.serving.Serving.reload_text.Goals as goal
+
+pub returns : goal.returns
+returns g c = record { ends = then_grows c.load_new.ensures.ends (same_end _ c.answer.new.self.end c.answer.ensures) }

@@ -1,0 +1,5 @@
+use Rattle.mcgate_serve.specs.Serves.{Serves}
+use Rattle.mcgate_serve.proofs.serving.Serving.run_turns.Given as goal
+
+abbrev pub invariant-loop : goal.invariant-loop
+invariant-loop g l = Serves l.fn.self.end l.self.end

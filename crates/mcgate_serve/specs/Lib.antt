@@ -1,0 +1,6 @@
+pub mod Serves
+pub mod Remembers
+pub mod LooksUp
+pub mod Emptied
+pub mod Limits
+pub mod InFleet

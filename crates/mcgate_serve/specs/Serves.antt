@@ -1,0 +1,78 @@
+-- How a proxy that serves goes on: by turns, and by loads of configurations. Source: mcgate's own.
+use Rattle.std.specs.Prelude.{◌≡◌, ℕ, ◌⊎◌, Bool, true, false, List, Option, IsSome, Ok}
+use Rattle.serde_json.specs.Read.{read}
+use Rattle.route_json.specs.Servers.{Addresses}
+use Rattle.route_json.specs.Configs.{read_after}
+use Rattle.route_json.specs.Configuration.{Configuration}
+use Rattle.core_accepted.specs.declared.served.ServedCore.{ServedCore}
+use Rattle.core_accepted.specs.Loading.{IsLoaded}
+use Rattle.serve_wire.specs.Events.{Event}
+use Rattle.serve_wire.specs.declared.sockets.sockets.Sockets.{Sockets}
+use Rattle.serve_links.specs.CoreSteps.{Step, Opened, NotOpened, Fed, Polled, Stopped, Settled, Gave, Closed, LeftLine, Broke, Loaded, Linked, Asked, Greeted, Spelled, Late, CameLate, Lost}
+use Rattle.serve_links.specs.Story.{AnEnd}
+use Rattle.serve_proxy.specs.declared.proxy.ProxyEnd.{ProxyEnd}
+use Rattle.serve_proxy.specs.Ends.{end_of, AllGrow}
+use Rattle.mcgate_serve.specs.InFleet.{StandsBeside, in_use_after}
+
+-- the text says this configuration, whose servers are numbered after these
+abbrev pub SaysAfter : Addresses → List ℕ → Configuration → Type 0
+SaysAfter servers text configuration = read_after servers (read text) ≡ Ok (configuration.tree, configuration.servers)
+
+-- any call of a turn, or a load of a configuration that some text says
+abbrev pub IsServed : Step → Type 0
+IsServed (Loaded configuration generation) = (servers : Addresses) × (text : List ℕ) × SaysAfter servers text configuration
+IsServed (Opened client) = Unit {0}
+IsServed (NotOpened fault) = Unit {0}
+IsServed (Fed client piece) = Unit {0}
+IsServed (Polled client poll) = Unit {0}
+IsServed (Stopped client fault) = Unit {0}
+IsServed (Settled number outcome) = Unit {0}
+IsServed (Gave client bytes) = Unit {0}
+IsServed (Closed client) = Unit {0}
+IsServed (LeftLine client) = Unit {0}
+IsServed (Broke client) = Unit {0}
+IsServed (Linked at dialect) = Unit {0}
+IsServed (Asked at number dialect ask) = Unit {0}
+IsServed (Greeted at dialect bytes) = Unit {0}
+IsServed (Late at number) = Unit {0}
+IsServed (CameLate at number ask answer bytes) = Unit {0}
+IsServed (Spelled at number ask answer bytes) = Unit {0}
+IsServed (Lost at why) = IsSome why
+
+-- all that has happened on its sockets, the latest first
+abbrev pub history_of : Sockets → List Event
+history_of wire = wire.log.events
+
+-- a proxy's core, and the ends of clients and servers beside it
+abbrev pub proxy_of : ProxyEnd Sockets → AnEnd
+proxy_of end = end_of history_of end.core.value end.sockets
+
+-- turns and such loads, one after another, and the ends of clients and servers go on with them
+abbrev pub Serves : ProxyEnd Sockets → ProxyEnd Sockets → Type 0
+Serves old new = AllGrow IsServed (proxy_of old) (proxy_of new)
+
+-- nothing is done, or this configuration is loaded
+abbrev pub MayLoad : Configuration → ServedCore → ServedCore → Type 0
+MayLoad configuration old new = (new ≡ old) ⊎ ((generation : ℕ) × IsLoaded old configuration generation new)
+
+-- this configuration is loaded, in a fleet beside the one that was in use
+abbrev pub LoadsBeside : (used : Option Configuration) → Configuration → ServedCore → ServedCore → Type 0
+LoadsBeside used configuration old new = StandsBeside used configuration × ((generation : ℕ) × IsLoaded old configuration generation new)
+
+-- nothing is done, or it is loaded so
+abbrev pub MayLoadBeside : (used : Option Configuration) → Configuration → ServedCore → ServedCore → Type 0
+MayLoadBeside used configuration old new = (new ≡ old) ⊎ LoadsBeside used configuration old new
+
+-- the same of the configuration that this text says
+abbrev pub MayLoadText : (used : Option Configuration) → Addresses → List ℕ → ServedCore → ServedCore → Type 0
+MayLoadText used servers text old new = (new ≡ old) ⊎ ((configuration : Configuration) × SaysAfter servers text configuration × LoadsBeside used configuration old new)
+
+-- it is loaded so, and in use; or nothing is done, and what was in use is
+abbrev pub LoadsOne : Bool → Configuration → (used in_use : Option Configuration) → ServedCore → ServedCore → Type 0
+LoadsOne true configuration used in_use old new = LoadsBeside used configuration old new × (in_use ≡ in_use_after used configuration)
+LoadsOne false configuration used in_use old new = (new ≡ old) × (in_use ≡ used)
+
+-- nothing is done, and what was in use is; or the configuration that this text says is loaded so, and in use
+abbrev pub LoadsText : (used in_use : Option Configuration) → Addresses → List ℕ → ServedCore → ServedCore → Type 0
+LoadsText used in_use servers text old new =
+    ((new ≡ old) × (in_use ≡ used)) ⊎ ((configuration : Configuration) × SaysAfter servers text configuration × LoadsBeside used configuration old new × (in_use ≡ in_use_after used configuration))

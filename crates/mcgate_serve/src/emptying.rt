@@ -1,0 +1,203 @@
+//! Servers that are to be emptied before their first call. Beside a history a file names them until they were, so that the next run
+//! empties those of which it isn't known.
+
+ghost use Rattle.std.specs.Prelude.{◌≡◌, IfSome};
+ghost use Rattle.route_json.specs.NumberedServers.{texts};
+ghost use Rattle.mcgate_serve.specs.Emptied.{is_among, IsNamedAt};
+
+use crate::remembering::put;
+use crate::serving::Proxy;
+use mcgate_args::input::text_of;
+use mcgate_args::input_text::InputFault;
+use route_json::addresses::Servers;
+use route_json::read_config_after;
+use serve_proxy::text_at;
+use std::alloc::{AllocError, Global};
+use std::fs::metadata;
+use std::io;
+use std::io::ErrorKind;
+use std::rt::Files;
+
+/// The names of servers that are to be emptied, and the file that has them, one on each line, where a history is kept.
+#[derive(Drop)]
+pub struct Emptying {
+    path: Option<String>,
+    names: Vec<String>,
+    // Whether the file has just these.
+    is_written: bool,
+    // Whether servers that a reload brings are.
+    flushes_new: bool,
+}
+
+// The file beside a history.
+fn path_beside(alloc: Global, history: Option<&str>) -> Result<Option<String>, AllocError> {
+    match history {
+        None => Ok(None),
+        Some(path) => Ok(Some(format!(in alloc; "{path}.flush")?)),
+    }
+}
+
+// Whether there is such a file.
+fn is_there<R: Files>(rt: &R, path: &str) -> bool {
+    match metadata(rt, path) {
+        Ok(_) => true,
+        Err(error) => error.kind() != ErrorKind::NotFound,
+    }
+}
+
+// The lines of a text.
+fn lines_of(alloc: Global, text: &str) -> Result<Vec<String>, AllocError> {
+    let mut names = Vec::new(alloc);
+    for line in text.split('\n') {
+        if !line.is_empty() {
+            names.push(String::from_str(alloc, line)?)?;
+        }
+    }
+    Ok(names)
+}
+
+// A text of lines.
+fn text_with(alloc: Global, names: &[String]) -> Result<String, AllocError> {
+    let mut text = String::new(alloc);
+    for name in names {
+        text.push_str(name.as_str())?;
+        text.push_str("\n")?;
+    }
+    Ok(text)
+}
+
+// The names in a file.
+fn names_in<R: Files + Input + AllocGlobal>(rt: &R, path: &str) -> io::Result<Vec<String>> {
+    match text_of(rt, Some(path)) {
+        Ok(text) => Ok(lines_of(rt.alloc(), text.as_str())?),
+        Err(InputFault::NoMemory) => Err(io::Error::from(ErrorKind::OutOfMemory)),
+        Err(_) => Err(io::Error::from(ErrorKind::InvalidData)),
+    }
+}
+
+fn has(names: &[String], name: &str) -> bool
+    ensures { result ≡ is_among name.now (texts names.now) }
+{
+    for known in names {
+        if known.as_str() == name {
+            return true;
+        }
+    }
+    false
+}
+
+// Whether the server of this name is still to be emptied, as far as is known: one that isn't in use is.
+fn is_due(end: &Proxy, servers: &Servers, name: &str) -> bool {
+    let Some(server) = servers.find(name) else {
+        return true;
+    };
+    match end.link(server.number() as usize) {
+        Some(link) => link.flushes,
+        None => true,
+    }
+}
+
+impl Emptying {
+    /// Those of whom it isn't known, as the run before left them: none where there was none, or no history is kept.
+    pub fn read<R: Files + Input + AllocGlobal>(
+        rt: &R,
+        history: Option<&str>,
+        flushes_new: bool,
+    ) -> io::Result<Emptying> {
+        let path = path_beside(rt.alloc(), history)?;
+        let names = match &path {
+            Some(path) if is_there(rt, path.as_str()) => names_in(rt, path.as_str())?,
+            _ => Vec::new(rt.alloc()),
+        };
+        Ok(Emptying {
+            path,
+            names,
+            is_written: true,
+            flushes_new,
+        })
+    }
+
+    // The file names them, and the disk has it.
+    fn write<R: Files + AllocGlobal>(&mut self, rt: &R) -> io::Result<()> {
+        if self.is_written {
+            return Ok(());
+        }
+        if let Some(path) = &self.path {
+            let text = text_with(rt.alloc(), &self.names)?;
+            put(rt, path.as_str(), text.as_str())?;
+        }
+        self.is_written = true;
+        Ok(())
+    }
+
+    /// So are these servers from this number on. The file has them before they are used.
+    pub fn add<R: Files + AllocGlobal>(
+        &mut self,
+        rt: &R,
+        servers: &Servers,
+        from: usize,
+    ) -> io::Result<()> {
+        for at in from..servers.len() {
+            if let Some(name) = text_at(servers, at) {
+                if !has(&self.names, name) {
+                    self.names.push(String::from_str(rt.alloc(), name)?)?;
+                    self.is_written = false;
+                }
+            }
+        }
+        self.write(rt)
+    }
+
+    /// So are the servers that a text's configuration has behind these, if it says one, and if they are to be.
+    pub fn add_of<R: Files + AllocGlobal>(
+        &mut self,
+        rt: &R,
+        servers: &Servers,
+        text: &str,
+    ) -> io::Result<()> {
+        if !self.flushes_new {
+            return Ok(());
+        }
+        match read_config_after(rt.alloc(), servers.copy(rt.alloc())?, text) {
+            Ok(config) => self.add(rt, config.servers(), servers.len()),
+            Err(_) => Ok(()),
+        }
+    }
+
+    /// The number of the first of them among these servers from this number on.
+    pub fn next(&self, servers: &Servers, from: usize) -> Option<usize>
+        ensures { IfSome result (IsNamedAt (texts self.now.names.items) servers.now) }
+    {
+        for at in from..servers.len() {
+            if let Some(name) = text_at(servers, at) {
+                if has(&self.names, name) {
+                    return Some(at);
+                }
+            }
+        }
+        None
+    }
+
+    /// Those that were emptied are named no longer.
+    pub fn settle<R: Files + AllocGlobal>(
+        &mut self,
+        rt: &R,
+        end: &Proxy,
+        servers: &Servers,
+    ) -> io::Result<()> {
+        if self.names.is_empty() {
+            return Ok(());
+        }
+        let mut left = Vec::new(rt.alloc());
+        for name in &self.names {
+            if is_due(end, servers, name.as_str()) {
+                left.push(String::from_str(rt.alloc(), name.as_str())?)?;
+            }
+        }
+        if left.len() < self.names.len() {
+            self.names = left;
+            self.is_written = false;
+        }
+        self.write(rt)
+    }
+}

@@ -1,0 +1,18 @@
+//! What a proxy that runs is: its turns, what is told of its servers and of itself, what it is told, the configurations that are loaded
+//! meanwhile, and the histories that are remembered of them.
+#![tactic(auto)]
+
+pub mod controlling;
+mod draining;
+mod emptying;
+pub mod histories;
+mod input_end;
+mod limits;
+pub mod lines;
+mod outages;
+mod remembering;
+pub mod serving;
+pub mod special;
+pub mod started;
+pub mod starting;
+pub mod watching;

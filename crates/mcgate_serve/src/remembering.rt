@@ -1,0 +1,204 @@
+//! What a proxy remembers from one run to the next: a history in a file, to which each configuration is added before its tree is used.
+
+ghost use Rattle.std.specs.Prelude.{◌≡◌, ℕ, List, Some, IfOk};
+ghost use Rattle.gate_history.specs.Standing.{StandsInHistory};
+ghost use Rattle.mcgate_serve.specs.Remembers.{MayStand};
+
+use crate::lines::Lines;
+use gate_growth::ledger::Beginning;
+use gate_history::HistoryFile;
+use mcgate_args::ends::Stop;
+use mcgate_args::histories::print_kept_after;
+use mcgate_args::input_text::INPUT_LIMIT;
+use std::alloc::{AllocError, Global};
+use std::fs::{File, OpenFile, rename};
+use std::io;
+use std::io::{ErrorKind, Write};
+use std::rt::Files;
+
+/// A history, and the file in which it stands: it was read from there, or written there and synced.
+#[derive(Drop)]
+pub struct Kept {
+    path: String,
+    file: HistoryFile,
+    /// How new servers began.
+    added: Beginning,
+}
+
+/// What became of a text that is to be loaded.
+#[derive(Drop)]
+pub enum Remembering {
+    /// It may not be, and why was printed.
+    Refused,
+    /// Where a history is kept, its last line says the text. This is the text of the file without that line, if it was written now.
+    Stands(Option<String>),
+}
+
+// The folder of a file.
+fn folder_of(path: &str) -> &str {
+    match path.rsplit_once('/') {
+        None => ".",
+        Some(("", _)) => "/",
+        Some((folder, _)) => folder,
+    }
+}
+
+// A new file of this name has the text, and the disk too.
+fn write_synced<R: Files>(rt: &R, path: &str, text: &str) -> io::Result<()> {
+    let mut file = File::create(rt, path)?;
+    file.write_all(text.as_bytes())?;
+    file.sync_all()
+}
+
+// The disk has the folder as it is.
+fn sync_folder<R: Files>(rt: &R, folder: &str) -> io::Result<()> {
+    let folder = File::open(rt, folder)?;
+    folder.sync_all()
+}
+
+// The file has the text, and the disk too: at each moment before it has it as it was. One that couldn't be read again isn't written.
+pub fn put<R: Files + AllocGlobal>(rt: &R, path: &str, text: &str) -> io::Result<()> {
+    if text.len() > INPUT_LIMIT {
+        return Err(io::Error::from(ErrorKind::FileTooLarge));
+    }
+    let beside = format!(in rt.alloc(); "{path}.new")?;
+    write_synced(rt, beside.as_str(), text)?;
+    rename(rt, beside.as_str(), path)?;
+    sync_folder(rt, folder_of(path))
+}
+
+/// What is said of a file that can't be written.
+pub fn unwritten_line(alloc: Global, path: &str, error: &io::Error) -> Result<String, AllocError> {
+    format!(in alloc; "mcgate: cannot write {path}: {error}")
+}
+
+// Says it.
+fn tell_unwritten<R: AllocGlobal + Eprint>(
+    rt: &R,
+    lines: &mut Lines,
+    path: &str,
+    error: &io::Error,
+) {
+    if let Ok(line) = unwritten_line(rt.alloc(), path, error) {
+        lines.warn(rt, line.as_str());
+    }
+}
+
+impl Kept {
+    /// The history of this file, to which a generation was added since it was read if it is new: then the file is written before.
+    pub fn new<R: Files + AllocGlobal>(
+        rt: &R,
+        path: &str,
+        file: HistoryFile,
+        added: Beginning,
+        is_new: bool,
+    ) -> io::Result<Kept>
+        ensures { IfOk result (λ kept. kept.file ≡ file) }
+    {
+        if is_new {
+            put(rt, path, file.text())?;
+        }
+        let path = String::from_str(rt.alloc(), path)?;
+        Ok(Kept { path, file, added })
+    }
+
+    /// How many generations it has.
+    pub fn count(&self) -> usize {
+        self.file.count()
+    }
+
+    // It is that of this text, which it had before.
+    fn go_back(&mut self, alloc: Global, text: String) -> Result<(), Stop> {
+        match HistoryFile::read(alloc, text) {
+            Ok(file) => {
+                self.file = file;
+                Ok(())
+            }
+            Err(_) => Err(Stop::Memory),
+        }
+    }
+
+    // Writes the file, to which a line was added. Where it can't be written the history is what it was.
+    fn write_line<R: Files + AllocGlobal + Eprint, W: Write>(
+        &mut self,
+        rt: &R,
+        lines: &mut Lines,
+        old: String,
+        out: &mut W,
+    ) -> Result<Remembering, Stop>
+        ensures { (text : List ℕ) → StandsInHistory self.old.file.text text → IfOk result (λ r. MayStand r (Some self.new) text) }
+    {
+        match put(rt, self.path.as_str(), self.file.text()) {
+            Ok(()) => Ok(Remembering::Stands(Some(old))),
+            Err(error) => {
+                tell_unwritten(rt, lines, self.path.as_str(), &error);
+                self.go_back(rt.alloc(), old)?;
+                writeln!(out, "reload refused: history not written")?;
+                Ok(Remembering::Refused)
+            }
+        }
+    }
+
+    // The text's configuration is the next generation, and stands in the file, if it may be; else why not is printed.
+    fn take<R: Files + AllocGlobal + Eprint, W: Write>(
+        &mut self,
+        rt: &R,
+        lines: &mut Lines,
+        text: &str,
+        out: &mut W,
+    ) -> Result<Remembering, Stop>
+        ensures { IfOk result (λ r. MayStand r (Some self.new) text.now) }
+    {
+        match self.file.take_text(rt.alloc(), text, self.added) {
+            Ok(None) => Ok(Remembering::Stands(None)),
+            Ok(Some(old)) => self.write_line(rt, lines, old, out),
+            Err(fault) => {
+                print_kept_after(&fault, out)?;
+                Ok(Remembering::Refused)
+            }
+        }
+    }
+
+    // The file has this text again, which it had before.
+    fn put_back<R: Files + AllocGlobal + Eprint>(
+        &mut self,
+        rt: &R,
+        lines: &mut Lines,
+        old: String,
+    ) -> Result<(), Stop> {
+        self.go_back(rt.alloc(), old)?;
+        if let Err(error) = put(rt, self.path.as_str(), self.file.text()) {
+            tell_unwritten(rt, lines, self.path.as_str(), &error);
+        }
+        Ok(())
+    }
+}
+
+/// Before a text is loaded: where a history is kept, its file has the text then, if its configuration may follow; else why not is printed.
+pub fn remember<R: Files + AllocGlobal + Eprint, W: Write>(
+    rt: &R,
+    lines: &mut Lines,
+    memory: &mut Option<Kept>,
+    text: &str,
+    out: &mut W,
+) -> Result<Remembering, Stop>
+    ensures { IfOk result (λ r. MayStand r memory.new text.now) }
+{
+    match memory {
+        None => Ok(Remembering::Stands(None)),
+        Some(kept) => kept.take(rt, lines, text, out),
+    }
+}
+
+/// After a text wasn't loaded: the file has this text again, if its line was written.
+pub fn forget<R: Files + AllocGlobal + Eprint>(
+    rt: &R,
+    lines: &mut Lines,
+    memory: &mut Option<Kept>,
+    old: Option<String>,
+) -> Result<(), Stop> {
+    match (memory, old) {
+        (Some(kept), Some(old)) => kept.put_back(rt, lines, old),
+        _ => Ok(()),
+    }
+}

@@ -1,0 +1,1457 @@
+//! A proxy that runs: its turns, what is told of its servers, and the configurations that are loaded meanwhile.
+
+ghost use Rattle.std.specs.Prelude.{◌≡◌, ◌≢◌, ◌⊎◌, ◌≤◌, IsTrue, IfOk, IfSome, OnOk, string_bytes, ℕ, List, Some, ◌∷◌, length, slice_get};
+ghost use Rattle.serve_wire.specs.Events.{looks_up};
+ghost use Rattle.serve_links.specs.Story.{HasHappened};
+ghost use Rattle.core_accepted.specs.declared.loading.LoadFault.TheVariants.{Refused};
+ghost use Rattle.gate_check.specs.declared.reloading.ReloadFault.TheVariants.{NoMemory};
+ghost use Rattle.serve_proxy.specs.Ends.{Stay, AllGoOn, AllGrow, IsLoadOf};
+ghost use Rattle.core_accepted.specs.Logs.{TreesAreSound};
+ghost use Rattle.serve_proxy.specs.LogsGoOn.{LogsAreFresh};
+ghost use Rattle.serve_proxy.specs.Stalls.{held_by_all};
+ghost use Rattle.core_accepted.specs.Loading.{IsLoaded};
+ghost use Rattle.mcgate_serve.specs.Serves.{SaysAfter, history_of, proxy_of, Serves, MayLoad, MayLoadBeside, MayLoadText, LoadsOne, LoadsText};
+ghost use Rattle.mcgate_serve.specs.InFleet.{StandsBeside, in_use_after};
+ghost use Rattle.mcgate_serve.specs.Remembers.{StandsIn, StandsIfLoaded};
+ghost use Rattle.mcgate_serve.specs.LooksUp.{AreLookedUp};
+ghost use Rattle.mcgate_serve.specs.Emptied.{IsDueAt, EmptiesOnly};
+
+use crate::controlling::Controlling;
+use crate::draining::Draining;
+use crate::emptying::Emptying;
+use crate::input_end::InputEnd;
+use crate::limits::own_limits;
+use crate::lines::Lines;
+use crate::outages::Outages;
+use crate::remembering::{Kept, Remembering, forget, remember};
+use crate::special::is_special;
+use crate::started::Started;
+use crate::watching::{Seen, Times, Watching, stats_of, write_servers};
+use core_accepted::LoadFault;
+use gate_check::ReloadFault;
+use mc_types::{Key, ServerId};
+use mcgate_args::ends::{Stop, find_in_text};
+use mcgate_args::fleets::members::may_follow;
+use mcgate_args::input::text_of;
+use mcgate_args::input_text::InputFault;
+use mcgate_args::log_arguments::level_of;
+use mcgate_args::serve_arguments::ServeJob;
+use mcgate_check::reload_lines::{write_kept, write_loaded, write_unchecked};
+use mcgate_check::status::DONE;
+use route_json::addresses::Servers;
+use route_json::limits::limits_of;
+use route_json::{Config, ConfigFault, read_config_after};
+use serde_json::Value;
+use serve_links::LinkNews;
+use serve_proxy::{ProxyEnd, text_at};
+use serve_wire::sockets::Sockets;
+use std::alloc::{AllocError, Global};
+use std::io;
+use std::io::{ErrorKind, Write};
+use std::net::{Net, SocketAddr, ToSocketAddrs};
+use std::rt::{Clock, Files};
+use std::time::{Duration, Instant};
+use watch_admin::control::answers::Ruling;
+use watch_admin::control::requests::{Request, request_of};
+use watch_admin::places::PLACES;
+
+/// The first address that a text names, or why it names none.
+pub fn resolve<N: Net>(net: &N, text: &str) -> io::Result<SocketAddr> {
+    match text.to_socket_addrs(net)?.next() {
+        Some(address) => Ok(address),
+        None => Err(io::Error::from(ErrorKind::AddrNotAvailable)),
+    }
+}
+
+// What stands after the first of these places.
+fn after_first(places: &str) -> &str {
+    match places.find(',') {
+        Some(at) => places.get(at..).unwrap_or(""),
+        None => "",
+    }
+}
+
+/// After a server's text was looked up: whether it names a host. If it doesn't that is told, and the server's calls will fail.
+pub fn tell_if_unknown<R: Eprint>(
+    rt: &R,
+    lines: &mut Lines,
+    text: &str,
+    found: io::Result<()>,
+) -> io::Result<bool> {
+    match found {
+        Ok(()) => Ok(true),
+        Err(error) if error.kind() == ErrorKind::OutOfMemory => Err(error),
+        Err(_) => {
+            let line = format_args!("mcgate: server {text}: no such host, its calls fail");
+            lines.warn(rt, line);
+            Ok(false)
+        }
+    }
+}
+
+/// The end of a proxy over sockets.
+pub type Proxy = ProxyEnd<Sockets>;
+
+/// A proxy that runs.
+#[derive(Drop)]
+pub struct Serving {
+    end: Proxy,
+    /// The servers in use.
+    servers: Servers,
+    /// What says the configuration in use.
+    text: String,
+    /// The configuration in use, where the proxy is one of a fleet.
+    in_use: Option<Config>,
+    /// Its generation.
+    generation: u32,
+    /// How many generations there were before the first one, where a history is kept.
+    before: u32,
+    /// The history, where one is kept.
+    memory: Option<Kept>,
+    /// What the file had since, where that wasn't loaded.
+    refused: Option<String>,
+    /// When that was.
+    since: Instant,
+    /// How many turns ago.
+    turns: u32,
+    lines: Lines,
+    outages: Outages,
+    seen: Seen,
+    /// Who asks for numbers, where it listens for them.
+    watching: Option<Watching>,
+    /// Who tells it things, where it listens for them.
+    controlling: Option<Controlling>,
+    /// Standard input, where it drains once that has ended.
+    input: Option<InputEnd>,
+    /// Since when it drains, if it does.
+    draining: Option<Draining>,
+    /// Servers that are to be emptied before their first call.
+    emptying: Option<Emptying>,
+    /// Whether no server waits until those of earlier epochs at its address have no calls any more.
+    have_begun: bool,
+    /// Whether each server has the limits that the configuration in use says.
+    are_limited: bool,
+}
+
+// The text of a regular file. Of what is none the program doesn't wait for a text.
+fn regular_text<R: Files + Input + AllocGlobal>(rt: &R, file: &str) -> Result<String, InputFault> {
+    if is_special(rt, file) {
+        return Err(InputFault::Device);
+    }
+    text_of(rt, Some(file))
+}
+
+// A configuration that was read, and its servers once more.
+fn read_after(
+    alloc: Global,
+    servers: &Servers,
+    text: &str,
+) -> Result<(Config, Servers), ConfigFault>
+    ensures { IfOk result (λ read. SaysAfter servers.now text.now read.0) }
+{
+    let config = read_config_after(alloc, servers.copy(alloc)?, text)?;
+    let servers = config.servers().copy(alloc)?;
+    Ok((config, servers))
+}
+
+// The lesser of two, where there are two.
+fn earlier(a: Option<u64>, b: Option<u64>) -> Option<u64> {
+    match (a, b) {
+        (Some(a), Some(b)) => Some(a.min(b)),
+        (a, None) => a,
+        (None, b) => b,
+    }
+}
+
+// Whether both texts say one JSON value. Where memory is refused they don't.
+fn says_the_same(alloc: Global, text: &str, other: &str) -> bool {
+    match (Value::from_str(alloc, text), Value::from_str(alloc, other)) {
+        (Ok(value), Ok(other)) => value == other,
+        _ => false,
+    }
+}
+
+// Prints why a text is no configuration.
+fn print_fault<W: Write>(fault: &ConfigFault, out: &mut W) -> Result<(), Stop> {
+    match fault {
+        ConfigFault::NoMemory => Err(Stop::Memory),
+        told => Ok(writeln!(out, "config: {told}")?),
+    }
+}
+
+// Prints that a configuration was loaded.
+fn print_loaded<W: Write>(any: bool, generation: u32, out: &mut W) -> io::Result<()> {
+    if any {
+        write_unchecked(generation, out)
+    } else {
+        write_loaded(generation, out)
+    }
+}
+
+// The fault, its generation counted after so many.
+fn counted_after(before: u32, fault: ReloadFault) -> ReloadFault {
+    match fault {
+        ReloadFault::Uncovered(generation, gap) => {
+            ReloadFault::Uncovered(before.saturating_add(generation), gap)
+        }
+        fault => fault,
+    }
+}
+
+// Prints why it was not.
+fn print_kept<W: Write>(
+    servers: &Servers,
+    before: u32,
+    fault: LoadFault,
+    out: &mut W,
+) -> Result<(), Stop>
+    ensures { OnOk result (fault ≢ Refused NoMemory) }
+{
+    match fault {
+        LoadFault::Refused(ReloadFault::NoMemory) => Err(Stop::Memory),
+        LoadFault::Refused(fault) => {
+            Ok(write_kept(servers, &counted_after(before, fault), out)?)
+        }
+        LoadFault::OtherServers => Ok(writeln!(out, "reload refused: other servers")?),
+    }
+}
+
+// The new servers of a text are to be emptied, if it says a configuration, where that is so of all that a reload brings: it is written
+// before they are used. Whether it was, or needn't be; where it can't be written that is told and printed.
+fn notes_new<R: Files + AllocGlobal + Eprint, W: Write>(
+    rt: &R,
+    lines: &mut Lines,
+    emptying: &mut Option<Emptying>,
+    servers: &Servers,
+    text: &str,
+    out: &mut W,
+) -> Result<bool, Stop> {
+    let Some(emptying) = emptying else {
+        return Ok(true);
+    };
+    match emptying.add_of(rt, servers, text) {
+        Ok(()) => Ok(true),
+        Err(error) if error.kind() == ErrorKind::OutOfMemory => Err(Stop::Memory),
+        Err(error) => {
+            let line = format_args!(
+                "mcgate: cannot write which servers are to be emptied: {error}"
+            );
+            lines.tell(rt, line);
+            writeln!(out, "reload refused: history not written")?;
+            Ok(false)
+        }
+    }
+}
+
+// How many generations there were before the last one.
+fn before_of(memory: &Option<Kept>) -> u32 {
+    match memory {
+        None => 0,
+        Some(kept) => u32::try_from(kept.count()).unwrap_or(0).saturating_sub(1),
+    }
+}
+
+impl Serving {
+    /// Of this end, by a configuration of these servers, which starts so. Where the proxy is one of a fleet the configuration is given.
+    pub fn new<R: Clock + AllocGlobal>(
+        rt: &R,
+        end: Proxy,
+        servers: Servers,
+        in_use: Option<Config>,
+        started: Started,
+        lines: Lines,
+        watching: Option<Watching>,
+        controlling: Option<Controlling>,
+    ) -> io::Result<Serving>
+        ensures end { IfOk result (λ serving. serving.end ≡ end) }
+        ensures in_use { IfOk result (λ serving. serving.in_use ≡ in_use) }
+    {
+        let (text, memory) = started.into_parts();
+        let before = before_of(&memory);
+        Ok(Serving {
+            end,
+            servers,
+            text,
+            in_use,
+            generation: 1,
+            before,
+            memory,
+            refused: None,
+            since: Instant::now(rt)?,
+            turns: 0,
+            lines,
+            outages: Outages::new(rt.alloc()),
+            seen: Seen::new(before.saturating_add(1)),
+            watching,
+            controlling,
+            input: None,
+            draining: None,
+            emptying: None,
+            have_begun: false,
+            are_limited: false,
+        })
+    }
+
+    /// Where the gate accepted its trees, they are sound, and each log that may have led to its core is fresh. A law: it does nothing.
+    pub fn logs_are_fresh(&self)
+        ensures fresh { LogsAreFresh self.now.end.core.value }
+        ensures sound { TreesAreSound self.now.end.core.value }
+    {
+        self.end.logs_are_fresh();
+    }
+
+    /// Tells that it listens, and then turns it as often as is asked; what happens to servers is told, and the file is read again, when
+    /// that is due. The answer is the exit status.
+    pub fn tell_and_run<R: Files + Input + Net + Clock + AllocGlobal + Print + Eprint>(
+        &mut self,
+        rt: &R,
+        job: &ServeJob<'_>,
+    ) -> Result<u8, Stop>
+        ensures ends { Serves self.old.end self.new.end }
+    {
+        self.tell_start(rt, job)?;
+        self.run(rt, job)
+    }
+
+    // Tells that it listens, and with a tree of which no gate was asked what that means.
+    fn tell_start<R: Net + AllocGlobal + Eprint>(
+        &mut self,
+        rt: &R,
+        job: &ServeJob<'_>,
+    ) -> io::Result<()>
+        ensures { self.new.end ≡ self.old.end }
+    {
+        if job.any {
+            self.lines.warn(
+                rt,
+                "mcgate: WARNING: --any: no gate was asked, nothing is promised: replies may show deleted data",
+            );
+        }
+        self.tell_place(rt, job);
+        self.tell_if_new(rt, job);
+        self.tell_if_giving_up(rt, job);
+        self.begin_watching(rt)?;
+        self.begin_controlling(rt)?;
+        self.watch_input(rt, job)
+    }
+
+    // Tells where it listens, and what it serves.
+    fn tell_place<R: Eprint>(&mut self, rt: &R, job: &ServeJob<'_>)
+        ensures { self.new.end ≡ self.old.end }
+    {
+        let servers = self.servers.len();
+        let generation = self.generation.saturating_add(self.before);
+        let whose = if job.fleet { ", one of a fleet" } else { "" };
+        match self.end.wire().local_addr() {
+            Ok(address) => self.lines.tell(
+                rt,
+                format_args!(
+                    "mcgate: serving {} on {address}{}, {servers} servers, generation {generation}{whose}",
+                    job.file,
+                    after_first(job.listen)
+                ),
+            ),
+            Err(_) => self.lines.tell(
+                rt,
+                format_args!(
+                    "mcgate: serving {} on {}, {servers} servers, generation {generation}{whose}",
+                    job.file, job.listen
+                ),
+            ),
+        }
+    }
+
+    // Tells what the promise rests on where connections are given up while late answers are to come.
+    fn tell_if_giving_up<R: Eprint>(&mut self, rt: &R, job: &ServeJob<'_>)
+        ensures { self.new.end ≡ self.old.end }
+    {
+        if job.settings.give_up_ms.is_some() {
+            self.lines.tell(
+                rt,
+                "mcgate: with --give-up-ms what is promised rests on servers that apply no call once its connection was given up",
+            );
+        }
+    }
+
+    // From now on it wakes up for who asks for numbers, where it listens for them, and tells that.
+    fn begin_watching<R: Eprint>(&mut self, rt: &R) -> io::Result<()>
+        ensures { self.new.end ≡ self.old.end }
+    {
+        let Some(watching) = &self.watching else {
+            return Ok(());
+        };
+        self.end.wire().wake_by(watching.descriptor())?;
+        let address = watching.local_addr()?;
+        self.lines
+            .tell(rt, format_args!("mcgate: metrics on {address}"));
+        Ok(())
+    }
+
+    // From now on it wakes up for who tells it things, where it listens for them, and tells that.
+    fn begin_controlling<R: Eprint>(&mut self, rt: &R) -> io::Result<()>
+        ensures { self.new.end ≡ self.old.end }
+    {
+        let Some(controlling) = &self.controlling else {
+            return Ok(());
+        };
+        self.end.wire().wake_by(controlling.descriptor())?;
+        let line = format_args!("mcgate: control at {}", controlling.path());
+        self.lines.tell(rt, line);
+        Ok(())
+    }
+
+    // From now on it wakes up for the end of standard input, where it drains then. Where that can't be watched, a line tells why.
+    fn watch_input<R: Net + AllocGlobal + Eprint>(
+        &mut self,
+        rt: &R,
+        job: &ServeJob<'_>,
+    ) -> io::Result<()>
+        ensures { self.new.end ≡ self.old.end }
+    {
+        if !job.drain_on_eof {
+            return Ok(());
+        }
+        match InputEnd::watch(rt) {
+            Ok(input) => {
+                self.end.wire().wake_by(input.descriptor())?;
+                self.input = Some(input);
+                Ok(())
+            }
+            Err(error) => {
+                let line = format_args!("mcgate: standard input can't be watched: {error}");
+                self.lines.tell(rt, line);
+                Err(error)
+            }
+        }
+    }
+
+    // Who asks for numbers gets them, if there is somebody. Where the system doesn't tell, nothing is done.
+    fn turn_watching<R: Files + Clock + AllocGlobal>(&mut self, rt: &R)
+        ensures { self.new.end ≡ self.old.end }
+    {
+        let is_woken = self.end.wire().was_woken();
+        let lost_lines = self.lines.lost();
+        if let Some(watching) = &mut self.watching {
+            if is_woken || watching.is_due(rt) {
+                let text = self.text.as_str();
+                let _ = watching.turn(rt, &self.end, &self.servers, &self.seen, lost_lines, text);
+            }
+        }
+    }
+
+    // Tells that nothing is remembered of trees before, where no history is kept.
+    fn tell_if_new<R: Eprint>(&mut self, rt: &R, job: &ServeJob<'_>)
+        ensures { self.new.end ≡ self.old.end }
+    {
+        if !job.any && job.history.is_none() {
+            self.lines.tell(
+                rt,
+                "mcgate: without --history what is promised begins now: no tree that was served before is remembered",
+            );
+        }
+    }
+
+    // Turns it so.
+    fn run<R: Files + Input + Net + Clock + AllocGlobal + Print + Eprint>(
+        &mut self,
+        rt: &R,
+        job: &ServeJob<'_>,
+    ) -> Result<u8, Stop>
+        ensures ends { Serves self.old.end self.new.end }
+    {
+        self.begin_emptying(rt, job)?;
+        self.run_turns(rt, job)?;
+        Ok(self.end_all(rt))
+    }
+
+    // As many turns as are asked, or until it has drained.
+    fn run_turns<R: Files + Input + Net + Clock + AllocGlobal + Print + Eprint>(
+        &mut self,
+        rt: &R,
+        job: &ServeJob<'_>,
+    ) -> Result<(), Stop>
+        ensures ends { Serves self.old.end self.new.end }
+    {
+        for _ in 0..job.turns.map_or(u64::MAX, u64::from) {
+            self.turn(rt, job)?;
+            let is_last = self.end_turn(rt, job)?;
+            if is_last {
+                return Ok(());
+            }
+        }
+        Ok(())
+    }
+
+    // What is done after a turn: whether that was the last one.
+    #[tactic(auto, using(crate::proofs::Loads::serves_still))]
+    fn end_turn<R: Files + Input + Net + Clock + AllocGlobal + Print + Eprint>(
+        &mut self,
+        rt: &R,
+        job: &ServeJob<'_>,
+    ) -> Result<bool, Stop>
+        ensures ends { Serves self.old.end self.new.end }
+    {
+        self.lines.look(rt);
+        self.tell_news(rt);
+        self.settle_emptying(rt);
+        self.look_if_due(rt, job)?;
+        self.turn_watching(rt);
+        self.take_orders(rt, job)?;
+        self.keep_servers(rt.alloc());
+        Ok(self.has_drained(rt)?)
+    }
+
+    // What is done after the last one.
+    #[tactic(auto, using(crate::proofs::Loads::serves_still))]
+    fn end_all<R: Files + AllocGlobal + Eprint>(&mut self, rt: &R) -> u8
+        ensures ends { Serves self.old.end self.new.end }
+    {
+        self.end.end_turns();
+        self.end_controlling(rt);
+        DONE
+    }
+
+    // Those of whom the run before didn't know it are emptied before their first call.
+    fn begin_emptying<R: Files + Input + AllocGlobal>(
+        &mut self,
+        rt: &R,
+        job: &ServeJob<'_>,
+    ) -> Result<(), Stop>
+        ensures core { self.new.end.core ≡ self.old.end.core }
+        ensures ends { Stay history_of self.old.end.sockets self.new.end.sockets }
+    {
+        let emptying = Emptying::read(rt, job.history, job.settings.flushes_new)?;
+        self.emptying = Some(emptying);
+        self.keep_servers(rt.alloc());
+        Ok(())
+    }
+
+    // The first of those that are to be emptied, from this server on.
+    fn next_emptying(&self, from: usize) -> Option<usize>
+        ensures { IfSome result (IsDueAt self.now.emptying self.now.servers) }
+    {
+        match &self.emptying {
+            Some(emptying) => emptying.next(&self.servers, from),
+            None => None,
+        }
+    }
+
+    // All of them are emptied before their first call, and no others are by that.
+    fn mark_emptying(&mut self)
+        ensures emptied { EmptiesOnly (IsDueAt self.old.emptying self.old.servers) self.old.end.sockets.links.all.items self.new.end.sockets.links.all.items }
+        ensures core { self.new.end.core ≡ self.old.end.core }
+        ensures ends { Stay history_of self.old.end.sockets self.new.end.sockets }
+    {
+        let mut from = 0usize;
+        for _ in 0..self.servers.len() {
+            let Some(at) = self.next_emptying(from) else {
+                return;
+            };
+            self.end.empty_first(at);
+            from = at.saturating_add(1);
+        }
+    }
+
+    // What was emptied is noted. Where that can't be written, it may be emptied once more by the next run.
+    fn settle_emptying<R: Files + AllocGlobal>(&mut self, rt: &R)
+        ensures { self.new.end ≡ self.old.end }
+    {
+        if let Some(emptying) = &mut self.emptying {
+            let _ = emptying.settle(rt, &self.end, &self.servers);
+        }
+    }
+
+    // Servers are emptied that are to be, and calls go to each while its epoch lasts.
+    fn keep_epochs(&mut self)
+        ensures core { self.new.end.core ≡ self.old.end.core }
+        ensures ends { Stay history_of self.old.end.sockets self.new.end.sockets }
+    {
+        if self.have_begun {
+            return;
+        }
+        self.mark_emptying();
+        self.have_begun = self.end.keep_epochs(&self.servers);
+    }
+
+    // Calls go to servers as the configuration in use says it: while their epochs last, and within their limits.
+    fn keep_servers(&mut self, alloc: Global)
+        ensures core { self.new.end.core ≡ self.old.end.core }
+        ensures ends { Stay history_of self.old.end.sockets self.new.end.sockets }
+    {
+        self.keep_epochs();
+        self.keep_limits(alloc)
+    }
+
+    // Each server gets the limits that its pools say, where there is another configuration. Where memory is refused that is for the next turn.
+    fn keep_limits(&mut self, alloc: Global)
+        ensures core { self.new.end.core ≡ self.old.end.core }
+        ensures ends { Stay history_of self.old.end.sockets self.new.end.sockets }
+    {
+        if self.are_limited {
+            return;
+        }
+        if let Ok(value) = Value::from_str(alloc, self.text.as_str()) {
+            self.limit_servers(&value);
+            self.are_limited = true;
+        }
+    }
+
+    // Each server gets the limits that its pools say.
+    fn limit_servers(&mut self, config: &Value)
+        ensures core { self.new.end.core ≡ self.old.end.core }
+        ensures ends { Stay history_of self.old.end.sockets self.new.end.sockets }
+    {
+        for at in 0..self.servers.len() {
+            self.limit_server(config, at);
+        }
+    }
+
+    fn limit_server(&mut self, config: &Value, at: usize)
+        ensures core { self.new.end.core ≡ self.old.end.core }
+        ensures ends { Stay history_of self.old.end.sockets self.new.end.sockets }
+    {
+        if let Some(text) = text_at(&self.servers, at) {
+            let limits = own_limits(self.end.usual_limits(), limits_of(config, text));
+            self.end.limit(at, limits);
+        }
+    }
+
+    fn millis<R: Clock>(&self, rt: &R) -> io::Result<u64> {
+        let millis = self.since.elapsed(rt)?.as_millis();
+        Ok(u64::try_from(millis).unwrap_or(u64::MAX))
+    }
+
+    // How long a turn may wait: until the file is to be read again, or who asked for numbers is to be closed.
+    fn most_wait<R: Clock>(&self, rt: &R, job: &ServeJob<'_>) -> io::Result<Option<Duration>> {
+        let until_watched = match &self.watching {
+            Some(watching) => watching.rest(rt)?,
+            None => None,
+        };
+        let until_read = match job.reload_ms {
+            Some(reload_ms) => Some(u64::from(reload_ms).saturating_sub(self.millis(rt)?)),
+            None => None,
+        };
+        let until_told = match &self.controlling {
+            Some(controlling) => controlling.rest(rt)?,
+            None => None,
+        };
+        let until_drained = match &self.draining {
+            Some(draining) => Some(draining.rest(rt)?),
+            None => None,
+        };
+        let until = earlier(
+            earlier(until_watched, until_read),
+            earlier(until_told, until_drained),
+        );
+        Ok(until.map(Duration::from_millis))
+    }
+
+    // One turn, which doesn't wait longer than that. After it no more is held for all clients than the job's memory.
+    #[tactic(auto, using(crate::proofs::Loads::goes_still))]
+    fn turn<R: Net + Clock>(&mut self, rt: &R, job: &ServeJob<'_>) -> io::Result<()>
+        ensures ends { AllGoOn history_of self.old.end.core.value self.old.end.sockets self.new.end.core.value self.new.end.sockets }
+        ensures bounded { OnOk result (held_by_all self.new.end.sockets.clients ≤ job.now.memory) }
+    {
+        self.turns = self.turns.saturating_add(1);
+        self.end.bound_clients(job.stall_ms, job.memory);
+        match self.most_wait(rt, job)? {
+            Some(most) => self.end.turn_within(rt, most),
+            None => self.end.turn(rt),
+        }
+    }
+
+    // Tells what happened to servers and clients. Where it can't be told nothing else is done.
+    fn tell_news<R: Eprint>(&mut self, rt: &R)
+        ensures core { self.new.end.core ≡ self.old.end.core }
+        ensures ends { Stay history_of self.old.end.sockets self.new.end.sockets }
+    {
+        self.tell_links(rt);
+        self.tell_stalled(rt);
+    }
+
+    // Tells how many clients were closed, as they took nothing for too long.
+    fn tell_stalled<R: Eprint>(&mut self, rt: &R)
+        ensures core { self.new.end.core ≡ self.old.end.core }
+        ensures ends { Stay history_of self.old.end.sockets self.new.end.sockets }
+    {
+        if let Some(count) = self.end.next_stalled() {
+            self.seen.closed_slow = self.seen.closed_slow.saturating_add(count);
+            let line = format_args!("mcgate: clients closed that took too little: {count}");
+            self.lines.warn(rt, line);
+        }
+    }
+
+    // Tells what happened to servers.
+    fn tell_links<R: Eprint>(&mut self, rt: &R)
+        ensures core { self.new.end.core ≡ self.old.end.core }
+        ensures ends { Stay history_of self.old.end.sockets self.new.end.sockets }
+    {
+        for _ in 0..self.servers.len() {
+            let Some((at, news)) = self.end.next_news() else {
+                return;
+            };
+            self.tell_of(rt, at, news);
+        }
+    }
+
+    // Tells this of a server.
+    fn tell_of<R: Eprint>(&mut self, rt: &R, at: usize, news: LinkNews)
+        ensures { self.new.end ≡ self.old.end }
+    {
+        let Ok(number) = u32::try_from(at) else {
+            return;
+        };
+        if !self.may_tell(at, news) {
+            return;
+        }
+        if let Some(text) = self.servers.get(ServerId::new(number)) {
+            let line = format_args!("mcgate: server {text}: {news}");
+            match news {
+                LinkNews::Opened | LinkNews::Back => self.lines.tell(rt, line),
+                LinkNews::Failed(_, _) | LinkNews::Late => self.lines.warn(rt, line),
+            }
+        }
+    }
+
+    // Whether this of a server is to be told: where lines have a time, that it is still down is once a minute.
+    fn may_tell(&mut self, at: usize, news: LinkNews) -> bool
+        ensures { self.new.end ≡ self.old.end }
+    {
+        match news {
+            LinkNews::Opened | LinkNews::Back => {
+                self.outages.note_up(at);
+                true
+            }
+            LinkNews::Failed(_, _) | LinkNews::Late => self.may_tell_down(at),
+        }
+    }
+
+    fn may_tell_down(&mut self, at: usize) -> bool
+        ensures { self.new.end ≡ self.old.end }
+    {
+        if self.lines.tells_all() {
+            return true;
+        }
+        self.outages.note_down(at, self.lines.now())
+    }
+
+    // Tells what came of a text on standard error too, where lines have a time.
+    fn tell_verdict<R: Eprint>(&mut self, rt: &R, is_used: bool, said: &[u8])
+        ensures end { self.new.end ≡ self.old.end }
+        ensures memory { self.new.memory ≡ self.old.memory }
+        ensures in_use { self.new.in_use ≡ self.old.in_use }
+    {
+        if !self.lines.have_time() {
+            return;
+        }
+        let Ok(said) = std::str::from_utf8(said) else {
+            return;
+        };
+        let said = said.trim_end();
+        if is_used {
+            self.lines.tell(rt, said);
+        } else {
+            self.lines.warn(rt, said);
+        }
+    }
+
+    // Whether the file is to be read again.
+    fn is_due<R: Clock>(&self, rt: &R, job: &ServeJob<'_>) -> io::Result<bool> {
+        if let Some(every) = job.reload_every {
+            if every <= self.turns {
+                return Ok(true);
+            }
+        }
+        match job.reload_ms {
+            None => Ok(false),
+            Some(reload_ms) => Ok(u64::from(reload_ms) <= self.millis(rt)?),
+        }
+    }
+
+    // Reads the file again, if that is due.
+    #[tactic(auto, using(crate::proofs::Loads::serves_still))]
+    fn look_if_due<R: Files + Input + Net + Clock + AllocGlobal + Print + Eprint>(
+        &mut self,
+        rt: &R,
+        job: &ServeJob<'_>,
+    ) -> Result<(), Stop>
+        ensures ends { Serves self.old.end self.new.end }
+    {
+        if self.is_due(rt, job)? {
+            return self.look(rt, job);
+        }
+        Ok(())
+    }
+
+    // Reads the file. A text that it hadn't before is loaded; where it can't be read nothing is done.
+    #[tactic(auto, using(crate::proofs::Loads::serves_still))]
+    fn look<R: Files + Input + Net + Clock + AllocGlobal + Print + Eprint>(
+        &mut self,
+        rt: &R,
+        job: &ServeJob<'_>,
+    ) -> Result<(), Stop>
+        ensures ends { Serves self.old.end self.new.end }
+    {
+        self.turns = 0;
+        self.since = Instant::now(rt)?;
+        match regular_text(rt, job.file) {
+            Ok(text) => self.take_text(rt, job.any, text),
+            Err(InputFault::NoMemory) => Err(Stop::Memory),
+            Err(_) => Ok(()),
+        }
+    }
+
+    // Whether this is what the file had when it was read last.
+    fn has_seen(&self, text: &str) -> bool {
+        match &self.refused {
+            Some(refused) => refused.as_str() == text,
+            None => self.text.as_str() == text,
+        }
+    }
+
+    // This is what the file has; it says the configuration in use or was refused.
+    fn note_text(&mut self, text: String, is_used: bool)
+        ensures ends { self.new.end ≡ self.old.end }
+        ensures memory { self.new.memory ≡ self.old.memory }
+        ensures in_use { self.new.in_use ≡ self.old.in_use }
+    {
+        let generation = self.generation.saturating_add(self.before);
+        self.seen.note_text(generation, is_used);
+        if is_used {
+            self.text = text;
+            self.refused = None;
+            self.are_limited = false;
+        } else {
+            self.refused = Some(text);
+        }
+    }
+
+    #[tactic(auto, using(crate::proofs::Loads::serves_still, crate::proofs::Loads::loads_still))]
+    fn take_text<R: Files + Net + AllocGlobal + Print + Eprint>(
+        &mut self,
+        rt: &R,
+        any: bool,
+        text: String,
+    ) -> Result<(), Stop>
+        ensures core { MayLoadText self.old.in_use self.old.servers (string_bytes text) self.old.end.core.value self.new.end.core.value }
+        ensures ends { Serves self.old.end self.new.end }
+        ensures remembered { StandsIfLoaded self.old.end.core.value self.new.end.core.value self.new.memory (string_bytes text) }
+        ensures in_use { IfOk result (λ _. LoadsText self.old.in_use self.new.in_use self.old.servers (string_bytes text) self.old.end.core.value self.new.end.core.value) }
+    {
+        if self.has_seen(text.as_str()) {
+            return Ok(());
+        }
+        let mut said = Vec::new(rt.alloc());
+        self.load_new(rt, any, text, &mut said)?;
+        Ok(())
+    }
+
+    // The same of a text that it may have had before: whether the configuration in use is that of the text then. What came of it is added to
+    // what was said, and printed.
+    #[tactic(auto, using(crate::proofs::Loads::serves_still))]
+    fn load_new<R: Files + Net + AllocGlobal + Print + Eprint>(
+        &mut self,
+        rt: &R,
+        any: bool,
+        text: String,
+        said: &mut Vec<u8>,
+    ) -> Result<bool, Stop>
+        ensures core { MayLoadText self.old.in_use self.old.servers (string_bytes text) self.old.end.core.value self.new.end.core.value }
+        ensures ends { Serves self.old.end self.new.end }
+        ensures remembered { StandsIfLoaded self.old.end.core.value self.new.end.core.value self.new.memory (string_bytes text) }
+        ensures in_use { IfOk result (λ _. LoadsText self.old.in_use self.new.in_use self.old.servers (string_bytes text) self.old.end.core.value self.new.end.core.value) }
+    {
+        let is_used = self.judge_text(rt, any, text.as_str(), said)?;
+        self.note_said(rt, text, is_used, said.as_slice());
+        Ok(is_used)
+    }
+
+    // The same, and what was said of it is printed.
+    fn note_said<R: Print + Eprint>(&mut self, rt: &R, text: String, is_used: bool, said: &[u8])
+        ensures ends { self.new.end ≡ self.old.end }
+        ensures memory { self.new.memory ≡ self.old.memory }
+        ensures in_use { self.new.in_use ≡ self.old.in_use }
+    {
+        self.note_text(text, is_used);
+        self.lines.print(rt, said);
+        self.tell_verdict(rt, is_used, said);
+    }
+
+    // It drains once standard input has ended, where that is asked, and who tells it things is answered.
+    fn take_orders<R: Files + Input + Net + Clock + AllocGlobal + Print + Eprint>(
+        &mut self,
+        rt: &R,
+        job: &ServeJob<'_>,
+    ) -> Result<(), Stop>
+        ensures ends { Serves self.old.end self.new.end }
+    {
+        self.drain_at_end(rt, job)?;
+        self.take_words(rt, job)
+    }
+
+    fn drain_at_end<R: Input + Clock + Eprint>(
+        &mut self,
+        rt: &R,
+        job: &ServeJob<'_>,
+    ) -> Result<(), Stop>
+        ensures ends { Serves self.old.end self.new.end }
+    {
+        if self.has_input_ended(rt) {
+            return self.begin_draining(rt, job);
+        }
+        Ok(())
+    }
+
+    // Whether standard input has ended, where that is asked.
+    fn has_input_ended<R: Input>(&mut self, rt: &R) -> bool
+        ensures { self.new.end ≡ self.old.end }
+    {
+        let is_woken = self.end.wire().was_woken();
+        match &mut self.input {
+            Some(input) if is_woken => input.has_ended(rt),
+            _ => false,
+        }
+    }
+
+    // Who tells it things is answered, if there is somebody.
+    #[tactic(auto, using(crate::proofs::Loads::serves_still))]
+    fn take_words<R: Files + Input + Net + Clock + AllocGlobal + Print + Eprint>(
+        &mut self,
+        rt: &R,
+        job: &ServeJob<'_>,
+    ) -> Result<(), Stop>
+        ensures ends { Serves self.old.end self.new.end }
+    {
+        self.turn_controlling(rt);
+        for _ in 0..PLACES {
+            let Some((place, line)) = self.next_line() else {
+                return Ok(());
+            };
+            self.take_word(rt, job, place, line.as_slice())?;
+        }
+        Ok(())
+    }
+
+    fn turn_controlling<R: Clock>(&mut self, rt: &R)
+        ensures { self.new.end ≡ self.old.end }
+    {
+        let is_woken = self.end.wire().was_woken();
+        if let Some(controlling) = &mut self.controlling {
+            controlling.turn(rt, is_woken);
+        }
+    }
+
+    fn next_line(&mut self) -> Option<(usize, Vec<u8>)>
+        ensures { self.new.end ≡ self.old.end }
+    {
+        match &mut self.controlling {
+            Some(controlling) => controlling.next_line(),
+            None => None,
+        }
+    }
+
+    // The one at this place is answered, or waits until it ends.
+    #[tactic(auto, using(crate::proofs::Loads::serves_still))]
+    fn take_word<R: Files + Input + Net + Clock + AllocGlobal + Print + Eprint>(
+        &mut self,
+        rt: &R,
+        job: &ServeJob<'_>,
+        place: usize,
+        line: &[u8],
+    ) -> Result<(), Stop>
+        ensures ends { Serves self.old.end self.new.end }
+    {
+        match request_of(line) {
+            Request::Drain => self.drain(rt, job, place),
+            Request::Reload => self.reload(rt, job, place),
+            Request::Status => {
+                self.tell_status(rt, place);
+                Ok(())
+            }
+            Request::Servers => {
+                self.tell_servers(rt, place);
+                Ok(())
+            }
+            Request::Where(key) => {
+                self.tell_where(rt, place, key);
+                Ok(())
+            }
+            Request::Log(level) => {
+                self.set_level(place, level);
+                Ok(())
+            }
+            Request::Unknown => {
+                self.answer(place, Ruling::Unknown, b"no such word\n");
+                Ok(())
+            }
+        }
+    }
+
+    fn answer(&mut self, place: usize, verdict: Ruling, text: &[u8])
+        ensures { self.new.end ≡ self.old.end }
+    {
+        if let Some(controlling) = &mut self.controlling {
+            controlling.answer(place, verdict, text);
+        }
+    }
+
+    // Lines of a level of this name and more urgent ones are written from now on.
+    fn set_level(&mut self, place: usize, name: &[u8])
+        ensures { self.new.end ≡ self.old.end }
+    {
+        match level_of(std::str::from_utf8(name).unwrap_or("")) {
+            Some(level) => {
+                self.lines.set_level(level);
+                self.answer(place, Ruling::Done, b"log level set\n");
+            }
+            None => self.answer(place, Ruling::Unknown, b"no such level\n"),
+        }
+    }
+
+    // The same where it was written, or memory was refused for it.
+    fn answer_written(&mut self, place: usize, written: io::Result<()>, text: &[u8])
+        ensures { self.new.end ≡ self.old.end }
+    {
+        match written {
+            Ok(()) => self.answer(place, Ruling::Done, text),
+            Err(_) => self.answer(place, Ruling::Failed, b"out of memory\n"),
+        }
+    }
+
+    // Nobody is accepted from now on; who told that is answered when it ends.
+    #[tactic(auto, using(crate::proofs::Loads::serves_still))]
+    fn drain<R: Clock + Eprint>(
+        &mut self,
+        rt: &R,
+        job: &ServeJob<'_>,
+        place: usize,
+    ) -> Result<(), Stop>
+        ensures ends { Serves self.old.end self.new.end }
+    {
+        self.keep(place);
+        self.begin_draining(rt, job)
+    }
+
+    // The one at this place is answered when it ends.
+    fn keep(&mut self, place: usize)
+        ensures { self.new.end ≡ self.old.end }
+    {
+        if let Some(controlling) = &mut self.controlling {
+            controlling.keep(place);
+        }
+    }
+
+    // Nobody is accepted from now on, if that wasn't so before.
+    #[tactic(auto, using(crate::proofs::Loads::serves_still))]
+    fn begin_draining<R: Clock + Eprint>(&mut self, rt: &R, job: &ServeJob<'_>) -> Result<(), Stop>
+        ensures ends { Serves self.old.end self.new.end }
+    {
+        if self.draining.is_some() {
+            return Ok(());
+        }
+        let draining = Draining::new(rt, job.drain_ms)?;
+        self.draining = Some(draining);
+        self.stop_accepting(rt);
+        Ok(())
+    }
+
+    fn stop_accepting<R: Eprint>(&mut self, rt: &R)
+        ensures core { self.new.end.core ≡ self.old.end.core }
+        ensures ends { Stay history_of self.old.end.sockets self.new.end.sockets }
+    {
+        let clients = self.end.clients();
+        let line = format_args!("mcgate: draining, {clients} clients are there");
+        self.lines.tell(rt, line);
+        self.end.stop_accepting();
+    }
+
+    // Whether it drains, and all clients are gone or its time is up. While it drains, clients go of which nothing is under way.
+    #[tactic(auto, using(crate::proofs::Loads::serves_still))]
+    fn has_drained<R: Clock>(&mut self, rt: &R) -> io::Result<bool>
+        ensures ends { Serves self.old.end self.new.end }
+    {
+        let Some(draining) = self.draining else {
+            return Ok(false);
+        };
+        let rest = draining.rest(rt)?;
+        if rest == 0 || self.end.clients() == 0 {
+            return Ok(true);
+        }
+        self.end.end_quiet();
+        Ok(false)
+    }
+
+    // Who waits for the end is told that it has come, and how many clients were left.
+    fn end_controlling<R: Files + AllocGlobal + Eprint>(&mut self, rt: &R)
+        ensures { self.new.end ≡ self.old.end }
+    {
+        let clients = self.end.clients();
+        self.tell_drained(rt, clients);
+        if let Some(controlling) = &mut self.controlling {
+            if clients == 0 {
+                controlling.end(rt, Ruling::Done, b"drained\n");
+            } else {
+                controlling.end(rt, Ruling::Refused, b"drained, clients were left\n");
+            }
+        }
+    }
+
+    // Tells that it has drained, if it has.
+    fn tell_drained<R: Eprint>(&mut self, rt: &R, clients: usize)
+        ensures { self.new.end ≡ self.old.end }
+    {
+        if self.draining.is_some() {
+            let line = format_args!("mcgate: drained, {clients} clients were left");
+            self.lines.tell(rt, line);
+        }
+    }
+
+    // The file is read now, whatever it had before, and who told that is answered what came of it.
+    #[tactic(auto, using(crate::proofs::Loads::serves_still))]
+    fn reload<R: Files + Input + Net + Clock + AllocGlobal + Print + Eprint>(
+        &mut self,
+        rt: &R,
+        job: &ServeJob<'_>,
+        place: usize,
+    ) -> Result<(), Stop>
+        ensures ends { Serves self.old.end self.new.end }
+    {
+        self.turns = 0;
+        self.since = Instant::now(rt)?;
+        match regular_text(rt, job.file) {
+            Ok(text) => self.reload_text(rt, job.any, place, text),
+            Err(InputFault::NoMemory) => Err(Stop::Memory),
+            Err(_) => {
+                self.answer(
+                    place,
+                    Ruling::Failed,
+                    b"reload failed: FILE can't be read\n",
+                );
+                Ok(())
+            }
+        }
+    }
+
+    #[tactic(auto, using(crate::proofs::Loads::serves_still))]
+    fn reload_text<R: Files + Net + AllocGlobal + Print + Eprint>(
+        &mut self,
+        rt: &R,
+        any: bool,
+        place: usize,
+        text: String,
+    ) -> Result<(), Stop>
+        ensures ends { Serves self.old.end self.new.end }
+    {
+        let mut said = Vec::new(rt.alloc());
+        let is_used = self.load_new(rt, any, text, &mut said)?;
+        let verdict = if is_used {
+            Ruling::Done
+        } else {
+            Ruling::Refused
+        };
+        self.answer(place, verdict, said.as_slice());
+        Ok(())
+    }
+
+    // The numbers that it counts, as a text.
+    fn stats<R: Files + Clock + AllocGlobal>(&self, rt: &R) -> io::Result<Vec<u8>> {
+        let uptime_ms = match &self.controlling {
+            Some(controlling) => controlling.uptime(rt)?,
+            None => 0,
+        };
+        let scrapes = match &self.watching {
+            Some(watching) => watching.answered(),
+            None => 0,
+        };
+        let times = Times {
+            uptime_ms,
+            scrapes,
+            lost_lines: self.lines.lost(),
+        };
+        stats_of(rt, &self.end, &self.servers, &self.seen, times)
+    }
+
+    fn tell_status<R: Files + Clock + AllocGlobal>(&mut self, rt: &R, place: usize)
+        ensures { self.new.end ≡ self.old.end }
+    {
+        match self.stats(rt) {
+            Ok(text) => self.answer(place, Ruling::Done, text.as_slice()),
+            Err(_) => self.answer(place, Ruling::Failed, b"out of memory\n"),
+        }
+    }
+
+    fn tell_servers<R: AllocGlobal>(&mut self, rt: &R, place: usize)
+        ensures { self.new.end ≡ self.old.end }
+    {
+        let mut text = Vec::new(rt.alloc());
+        let written = write_servers(&self.end, &self.servers, &mut text);
+        self.answer_written(place, written, text.as_slice());
+    }
+
+    fn tell_where<R: AllocGlobal>(&mut self, rt: &R, place: usize, key: &[u8])
+        ensures { self.new.end ≡ self.old.end }
+    {
+        let Ok(key) = Key::read(key) else {
+            return self.answer(place, Ruling::Unknown, b"no key\n");
+        };
+        let mut text = Vec::new(rt.alloc());
+        let keys = [key];
+        let written = find_in_text(rt.alloc(), &keys, self.text.as_str(), &mut text);
+        match written {
+            Ok(_) => self.answer(place, Ruling::Done, text.as_slice()),
+            Err(_) => self.answer(place, Ruling::Failed, b"out of memory\n"),
+        }
+    }
+
+    // Loads the configuration of the text, unless the text says what the one in use says, and prints what came of that. Whether the
+    // configuration in use is that of the text then.
+    #[tactic(auto, using(crate::proofs::Loads::serves_still, crate::proofs::Loads::loads_still))]
+    fn judge_text<R: Files + Net + AllocGlobal + Eprint, W: Write>(
+        &mut self,
+        rt: &R,
+        any: bool,
+        text: &str,
+        out: &mut W,
+    ) -> Result<bool, Stop>
+        ensures core { MayLoadText self.old.in_use self.old.servers text.now self.old.end.core.value self.new.end.core.value }
+        ensures ends { Serves self.old.end self.new.end }
+        ensures remembered { StandsIfLoaded self.old.end.core.value self.new.end.core.value self.new.memory text.now }
+        ensures in_use { IfOk result (λ _. LoadsText self.old.in_use self.new.in_use self.old.servers text.now self.old.end.core.value self.new.end.core.value) }
+    {
+        if says_the_same(rt.alloc(), self.text.as_str(), text) {
+            let generation = self.generation.saturating_add(self.before);
+            writeln!(out, "reload unchanged generation={generation}")?;
+            return Ok(true);
+        }
+        self.remember_and_load(rt, any, text, out)
+    }
+
+    // Loads the configuration of the text, once it stands in the history, where one is kept. Whether it was loaded.
+    #[tactic(auto, using(crate::proofs::Loads::serves_still, crate::proofs::Loads::loads_still))]
+    fn remember_and_load<R: Files + Net + AllocGlobal + Eprint, W: Write>(
+        &mut self,
+        rt: &R,
+        any: bool,
+        text: &str,
+        out: &mut W,
+    ) -> Result<bool, Stop>
+        ensures core { MayLoadText self.old.in_use self.old.servers text.now self.old.end.core.value self.new.end.core.value }
+        ensures ends { Serves self.old.end self.new.end }
+        ensures remembered { StandsIfLoaded self.old.end.core.value self.new.end.core.value self.new.memory text.now }
+        ensures in_use { IfOk result (λ _. LoadsText self.old.in_use self.new.in_use self.old.servers text.now self.old.end.core.value self.new.end.core.value) }
+    {
+        if !notes_new(
+            rt,
+            &mut self.lines,
+            &mut self.emptying,
+            &self.servers,
+            text,
+            out,
+        )? {
+            return Ok(false);
+        }
+        match remember(rt, &mut self.lines, &mut self.memory, text, out)? {
+            Remembering::Refused => Ok(false),
+            Remembering::Stands(old) => self.load_remembered(rt, any, text, old, out),
+        }
+    }
+
+    // Loads the configuration of a text that stands there. What isn't loaded is forgotten.
+    #[tactic(auto, using(crate::proofs::Loads::stands_still, crate::proofs::Loads::stands_unused))]
+    fn load_remembered<R: Files + Net + AllocGlobal + Eprint, W: Write>(
+        &mut self,
+        rt: &R,
+        any: bool,
+        text: &str,
+        old: Option<String>,
+        out: &mut W,
+    ) -> Result<bool, Stop>
+        requires stands { StandsIn self.old.memory text.now }
+        ensures core { MayLoadText self.old.in_use self.old.servers text.now self.old.end.core.value self.new.end.core.value }
+        ensures ends { Serves self.old.end self.new.end }
+        ensures remembered { StandsIfLoaded self.old.end.core.value self.new.end.core.value self.new.memory text.now }
+        ensures in_use { IfOk result (λ _. LoadsText self.old.in_use self.new.in_use self.old.servers text.now self.old.end.core.value self.new.end.core.value) }
+    {
+        if self.load_text(rt, any, text, out)? {
+            return Ok(true);
+        }
+        forget(rt, &mut self.lines, &mut self.memory, old)?;
+        Ok(false)
+    }
+
+    // Loads the configuration of the text, and prints what came of that, or why the text is none. Whether it was loaded.
+    #[tactic(auto, using(crate::proofs::Loads::serves_still, crate::proofs::Loads::loads_still))]
+    fn load_text<R: Net + AllocGlobal + Eprint, W: Write>(
+        &mut self,
+        rt: &R,
+        any: bool,
+        text: &str,
+        out: &mut W,
+    ) -> Result<bool, Stop>
+        ensures core { MayLoadText self.old.in_use self.old.servers text.now self.old.end.core.value self.new.end.core.value }
+        ensures ends { Serves self.old.end self.new.end }
+        ensures memory { self.new.memory ≡ self.old.memory }
+        ensures unused { IfOk result (λ used. IsTrue used ⊎ (self.new.end.core.value ≡ self.old.end.core.value)) }
+        ensures in_use { IfOk result (λ _. LoadsText self.old.in_use self.new.in_use self.old.servers text.now self.old.end.core.value self.new.end.core.value) }
+    {
+        match read_after(rt.alloc(), &self.servers, text) {
+            Ok((config, servers)) => self.load_beside(rt, any, config, servers, out),
+            Err(fault) => {
+                print_fault(&fault, out)?;
+                Ok(false)
+            }
+        }
+    }
+
+    // Loads a configuration of these servers, if it may follow the one in use; else why not is printed. Whether it was loaded.
+    #[tactic(auto, using(crate::proofs::Loads::load_still, crate::proofs::Loads::loads_none))]
+    fn load_beside<R: Net + AllocGlobal + Eprint, W: Write>(
+        &mut self,
+        rt: &R,
+        any: bool,
+        config: Config,
+        servers: Servers,
+        out: &mut W,
+    ) -> Result<bool, Stop>
+        ensures core { MayLoadBeside self.old.in_use config self.old.end.core.value self.new.end.core.value }
+        ensures ends { AllGrow (IsLoadOf config) (proxy_of self.old.end) (proxy_of self.new.end) }
+        ensures memory { self.new.memory ≡ self.old.memory }
+        ensures unused { IfOk result (λ used. IsTrue used ⊎ (self.new.end.core.value ≡ self.old.end.core.value)) }
+        ensures in_use { IfOk result (λ used. LoadsOne used config self.old.in_use self.new.in_use self.old.end.core.value self.new.end.core.value) }
+    {
+        if self.may_follow(rt.alloc(), &config, out)? {
+            return self.load_next(rt, any, config, servers, out);
+        }
+        Ok(false)
+    }
+
+    // Whether a configuration may follow the one in use: in a fleet others run by that meanwhile. If not, why is printed.
+    fn may_follow<W: Write>(
+        &self,
+        alloc: Global,
+        config: &Config,
+        out: &mut W,
+    ) -> Result<bool, Stop>
+        ensures { IfOk result (λ may. IsTrue may → StandsBeside self.now.in_use config.now) }
+    {
+        match &self.in_use {
+            Some(in_use) => Ok(may_follow(alloc, "reload", in_use, config, out)?),
+            None => Ok(true),
+        }
+    }
+
+    // The same, and in a fleet it is in use then.
+    #[tactic(auto, using(crate::proofs::Loads::load_still, crate::proofs::Loads::may_load_beside))]
+    fn load_next<R: Net + AllocGlobal + Eprint, W: Write>(
+        &mut self,
+        rt: &R,
+        any: bool,
+        config: Config,
+        servers: Servers,
+        out: &mut W,
+    ) -> Result<bool, Stop>
+        requires beside { StandsBeside self.old.in_use config }
+        ensures core { MayLoadBeside self.old.in_use config self.old.end.core.value self.new.end.core.value }
+        ensures ends { AllGrow (IsLoadOf config) (proxy_of self.old.end) (proxy_of self.new.end) }
+        ensures memory { self.new.memory ≡ self.old.memory }
+        ensures unused { IfOk result (λ used. IsTrue used ⊎ (self.new.end.core.value ≡ self.old.end.core.value)) }
+        ensures in_use { IfOk result (λ used. LoadsOne used config self.old.in_use self.new.in_use self.old.end.core.value self.new.end.core.value) }
+    {
+        let next = self.in_use_after(rt.alloc(), &config)?;
+        if self.load(rt, any, config, servers, out)? {
+            self.in_use = next;
+            return Ok(true);
+        }
+        Ok(false)
+    }
+
+    // What is in use, as far as it is known, once a configuration was loaded.
+    fn in_use_after(&self, alloc: Global, config: &Config) -> io::Result<Option<Config>>
+        ensures { IfOk result (λ used. used ≡ in_use_after self.now.in_use config.now) }
+    {
+        match &self.in_use {
+            Some(_) => Ok(Some(config.copy(alloc)?)),
+            None => Ok(None),
+        }
+    }
+
+    // Looks up those of these servers that weren't in use before.
+    fn resolve<R: Net + Eprint>(&mut self, rt: &R, servers: &Servers) -> io::Result<()>
+        ensures looked { OnOk result (AreLookedUp (length self.old.servers) servers.now (history_of self.new.end.sockets.wire)) }
+        ensures core { self.new.end.core ≡ self.old.end.core }
+        ensures ends { Stay history_of self.old.end.sockets self.new.end.sockets }
+        ensures memory { self.new.memory ≡ self.old.memory }
+        ensures in_use { self.new.in_use ≡ self.old.in_use }
+    {
+        for at in self.servers.len()..servers.len() {
+            self.resolve_at(rt, servers, at)?;
+        }
+        Ok(())
+    }
+
+    // Looks up this one of them.
+    fn resolve_at<R: Net + Eprint>(
+        &mut self,
+        rt: &R,
+        servers: &Servers,
+        at: usize,
+    ) -> io::Result<()>
+        ensures looked { (text : List ℕ) → slice_get servers.now at ≡ Some text → HasHappened (looks_up text) (history_of self.new.end.sockets.wire) }
+        ensures core { self.new.end.core ≡ self.old.end.core }
+        ensures ends { Stay history_of self.old.end.sockets self.new.end.sockets }
+        ensures memory { self.new.memory ≡ self.old.memory }
+        ensures in_use { self.new.in_use ≡ self.old.in_use }
+    {
+        match text_at(servers, at) {
+            Some(text) => self.resolve_one(rt, text),
+            None => Ok(()),
+        }
+    }
+
+    fn resolve_one<R: Net + Eprint>(&mut self, rt: &R, text: &str) -> io::Result<()>
+        ensures looked { history_of self.new.end.sockets.wire ≡ looks_up text.now ∷ history_of self.old.end.sockets.wire }
+        ensures core { self.new.end.core ≡ self.old.end.core }
+        ensures ends { Stay history_of self.old.end.sockets self.new.end.sockets }
+        ensures memory { self.new.memory ≡ self.old.memory }
+        ensures in_use { self.new.in_use ≡ self.old.in_use }
+    {
+        let found = self.end.resolve(rt, text);
+        tell_if_unknown(rt, &mut self.lines, text, found)?;
+        Ok(())
+    }
+
+    // Loads a configuration of these servers, once those that weren't in use before were looked up, and prints what came of that. Whether it
+    // was loaded.
+    fn load<R: Net + AllocGlobal + Eprint, W: Write>(
+        &mut self,
+        rt: &R,
+        any: bool,
+        config: Config,
+        servers: Servers,
+        out: &mut W,
+    ) -> Result<bool, Stop>
+        ensures core { MayLoad config self.old.end.core.value self.new.end.core.value }
+        ensures ends { AllGrow (IsLoadOf config) (proxy_of self.old.end) (proxy_of self.new.end) }
+        ensures memory { self.new.memory ≡ self.old.memory }
+        ensures in_use { self.new.in_use ≡ self.old.in_use }
+        ensures looked { IfOk result (λ used. IsTrue used → AreLookedUp (length self.old.servers) servers (history_of self.new.end.sockets.wire)) }
+        ensures noted { IfOk result (λ used. IsTrue used → self.new.servers ≡ servers) }
+        ensures loaded { IfOk result (λ used. IsTrue used → (generation : ℕ) × IsLoaded self.old.end.core.value config generation self.new.end.core.value) }
+        ensures unused { IfOk result (λ used. IsTrue used ⊎ (self.new.end.core.value ≡ self.old.end.core.value)) }
+    {
+        self.resolve(rt, &servers)?;
+        match self.end.load(config, &servers) {
+            Ok(generation) => {
+                self.servers = servers;
+                self.have_begun = false;
+                self.generation = generation;
+                print_loaded(any, generation.saturating_add(self.before), out)?;
+                Ok(true)
+            }
+            Err(fault) => {
+                print_kept(&servers, self.before, fault, out)?;
+                Ok(false)
+            }
+        }
+    }
+}

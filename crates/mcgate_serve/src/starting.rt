@@ -1,0 +1,215 @@
+//! How a text begins to be served: after the history that is remembered, and in a fleet.
+
+ghost use Rattle.std.specs.Prelude.{IsTrue, IfOk, string_bytes};
+ghost use Rattle.gate_history.specs.Standing.{StandsInHistory};
+ghost use Rattle.mcgate_serve.specs.InFleet.{Keeps, LastStandBeside};
+
+use crate::emptying::Emptying;
+use crate::histories::file_at;
+use crate::lines::Lines;
+use crate::remembering::{Kept, unwritten_line};
+use crate::started::{Begun, Started};
+use gate_growth::ledger::Beginning;
+use gate_history::{Generation, HistoryFile};
+use mcgate_args::details::Details;
+use mcgate_args::ends::Stop;
+use mcgate_args::fleets::members::may_follow;
+use mcgate_args::histories::{began_in, print_no_next, tell_no_next};
+use mcgate_args::serve_arguments::ServeJob;
+use mcgate_check::status::{BAD_INPUT, REFUSED};
+use serve_proxy::Beginnings;
+use std::alloc::Global;
+use std::io::Write;
+use std::rt::Files;
+
+// How servers began for a core after the history of this file: where there were trees before, those of its first one held anything.
+fn begun_after(file: &HistoryFile, begun: Beginnings) -> Beginnings {
+    if file.count() == 0 {
+        begun
+    } else {
+        Beginnings {
+            opened: Beginning::Any,
+            added: begun.added,
+        }
+    }
+}
+
+// The servers that the last generation brought, after those before, are to be emptied, where it is new and that is so of new ones: it is
+// written.
+fn note_new<R: Files + Input + AllocGlobal>(
+    rt: &R,
+    job: &ServeJob<'_>,
+    path: &str,
+    file: &HistoryFile,
+    is_new: bool,
+) -> Result<(), Stop> {
+    if !is_new || !job.settings.flushes_new {
+        return Ok(());
+    }
+    let generations = file.history().generations();
+    let count = generations.len();
+    if count < 2 {
+        return Ok(());
+    }
+    let from = generations[count - 2].config.servers().len();
+    let mut emptying = Emptying::read(rt, Some(path), true)?;
+    Ok(emptying.add(rt, generations[count - 1].config.servers(), from)?)
+}
+
+// The text is served after the history of this file, of which it is the last generation: the file is written, if that is new.
+fn keep_in<R: Files + AllocGlobal>(
+    rt: &R,
+    path: &str,
+    file: HistoryFile,
+    text: String,
+    begun: Beginnings,
+    is_new: bool,
+    details: &mut Details,
+) -> Result<Begun, Stop>
+    requires { StandsInHistory file.text (string_bytes text) }
+    ensures { IfOk result (Keeps file) }
+{
+    match Kept::new(rt, path, file, begun.added, is_new) {
+        Ok(kept) => Ok(Begun::Started(Started::new(text, Some(kept), begun))),
+        Err(error) => {
+            details.add(unwritten_line(rt.alloc(), path, &error));
+            Err(Stop::from(error))
+        }
+    }
+}
+
+// Whether the last of the generations may follow the one before it, if there is one, while others run by that. If not, why is printed.
+fn last_may_follow<W: Write>(
+    alloc: Global,
+    generations: &[Generation],
+    out: &mut W,
+) -> Result<bool, Stop>
+    ensures { IfOk result (λ may. IsTrue may → LastStandBeside generations.now) }
+{
+    let count = generations.len();
+    if count < 2 {
+        return Ok(true);
+    }
+    let before = &generations[count - 2].config;
+    let last = &generations[count - 1].config;
+    Ok(may_follow(alloc, "history", before, last, out)?)
+}
+
+// The same in a fleet of one that came after so many.
+fn may_follow_last<W: Write>(
+    alloc: Global,
+    fleet: bool,
+    count: usize,
+    file: &HistoryFile,
+    out: &mut W,
+) -> Result<bool, Stop> {
+    let generations = file.history().generations();
+    if !fleet || generations.len() <= count {
+        return Ok(true);
+    }
+    last_may_follow(alloc, generations, out)
+}
+
+// The text is served as the last generation of this file, which had so many before, if it may be; else why not is printed.
+fn begin_last<R: Files + Input + AllocGlobal, W: Write>(
+    rt: &R,
+    job: &ServeJob<'_>,
+    path: &str,
+    count: usize,
+    file: HistoryFile,
+    text: String,
+    begun: Beginnings,
+    out: &mut W,
+    details: &mut Details,
+) -> Result<Begun, Stop>
+    requires { StandsInHistory file.text (string_bytes text) }
+{
+    if !may_follow_last(rt.alloc(), job.fleet, count, &file, out)? {
+        return Ok(Begun::Printed(REFUSED));
+    }
+    let is_new = count < file.count();
+    note_new(rt, job, path, &file, is_new)?;
+    keep_in(rt, path, file, text, begun, is_new, details)
+}
+
+// The text is the next generation of this file, if it may be; else why not is printed.
+fn begin_in<R: Files + Input + AllocGlobal, W: Write>(
+    rt: &R,
+    job: &ServeJob<'_>,
+    path: &str,
+    file: HistoryFile,
+    text: String,
+    out: &mut W,
+    details: &mut Details,
+) -> Result<Begun, Stop> {
+    let began = began_in(&file, job.begun);
+    let begun = begun_after(&file, job.begun);
+    let count = file.count();
+    let mut file = file;
+    match file.take_text(rt.alloc(), text.as_str(), began) {
+        Ok(_) => begin_last(rt, job, path, count, file, text, begun, out, details),
+        Err(fault) => {
+            let status = print_no_next(rt.alloc(), path, &fault, out, details)?;
+            tell_no_next(
+                rt.alloc(),
+                path,
+                &file,
+                text.as_str(),
+                began,
+                &fault,
+                details,
+            );
+            Ok(Begun::Printed(status))
+        }
+    }
+}
+
+/// A text whose configuration the gate accepted is to be served. Where a history is kept it is judged after it, and written to its file,
+/// if it may be served; else why not is printed.
+pub fn begin<R: Files + Input + AllocGlobal + Eprint, W: Write>(
+    rt: &R,
+    job: &ServeJob<'_>,
+    text: String,
+    lines: &mut Lines,
+    out: &mut W,
+    details: &mut Details,
+) -> Result<Begun, Stop> {
+    match job.history {
+        None => Ok(Begun::Started(Started::new(text, None, job.begun))),
+        Some(path) => match file_at(rt, path, lines, out, details)? {
+            Some(file) => begin_in(rt, job, path, file, text, out, details),
+            None => Ok(Begun::Printed(BAD_INPUT)),
+        },
+    }
+}
+
+/// The same where nothing is to be served, and nothing is written: the exit status of what was printed, if the text may not be served.
+pub fn refused_after<R: Files + Input + AllocGlobal + Eprint, W: Write>(
+    rt: &R,
+    job: &ServeJob<'_>,
+    text: &str,
+    lines: &mut Lines,
+    out: &mut W,
+    details: &mut Details,
+) -> Result<Option<u8>, Stop> {
+    let Some(path) = job.history else {
+        return Ok(None);
+    };
+    let Some(file) = file_at(rt, path, lines, out, details)? else {
+        return Ok(Some(BAD_INPUT));
+    };
+    let began = began_in(&file, job.begun);
+    let count = file.count();
+    let mut file = file;
+    match file.take_text(rt.alloc(), text, began) {
+        Ok(_) => {
+            let may = may_follow_last(rt.alloc(), job.fleet, count, &file, out)?;
+            Ok(if may { None } else { Some(REFUSED) })
+        }
+        Err(fault) => {
+            let status = print_no_next(rt.alloc(), path, &fault, out, details)?;
+            tell_no_next(rt.alloc(), path, &file, text, began, &fault, details);
+            Ok(Some(status))
+        }
+    }
+}
