@@ -31,7 +31,7 @@ use Rattle.mcgate.specs.declared.serve.Servable.TheVariants as servables
 use Rattle.mcgate.specs.Sharing.{sharing_for}
 use Rattle.mcgate_serve.specs.declared.serving.Serving.{Serving}
 use Rattle.mcgate_serve.specs.Serves.{proxy_of, Serves}
-use Rattle.mcgate.specs.Served.{HasTree, IsUsedFirst, HasServers, BeginsBy, Begins, BeginsServing, GoFreshly, GoFreshlyLate, HasServed, StaysFresh}
+use Rattle.mcgate.specs.Served.{history_of, HasTree, IsUsedFirst, HasServers, BeginsBy, Begins, BeginsServing, GoFreshly, GoFreshlyLate, HasServed, StaysFresh}
 
 -- an end that began by these settings but for its sharing, which is that of its tree
 pub begins_on :
@@ -53,8 +53,8 @@ servers_on servable known servers (Err fault) is has same = tt
 
 -- what serves is over an end that begins
 pub begins_serving :
-    {E : Type 0} (servable : Servable) (begun : Beginnings) (settings : Settings) (servers : Addresses) (end : ProxyEnd Sockets) (r : Result Serving E) → IfOk r (λ serving. serving.end ≡ end)
-    → Begins servable begun settings end.core.value → Agrees [] (proxy_of end) → texts_of end.sockets.links.all.items ≡ servers → HasServers servable servers → IfOk r (λ serving. BeginsServing servable begun settings serving.end)
+    {E : Type 0} (servable : Servable) (begun : Beginnings) (settings : Settings) (servers : Addresses) (end : ProxyEnd Sockets) (r : Result (Serving Sockets) E) → IfOk r (λ serving. serving.end ≡ end)
+    → Begins servable begun settings end.core.value → Agrees [] (proxy_of history_of end) → texts_of end.sockets.links.all.items ≡ servers → HasServers servable servers → IfOk r (λ serving. BeginsServing servable begun settings serving.end)
 begins_serving servable begun settings servers end (Ok serving) is begins agrees texts has =
     subst (λ x. BeginsServing servable begun settings x) (sym is) (record { core = begins; agrees = agrees; servers = subst (λ (l : Addresses). HasServers servable l) (sym texts) has })
 begins_serving servable begun settings servers end (Err fault) is begins agrees texts has = tt
@@ -77,10 +77,10 @@ has_freshly_late (servables.Accepted accepted) begun settings steps a b begins w
 has_freshly_late (servables.Unchecked configuration) begun settings steps a b begins walks tells orderly sound = tt
 
 pub has_served :
-    (servable : Servable) (begun : Beginnings) (settings : Settings) (first last : ProxyEnd Sockets) → BeginsServing servable begun settings first → Serves first last → LogsAreFresh last.core.value
+    (servable : Servable) (begun : Beginnings) (settings : Settings) (first last : ProxyEnd Sockets) → BeginsServing servable begun settings first → Serves history_of first last → LogsAreFresh last.core.value
     → TreesAreSound last.core.value → HasServed servable begun settings last
 has_served servable begun settings first last begins g fresh sound =
-    let agrees : Agrees g.steps (proxy_of last) = subst (λ l. Agrees l (proxy_of last)) (append-nil g.steps) (g.agree [] begins.agrees) in
+    let agrees : Agrees g.steps (proxy_of history_of last) = subst (λ l. Agrees l (proxy_of history_of last)) (append-nil g.steps) (g.agree [] begins.agrees) in
     let shared : Settings = record settings { sharing = sharing_for begins.core.0 } in
     record {
       first = first;
@@ -106,7 +106,7 @@ stays_fresh servable begun settings end served fresh sound =
 
 -- what was known of the configuration in use as the first one began
 pub used_first_on :
-    {E : Type 0} (fleet : Bool) (servable : Servable) (in_use : Option Configuration) (r : Result Serving E) → IfOk r (λ serving. serving.in_use ≡ in_use) → IsUsedFirst fleet servable in_use → IfOk r (λ serving. IsUsedFirst fleet servable serving.in_use)
+    {E : Type 0} (fleet : Bool) (servable : Servable) (in_use : Option Configuration) (r : Result (Serving Sockets) E) → IfOk r (λ serving. serving.in_use ≡ in_use) → IsUsedFirst fleet servable in_use → IfOk r (λ serving. IsUsedFirst fleet servable serving.in_use)
 used_first_on fleet servable in_use (Ok serving) is first = subst (λ (x : Option Configuration). IsUsedFirst fleet servable x) (sym is) first
 used_first_on fleet servable in_use (Err fault) is first = tt
 

@@ -6,6 +6,7 @@ use Rattle.route_tree.specs.Route.{Route}
 use Rattle.gate_check.specs.Sound.{IsLast}
 use Rattle.core_accepted.specs.declared.served.ServedCore.{ServedCore}
 use Rattle.serve_links.specs.declared.settings.Settings.{Settings}
+use Rattle.serve_wire.specs.Events.{Event}
 use Rattle.serve_wire.specs.declared.sockets.sockets.Sockets.{Sockets}
 use Rattle.serve_links.specs.CoreSteps.{Step}
 use Rattle.serve_links.specs.Story.{Agrees, texts_of}
@@ -24,6 +25,10 @@ use Rattle.mcgate.specs.declared.serve.Servable.{Servable}
 use Rattle.mcgate.specs.declared.serve.Servable.TheVariants as servables
 use Rattle.mcgate.specs.declared.serve.Judged.{Judged}
 use Rattle.mcgate.specs.declared.serve.Judged.TheVariants as judgements
+
+-- all that has happened on its sockets, the latest first
+abbrev pub history_of : Sockets → List Event
+history_of wire = wire.log.events
 
 -- it is a new core on the trees that the gate accepted, where servers began so; or on the configuration's tree, of which no gate was asked
 abbrev pub BeginsBy : Servable → Beginnings → Settings → ServedCore → Type 0
@@ -57,7 +62,7 @@ HasServers (servables.Unchecked configuration) servers = servers ≡ configurati
 -- an end of a proxy that begins with a new core of this: nothing was fed or given, each link is to its server, and no link has a connection
 pub record BeginsServing (servable : Servable) (begun : Beginnings) (settings : Settings) (end : ProxyEnd Sockets) : Type 0 where
   pub core : Begins servable begun settings end.core.value
-  pub agrees : Agrees [] (proxy_of end)
+  pub agrees : Agrees [] (proxy_of history_of end)
   pub servers : HasServers servable (texts_of end.sockets.links.all.items)
 
 -- where the gate accepted what is served, each log that may have led to the first core goes on by just these calls, and is fresh then, if servers began as is said of its configuration
@@ -74,8 +79,8 @@ GoFreshlyLate (servables.Unchecked configuration) begun steps first last = Unit 
 pub record HasServed (servable : Servable) (begun : Beginnings) (settings : Settings) (end : ProxyEnd Sockets) : Type 0 where
   pub first : ProxyEnd Sockets
   pub begins : BeginsServing servable begun settings first
-  pub serves : Serves first end
-  pub agrees : Agrees serves.steps (proxy_of end)
+  pub serves : Serves history_of first end
+  pub agrees : Agrees serves.steps (proxy_of history_of end)
   pub fresh : GoFreshly servable begun serves.steps first.core.value end.core.value
   pub late : GoFreshlyLate servable begun serves.steps first.core.value end.core.value
 

@@ -7,8 +7,8 @@ ghost use Rattle.serve_links.specs.Story.{Agrees, texts_of};
 ghost use Rattle.serve_proxy.specs.Ends.{HasNoConns, IsQuiet};
 ghost use Rattle.mcgate.specs.Judging.{Judges, JudgesText};
 ghost use Rattle.mcgate_serve.specs.LooksUp.{AreLookedUp};
-ghost use Rattle.mcgate_serve.specs.Serves.{history_of, proxy_of};
-ghost use Rattle.mcgate.specs.Served.{HasTree, ServesIn, IsUsedFirst, Begins, HasServers, BeginsServing, HasServed, StaysFresh};
+ghost use Rattle.mcgate_serve.specs.Serves.{proxy_of};
+ghost use Rattle.mcgate.specs.Served.{HasTree, ServesIn, IsUsedFirst, Begins, HasServers, BeginsServing, HasServed, StaysFresh, history_of};
 
 use crate::listening::{Given, ListenPlace, listeners_at, place_of};
 use crate::sharing::sharing_for;
@@ -21,7 +21,7 @@ use mcgate_check::checking::{print_fault, print_refused};
 use mcgate_check::status::DONE;
 use mcgate_serve::controlling::Controlling;
 use mcgate_serve::lines::Lines;
-use mcgate_serve::serving::{Proxy, Serving, resolve, tell_if_unknown};
+use mcgate_serve::serving::{Serving, resolve, tell_if_unknown};
 use mcgate_serve::started::Started;
 use mcgate_serve::watching::Watching;
 use route_json::addresses::{Servers, address_in};
@@ -34,6 +34,9 @@ use std::io;
 use std::io::Write;
 use std::net::Net;
 use std::rt::{Clock, Files};
+
+// The end of a proxy over sockets.
+type Proxy = ProxyEnd<Sockets>;
 
 /// A configuration that may be served.
 #[derive(Drop)]
@@ -160,7 +163,7 @@ fn end_over(
     settings: Settings,
 ) -> Result<Proxy, AllocError>
     ensures core { IfOk result (λ end. Begins servable begun settings end.core.value) }
-    ensures ends { IfOk result (λ end. HasNoConns (history_of wire) → Agrees [] (proxy_of end)) }
+    ensures ends { IfOk result (λ end. HasNoConns (history_of wire) → Agrees [] (proxy_of history_of end)) }
     ensures texts { IfOk result (λ end. texts_of end.sockets.links.all.items ≡ servers.now) }
 {
     let mut settings = settings;
@@ -283,7 +286,7 @@ fn open<R: Files + Net + Clock + AllocGlobal + Eprint + Given>(
     servers: &Servers,
 ) -> io::Result<Proxy>
     ensures core { IfOk result (λ end. Begins servable job.now.begun job.now.settings end.core.value) }
-    ensures ends { IfOk result (λ end. Agrees [] (proxy_of end)) }
+    ensures ends { IfOk result (λ end. Agrees [] (proxy_of history_of end)) }
     ensures texts { IfOk result (λ end. texts_of end.sockets.links.all.items ≡ servers.now) }
 {
     let wire = listen(rt, lines, job, servers)?;
@@ -298,7 +301,7 @@ fn start<R: Files + Net + Clock + AllocGlobal + Eprint + Given>(
     lines: Lines,
     watching: Option<Watching>,
     controlling: Option<Controlling>,
-) -> io::Result<Serving>
+) -> io::Result<Serving<Sockets>>
     ensures begins { IfOk result (λ serving. BeginsServing servable job.now.begun job.now.settings serving.end) }
     ensures in_use { IfOk result (λ serving. IsUsedFirst job.now.fleet servable serving.in_use) }
 {
@@ -332,7 +335,7 @@ pub fn serve_to_end<R: Files + Input + Net + Clock + AllocGlobal + Print + Eprin
     lines: Lines,
     watching: Option<Watching>,
     controlling: Option<Controlling>,
-) -> io::Result<(Serving, Result<u8, Stop>)>
+) -> io::Result<(Serving<Sockets>, Result<u8, Stop>)>
     ensures served { IfOk result (λ ended. HasServed servable job.now.begun job.now.settings ended.0.end) }
     ensures fresh { IfOk result (λ ended. StaysFresh servable job.now.begun ended.0.end.core.value) }
 {

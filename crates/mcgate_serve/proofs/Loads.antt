@@ -4,13 +4,13 @@ use Rattle.std.specs.Prelude.{IfOk, IsTrue}
 use Rattle.route_json.specs.Servers.{Addresses}
 use Rattle.route_json.specs.Configuration.{Configuration}
 use Rattle.core_accepted.specs.declared.served.ServedCore.{ServedCore}
-use Rattle.serve_wire.specs.declared.sockets.sockets.Sockets.{Sockets}
+use Rattle.serve_wire.specs.Events.{Event}
 use Rattle.serve_links.specs.CoreSteps.{Step, Opened, NotOpened, Fed, Polled, Stopped, Settled, Gave, Closed, LeftLine, Broke, Loaded, Linked, Asked, Greeted, Spelled, Late, CameLate, Lost, AreOf, IsOfTurn}
 use Rattle.serve_links.specs.Story.{AnEnd, AllGoFrom}
 use Rattle.serve_proxy.specs.declared.proxy.ProxyEnd.{ProxyEnd}
 use Rattle.serve_proxy.specs.Beginning.{LoadStops}
 use Rattle.serve_proxy.specs.Ends.{Stay, AllGoOn, AllGrowFrom, AllGrow, IsLoadOf}
-use Rattle.serve_proxy.proofs.Going.{still, and_then, stays, same_core}
+use Rattle.serve_proxy.proofs.Going.{still, and_then, stays, same_core as calls_still}
 use Rattle.serve_proxy.proofs.Growing.{grows}
 use Rattle.serve_proxy.proofs.Staying.{stay_still}
 use Rattle.gate_check.specs.declared.reloading.ReloadFault.TheVariants.{NoMemory}
@@ -20,7 +20,7 @@ use Rattle.core_accepted.specs.Loading.{IsLoaded}
 use Rattle.mcgate_serve.specs.declared.remembering.Kept.{Kept}
 use Rattle.mcgate_serve.specs.Remembers.{StandsIn, StandsIfLoaded}
 use Rattle.mcgate_serve.specs.InFleet.{StandsBeside, in_use_after}
-use Rattle.mcgate_serve.specs.Serves.{SaysAfter, MayLoad, MayLoadBeside, MayLoadText, LoadsOne, LoadsText, IsServed, history_of, proxy_of, Serves}
+use Rattle.mcgate_serve.specs.Serves.{SaysAfter, MayLoad, MayLoadBeside, MayLoadText, LoadsOne, LoadsText, IsServed, proxy_of, Serves}
 
 false_true : false ≡ true → ⊥
 false_true e = cc
@@ -54,21 +54,31 @@ pub turned : {P Q : List Step → AnEnd → Type 0} {a b : AnEnd} → AllGoFrom 
 turned g = grows (record { steps = g.steps; kinds = each_of_turn g.steps g.kinds; walks = g.walks; agree = g.agree; texts = g.texts })
 
 -- nothing is done with the core, nor on any connection
-pub stood : {Is : Step → Type 0} (old new : ProxyEnd Sockets) → new.core ≡ old.core → Stay history_of old.sockets new.sockets → AllGrow Is (proxy_of old) (proxy_of new)
-stood old new core ends = grows (and_then (stays old.core.value ends) (same_core (ap (λ c. c.value) core)))
+pub stood : {W : Type 0} {Is : Step → Type 0} (history : W → List Event) (old new : ProxyEnd W) → new.core ≡ old.core → Stay history old.sockets new.sockets → AllGrow Is (proxy_of history old) (proxy_of history new)
+stood history old new core ends = grows (and_then (stays old.core.value ends) (calls_still (ap (λ c. c.value) core)))
 
-pub same_end : (old new : ProxyEnd Sockets) → new ≡ old → Serves old new
-same_end old new same = subst (λ x. Serves old x) (sym same) (stood old old refl (stay_still (history_of old.sockets.wire) old.sockets.clients old.sockets.links.all.items))
+pub same_end : {W : Type 0} (history : W → List Event) (old new : ProxyEnd W) → new ≡ old → Serves history old new
+same_end history old new same = subst (λ x. Serves history old x) (sym same) (stood history old old refl (stay_still (history old.sockets.wire) old.sockets.clients old.sockets.links.all.items))
 
 -- nothing is done at all
-pub serves_still : (end : ProxyEnd Sockets) → Serves end end
-serves_still end = same_end end end refl
+pub serves_still : {W : Type 0} (history : W → List Event) (end : ProxyEnd W) → Serves history end end
+serves_still history end = same_end history end end refl
 
-pub goes_still : (end : ProxyEnd Sockets) → AllGoOn history_of end.core.value end.sockets end.core.value end.sockets
-goes_still end = still
+pub goes_still : {W : Type 0} (history : W → List Event) (end : ProxyEnd W) → AllGoOn history end.core.value end.sockets end.core.value end.sockets
+goes_still history end = still
 
-pub from_end : (old mid new : ProxyEnd Sockets) → mid ≡ old → Serves mid new → Serves old new
-from_end old mid new same g = subst (λ x. Serves x new) same g
+pub from_end : {W : Type 0} (history : W → List Event) (old mid new : ProxyEnd W) → mid ≡ old → Serves history mid new → Serves history old new
+from_end history old mid new same g = subst (λ x. Serves history x new) same g
+
+-- it is the same end
+pub same_box : {W : Type 0} (old new : ProxyEnd W) → new ≡ old → new.core ≡ old.core
+same_box old new same = ap (λ e. e.core) same
+
+pub same_core : {W : Type 0} (old new : ProxyEnd W) → new ≡ old → new.core.value ≡ old.core.value
+same_core old new same = ap (λ e. e.core.value) same
+
+pub stayed : {W : Type 0} (history : W → List Event) (first old new : ProxyEnd W) → new ≡ old → Stay history first.sockets old.sockets → Stay history first.sockets new.sockets
+stayed history first old new same stay = subst (λ e. Stay history first.sockets e.sockets) (sym same) stay
 
 -- it wasn't loaded
 pub not_loaded : (old mid new : ServedCore) (configuration : Configuration) (fault : LoadFault) → mid ≡ old → LoadStops mid configuration fault new → (fault ≡ Refused NoMemory → ⊥) → new ≡ old
@@ -131,8 +141,8 @@ may_load_beside used configuration a b beside may = ⊎_elim (λ e. inl e) (λ l
 pub loads_none : (configuration : Configuration) (used : Option Configuration) (core : ServedCore) → LoadsOne false configuration used used core core
 loads_none configuration used core = (refl, refl)
 
-pub load_still : (configuration : Configuration) (end : ProxyEnd Sockets) → AllGrow (IsLoadOf configuration) (proxy_of end) (proxy_of end)
-load_still configuration end = stood end end refl (stay_still (history_of end.sockets.wire) end.sockets.clients end.sockets.links.all.items)
+pub load_still : {W : Type 0} (history : W → List Event) (configuration : Configuration) (end : ProxyEnd W) → AllGrow (IsLoadOf configuration) (proxy_of history end) (proxy_of history end)
+load_still history configuration end = stood history end end refl (stay_still (history end.sockets.wire) end.sockets.clients end.sockets.links.all.items)
 
 -- it was loaded, and is in use
 pub loads_next :

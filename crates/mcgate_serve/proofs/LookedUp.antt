@@ -55,3 +55,7 @@ quiet_look_up {h} text is = λ d. subst (IsUntouched d h) (sym is) (none_looks_u
 
 pub still_none : {h h' : List Event} → IsQuiet h h' → HasNoConns h → HasNoConns h'
 still_none quiet none = λ conn. ((quiet conn).same_role ∙ (none conn).0, (quiet conn).same_open ∙ (none conn).1)
+
+-- on the same wire
+pub looked_as : {W : Type 0} (history : W → List Event) (from : ℕ) (servers : Addresses) (old new : W) → new ≡ old → AreLookedUp from servers (history old) → AreLookedUp from servers (history new)
+looked_as history from servers old new same looked = subst (λ w. AreLookedUp from servers (history w)) (sym same) looked

@@ -7,7 +7,6 @@ use Rattle.route_json.specs.Configuration.{Configuration}
 use Rattle.core_accepted.specs.declared.served.ServedCore.{ServedCore}
 use Rattle.core_accepted.specs.Loading.{IsLoaded}
 use Rattle.serve_wire.specs.Events.{Event}
-use Rattle.serve_wire.specs.declared.sockets.sockets.Sockets.{Sockets}
 use Rattle.serve_links.specs.CoreSteps.{Step, Opened, NotOpened, Fed, Polled, Stopped, Settled, Gave, Closed, LeftLine, Broke, Loaded, Linked, Asked, Greeted, Spelled, Late, CameLate, Lost}
 use Rattle.serve_links.specs.Story.{AnEnd}
 use Rattle.serve_proxy.specs.declared.proxy.ProxyEnd.{ProxyEnd}
@@ -39,17 +38,13 @@ IsServed (CameLate at number ask answer bytes) = Unit {0}
 IsServed (Spelled at number ask answer bytes) = Unit {0}
 IsServed (Lost at why) = IsSome why
 
--- all that has happened on its sockets, the latest first
-abbrev pub history_of : Sockets → List Event
-history_of wire = wire.log.events
-
--- a proxy's core, and the ends of clients and servers beside it
-abbrev pub proxy_of : ProxyEnd Sockets → AnEnd
-proxy_of end = end_of history_of end.core.value end.sockets
+-- a proxy's core, and the ends of clients and servers beside it, over a wire of this history
+abbrev pub proxy_of : {W : Type 0} → (W → List Event) → ProxyEnd W → AnEnd
+proxy_of history end = end_of history end.core.value end.sockets
 
 -- turns and such loads, one after another, and the ends of clients and servers go on with them
-abbrev pub Serves : ProxyEnd Sockets → ProxyEnd Sockets → Type 0
-Serves old new = AllGrow IsServed (proxy_of old) (proxy_of new)
+abbrev pub Serves : {W : Type 0} → (W → List Event) → ProxyEnd W → ProxyEnd W → Type 0
+Serves history old new = AllGrow IsServed (proxy_of history old) (proxy_of history new)
 
 -- nothing is done, or this configuration is loaded
 abbrev pub MayLoad : Configuration → ServedCore → ServedCore → Type 0

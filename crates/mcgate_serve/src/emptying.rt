@@ -6,12 +6,12 @@ ghost use Rattle.route_json.specs.NumberedServers.{texts};
 ghost use Rattle.mcgate_serve.specs.Emptied.{is_among, IsNamedAt};
 
 use crate::remembering::put;
-use crate::serving::Proxy;
 use mcgate_args::input::text_of;
 use mcgate_args::input_text::InputFault;
 use route_json::addresses::Servers;
 use route_json::read_config_after;
-use serve_proxy::text_at;
+use serve_proxy::{ProxyEnd, text_at};
+use serve_wire::Wire;
 use std::alloc::{AllocError, Global};
 use std::fs::metadata;
 use std::io;
@@ -87,7 +87,7 @@ fn has(names: &[String], name: &str) -> bool
 }
 
 // Whether the server of this name is still to be emptied, as far as is known: one that isn't in use is.
-fn is_due(end: &Proxy, servers: &Servers, name: &str) -> bool {
+fn is_due<W: Wire>(end: &ProxyEnd<W>, servers: &Servers, name: &str) -> bool {
     let Some(server) = servers.find(name) else {
         return true;
     };
@@ -179,10 +179,10 @@ impl Emptying {
     }
 
     /// Those that were emptied are named no longer.
-    pub fn settle<R: Files + AllocGlobal>(
+    pub fn settle<R: Files + AllocGlobal, W: Wire>(
         &mut self,
         rt: &R,
-        end: &Proxy,
+        end: &ProxyEnd<W>,
         servers: &Servers,
     ) -> io::Result<()> {
         if self.names.is_empty() {

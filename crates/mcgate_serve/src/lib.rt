@@ -9,6 +9,7 @@ pub mod histories;
 mod input_end;
 mod limits;
 pub mod lines;
+pub mod listens;
 mod outages;
 mod remembering;
 pub mod serving;

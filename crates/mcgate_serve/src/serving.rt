@@ -10,7 +10,7 @@ ghost use Rattle.core_accepted.specs.Logs.{TreesAreSound};
 ghost use Rattle.serve_proxy.specs.LogsGoOn.{LogsAreFresh};
 ghost use Rattle.serve_proxy.specs.Stalls.{held_by_all};
 ghost use Rattle.core_accepted.specs.Loading.{IsLoaded};
-ghost use Rattle.mcgate_serve.specs.Serves.{SaysAfter, history_of, proxy_of, Serves, MayLoad, MayLoadBeside, MayLoadText, LoadsOne, LoadsText};
+ghost use Rattle.mcgate_serve.specs.Serves.{SaysAfter, proxy_of, Serves, MayLoad, MayLoadBeside, MayLoadText, LoadsOne, LoadsText};
 ghost use Rattle.mcgate_serve.specs.InFleet.{StandsBeside, in_use_after};
 ghost use Rattle.mcgate_serve.specs.Remembers.{StandsIn, StandsIfLoaded};
 ghost use Rattle.mcgate_serve.specs.LooksUp.{AreLookedUp};
@@ -22,6 +22,7 @@ use crate::emptying::Emptying;
 use crate::input_end::InputEnd;
 use crate::limits::own_limits;
 use crate::lines::Lines;
+use crate::listens::Listens;
 use crate::outages::Outages;
 use crate::remembering::{Kept, Remembering, forget, remember};
 use crate::special::is_special;
@@ -44,7 +45,7 @@ use route_json::{Config, ConfigFault, read_config_after};
 use serde_json::Value;
 use serve_links::LinkNews;
 use serve_proxy::{ProxyEnd, text_at};
-use serve_wire::sockets::Sockets;
+use serve_wire::Wire;
 use std::alloc::{AllocError, Global};
 use std::io;
 use std::io::{ErrorKind, Write};
@@ -89,13 +90,10 @@ pub fn tell_if_unknown<R: Eprint>(
     }
 }
 
-/// The end of a proxy over sockets.
-pub type Proxy = ProxyEnd<Sockets>;
-
 /// A proxy that runs.
 #[derive(Drop)]
-pub struct Serving {
-    end: Proxy,
+pub struct Serving<W: Wire> {
+    end: ProxyEnd<W>,
     /// The servers in use.
     servers: Servers,
     /// What says the configuration in use.
@@ -251,18 +249,18 @@ fn before_of(memory: &Option<Kept>) -> u32 {
     }
 }
 
-impl Serving {
+impl<W: Wire + Drop> Serving<W> {
     /// Of this end, by a configuration of these servers, which starts so. Where the proxy is one of a fleet the configuration is given.
     pub fn new<R: Clock + AllocGlobal>(
         rt: &R,
-        end: Proxy,
+        end: ProxyEnd<W>,
         servers: Servers,
         in_use: Option<Config>,
         started: Started,
         lines: Lines,
         watching: Option<Watching>,
         controlling: Option<Controlling>,
-    ) -> io::Result<Serving>
+    ) -> io::Result<Serving<W>>
         ensures end { IfOk result (λ serving. serving.end ≡ end) }
         ensures in_use { IfOk result (λ serving. serving.in_use ≡ in_use) }
     {
@@ -291,6 +289,15 @@ impl Serving {
             are_limited: false,
         })
     }
+}
+
+impl<W: Listens> Serving<W> {
+    /// Its end.
+    pub fn end(&self) -> &ProxyEnd<W>
+        ensures { result.now ≡ self.now.end }
+    {
+        &self.end
+    }
 
     /// Where the gate accepted its trees, they are sound, and each log that may have led to its core is fresh. A law: it does nothing.
     pub fn logs_are_fresh(&self)
@@ -307,7 +314,7 @@ impl Serving {
         rt: &R,
         job: &ServeJob<'_>,
     ) -> Result<u8, Stop>
-        ensures ends { Serves self.old.end self.new.end }
+        ensures ends { Serves W.history self.old.end self.new.end }
     {
         self.tell_start(rt, job)?;
         self.run(rt, job)
@@ -342,7 +349,7 @@ impl Serving {
         let servers = self.servers.len();
         let generation = self.generation.saturating_add(self.before);
         let whose = if job.fleet { ", one of a fleet" } else { "" };
-        match self.end.wire().local_addr() {
+        match self.end.wire().listens_at() {
             Ok(address) => self.lines.tell(
                 rt,
                 format_args!(
@@ -380,7 +387,7 @@ impl Serving {
         let Some(watching) = &self.watching else {
             return Ok(());
         };
-        self.end.wire().wake_by(watching.descriptor())?;
+        self.end.wire().wake_up_by(watching.descriptor())?;
         let address = watching.local_addr()?;
         self.lines
             .tell(rt, format_args!("mcgate: metrics on {address}"));
@@ -394,7 +401,7 @@ impl Serving {
         let Some(controlling) = &self.controlling else {
             return Ok(());
         };
-        self.end.wire().wake_by(controlling.descriptor())?;
+        self.end.wire().wake_up_by(controlling.descriptor())?;
         let line = format_args!("mcgate: control at {}", controlling.path());
         self.lines.tell(rt, line);
         Ok(())
@@ -413,7 +420,7 @@ impl Serving {
         }
         match InputEnd::watch(rt) {
             Ok(input) => {
-                self.end.wire().wake_by(input.descriptor())?;
+                self.end.wire().wake_up_by(input.descriptor())?;
                 self.input = Some(input);
                 Ok(())
             }
@@ -429,7 +436,7 @@ impl Serving {
     fn turn_watching<R: Files + Clock + AllocGlobal>(&mut self, rt: &R)
         ensures { self.new.end ≡ self.old.end }
     {
-        let is_woken = self.end.wire().was_woken();
+        let is_woken = self.end.wire().is_woken();
         let lost_lines = self.lines.lost();
         if let Some(watching) = &mut self.watching {
             if is_woken || watching.is_due(rt) {
@@ -457,7 +464,7 @@ impl Serving {
         rt: &R,
         job: &ServeJob<'_>,
     ) -> Result<u8, Stop>
-        ensures ends { Serves self.old.end self.new.end }
+        ensures ends { Serves W.history self.old.end self.new.end }
     {
         self.begin_emptying(rt, job)?;
         self.run_turns(rt, job)?;
@@ -470,7 +477,7 @@ impl Serving {
         rt: &R,
         job: &ServeJob<'_>,
     ) -> Result<(), Stop>
-        ensures ends { Serves self.old.end self.new.end }
+        ensures ends { Serves W.history self.old.end self.new.end }
     {
         for _ in 0..job.turns.map_or(u64::MAX, u64::from) {
             self.turn(rt, job)?;
@@ -489,7 +496,7 @@ impl Serving {
         rt: &R,
         job: &ServeJob<'_>,
     ) -> Result<bool, Stop>
-        ensures ends { Serves self.old.end self.new.end }
+        ensures ends { Serves W.history self.old.end self.new.end }
     {
         self.lines.look(rt);
         self.tell_news(rt);
@@ -504,7 +511,7 @@ impl Serving {
     // What is done after the last one.
     #[tactic(auto, using(crate::proofs::Loads::serves_still))]
     fn end_all<R: Files + AllocGlobal + Eprint>(&mut self, rt: &R) -> u8
-        ensures ends { Serves self.old.end self.new.end }
+        ensures ends { Serves W.history self.old.end self.new.end }
     {
         self.end.end_turns();
         self.end_controlling(rt);
@@ -518,7 +525,7 @@ impl Serving {
         job: &ServeJob<'_>,
     ) -> Result<(), Stop>
         ensures core { self.new.end.core ≡ self.old.end.core }
-        ensures ends { Stay history_of self.old.end.sockets self.new.end.sockets }
+        ensures ends { Stay W.history self.old.end.sockets self.new.end.sockets }
     {
         let emptying = Emptying::read(rt, job.history, job.settings.flushes_new)?;
         self.emptying = Some(emptying);
@@ -540,7 +547,7 @@ impl Serving {
     fn mark_emptying(&mut self)
         ensures emptied { EmptiesOnly (IsDueAt self.old.emptying self.old.servers) self.old.end.sockets.links.all.items self.new.end.sockets.links.all.items }
         ensures core { self.new.end.core ≡ self.old.end.core }
-        ensures ends { Stay history_of self.old.end.sockets self.new.end.sockets }
+        ensures ends { Stay W.history self.old.end.sockets self.new.end.sockets }
     {
         let mut from = 0usize;
         for _ in 0..self.servers.len() {
@@ -564,7 +571,7 @@ impl Serving {
     // Servers are emptied that are to be, and calls go to each while its epoch lasts.
     fn keep_epochs(&mut self)
         ensures core { self.new.end.core ≡ self.old.end.core }
-        ensures ends { Stay history_of self.old.end.sockets self.new.end.sockets }
+        ensures ends { Stay W.history self.old.end.sockets self.new.end.sockets }
     {
         if self.have_begun {
             return;
@@ -576,7 +583,7 @@ impl Serving {
     // Calls go to servers as the configuration in use says it: while their epochs last, and within their limits.
     fn keep_servers(&mut self, alloc: Global)
         ensures core { self.new.end.core ≡ self.old.end.core }
-        ensures ends { Stay history_of self.old.end.sockets self.new.end.sockets }
+        ensures ends { Stay W.history self.old.end.sockets self.new.end.sockets }
     {
         self.keep_epochs();
         self.keep_limits(alloc)
@@ -585,7 +592,7 @@ impl Serving {
     // Each server gets the limits that its pools say, where there is another configuration. Where memory is refused that is for the next turn.
     fn keep_limits(&mut self, alloc: Global)
         ensures core { self.new.end.core ≡ self.old.end.core }
-        ensures ends { Stay history_of self.old.end.sockets self.new.end.sockets }
+        ensures ends { Stay W.history self.old.end.sockets self.new.end.sockets }
     {
         if self.are_limited {
             return;
@@ -599,7 +606,7 @@ impl Serving {
     // Each server gets the limits that its pools say.
     fn limit_servers(&mut self, config: &Value)
         ensures core { self.new.end.core ≡ self.old.end.core }
-        ensures ends { Stay history_of self.old.end.sockets self.new.end.sockets }
+        ensures ends { Stay W.history self.old.end.sockets self.new.end.sockets }
     {
         for at in 0..self.servers.len() {
             self.limit_server(config, at);
@@ -608,7 +615,7 @@ impl Serving {
 
     fn limit_server(&mut self, config: &Value, at: usize)
         ensures core { self.new.end.core ≡ self.old.end.core }
-        ensures ends { Stay history_of self.old.end.sockets self.new.end.sockets }
+        ensures ends { Stay W.history self.old.end.sockets self.new.end.sockets }
     {
         if let Some(text) = text_at(&self.servers, at) {
             let limits = own_limits(self.end.usual_limits(), limits_of(config, text));
@@ -649,7 +656,7 @@ impl Serving {
     // One turn, which doesn't wait longer than that. After it no more is held for all clients than the job's memory.
     #[tactic(auto, using(crate::proofs::Loads::goes_still))]
     fn turn<R: Net + Clock>(&mut self, rt: &R, job: &ServeJob<'_>) -> io::Result<()>
-        ensures ends { AllGoOn history_of self.old.end.core.value self.old.end.sockets self.new.end.core.value self.new.end.sockets }
+        ensures ends { AllGoOn W.history self.old.end.core.value self.old.end.sockets self.new.end.core.value self.new.end.sockets }
         ensures bounded { OnOk result (held_by_all self.new.end.sockets.clients ≤ job.now.memory) }
     {
         self.turns = self.turns.saturating_add(1);
@@ -663,7 +670,7 @@ impl Serving {
     // Tells what happened to servers and clients. Where it can't be told nothing else is done.
     fn tell_news<R: Eprint>(&mut self, rt: &R)
         ensures core { self.new.end.core ≡ self.old.end.core }
-        ensures ends { Stay history_of self.old.end.sockets self.new.end.sockets }
+        ensures ends { Stay W.history self.old.end.sockets self.new.end.sockets }
     {
         self.tell_links(rt);
         self.tell_stalled(rt);
@@ -672,7 +679,7 @@ impl Serving {
     // Tells how many clients were closed, as they took nothing for too long.
     fn tell_stalled<R: Eprint>(&mut self, rt: &R)
         ensures core { self.new.end.core ≡ self.old.end.core }
-        ensures ends { Stay history_of self.old.end.sockets self.new.end.sockets }
+        ensures ends { Stay W.history self.old.end.sockets self.new.end.sockets }
     {
         if let Some(count) = self.end.next_stalled() {
             self.seen.closed_slow = self.seen.closed_slow.saturating_add(count);
@@ -684,7 +691,7 @@ impl Serving {
     // Tells what happened to servers.
     fn tell_links<R: Eprint>(&mut self, rt: &R)
         ensures core { self.new.end.core ≡ self.old.end.core }
-        ensures ends { Stay history_of self.old.end.sockets self.new.end.sockets }
+        ensures ends { Stay W.history self.old.end.sockets self.new.end.sockets }
     {
         for _ in 0..self.servers.len() {
             let Some((at, news)) = self.end.next_news() else {
@@ -775,7 +782,7 @@ impl Serving {
         rt: &R,
         job: &ServeJob<'_>,
     ) -> Result<(), Stop>
-        ensures ends { Serves self.old.end self.new.end }
+        ensures ends { Serves W.history self.old.end self.new.end }
     {
         if self.is_due(rt, job)? {
             return self.look(rt, job);
@@ -790,7 +797,7 @@ impl Serving {
         rt: &R,
         job: &ServeJob<'_>,
     ) -> Result<(), Stop>
-        ensures ends { Serves self.old.end self.new.end }
+        ensures ends { Serves W.history self.old.end self.new.end }
     {
         self.turns = 0;
         self.since = Instant::now(rt)?;
@@ -834,7 +841,7 @@ impl Serving {
         text: String,
     ) -> Result<(), Stop>
         ensures core { MayLoadText self.old.in_use self.old.servers (string_bytes text) self.old.end.core.value self.new.end.core.value }
-        ensures ends { Serves self.old.end self.new.end }
+        ensures ends { Serves W.history self.old.end self.new.end }
         ensures remembered { StandsIfLoaded self.old.end.core.value self.new.end.core.value self.new.memory (string_bytes text) }
         ensures in_use { IfOk result (λ _. LoadsText self.old.in_use self.new.in_use self.old.servers (string_bytes text) self.old.end.core.value self.new.end.core.value) }
     {
@@ -857,7 +864,7 @@ impl Serving {
         said: &mut Vec<u8>,
     ) -> Result<bool, Stop>
         ensures core { MayLoadText self.old.in_use self.old.servers (string_bytes text) self.old.end.core.value self.new.end.core.value }
-        ensures ends { Serves self.old.end self.new.end }
+        ensures ends { Serves W.history self.old.end self.new.end }
         ensures remembered { StandsIfLoaded self.old.end.core.value self.new.end.core.value self.new.memory (string_bytes text) }
         ensures in_use { IfOk result (λ _. LoadsText self.old.in_use self.new.in_use self.old.servers (string_bytes text) self.old.end.core.value self.new.end.core.value) }
     {
@@ -883,7 +890,7 @@ impl Serving {
         rt: &R,
         job: &ServeJob<'_>,
     ) -> Result<(), Stop>
-        ensures ends { Serves self.old.end self.new.end }
+        ensures ends { Serves W.history self.old.end self.new.end }
     {
         self.drain_at_end(rt, job)?;
         self.take_words(rt, job)
@@ -894,7 +901,7 @@ impl Serving {
         rt: &R,
         job: &ServeJob<'_>,
     ) -> Result<(), Stop>
-        ensures ends { Serves self.old.end self.new.end }
+        ensures ends { Serves W.history self.old.end self.new.end }
     {
         if self.has_input_ended(rt) {
             return self.begin_draining(rt, job);
@@ -906,7 +913,7 @@ impl Serving {
     fn has_input_ended<R: Input>(&mut self, rt: &R) -> bool
         ensures { self.new.end ≡ self.old.end }
     {
-        let is_woken = self.end.wire().was_woken();
+        let is_woken = self.end.wire().is_woken();
         match &mut self.input {
             Some(input) if is_woken => input.has_ended(rt),
             _ => false,
@@ -920,7 +927,7 @@ impl Serving {
         rt: &R,
         job: &ServeJob<'_>,
     ) -> Result<(), Stop>
-        ensures ends { Serves self.old.end self.new.end }
+        ensures ends { Serves W.history self.old.end self.new.end }
     {
         self.turn_controlling(rt);
         for _ in 0..PLACES {
@@ -935,7 +942,7 @@ impl Serving {
     fn turn_controlling<R: Clock>(&mut self, rt: &R)
         ensures { self.new.end ≡ self.old.end }
     {
-        let is_woken = self.end.wire().was_woken();
+        let is_woken = self.end.wire().is_woken();
         if let Some(controlling) = &mut self.controlling {
             controlling.turn(rt, is_woken);
         }
@@ -959,7 +966,7 @@ impl Serving {
         place: usize,
         line: &[u8],
     ) -> Result<(), Stop>
-        ensures ends { Serves self.old.end self.new.end }
+        ensures ends { Serves W.history self.old.end self.new.end }
     {
         match request_of(line) {
             Request::Drain => self.drain(rt, job, place),
@@ -1026,7 +1033,7 @@ impl Serving {
         job: &ServeJob<'_>,
         place: usize,
     ) -> Result<(), Stop>
-        ensures ends { Serves self.old.end self.new.end }
+        ensures ends { Serves W.history self.old.end self.new.end }
     {
         self.keep(place);
         self.begin_draining(rt, job)
@@ -1044,7 +1051,7 @@ impl Serving {
     // Nobody is accepted from now on, if that wasn't so before.
     #[tactic(auto, using(crate::proofs::Loads::serves_still))]
     fn begin_draining<R: Clock + Eprint>(&mut self, rt: &R, job: &ServeJob<'_>) -> Result<(), Stop>
-        ensures ends { Serves self.old.end self.new.end }
+        ensures ends { Serves W.history self.old.end self.new.end }
     {
         if self.draining.is_some() {
             return Ok(());
@@ -1057,7 +1064,7 @@ impl Serving {
 
     fn stop_accepting<R: Eprint>(&mut self, rt: &R)
         ensures core { self.new.end.core ≡ self.old.end.core }
-        ensures ends { Stay history_of self.old.end.sockets self.new.end.sockets }
+        ensures ends { Stay W.history self.old.end.sockets self.new.end.sockets }
     {
         let clients = self.end.clients();
         let line = format_args!("mcgate: draining, {clients} clients are there");
@@ -1068,7 +1075,7 @@ impl Serving {
     // Whether it drains, and all clients are gone or its time is up. While it drains, clients go of which nothing is under way.
     #[tactic(auto, using(crate::proofs::Loads::serves_still))]
     fn has_drained<R: Clock>(&mut self, rt: &R) -> io::Result<bool>
-        ensures ends { Serves self.old.end self.new.end }
+        ensures ends { Serves W.history self.old.end self.new.end }
     {
         let Some(draining) = self.draining else {
             return Ok(false);
@@ -1114,7 +1121,7 @@ impl Serving {
         job: &ServeJob<'_>,
         place: usize,
     ) -> Result<(), Stop>
-        ensures ends { Serves self.old.end self.new.end }
+        ensures ends { Serves W.history self.old.end self.new.end }
     {
         self.turns = 0;
         self.since = Instant::now(rt)?;
@@ -1140,7 +1147,7 @@ impl Serving {
         place: usize,
         text: String,
     ) -> Result<(), Stop>
-        ensures ends { Serves self.old.end self.new.end }
+        ensures ends { Serves W.history self.old.end self.new.end }
     {
         let mut said = Vec::new(rt.alloc());
         let is_used = self.load_new(rt, any, text, &mut said)?;
@@ -1206,15 +1213,15 @@ impl Serving {
     // Loads the configuration of the text, unless the text says what the one in use says, and prints what came of that. Whether the
     // configuration in use is that of the text then.
     #[tactic(auto, using(crate::proofs::Loads::serves_still, crate::proofs::Loads::loads_still))]
-    fn judge_text<R: Files + Net + AllocGlobal + Eprint, W: Write>(
+    fn judge_text<R: Files + Net + AllocGlobal + Eprint, O: Write>(
         &mut self,
         rt: &R,
         any: bool,
         text: &str,
-        out: &mut W,
+        out: &mut O,
     ) -> Result<bool, Stop>
         ensures core { MayLoadText self.old.in_use self.old.servers text.now self.old.end.core.value self.new.end.core.value }
-        ensures ends { Serves self.old.end self.new.end }
+        ensures ends { Serves W.history self.old.end self.new.end }
         ensures remembered { StandsIfLoaded self.old.end.core.value self.new.end.core.value self.new.memory text.now }
         ensures in_use { IfOk result (λ _. LoadsText self.old.in_use self.new.in_use self.old.servers text.now self.old.end.core.value self.new.end.core.value) }
     {
@@ -1228,15 +1235,15 @@ impl Serving {
 
     // Loads the configuration of the text, once it stands in the history, where one is kept. Whether it was loaded.
     #[tactic(auto, using(crate::proofs::Loads::serves_still, crate::proofs::Loads::loads_still))]
-    fn remember_and_load<R: Files + Net + AllocGlobal + Eprint, W: Write>(
+    fn remember_and_load<R: Files + Net + AllocGlobal + Eprint, O: Write>(
         &mut self,
         rt: &R,
         any: bool,
         text: &str,
-        out: &mut W,
+        out: &mut O,
     ) -> Result<bool, Stop>
         ensures core { MayLoadText self.old.in_use self.old.servers text.now self.old.end.core.value self.new.end.core.value }
-        ensures ends { Serves self.old.end self.new.end }
+        ensures ends { Serves W.history self.old.end self.new.end }
         ensures remembered { StandsIfLoaded self.old.end.core.value self.new.end.core.value self.new.memory text.now }
         ensures in_use { IfOk result (λ _. LoadsText self.old.in_use self.new.in_use self.old.servers text.now self.old.end.core.value self.new.end.core.value) }
     {
@@ -1258,17 +1265,17 @@ impl Serving {
 
     // Loads the configuration of a text that stands there. What isn't loaded is forgotten.
     #[tactic(auto, using(crate::proofs::Loads::stands_still, crate::proofs::Loads::stands_unused))]
-    fn load_remembered<R: Files + Net + AllocGlobal + Eprint, W: Write>(
+    fn load_remembered<R: Files + Net + AllocGlobal + Eprint, O: Write>(
         &mut self,
         rt: &R,
         any: bool,
         text: &str,
         old: Option<String>,
-        out: &mut W,
+        out: &mut O,
     ) -> Result<bool, Stop>
         requires stands { StandsIn self.old.memory text.now }
         ensures core { MayLoadText self.old.in_use self.old.servers text.now self.old.end.core.value self.new.end.core.value }
-        ensures ends { Serves self.old.end self.new.end }
+        ensures ends { Serves W.history self.old.end self.new.end }
         ensures remembered { StandsIfLoaded self.old.end.core.value self.new.end.core.value self.new.memory text.now }
         ensures in_use { IfOk result (λ _. LoadsText self.old.in_use self.new.in_use self.old.servers text.now self.old.end.core.value self.new.end.core.value) }
     {
@@ -1281,15 +1288,15 @@ impl Serving {
 
     // Loads the configuration of the text, and prints what came of that, or why the text is none. Whether it was loaded.
     #[tactic(auto, using(crate::proofs::Loads::serves_still, crate::proofs::Loads::loads_still))]
-    fn load_text<R: Net + AllocGlobal + Eprint, W: Write>(
+    fn load_text<R: Net + AllocGlobal + Eprint, O: Write>(
         &mut self,
         rt: &R,
         any: bool,
         text: &str,
-        out: &mut W,
+        out: &mut O,
     ) -> Result<bool, Stop>
         ensures core { MayLoadText self.old.in_use self.old.servers text.now self.old.end.core.value self.new.end.core.value }
-        ensures ends { Serves self.old.end self.new.end }
+        ensures ends { Serves W.history self.old.end self.new.end }
         ensures memory { self.new.memory ≡ self.old.memory }
         ensures unused { IfOk result (λ used. IsTrue used ⊎ (self.new.end.core.value ≡ self.old.end.core.value)) }
         ensures in_use { IfOk result (λ _. LoadsText self.old.in_use self.new.in_use self.old.servers text.now self.old.end.core.value self.new.end.core.value) }
@@ -1305,16 +1312,16 @@ impl Serving {
 
     // Loads a configuration of these servers, if it may follow the one in use; else why not is printed. Whether it was loaded.
     #[tactic(auto, using(crate::proofs::Loads::load_still, crate::proofs::Loads::loads_none))]
-    fn load_beside<R: Net + AllocGlobal + Eprint, W: Write>(
+    fn load_beside<R: Net + AllocGlobal + Eprint, O: Write>(
         &mut self,
         rt: &R,
         any: bool,
         config: Config,
         servers: Servers,
-        out: &mut W,
+        out: &mut O,
     ) -> Result<bool, Stop>
         ensures core { MayLoadBeside self.old.in_use config self.old.end.core.value self.new.end.core.value }
-        ensures ends { AllGrow (IsLoadOf config) (proxy_of self.old.end) (proxy_of self.new.end) }
+        ensures ends { AllGrow (IsLoadOf config) (proxy_of W.history self.old.end) (proxy_of W.history self.new.end) }
         ensures memory { self.new.memory ≡ self.old.memory }
         ensures unused { IfOk result (λ used. IsTrue used ⊎ (self.new.end.core.value ≡ self.old.end.core.value)) }
         ensures in_use { IfOk result (λ used. LoadsOne used config self.old.in_use self.new.in_use self.old.end.core.value self.new.end.core.value) }
@@ -1326,11 +1333,11 @@ impl Serving {
     }
 
     // Whether a configuration may follow the one in use: in a fleet others run by that meanwhile. If not, why is printed.
-    fn may_follow<W: Write>(
+    fn may_follow<O: Write>(
         &self,
         alloc: Global,
         config: &Config,
-        out: &mut W,
+        out: &mut O,
     ) -> Result<bool, Stop>
         ensures { IfOk result (λ may. IsTrue may → StandsBeside self.now.in_use config.now) }
     {
@@ -1342,17 +1349,17 @@ impl Serving {
 
     // The same, and in a fleet it is in use then.
     #[tactic(auto, using(crate::proofs::Loads::load_still, crate::proofs::Loads::may_load_beside))]
-    fn load_next<R: Net + AllocGlobal + Eprint, W: Write>(
+    fn load_next<R: Net + AllocGlobal + Eprint, O: Write>(
         &mut self,
         rt: &R,
         any: bool,
         config: Config,
         servers: Servers,
-        out: &mut W,
+        out: &mut O,
     ) -> Result<bool, Stop>
         requires beside { StandsBeside self.old.in_use config }
         ensures core { MayLoadBeside self.old.in_use config self.old.end.core.value self.new.end.core.value }
-        ensures ends { AllGrow (IsLoadOf config) (proxy_of self.old.end) (proxy_of self.new.end) }
+        ensures ends { AllGrow (IsLoadOf config) (proxy_of W.history self.old.end) (proxy_of W.history self.new.end) }
         ensures memory { self.new.memory ≡ self.old.memory }
         ensures unused { IfOk result (λ used. IsTrue used ⊎ (self.new.end.core.value ≡ self.old.end.core.value)) }
         ensures in_use { IfOk result (λ used. LoadsOne used config self.old.in_use self.new.in_use self.old.end.core.value self.new.end.core.value) }
@@ -1377,9 +1384,9 @@ impl Serving {
 
     // Looks up those of these servers that weren't in use before.
     fn resolve<R: Net + Eprint>(&mut self, rt: &R, servers: &Servers) -> io::Result<()>
-        ensures looked { OnOk result (AreLookedUp (length self.old.servers) servers.now (history_of self.new.end.sockets.wire)) }
+        ensures looked { OnOk result (AreLookedUp (length self.old.servers) servers.now (W.history self.new.end.sockets.wire)) }
         ensures core { self.new.end.core ≡ self.old.end.core }
-        ensures ends { Stay history_of self.old.end.sockets self.new.end.sockets }
+        ensures ends { Stay W.history self.old.end.sockets self.new.end.sockets }
         ensures memory { self.new.memory ≡ self.old.memory }
         ensures in_use { self.new.in_use ≡ self.old.in_use }
     {
@@ -1396,9 +1403,9 @@ impl Serving {
         servers: &Servers,
         at: usize,
     ) -> io::Result<()>
-        ensures looked { (text : List ℕ) → slice_get servers.now at ≡ Some text → HasHappened (looks_up text) (history_of self.new.end.sockets.wire) }
+        ensures looked { (text : List ℕ) → slice_get servers.now at ≡ Some text → HasHappened (looks_up text) (W.history self.new.end.sockets.wire) }
         ensures core { self.new.end.core ≡ self.old.end.core }
-        ensures ends { Stay history_of self.old.end.sockets self.new.end.sockets }
+        ensures ends { Stay W.history self.old.end.sockets self.new.end.sockets }
         ensures memory { self.new.memory ≡ self.old.memory }
         ensures in_use { self.new.in_use ≡ self.old.in_use }
     {
@@ -1409,9 +1416,9 @@ impl Serving {
     }
 
     fn resolve_one<R: Net + Eprint>(&mut self, rt: &R, text: &str) -> io::Result<()>
-        ensures looked { history_of self.new.end.sockets.wire ≡ looks_up text.now ∷ history_of self.old.end.sockets.wire }
+        ensures looked { W.history self.new.end.sockets.wire ≡ looks_up text.now ∷ W.history self.old.end.sockets.wire }
         ensures core { self.new.end.core ≡ self.old.end.core }
-        ensures ends { Stay history_of self.old.end.sockets self.new.end.sockets }
+        ensures ends { Stay W.history self.old.end.sockets self.new.end.sockets }
         ensures memory { self.new.memory ≡ self.old.memory }
         ensures in_use { self.new.in_use ≡ self.old.in_use }
     {
@@ -1422,19 +1429,19 @@ impl Serving {
 
     // Loads a configuration of these servers, once those that weren't in use before were looked up, and prints what came of that. Whether it
     // was loaded.
-    fn load<R: Net + AllocGlobal + Eprint, W: Write>(
+    fn load<R: Net + AllocGlobal + Eprint, O: Write>(
         &mut self,
         rt: &R,
         any: bool,
         config: Config,
         servers: Servers,
-        out: &mut W,
+        out: &mut O,
     ) -> Result<bool, Stop>
         ensures core { MayLoad config self.old.end.core.value self.new.end.core.value }
-        ensures ends { AllGrow (IsLoadOf config) (proxy_of self.old.end) (proxy_of self.new.end) }
+        ensures ends { AllGrow (IsLoadOf config) (proxy_of W.history self.old.end) (proxy_of W.history self.new.end) }
         ensures memory { self.new.memory ≡ self.old.memory }
         ensures in_use { self.new.in_use ≡ self.old.in_use }
-        ensures looked { IfOk result (λ used. IsTrue used → AreLookedUp (length self.old.servers) servers (history_of self.new.end.sockets.wire)) }
+        ensures looked { IfOk result (λ used. IsTrue used → AreLookedUp (length self.old.servers) servers (W.history self.new.end.sockets.wire)) }
         ensures noted { IfOk result (λ used. IsTrue used → self.new.servers ≡ servers) }
         ensures loaded { IfOk result (λ used. IsTrue used → (generation : ℕ) × IsLoaded self.old.end.core.value config generation self.new.end.core.value) }
         ensures unused { IfOk result (λ used. IsTrue used ⊎ (self.new.end.core.value ≡ self.old.end.core.value)) }

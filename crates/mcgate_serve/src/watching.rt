@@ -1,11 +1,12 @@
 //! What a proxy that runs tells over HTTP of what it counts.
 
-use crate::serving::{Proxy, resolve};
+use crate::serving::resolve;
 use gate_gaps::names::op_name;
 use mc_types::{Op, ServerId};
 use route_json::addresses::Servers;
 use serve_links::{CAUSES, Link, SPANS};
-use serve_proxy::text_at;
+use serve_proxy::{ProxyEnd, text_at};
+use serve_wire::Wire;
 use std::alloc::{AllocError, Global};
 use std::io;
 use std::io::Write;
@@ -106,7 +107,7 @@ fn process_use<R: Files + AllocGlobal>(rt: &R) -> Used {
     }
 }
 
-fn clients_of(end: &Proxy, seen: &Seen) -> ClientNumbers {
+fn clients_of<W: Wire>(end: &ProxyEnd<W>, seen: &Seen) -> ClientNumbers {
     let tally = end.tally();
     ClientNumbers {
         connected: end.clients() as u64,
@@ -118,7 +119,10 @@ fn clients_of(end: &Proxy, seen: &Seen) -> ClientNumbers {
     }
 }
 
-fn commands_of(alloc: Global, end: &Proxy) -> Result<Vec<CommandNumbers>, AllocError> {
+fn commands_of<W: Wire>(
+    alloc: Global,
+    end: &ProxyEnd<W>,
+) -> Result<Vec<CommandNumbers>, AllocError> {
     let tally = end.tally();
     let mut commands = Vec::new(alloc);
     for op in Op::all() {
@@ -184,9 +188,9 @@ fn limits_told(link: &Link) -> LimitNumbers {
 }
 
 // What is counted of the server of this number and text.
-fn server_of(
+fn server_of<W: Wire>(
     alloc: Global,
-    end: &Proxy,
+    end: &ProxyEnd<W>,
     server: usize,
     text: &str,
 ) -> Result<Option<ServerNumbers>, AllocError> {
@@ -209,9 +213,9 @@ fn server_of(
     }))
 }
 
-fn servers_of(
+fn servers_of<W: Wire>(
     alloc: Global,
-    end: &Proxy,
+    end: &ProxyEnd<W>,
     servers: &Servers,
 ) -> Result<Vec<ServerNumbers>, AllocError> {
     let mut told = Vec::new(alloc);
@@ -237,9 +241,9 @@ pub struct Times {
 }
 
 // What there is to tell.
-fn numbers_of<R: Files + AllocGlobal>(
+fn numbers_of<R: Files + AllocGlobal, W: Wire>(
     rt: &R,
-    end: &Proxy,
+    end: &ProxyEnd<W>,
     servers: &Servers,
     seen: &Seen,
     times: Times,
@@ -262,9 +266,9 @@ fn numbers_of<R: Files + AllocGlobal>(
 }
 
 /// All of that as the text of a page.
-pub fn stats_of<R: Files + AllocGlobal>(
+pub fn stats_of<R: Files + AllocGlobal, W: Wire>(
     rt: &R,
-    end: &Proxy,
+    end: &ProxyEnd<W>,
     servers: &Servers,
     seen: &Seen,
     times: Times,
@@ -295,7 +299,11 @@ fn failures_of(link: &Link) -> u64 {
 }
 
 /// Writes a line for each server: how it is, its calls that are out, its connections and its failures.
-pub fn write_servers<W: Write>(end: &Proxy, servers: &Servers, out: &mut W) -> io::Result<()> {
+pub fn write_servers<O: Write, W: Wire>(
+    end: &ProxyEnd<W>,
+    servers: &Servers,
+    out: &mut O,
+) -> io::Result<()> {
     for server in 0..servers.len() {
         let (Some(link), Some(text)) = (end.link(server), text_at(servers, server)) else {
             return Ok(());
@@ -375,10 +383,10 @@ impl Watching {
     }
 
     // What there is to tell.
-    fn numbers<R: Files + Clock + AllocGlobal>(
+    fn numbers<R: Files + Clock + AllocGlobal, W: Wire>(
         &self,
         rt: &R,
-        end: &Proxy,
+        end: &ProxyEnd<W>,
         servers: &Servers,
         seen: &Seen,
         lost_lines: u64,
@@ -392,11 +400,11 @@ impl Watching {
     }
 
     // The text of a page, by what there is to tell.
-    fn page<R: Files + Clock + AllocGlobal>(
+    fn page<R: Files + Clock + AllocGlobal, W: Wire>(
         &self,
         rt: &R,
         page: Page,
-        end: &Proxy,
+        end: &ProxyEnd<W>,
         servers: &Servers,
         seen: &Seen,
         lost_lines: u64,
@@ -415,10 +423,10 @@ impl Watching {
 
     /// Each of them goes on as far as it can; those that wait for a page get it, also of the text that says the configuration in use. One for whose
     /// page memory is refused is closed.
-    pub fn turn<R: Files + Clock + AllocGlobal>(
+    pub fn turn<R: Files + Clock + AllocGlobal, W: Wire>(
         &mut self,
         rt: &R,
-        end: &Proxy,
+        end: &ProxyEnd<W>,
         servers: &Servers,
         seen: &Seen,
         lost_lines: u64,

@@ -1,6 +1,6 @@
 use Rattle.std.proofs.Common.{◌≡◌, ◌≤◌, length, arith}
 use Rattle.serve_wire.proofs.Steps.{untouched}
-use Rattle.mcgate_serve.specs.Serves.{history_of}
+use Rattle.mcgate.specs.Served.{history_of}
 use Rattle.mcgate_serve.proofs.LookedUp.{none_yet, one_more, to_all, quiet_twice}
 use Rattle.mcgate.proofs.serve.look_up.Goals as goal
 

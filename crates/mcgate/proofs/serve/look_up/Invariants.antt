@@ -1,6 +1,6 @@
 use Rattle.serve_proxy.specs.Ends.{IsQuiet}
 use Rattle.mcgate_serve.specs.LooksUp.{AreLookedUpTo}
-use Rattle.mcgate_serve.specs.Serves.{history_of}
+use Rattle.mcgate.specs.Served.{history_of}
 use Rattle.mcgate.proofs.serve.look_up.Given as goal
 
 abbrev pub invariant-loop-at : goal.invariant-loop-at

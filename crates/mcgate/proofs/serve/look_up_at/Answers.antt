@@ -1,5 +1,5 @@
 use Rattle.std.proofs.Common.{refl}
-use Rattle.mcgate_serve.specs.Serves.{history_of}
+use Rattle.mcgate.specs.Served.{history_of}
 use Rattle.mcgate_serve.proofs.LookedUp.{none_there, same_text, quiet_still, quiet_look_up}
 use Rattle.mcgate.proofs.serve.look_up_at.Goals as goal
 

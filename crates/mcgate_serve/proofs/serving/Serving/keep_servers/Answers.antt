@@ -3,4 +3,4 @@ use Rattle.serve_proxy.proofs.Staying.{stay_then}
 use Rattle.mcgate_serve.proofs.serving.Serving.keep_servers.Goals as goal
 
 pub returns : goal.returns
-returns c = record { core = c.keep_limits.ensures.core ∙ c.keep_epochs.ensures.core; ends = stay_then c.keep_epochs.ensures.ends c.keep_limits.ensures.ends }
+returns g c = record { core = c.keep_limits.ensures.core ∙ c.keep_epochs.ensures.core; ends = stay_then c.keep_epochs.ensures.ends c.keep_limits.ensures.ends }

@@ -1,16 +1,13 @@
-use Rattle.std.proofs.Common.{ap}
 use Rattle.std.specs.Prelude.{string_bytes}
-use Rattle.serve_wire.specs.declared.sockets.sockets.Sockets.{Sockets}
-use Rattle.serve_proxy.specs.declared.proxy.ProxyEnd.{ProxyEnd}
-use Rattle.mcgate_serve.proofs.Loads.{stands_as, loads_as}
+use Rattle.mcgate_serve.proofs.Loads.{same_core, stands_as, loads_as}
 use Rattle.mcgate_serve.proofs.serving.Serving.load_new.Goals as goal
 
 pub returns-clause-remembered : goal.returns-clause-remembered
 returns-clause-remembered g c =
     stands_as c.args.self.now.end.core.value c.judge_text.new.self.end.core.value c.note_said.new.self.end.core.value c.judge_text.new.self.memory c.note_said.new.self.memory c.as_str.result.now (string_bytes c.args.text)
-    (ap (λ (e : ProxyEnd Sockets). e.core.value) c.note_said.ensures.ends) c.note_said.ensures.memory c.as_str.ensures.value c.judge_text.ensures.remembered
+    (same_core c.judge_text.new.self.end c.note_said.new.self.end c.note_said.ensures.ends) c.note_said.ensures.memory c.as_str.ensures.value c.judge_text.ensures.remembered
 
 pub returns-clause-in_use : goal.returns-clause-in_use
 returns-clause-in_use g c =
     loads_as c.args.self.now.in_use c.judge_text.new.self.in_use c.note_said.new.self.in_use c.args.self.now.servers c.as_str.result.now (string_bytes c.args.text) c.args.self.now.end.core.value c.judge_text.new.self.end.core.value
-    c.note_said.new.self.end.core.value c.note_said.ensures.in_use c.as_str.ensures.value (ap (λ (e : ProxyEnd Sockets). e.core.value) c.note_said.ensures.ends) c.in_ok-judge_text.ensures.in_use
+    c.note_said.new.self.end.core.value c.note_said.ensures.in_use c.as_str.ensures.value (same_core c.judge_text.new.self.end c.note_said.new.self.end c.note_said.ensures.ends) c.in_ok-judge_text.ensures.in_use

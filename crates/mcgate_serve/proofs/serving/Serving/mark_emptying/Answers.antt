@@ -5,10 +5,10 @@ use Rattle.mcgate_serve.proofs.Emptied.{empties_none, empties_more}
 use Rattle.mcgate_serve.proofs.serving.Serving.mark_emptying.Goals as goal
 
 pub loop-init : goal.loop-init
-loop-init c = record { core = refl; ends = stay_still _ _ _; servers = refl; emptying = refl; emptied = empties_none _ _ }
+loop-init g c = record { core = refl; ends = stay_still _ _ _; servers = refl; emptying = refl; emptied = empties_none _ _ }
 
 pub loop-preserved : goal.loop-preserved
-loop-preserved c = record {
+loop-preserved g c = record {
   core = c.empty_first.ensures.core ∙ c.loop.invariant.core;
   ends = stay_then c.loop.invariant.ends c.empty_first.ensures.ends;
   servers = c.loop.invariant.servers;

@@ -3,7 +3,7 @@ use Rattle.mcgate_serve.proofs.Loads.{serves_still, turned}
 use Rattle.mcgate_serve.proofs.serving.Serving.run_turns.Goals as goal
 
 pub loop-init : goal.loop-init
-loop-init g c = serves_still c.args.self.now.end
+loop-init g c = serves_still g.W.Wire.history c.args.self.now.end
 
 pub returns-in_err-turn : goal.returns-in_err-turn
 returns-in_err-turn g c = record { ends = then_grows c.loop.invariant (turned c.turn.ensures.ends) }
