@@ -1,8 +1,12 @@
 //! Worked examples of wires: ends over a wire in memory whose far ends do what a script says, and real sockets.
 
 #[cfg(test)]
+mod peers;
+#[cfg(test)]
 mod proxies;
 #[cfg(test)]
 mod scripts;
+#[cfg(test)]
+mod served;
 #[cfg(test)]
 mod sockets;

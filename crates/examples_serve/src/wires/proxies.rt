@@ -1,7 +1,8 @@
 //! A proxy over a wire in memory: what its clients and its servers are sent, where bytes come cut, connections end and break, and answers
 //! are late.
 
-use crate::wires::scripts::{bytes_of, put_act};
+use crate::wires::peers::Peers;
+use crate::wires::scripts::bytes_of;
 use examples_tables::configs::with_configs;
 use examples_tables::playing::{Stage, cut, first_line, play_lines, shown, yes_or_no};
 use gate_check::{Accepted, judge};
@@ -9,7 +10,7 @@ use route_json::addresses::Servers;
 use route_json::{Config, read_config, read_config_after};
 use serve_proxy::{Beginnings, LinkNews, ProxyEnd, ServerDialect, Settings, text_at};
 use serve_wire::Wire;
-use serve_wire::memory::{Memory, Peer};
+use serve_wire::memory::Memory;
 use std::alloc::{AllocError, Global};
 use std::mem;
 use std::test::Fail;
@@ -902,8 +903,8 @@ took 9 get a\r\n«30 set k# 0 0 100000\r\n<data>\r\n»«30 get k#\r\n» => yes
 took 1 END\r\n«30 STORED\r\n»«30 VALUE k# 0 100000\r\n<data>\r\nEND\r\n» => yes"
 }
 
-// How servers are asked: as clients wrote it, or as each tells.
-fn settings(server_dialect: ServerDialect) -> Settings {
+/// Servers are asked as clients wrote it, or as each tells.
+pub fn settings(server_dialect: ServerDialect) -> Settings {
     Settings {
         server_dialect,
         ..Settings::usual()
@@ -933,12 +934,10 @@ const NEWS: usize = 16;
 #[derive(Drop)]
 struct Scripted<'a> {
     rt: &'a HostRuntime,
-    wire: Option<Memory>,
+    peers: Peers,
     proxy: Option<ProxyEnd<Memory>>,
     // The text of the configuration by which the proxy began.
     config: String,
-    // Whose script is being written.
-    peer: Option<Peer>,
     // The news of links since they were asked for.
     told: String,
 }
@@ -946,10 +945,9 @@ struct Scripted<'a> {
 fn make_scripted(rt: &HostRuntime) -> Scripted<'_> {
     Scripted {
         rt,
-        wire: Some(Memory::new(rt.alloc())),
+        peers: Peers::new(rt.alloc()),
         proxy: None,
         config: String::new(rt.alloc()),
-        peer: None,
         told: String::new(rt.alloc()),
     }
 }
@@ -982,8 +980,8 @@ fn judged(alloc: Global, config: Config) -> Result<Accepted, Fail> {
     }
 }
 
-// The servers of a configuration.
-fn servers_of(alloc: Global, text: &str) -> Result<Servers, Fail> {
+/// The servers of a configuration.
+pub fn servers_of(alloc: Global, text: &str) -> Result<Servers, Fail> {
     let config = read_config(alloc, text)?;
     Ok(config.servers().copy(alloc)?)
 }
@@ -1030,7 +1028,8 @@ fn end_over(
     )?)
 }
 
-fn begin(
+/// The end that begins by a configuration, whose servers were looked up.
+pub fn begin(
     rt: &HostRuntime,
     wire: Memory,
     text: &str,
@@ -1057,37 +1056,8 @@ fn load(
 }
 
 impl Scripted<'_> {
-    // The script is whole: the far end calls, or answers.
-    fn place(&mut self, verb: &str, text: &str) -> Result<(), Fail> {
-        let (Some(wire), Some(peer)) = (self.wire.as_mut(), self.peer.take()) else {
-            return Err("no peer")?;
-        };
-        if verb == "calls" {
-            wire.will_connect(text.parse::<u64>()?, peer)?;
-        } else {
-            wire.will_answer(text.as_bytes(), peer)?;
-        }
-        Ok(())
-    }
-
-    fn add_host(&mut self, text: &str) -> Result<(), Fail> {
-        match &mut self.wire {
-            Some(wire) => Ok(wire.add_host(text.as_bytes())?),
-            None => Err("the proxy has begun")?,
-        }
-    }
-
-    fn script(&mut self, verb: &str, text: &str) -> Result<(), Fail> {
-        match &mut self.peer {
-            Some(peer) => put_act(self.rt.alloc(), peer, verb, text),
-            None => Err("no peer")?,
-        }
-    }
-
     fn begin(&mut self, text: &str, settings: Settings) -> Result<(), Fail> {
-        let Some(wire) = self.wire.take() else {
-            return Err("the proxy has begun")?;
-        };
+        let wire = self.peers.take()?;
         self.proxy = Some(begin(self.rt, wire, text, settings)?);
         self.config = text.to_string(self.rt.alloc())?;
         Ok(())
@@ -1115,19 +1085,13 @@ impl Scripted<'_> {
     // Events that give nothing.
     fn set(&mut self, verb: &str, text: &str) -> Result<(), Fail> {
         match verb {
-            "host" => self.add_host(text),
-            "peer" => {
-                self.peer = Some(Peer::new(self.rt.alloc(), text.parse::<u32>()?));
-                Ok(())
-            }
-            "calls" | "answers" => self.place(verb, text),
             "proxy" => self.begin(text, settings(ServerDialect::Classic)),
             "auto-proxy" => self.begin(text, settings(ServerDialect::Auto)),
             "narrow-proxy" => self.begin(text, narrow()),
             "giving-up-proxy" => self.begin(text, giving_up()),
             "turn" => self.turn_often(text.parse::<usize>()?),
             "bounds" => self.bound(text),
-            _ => self.script(verb, text),
+            _ => self.peers.script(verb, text),
         }
     }
 
