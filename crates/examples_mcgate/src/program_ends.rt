@@ -16,6 +16,7 @@ use mcgate_args::slots::SlotsChange;
 use mcgate_args::tell_arguments::TellJob;
 use mcgate_check::{Form, RunFault};
 use mcgate_replay::Judging;
+use mcgate_replay::judging::USUAL_GENERATIONS;
 use route_json::Config;
 use serve_links::ServerDialect;
 use std::alloc::{AllocError, Global};
@@ -59,6 +60,11 @@ mcgate replay --config c --opened own --new-servers empty f => replay own empty 
 mcgate replay --opened any --new-servers any => replay - of standard input
 mcgate replay --any --opened own => replay any of standard input
 mcgate replay --new-servers own => refused, told
+mcgate replay --generations 1 f => replay - at most 1 of f
+mcgate replay --opened own --generations=4294967295 => replay own at most 4294967295 of standard input
+mcgate replay f --generations 20 --config c => replay - at most 20 over c of f
+mcgate replay --generations 16 => replay - of standard input
+mcgate replay --any --generations 3 => replay any of standard input
 mcgate plan a b => plan a b
 mcgate plan --opened own --new-servers empty a b => plan a b own empty
 mcgate plan a => refused, told
@@ -77,6 +83,8 @@ mcgate cache --listen a:1 --capacity 5 --memory-mb 6 => cache 5 memory-mb 6
 mcgate loopback => loopback of standard input
 mcgate loopback f => loopback of f
 mcgate loopback --flush-all f => emptied loopback of f
+mcgate loopback --generations 2 f => loopback at most 2 of f
+mcgate loopback --generations 30 --flush-all => emptied loopback at most 30 of standard input
 mcgate serve --listen a:1 --config c => serve - fail-limit 3 auto
 mcgate serve --any --listen a:1 --config c --reload-every 4 --reload-ms 5 --fail-limit 6 => serve any reload-every 4 reload-ms 5 fail-limit 6 auto
 mcgate serve --listen a:1 --config c --history h => serve - after h fail-limit 3 auto
@@ -138,6 +146,13 @@ mcgate tell d drain k => refused, told
 mcgate tell d stop => refused, told
 mcgate check f g => refused, told
 mcgate loopback --any => refused, told
+mcgate loopback --generations 0 f => refused, told
+mcgate loopback f --generations => refused, told
+mcgate replay --generations 4294967296 => refused, told
+mcgate replay --any --generations x => refused, told
+mcgate replay --generations 2 --generations 3 => refused, told
+mcgate check --generations 2 => refused, told
+mcgate serve --config c --listen a:1 --generations 2 => refused, told
 mcgate replay --any --any => refused, told
 mcgate replay --any=yes => refused, told
 mcgate replay --config => refused, told
@@ -170,8 +185,17 @@ fn begun_words(begun: Beginnings) -> &'static str {
 fn judging_words(judging: Judging) -> &'static str {
     match judging {
         Judging::Any => " any",
-        Judging::Asked => " -",
-        Judging::Begun(begun) => begun_words(begun),
+        Judging::Asked(_) => " -",
+        Judging::Begun(begun, _) => begun_words(begun),
+    }
+}
+
+// How many trees are held at most, where that is told.
+fn most_of(judging: Judging) -> u32 {
+    match judging {
+        Judging::Any => USUAL_GENERATIONS,
+        Judging::Asked(most) => most,
+        Judging::Begun(_, most) => most,
     }
 }
 
@@ -191,7 +215,16 @@ fn push_task(out: &mut String, task: Task) -> Result<(), AllocError> {
 }
 
 fn push_replay(out: &mut String, judging: Judging) -> Result<(), AllocError> {
-    write!(out, "replay{}", judging_words(judging))
+    write!(out, "replay{}", judging_words(judging))?;
+    push_most(out, most_of(judging))
+}
+
+// How many trees are held at most, if not as many as usual.
+fn push_most(out: &mut String, most: u32) -> Result<(), AllocError> {
+    if most != USUAL_GENERATIONS {
+        write!(out, " at most {most}")?;
+    }
+    Ok(())
 }
 
 fn push_number(out: &mut String, word: &str, number: Option<u32>) -> Result<(), AllocError> {
@@ -331,9 +364,15 @@ fn push_job(out: &mut String, job: &Job<'_>) -> Result<(), AllocError> {
         }
         Job::Where { file, keys } => write!(out, "where {} in {file}", keys.len())?,
         Job::Certify { file } => write!(out, "certify of {}", file_word(file))?,
-        Job::Loopback { file, flushes_new } => {
+        Job::Loopback {
+            file,
+            flushes_new,
+            most,
+        } => {
             let emptied = if *flushes_new { "emptied " } else { "" };
-            write!(out, "{emptied}loopback of {}", file_word(file))?;
+            write!(out, "{emptied}loopback")?;
+            push_most(out, *most)?;
+            write!(out, " of {}", file_word(file))?;
         }
         Job::Cache(job) => {
             write!(out, "cache {}", job.settings.capacity)?;
@@ -530,13 +569,16 @@ stop by calls:  => 3 calls: more than 18446744073709551615⏎"#
 fn task_named(word: &str) -> Task {
     match word {
         "replay" => Task::Replay {
-            judging: Judging::Asked,
+            judging: Judging::Asked(USUAL_GENERATIONS),
         },
         "replay own" => Task::Replay {
-            judging: Judging::Begun(Beginnings {
-                opened: Beginning::Own,
-                added: Beginning::Any,
-            }),
+            judging: Judging::Begun(
+                Beginnings {
+                    opened: Beginning::Own,
+                    added: Beginning::Any,
+                },
+                USUAL_GENERATIONS,
+            ),
         },
         "explain" => Task::Check {
             form: Form::Explained,
@@ -617,7 +659,8 @@ fn end_of_events(alloc: Global, text: &str) -> Result<String, AllocError> {
     let config = Config::of_pool(alloc, 1)?;
     let input = input_of(alloc, text);
     let mut out = Vec::new(alloc);
-    let end = end_of(run_events(alloc, Judging::Asked, config, &input, &mut out));
+    let judging = Judging::Asked(USUAL_GENERATIONS);
+    let end = end_of(run_events(alloc, judging, config, &input, &mut out));
     end_words(alloc, end, out.as_slice())
 }
 

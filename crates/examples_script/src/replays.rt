@@ -4,6 +4,8 @@
 #[cfg(test)]
 mod begun;
 #[cfg(test)]
+mod generations;
+#[cfg(test)]
 mod replays;
 #[cfg(test)]
 mod scripts;

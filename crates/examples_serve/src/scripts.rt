@@ -283,6 +283,20 @@ reload accepted generation=16
 reload refused: too many generations
 done 0 commands 0 calls
 ----
+Or as many as are said.
+--generations 2
+<A>
+reload <A>
+reload <A>
+reload <A>
+> 0 get a\r\n
+=> 0
+reload accepted generation=2
+reload refused: too many generations
+reload refused: too many generations
+< 0 END\r\n
+done 1 commands 1 calls
+----
 A tree that the gate refuses.
 <leak>
 hold 1 a 7
@@ -310,9 +324,12 @@ config: bad field pools
 // What a script prints, which may begin with a flag.
 fn printed(rt: &HostRuntime, script: &str) -> (u8, Vec<u8>) {
     let mut out = Vec::new(rt.alloc());
-    let status = match script.strip_prefix("--flush-all\n") {
-        Some(script) => run_loopback(rt, script, true, &mut out),
-        None => run_loopback(rt, script, false, &mut out),
+    if let Some(script) = script.strip_prefix("--flush-all\n") {
+        return (run_loopback(rt, script, true, 16, &mut out), out);
+    }
+    let status = match script.strip_prefix("--generations 2\n") {
+        Some(script) => run_loopback(rt, script, false, 2, &mut out),
+        None => run_loopback(rt, script, false, 16, &mut out),
     };
     (status, out)
 }

@@ -196,7 +196,7 @@ impl Command {
             }
             Command::Certify => "mcgate certify [FILE]",
             Command::Replay => {
-                "mcgate replay [--any] [--opened WORD] [--new-servers WORD] [--config FILE] [SCRIPT]"
+                "mcgate replay [--any] [--opened WORD] [--new-servers WORD] [--generations N] [--config FILE] [SCRIPT]"
             }
             Command::Where => "mcgate where --config FILE KEY..",
             Command::Serve => {
@@ -204,7 +204,7 @@ impl Command {
             }
             Command::Cache =>
                 "mcgate cache --listen HOST:PORT --capacity C [--memory-mb N] [--flush-all] [--turns N]",
-            Command::Loopback => "mcgate loopback [--flush-all] [SCRIPT]",
+            Command::Loopback => "mcgate loopback [--flush-all] [--generations N] [SCRIPT]",
             Command::History => "mcgate history FILE",
             Command::Slots => {
                 "mcgate slots [--add HOST:PORT | --remove HOST:PORT] [--pool NAME] [--after FILE ..] [FILE]"
@@ -220,13 +220,20 @@ impl Command {
     pub fn flags(self) -> &'static [&'static str] {
         match self {
             Command::Check => &CHECK_FLAGS,
-            Command::Replay => &["help", "any", "opened", "new-servers", "config"],
+            Command::Replay => &[
+                "help",
+                "any",
+                "opened",
+                "new-servers",
+                "generations",
+                "config",
+            ],
             Command::Plan => &["help", "opened", "new-servers"],
             Command::Where => &["help", "config"],
             Command::Serve => &SERVE_FLAGS,
             Command::Cache => &CACHE_FLAGS,
             Command::Slots => &["help", "add", "remove", "pool", "after"],
-            Command::Loopback => &["help", "flush-all"],
+            Command::Loopback => &["help", "flush-all", "generations"],
             Command::Certify | Command::History | Command::Tell | Command::Help => &["help"],
         }
     }

@@ -335,18 +335,19 @@ fn run_certify<R: Files + Input + AllocGlobal, W: Write>(
     Ok(status)
 }
 
-/// Runs a script over TCP.
+/// Runs a script over TCP, with so many trees at most.
 fn run_loopback<R: Files + Input + AllocGlobal + Net + Clock + Eprint, W: Write>(
     rt: &R,
     file: Option<&str>,
     flushes_new: bool,
+    most: u32,
     out: &mut W,
     details: &mut Details,
 ) -> Result<u8, Stop> {
     let input = input_of(rt, file, details);
-    let status = run_over_tcp(rt, &input, flushes_new, out)?;
+    let status = run_over_tcp(rt, &input, flushes_new, most, out)?;
     let task = Task::Replay {
-        judging: Judging::Asked,
+        judging: Judging::Asked(most),
     };
     tell_of_task(rt, task, file, &input, status, details);
     Ok(status)
@@ -559,7 +560,11 @@ fn run<R: Files + Input + AllocGlobal + Env + Net + Clock + Print + Eprint + Giv
         Job::Where { file, keys } => run_where(rt, file, &keys, out, details),
         Job::Certify { file } => run_certify(rt, file, out, details),
         Job::Slots(job) => run_slots(rt, &job, out, details),
-        Job::Loopback { file, flushes_new } => run_loopback(rt, file, flushes_new, out, details),
+        Job::Loopback {
+            file,
+            flushes_new,
+            most,
+        } => run_loopback(rt, file, flushes_new, most, out, details),
         Job::Cache(job) => serve_cache(rt, job, details),
         Job::Serve(job) => run_serve(rt, job, out, details),
         Job::Tell(job) => tell(rt, &job, out, details),

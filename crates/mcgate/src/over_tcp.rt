@@ -15,11 +15,12 @@ fn loop_text<R: Net + Clock + AllocGlobal, W: Write>(
     rt: &R,
     text: &str,
     flushes_new: bool,
+    most: u32,
     out: &mut W,
 ) -> Result<u8, Stop>
     ensures { RunsBy RunsOverTcp LoopMemoryRefused NeverOverruns text.now (W.contents out.old) (W.contents out.new) result }
 {
-    ended(run_loopback(rt, text, flushes_new, out))
+    ended(run_loopback(rt, text, flushes_new, most, out))
 }
 
 /// Runs the script of an input over TCP, or prints why it is no input. The answer and the faults are as those of
@@ -28,12 +29,13 @@ pub fn run_over_tcp<R: Net + Clock + AllocGlobal, W: Write>(
     rt: &R,
     input: &Result<String, InputFault>,
     flushes_new: bool,
+    most: u32,
     out: &mut W,
 ) -> Result<u8, Stop>
     ensures { AnswersBy RunsOverTcp LoopMemoryRefused NeverOverruns input.now (W.contents out.old) (W.contents out.new) result }
 {
     match input {
-        Ok(text) => loop_text(rt, text.as_str(), flushes_new, out),
+        Ok(text) => loop_text(rt, text.as_str(), flushes_new, most, out),
         Err(fault) => decline(*fault, out),
     }
 }

@@ -20,6 +20,7 @@ use core_accepted::Beginnings;
 use mc_types::{Key, KeyFault};
 use mcgate_check::Form;
 use mcgate_replay::Judging;
+use mcgate_replay::judging::USUAL_GENERATIONS;
 use std::alloc::{AllocError, Global};
 use text_words::number::u32_number;
 
@@ -73,10 +74,12 @@ pub enum Job<'a> {
     },
     /// Print a configuration with a table of slots.
     Slots(SlotsJob<'a>),
-    /// Run a script, of a file or of standard input, over TCP, where new servers are emptied before their first call or not.
+    /// Run a script, of a file or of standard input, over TCP, where new servers are emptied before their first call or not, and so many
+    /// trees are held at most.
     Loopback {
         file: Option<&'a str>,
         flushes_new: bool,
+        most: u32,
     },
     /// Be a cache server.
     Cache(CacheJob<'a>),
@@ -180,7 +183,7 @@ Exit status: 0 accepted, 1 refused, 2 no configuration, 3 memory or a device fai
 ";
 
 const REPLAY_HELP: &str =
-    "usage: mcgate replay [--any] [--opened WORD] [--new-servers WORD] [--config FILE] [SCRIPT]
+    "usage: mcgate replay [--any] [--opened WORD] [--new-servers WORD] [--generations N] [--config FILE] [SCRIPT]
 
 Reads a script, of the file SCRIPT or of standard input: a configuration on its first line, or pool N, and then one event a line,
 or reload and a configuration, which is loaded there.
@@ -193,6 +196,8 @@ Runs it over servers in memory, and prints what each client gets, what became of
   done N commands M calls K stale
                          K replies showed what had been deleted
 --opened and --new-servers say what servers held before, as of mcgate serve; a hold that says otherwise is a bad line.
+With --generations at most N trees are held, the first one among them, and each further one is refused: 1..=4294967295, 16 where it
+is left out.
 A first tree that the gate refuses isn't run, and its refused: line is printed; with --any every tree is run, and a reload is
 unchecked in place of accepted.
 Exit status: 0 done, 1 refused by the gate, 2 bad script, 3 memory or a device failed, or too many calls.
@@ -239,6 +244,11 @@ pub fn count_of(given: &ArgMatches<'_>, name: &str) -> Result<Option<u32>, Argum
     }
 }
 
+/// How many trees a script has at most, by the flag `--generations N`.
+pub fn most_of(given: &ArgMatches<'_>) -> Result<u32, ArgumentsFault> {
+    Ok(count_of(given, "generations")?.unwrap_or(USUAL_GENERATIONS))
+}
+
 fn check_command<'a>(alloc: Global) -> Result<Command<'a>, AllocError> {
     let explain = Arg::new(alloc, "explain")
         .long("explain")
@@ -268,6 +278,7 @@ fn replay_command<'a>(alloc: Global) -> Result<Command<'a>, AllocError> {
         .arg(switch(alloc, "any"))?
         .arg(option(alloc, "opened"))?
         .arg(option(alloc, "new-servers"))?
+        .arg(option(alloc, "generations"))?
         .arg(config)?
         .arg(Arg::new(alloc, "SCRIPT"))
 }
@@ -440,7 +451,7 @@ fn plain_job<'a>(given: &ArgMatches<'a>) -> Job<'a> {
     }
     Job::Run {
         task: Task::Replay {
-            judging: Judging::Asked,
+            judging: Judging::Asked(USUAL_GENERATIONS),
         },
         file: None,
     }
@@ -450,8 +461,8 @@ fn plain_job<'a>(given: &ArgMatches<'a>) -> Job<'a> {
 /// [--with FILE ..] [FILE]`, `certify [FILE]`, `replay [--any] [--config FILE] [SCRIPT]`, `where --config FILE KEY..`, `history FILE`,
 /// `plan OLD NEW`, these but `certify`, `where` and `history` also with `--opened WORD` and `--new-servers WORD`,
 /// `tell PATH WORD [KEY]`, `slots [--add ADDR | --remove ADDR] [--pool NAME] [--after FILE ..] [FILE]`,
-/// `cache --listen HOST:PORT --capacity C [--memory-mb N] [--turns N]`, `loopback [--flush-all] [SCRIPT]`, `serve` with its
-/// flags, or none at all after it, which is `replay`. Also `help [COMMAND]`, `-h` and `--help`, before or after a command, and `--version`.
+/// `cache --listen HOST:PORT --capacity C [--memory-mb N] [--turns N]`, `loopback [--flush-all] [SCRIPT]`, this one and `replay` also
+/// with `--generations N`, `serve` with its flags, or none at all after it, which is `replay`. Also `help [COMMAND]`, `-h` and `--help`, before or after a command, and `--version`.
 ///
 /// A KEY that is none is [`ArgumentsFault::Key`], and any other arguments are [`ArgumentsFault::Refused`].
 pub fn read_arguments<'a>(
@@ -467,7 +478,7 @@ pub fn read_arguments<'a>(
         Some(("certify", given)) => Ok(certify_job(given)),
         Some(("where", given)) => where_job(alloc, given),
         Some(("cache", given)) => cache_job(given),
-        Some(("loopback", given)) => Ok(loopback_job(given)),
+        Some(("loopback", given)) => loopback_job(given),
         Some(("serve", given)) => serve_job(given),
         Some(("history", given)) => history_job(given),
         Some(("slots", given)) => slots_job(alloc, given),

@@ -1,6 +1,6 @@
 //! What arguments say of how servers began.
 
-use crate::arguments::ArgumentsFault;
+use crate::arguments::{ArgumentsFault, most_of};
 use clap::ArgMatches;
 use core_accepted::{Beginning, Beginnings};
 use mcgate_replay::Judging;
@@ -36,12 +36,14 @@ pub fn flushes_new(given: &ArgMatches<'_>) -> bool {
     given.get_str("new-servers") == Some("flush")
 }
 
-/// How the trees of a script are judged, by these flags and `--any`, beside which they say nothing.
+/// How the trees of a script are judged, and how many are held, by these flags, `--generations N` and `--any`, beside which they say
+/// nothing.
 pub fn judging_of(given: &ArgMatches<'_>) -> Result<Judging, ArgumentsFault> {
     let begun = begun_of(given)?;
+    let most = most_of(given)?;
     Ok(match (given.get_flag("any"), begun.opened, begun.added) {
         (true, _, _) => Judging::Any,
-        (false, Beginning::Any, Beginning::Any) => Judging::Asked,
-        (false, _, _) => Judging::Begun(begun),
+        (false, Beginning::Any, Beginning::Any) => Judging::Asked(most),
+        (false, _, _) => Judging::Begun(begun, most),
     })
 }

@@ -298,7 +298,7 @@ impl Details {
         bad: Option<BadLine<'_>>,
     ) {
         match (judging, bad) {
-            (Judging::Begun(_), None) if is_script(alloc, text) => {
+            (Judging::Begun(_, _), None) if is_script(alloc, text) => {
                 self.add(excluded_line(alloc, name));
             }
             (_, bad) => self.add_all(lines_of_input(alloc, name, text, bad)),
@@ -320,8 +320,8 @@ impl Details {
                 self.add_all(lines_of_bad_line(alloc, name, text.as_str(), bad));
             }
             (Ok(_), None) => match judging {
-                Judging::Begun(_) => self.add(excluded_line(alloc, name)),
-                Judging::Any | Judging::Asked => {}
+                Judging::Begun(_, _) => self.add(excluded_line(alloc, name)),
+                Judging::Any | Judging::Asked(_) => {}
             },
         }
     }

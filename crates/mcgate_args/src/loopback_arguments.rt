@@ -1,10 +1,10 @@
 //! The arguments of `mcgate loopback`, and what they ask for.
 
-use crate::arguments::{Job, help_flag, switch};
+use crate::arguments::{ArgumentsFault, Job, help_flag, most_of, option, switch};
 use clap::{Arg, ArgMatches, Command};
 use std::alloc::{AllocError, Global};
 
-pub const LOOPBACK_HELP: &str = "usage: mcgate loopback [--flush-all] [SCRIPT]
+pub const LOOPBACK_HELP: &str = "usage: mcgate loopback [--flush-all] [--generations N] [SCRIPT]
 
 Reads a script, of the file SCRIPT or of standard input: a configuration on its first line, or pool N, and then one event a line,
 or reload and a configuration, which is loaded there.
@@ -14,6 +14,7 @@ system picks. It prints what mcgate replay prints, but no count of stale replies
   done N commands M calls
   --flush-all            servers that a reload brings are emptied by `flush_all` before all else, and judged by that, as those of
                          mcgate serve --new-servers flush; without it that line is an ERROR
+  --generations N        at most N trees are held, the first one among them: 1..=4294967295, 16 where it is left out
 A tree that the gate refuses isn't run, and its refused: line is printed.
 Exit status: 0 done, 1 refused by the gate, 2 bad script, 3 memory, a device or a socket failed.
 ";
@@ -24,16 +25,18 @@ pub fn loopback_command<'a>(alloc: Global) -> Result<Command<'a>, AllocError> {
         .disable_help_flag(true)
         .arg(help_flag(alloc))?
         .arg(switch(alloc, "flush-all"))?
+        .arg(option(alloc, "generations"))?
         .arg(Arg::new(alloc, "SCRIPT"))
 }
 
 /// What the arguments after `loopback` ask for.
-pub fn loopback_job<'a>(given: &ArgMatches<'a>) -> Job<'a> {
+pub fn loopback_job<'a>(given: &ArgMatches<'a>) -> Result<Job<'a>, ArgumentsFault> {
     if given.get_flag("help") {
-        return Job::Print(LOOPBACK_HELP);
+        return Ok(Job::Print(LOOPBACK_HELP));
     }
-    Job::Loopback {
+    Ok(Job::Loopback {
         file: given.get_str("SCRIPT"),
         flushes_new: given.get_flag("flush-all"),
-    }
+        most: most_of(given)?,
+    })
 }

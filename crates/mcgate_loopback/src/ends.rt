@@ -5,7 +5,6 @@ use crate::entries::Entry;
 use crate::servers::ServerEnds;
 use core_accepted::LoadFault;
 use core_proxy::Sharing;
-use gate_check::reloading::MOST_GENERATIONS;
 use gate_check::{Accepted, ReloadFault};
 use mc_types::limits::SCRIPT_CLIENTS;
 use route_json::Config;
@@ -48,6 +47,8 @@ pub struct Ends {
     received: u64,
     // The number of the configuration in use, counted from 1.
     generation: u32,
+    // How many configurations are held at most.
+    most: u32,
 }
 
 // 127.0.0.1, at a port that the system picks.
@@ -140,12 +141,13 @@ fn push_output(place: usize, bytes: Vec<u8>, shown: &mut Vec<Entry>) -> Result<(
 
 impl Ends {
     /// A proxy over an accepted configuration and so many servers, which hold nothing. Each listens at a port that the system picks. Those that a reload
-    /// brings are emptied by `flush_all` before their first call, or none is.
+    /// brings are emptied by `flush_all` before their first call, or none is. So many configurations are held at most.
     pub fn open<R: Net + Clock + AllocGlobal>(
         rt: &R,
         accepted: Accepted,
         servers: usize,
         flushes_new: bool,
+        most: u32,
     ) -> io::Result<Ends> {
         let alloc = rt.alloc();
         let servers = ServerEnds::listen(rt, alloc, servers, any_port(), flushes_new)?;
@@ -164,10 +166,15 @@ impl Ends {
         if flushes_new {
             empty_new(&mut proxy, first, addresses.len());
         }
-        Ends::of(alloc, proxy, servers)
+        Ends::of(alloc, proxy, servers, most)
     }
 
-    fn of(alloc: Global, proxy: ProxyEnd<Sockets>, servers: ServerEnds) -> io::Result<Ends> {
+    fn of(
+        alloc: Global,
+        proxy: ProxyEnd<Sockets>,
+        servers: ServerEnds,
+        most: u32,
+    ) -> io::Result<Ends> {
         let address = proxy.wire().local_addr()?;
         let clients = no_clients(alloc)?;
         Ok(Ends {
@@ -179,6 +186,7 @@ impl Ends {
             sent: 0,
             received: 0,
             generation: 1,
+            most,
         })
     }
 
@@ -216,10 +224,10 @@ impl Ends {
         Ok(self.give_all(shown)?)
     }
 
-    /// A configuration is to be in use. The answer is the number of its generation, or why it was refused. A run has as many
-    /// configurations as one of `mcgate_replay`, at most [`MOST_GENERATIONS`].
+    /// A configuration is to be in use. The answer is the number of its generation, or why it was refused: as in a run of `mcgate_replay`
+    /// where as many are held as may be.
     pub fn load(&mut self, config: &Config) -> io::Result<Result<u32, ReloadFault>> {
-        if self.generation as usize >= MOST_GENERATIONS {
+        if self.generation >= self.most {
             return Ok(Err(ReloadFault::TooManyGenerations));
         }
         self.load_next(config)

@@ -37,10 +37,11 @@ fn drive_ends<R: Net + Clock + AllocGlobal>(
     accepted: Accepted,
     script: &ConfiguredScript,
     flushes_new: bool,
+    most: u32,
     shown: &mut Vec<Entry>,
 ) -> io::Result<Counts> {
     let servers = script.server_count() as usize;
-    let mut ends = Ends::open(rt, accepted, servers, flushes_new)?;
+    let mut ends = Ends::open(rt, accepted, servers, flushes_new, most)?;
     drive(
         rt,
         &mut ends,
@@ -77,13 +78,14 @@ fn run_accepted<R: Net + Clock + AllocGlobal, W: Write>(
     accepted: Accepted,
     script: &ConfiguredScript,
     flushes_new: bool,
+    most: u32,
     out: &mut W,
 ) -> Result<u8, RunFault>
     ensures ok { IfOk result (λ status. (status ≡ 0) × WritesRun script.now.reloads.items (W.contents out.old) (W.contents out.new)) }
     ensures err { IfErr result (BreaksOff (W.contents out.old) (W.contents out.new)) }
 {
     let mut shown = Vec::new(rt.alloc());
-    let driven = drive_ends(rt, accepted, script, flushes_new, &mut shown);
+    let driven = drive_ends(rt, accepted, script, flushes_new, most, &mut shown);
     write_driven(&driven, script.reloads.as_slice(), shown.as_slice(), out)
 }
 
@@ -92,6 +94,7 @@ fn run_good<R: Net + Clock + AllocGlobal, W: Write>(
     rt: &R,
     script: &ConfiguredScript,
     flushes_new: bool,
+    most: u32,
     out: &mut W,
 ) -> Result<u8, RunFault>
     ensures ok { IfOk result (RunsGood script.now.config script.now.reloads.items (W.contents out.old) (W.contents out.new)) }
@@ -99,7 +102,7 @@ fn run_good<R: Net + Clock + AllocGlobal, W: Write>(
 {
     let first = script.config.copy(rt.alloc())?;
     match judge(rt.alloc(), first) {
-        Ok(accepted) => run_accepted(rt, accepted, script, flushes_new, out),
+        Ok(accepted) => run_accepted(rt, accepted, script, flushes_new, most, out),
         Err(refused) => print_refused(&refused.config, &refused.reason, out),
     }
 }
@@ -109,6 +112,7 @@ fn run_script<R: Net + Clock + AllocGlobal, W: Write>(
     rt: &R,
     configured: &ConfiguredScript,
     flushes_new: bool,
+    most: u32,
     out: &mut W,
 ) -> Result<u8, RunFault>
     requires { length configured.now.lines.items ≡ length configured.now.script.events.items }
@@ -121,7 +125,7 @@ fn run_script<R: Net + Clock + AllocGlobal, W: Write>(
             write_bad_line(line, out)?;
             Ok(BAD_INPUT)
         }
-        None => run_good(rt, configured, flushes_new, out),
+        None => run_good(rt, configured, flushes_new, most, out),
     }
 }
 
@@ -130,6 +134,7 @@ fn run_read<R: Net + Clock + AllocGlobal, W: Write>(
     rt: &R,
     read: Result<ConfiguredScript, ScriptFault>,
     flushes_new: bool,
+    most: u32,
     out: &mut W,
 ) -> Result<u8, RunFault>
     requires { IsReading read }
@@ -137,7 +142,7 @@ fn run_read<R: Net + Clock + AllocGlobal, W: Write>(
     ensures err { IfErr result (BreaksOff (W.contents out.old) (W.contents out.new)) }
 {
     match read {
-        Ok(configured) => run_script(rt, &configured, flushes_new, out),
+        Ok(configured) => run_script(rt, &configured, flushes_new, most, out),
         Err(ScriptFault::Config(fault)) => {
             write_config_fault(&fault, out)?;
             Ok(BAD_INPUT)
@@ -154,12 +159,13 @@ fn run_text<R: Net + Clock + AllocGlobal, W: Write>(
     rt: &R,
     text: &str,
     flushes_new: bool,
+    most: u32,
     out: &mut W,
 ) -> Result<u8, RunFault>
     ensures ok { IfOk result (Runs text.now (W.contents out.old) (W.contents out.new)) }
     ensures err { IfErr result (BreaksOff (W.contents out.old) (W.contents out.new)) }
 {
-    run_read(rt, read_script(rt.alloc(), text), flushes_new, out)
+    run_read(rt, read_script(rt.alloc(), text), flushes_new, most, out)
 }
 
 /// Runs a script with proxy, clients and servers as ends of TCP connections on 127.0.0.1, all in this thread, and prints what each
@@ -170,7 +176,8 @@ fn run_text<R: Net + Clock + AllocGlobal, W: Write>(
 /// asked, the least first, so that calls are made in the order in which a replay makes them. One that is to fail before it is applied is cut off; of one that is to fail after
 /// that the answer comes too late: the link is dropped before. Of one that is to be cut the first bytes come, and junk in an answer's
 /// place, and then the server ends the link. What servers hold, lose, and take for the time is set directly. Where new servers are to be flushed,
-/// each that a reload brings is emptied by `flush_all` before its first call, and reloads are judged by that.
+/// each that a reload brings is emptied by `flush_all` before its first call, and reloads are judged by that. So many configurations are held
+/// at most, and a further one is refused.
 ///
 /// The answer is the program's exit status, `DONE`, `REFUSED` or `BAD_INPUT`; or else `NO_MEMORY` where memory was refused: then
 /// nothing was printed, or some of what clients got; or `WRITER` where the output could not be written, or a socket failed.
@@ -180,13 +187,14 @@ pub fn run_loopback<R: Net + Clock + AllocGlobal, W: Write>(
     rt: &R,
     text: &str,
     flushes_new: bool,
+    most: u32,
     out: &mut W,
 ) -> u8
     ensures status { result ≤ 4 }
     ensures wrote { result ≤ 2 → Runs text.now (W.contents out.old) (W.contents out.new) result }
     ensures refused { result ≡ 3 → BreaksOff (W.contents out.old) (W.contents out.new) RunFault.NoMemory }
 {
-    match run_text(rt, text, flushes_new, out) {
+    match run_text(rt, text, flushes_new, most, out) {
         Ok(status) => status,
         Err(fault) => answer_of(fault),
     }

@@ -18,7 +18,8 @@ use Rattle.route_json.specs.Configuration.{Configuration}
 use Rattle.gate_check.specs.Sound.{AreLoaded, IsLast, trees_of}
 use Rattle.gate_growth.specs.Grown.{AreSoundSince, OpensBy}
 use Rattle.gate_growth.specs.Puts.{Puts}
-use Rattle.gate_growth.specs.Ledgers.{IsUnsoundFor}
+use Rattle.gate_check.specs.declared.reloading.ReloadFault.{ReloadFault}
+use Rattle.gate_growth.specs.Ledgers.{most_generations, IsUnsoundFor}
 use Rattle.gate_growth.specs.declared.ledger.unsound.Unsound.{Unsound}
 use Rattle.gate_growth.specs.declared.ledger.unsound.Unsound.TheVariants as reasons
 use Rattle.gate_growth.proofs.Since.{grown_are_fresh}
@@ -44,36 +45,60 @@ use Rattle.script_run.specs.declared.accepted.judging.Loading.TheVariants.{Loade
 use Rattle.script_run.proofs.Accepting.{tree_at_number}
 use Rattle.script_run.proofs.Loadings.{accepted_in, accepted_rise, last_of_more, more_at, after_none, after_one}
 use Rattle.script_run.proofs.Steppings.{have_come, alone}
-use Rattle.mcgate_replay.specs.Growing.{MayNotFollow, JudgesNext, JudgesAll, loading_of}
+use Rattle.mcgate_replay.specs.Growing.{MayNotFollow, ForAnyReason, JudgesNext, JudgesAll, AreFollowed, IsFew, held_after, loading_of}
 
 -- ---- answers in order
 
 -- what is told of a refusal, running out of memory aside
-pub told_refused : {E : Type 0} (known known' : Known) (r : Reload) (unsound : Unsound) (o : Option Loading) (e : E) → o ≡ loading_of unsound
-    → (known' ≡ known) × IsUnsoundFor (is_arbitrary known) (trees_of known.configs) r.config.tree unsound → IfOk (ok_or o e) (λ l. JudgesNext known r l known')
-told_refused known known' r unsound o e is why = subst (λ (p : Option Loading). IfOk (ok_or p e) (λ l. JudgesNext known r l known')) (sym is) (by unsound why)
+pub told_refused : {E : Type 0} (most : ℕ) (known known' : Known) (r : Reload) (unsound : Unsound) (o : Option Loading) (e : E) → most ≤ most_generations → o ≡ loading_of unsound
+    → (known' ≡ known) × IsUnsoundFor (is_arbitrary known) (trees_of known.configs) r.config.tree unsound → IfOk (ok_or o e) (λ l. JudgesNext (MayNotFollow most) known r l known')
+told_refused most known known' r unsound o e numbered is why = subst (λ (p : Option Loading). IfOk (ok_or p e) (λ l. JudgesNext (MayNotFollow most) known r l known')) (sym is) (by unsound why)
   where
-    by : (u : Unsound) → (known' ≡ known) × IsUnsoundFor (is_arbitrary known) (trees_of known.configs) r.config.tree u → IfOk (ok_or (loading_of u) e) (λ l. JudgesNext known r l known')
-    by reasons.TooManyGenerations h = h
+    by : (u : Unsound) → (known' ≡ known) × IsUnsoundFor (is_arbitrary known) (trees_of known.configs) r.config.tree u → IfOk (ok_or (loading_of u) e) (λ l. JudgesNext (MayNotFollow most) known r l known')
+    by reasons.TooManyGenerations h = let many = h.1 in (h.0, omega (arith, numbered, many))
     by reasons.TooManyPlaces h = h
     by (reasons.Left generation gap) h = h
     by reasons.NoMemory h = tt
 
-judged_more : (known mid new : Known) (rs : List Reload) (ls : List Loading) (r : Reload) (l : Loading) → JudgesAll known rs ls mid → JudgesNext mid r l new → JudgesAll known (rs ++ r ∷ []) (ls ++ l ∷ []) new
-judged_more known mid new [] [] r l e j = (new, subst (λ (k : Known). JudgesNext k r l new) e j, refl)
-judged_more known mid new [] (x ∷ ls) r l e j = absurd e
-judged_more known mid new (y ∷ rs) [] r l e j = absurd e
-judged_more known mid new (y ∷ rs) (x ∷ ls) r l e j = (e.0, e.1, judged_more e.0 mid new rs ls r l e.2 j)
+-- as many are held then as before
+pub few_told : {E : Type 0} (most held : ℕ) (unsound : Unsound) (o : Option Loading) (e : E) → o ≡ loading_of unsound → IsFew most held → IfOk (ok_or o e) (λ l. IsFew most (held_after held l))
+few_told most held unsound o e is few = subst (λ (p : Option Loading). IfOk (ok_or p e) (λ l. IsFew most (held_after held l))) (sym is) (by unsound)
+  where
+    by : (u : Unsound) → IfOk (ok_or (loading_of u) e) (λ l. IsFew most (held_after held l))
+    by reasons.TooManyGenerations = few
+    by reasons.TooManyPlaces = few
+    by (reasons.Left generation gap) = few
+    by reasons.NoMemory = tt
 
-pub one_more_judged : (known mid new : Known) (reloads : List Reload) (i : ℕ) (ls : List Loading) (r : Reload) (l : Loading) → i < length reloads → r ≡ get_or reloads i r
-    → JudgesAll known (take i reloads) ls mid → JudgesNext mid r l new → JudgesAll known (take (i + 1) reloads) (ls ++ l ∷ []) new
-one_more_judged known mid new reloads i ls r l lt is j one =
-    subst (λ (rs : List Reload). JudgesAll known rs (ls ++ l ∷ []) new) (sym (one_more_taken reloads i r lt is)) (judged_more known mid new (take i reloads) ls r l j one)
+module _ (Why : Known → Route → ReloadFault → Type 0) where
+  judged_more : (known mid new : Known) (rs : List Reload) (ls : List Loading) (r : Reload) (l : Loading) → JudgesAll Why known rs ls mid → JudgesNext Why mid r l new → JudgesAll Why known (rs ++ r ∷ []) (ls ++ l ∷ []) new
+  judged_more known mid new [] [] r l e j = (new, subst (λ (k : Known). JudgesNext Why k r l new) e j, refl)
+  judged_more known mid new [] (x ∷ ls) r l e j = absurd e
+  judged_more known mid new (y ∷ rs) [] r l e j = absurd e
+  judged_more known mid new (y ∷ rs) (x ∷ ls) r l e j = (e.0, e.1, judged_more e.0 mid new rs ls r l e.2 j)
+
+  pub one_more_judged : (known mid new : Known) (reloads : List Reload) (i : ℕ) (ls : List Loading) (r : Reload) (l : Loading) → i < length reloads → r ≡ get_or reloads i r
+      → JudgesAll Why known (take i reloads) ls mid → JudgesNext Why mid r l new → JudgesAll Why known (take (i + 1) reloads) (ls ++ l ∷ []) new
+  one_more_judged known mid new reloads i ls r l lt is j one =
+      subst (λ (rs : List Reload). JudgesAll Why known rs (ls ++ l ∷ []) new) (sym (one_more_taken reloads i r lt is)) (judged_more known mid new (take i reloads) ls r l j one)
+
+  -- how many are held then
+  pub held_then : (known known' : Known) (r : Reload) (l : Loading) (held : ℕ) → JudgesNext Why known r l known' → held ≡ length known.configs → held_after held l ≡ length known'.configs
+  held_then known known' r (Loaded n) held j is = j.1
+  held_then known known' r (Refused fault) held j is = is ∙ ap (λ (k : Known). length k.configs) (sym j.0)
+
+  -- what was answered for such reasons was for some
+  pub anyhow : (known known' : Known) (rs : List Reload) (ls : List Loading) → JudgesAll Why known rs ls known' → JudgesAll ForAnyReason known rs ls known'
+  anyhow known known' [] [] e = e
+  anyhow known known' [] (l ∷ ls) e = absurd e
+  anyhow known known' (r ∷ rs) [] e = absurd e
+  anyhow known known' (r ∷ rs) (Loaded n ∷ ls) e = (e.0, e.1, anyhow e.0 known' rs ls e.2)
+  anyhow known known' (r ∷ rs) (Refused fault ∷ ls) e = (e.0, (e.1.0, tt), anyhow e.0 known' rs ls e.2)
 
 -- ---- what stays
 
 -- nothing that was accepted is lost
-kept_at : (known known' : Known) (rs : List Reload) (ls : List Loading) → JudgesAll known rs ls known' → (i : ℕ) (c : Configuration) → slice_get known.configs i ≡ Some c → slice_get known'.configs i ≡ Some c
+kept_at : (known known' : Known) (rs : List Reload) (ls : List Loading) → JudgesAll ForAnyReason known rs ls known' → (i : ℕ) (c : Configuration) → slice_get known.configs i ≡ Some c → slice_get known'.configs i ≡ Some c
 kept_at known known' [] [] e i c at = ap (λ (k : Known). slice_get k.configs i) e ∙ at
 kept_at known known' [] (l ∷ ls) e i c at = absurd e
 kept_at known known' (r ∷ rs) [] e i c at = absurd e
@@ -81,14 +106,7 @@ kept_at known known' (r ∷ rs) (Loaded n ∷ ls) e i c at = kept_at e.0 known' 
 kept_at known known' (r ∷ rs) (Refused fault ∷ ls) e i c at = kept_at e.0 known' rs ls e.2 i c (ap (λ (k : Known). slice_get k.configs i) e.1.0 ∙ at)
 
 -- nor how servers began
-same_begun : (known known' : Known) (rs : List Reload) (ls : List Loading) → JudgesAll known rs ls known' → known'.begun ≡ known.begun
-same_begun known known' [] [] e = ap (λ (k : Known). k.begun) e
-same_begun known known' [] (l ∷ ls) e = absurd e
-same_begun known known' (r ∷ rs) [] e = absurd e
-same_begun known known' (r ∷ rs) (Loaded n ∷ ls) e = same_begun e.0 known' rs ls e.2 ∙ ap (λ (k : Known). k.begun) e.1.0
-same_begun known known' (r ∷ rs) (Refused fault ∷ ls) e = same_begun e.0 known' rs ls e.2 ∙ ap (λ (k : Known). k.begun) e.1.0
-
-same_arbitrary : (known known' : Known) (rs : List Reload) (ls : List Loading) → JudgesAll known rs ls known' → (s : ℕ) → is_arbitrary known' s ≡ is_arbitrary known s
+same_arbitrary : (known known' : Known) (rs : List Reload) (ls : List Loading) → JudgesAll ForAnyReason known rs ls known' → (s : ℕ) → is_arbitrary known' s ≡ is_arbitrary known s
 same_arbitrary known known' [] [] e s = ap (λ (k : Known). is_arbitrary k s) e
 same_arbitrary known known' [] (l ∷ ls) e s = absurd e
 same_arbitrary known known' (r ∷ rs) [] e s = absurd e
@@ -104,17 +122,22 @@ begun_first accepted c begun first one made =
     let same : c ≡ made.0 = same_config c made.0 (subst (λ (cs : List Configuration). IsLast cs made.0) one made.1) in
     made.2 ∙ ap (λ (d : Configuration). first_of d begun) (sym same)
 
--- what it was asked of, and how servers began then
-pub judged_since : (c : Configuration) (begun : Beginnings) (first known : Known) (rs : List Reload) (ls : List Loading) → first ≡ first_of c begun → JudgesAll first rs ls known → JudgesAll (first_of c begun) rs ls known × (known.begun ≡ begun)
-judged_since c begun first known rs ls is judged =
-    let j = subst (λ (k : Known). JudgesAll k rs ls known) is judged in
-    (j, same_begun (first_of c begun) known rs ls j)
+-- what it was asked of
+pub judged_of : (Why : Known → Route → ReloadFault → Type 0) (c : Configuration) (begun : Beginnings) (first known : Known) (rs reloads : List Reload) (ls : List Loading) → first ≡ first_of c begun → rs ≡ reloads → JudgesAll Why first rs ls known
+    → JudgesAll Why (first_of c begun) reloads ls known
+judged_of Why c begun first known rs reloads ls is same judged =
+    subst (λ (x : List Reload). JudgesAll Why (first_of c begun) x ls known) same (subst (λ (k : Known). JudgesAll Why k rs ls known) is judged)
+
+pub begun_followed : (most : ℕ) (c : Configuration) (begun : Beginnings) (known : Known) (rs : List Reload) (ls : List Loading) (events : List Scripted) → JudgesAll (MayNotFollow most) (first_of c begun) rs ls known
+    → Each IsTree (trees_of known.configs) → AreSoundSince (is_arbitrary known) (trees_of known.configs) → BeginSo c begun (opening_of events) → AreFollowed c rs ls events
+begun_followed most c begun known rs ls events judged are sound begins =
+    record { begun = begun; known = known; judged = anyhow (MayNotFollow most) (first_of c begun) known rs ls judged; trees_are = are; sound = sound; begins = begins }
 
 same_some : (a b : Route) → Some a ≡ Some b → a ≡ b
 same_some a b e = cc
 
 -- servers that began so began so for all generations
-opens_more : (c : Configuration) (begun : Beginnings) (known' : Known) (rs : List Reload) (ls : List Loading) (opening : ℕ → List ℕ → Option Item) → JudgesAll (first_of c begun) rs ls known' → BeginSo c begun opening
+opens_more : (c : Configuration) (begun : Beginnings) (known' : Known) (rs : List Reload) (ls : List Loading) (opening : ℕ → List ℕ → Option Item) → JudgesAll ForAnyReason (first_of c begun) rs ls known' → BeginSo c begun opening
     → OpensBy (is_arbitrary known') (trees_of known'.configs) opening
 opens_more c begun known' rs ls opening judged opens server key own =
     by (opens server key (sym (same_arbitrary (first_of c begun) known' rs ls judged server) ∙ own))
@@ -130,7 +153,7 @@ opens_more c begun known' rs ls opening judged opens server key own =
 -- ---- the trees in use are generations
 
 -- the tree in use after so many reloads is one of them
-loaded_at : (known known' : Known) (rs : List Reload) (ls : List Loading) (c : Configuration) → JudgesAll known rs ls known' → 0 < length known.configs → IsLast known.configs c
+loaded_at : (known known' : Known) (rs : List Reload) (ls : List Loading) (c : Configuration) → JudgesAll ForAnyReason known rs ls known' → 0 < length known.configs → IsLast known.configs c
     → (k : ℕ) → slice_get (trees_of known'.configs) ((length known.configs - 1) + accepted_in ls k) ≡ Some (tree_after c.tree (map is_refused ls) rs k)
 loaded_at known known' [] (l ∷ ls) c j some last k = absurd j
 loaded_at known known' (r ∷ rs) [] c j some last k = absurd j
@@ -160,7 +183,7 @@ loaded_at known known' (r ∷ rs) (Refused fault ∷ ls) c j some last (suc k) =
 
 -- ---- freshness
 
-module _ (c : Configuration) (begun : Beginnings) (known : Known) (rs : List Reload) (ls : List Loading) (events : List Scripted) (judged : JudgesAll (first_of c begun) rs ls known)
+module _ (c : Configuration) (begun : Beginnings) (known : Known) (rs : List Reload) (ls : List Loading) (events : List Scripted) (judged : JudgesAll ForAnyReason (first_of c begun) rs ls known)
     (are : Each IsTree (trees_of known.configs)) (sound : AreSoundSince (is_arbitrary known) (trees_of known.configs)) (opens : BeginSo c begun (opening_of events)) where
   grown_loaded : (many : ℕ) (loads : List (ℕ × Route)) → loaded_trees loads ≡ trees_loaded (map is_refused ls) rs many → AreLoaded (trees_of known.configs) (tree_by c.tree loads)
   grown_loaded many loads is =

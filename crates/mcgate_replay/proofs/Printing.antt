@@ -20,19 +20,15 @@ use Rattle.script_events.specs.declared.script.DriveFault.{DriveFault}
 use Rattle.script_events.specs.declared.script.DriveFault.TheVariants as faults
 use Rattle.script_events.specs.Scripted.{Scripted, Shown, shown_by, scripted_of}
 use Rattle.script_events.specs.Bad.{first_bad}
-use Rattle.gate_check.specs.Gate.{IsCertified}
-use Rattle.gate_check.specs.Sound.{IsLast, AreGenerations, trees_of}
 use Rattle.gate_check.specs.Reload.{AreKept}
 use Rattle.script_events.specs.declared.text.configured.ScriptFault.{ScriptFault}
 use Rattle.script_run.specs.declared.accepted.judging.Loading.{Loading}
-use Rattle.script_run.specs.Reloads.{InUse, AreChained, AreJudged, Judges, is_refused}
 use Rattle.mcgate_check.specs.Checking.{PrintsRefused, StopsUnwritten}
 use Rattle.mcgate_check.specs.declared.status.RunFault.{RunFault}
 use Rattle.mcgate_check.specs.declared.status.RunFault.TheVariants.{NoMemory, Writer, TooManyCalls}
 use Rattle.mcgate_replay.specs.declared.judging.Judging.{Judging}
-use Rattle.mcgate_replay.specs.declared.judging.Judging.TheVariants.{Asked}
 use Rattle.mcgate_replay.specs.Growing.{is_any, excluded_by}
-use Rattle.mcgate_replay.specs.Replay.{ReplaysTold, excluded_line, bad_line_by, RunsScript, RunsGood, BreaksTreeOff, BreaksScriptOff, BreaksOff, BrokeOff, run_fault_of, AreLoadings, HasReloads, events_of, reloads_of, servers_of, load_line, load_lines, with_loads}
+use Rattle.mcgate_replay.specs.Replay.{ReplaysTold, excluded_line, bad_line_by, RunsScript, RunsGood, BreaksTreeOff, BreaksScriptOff, BreaksOff, BrokeOff, run_fault_of, HasReloads, events_of, reloads_of, servers_of, load_line, load_lines, with_loads}
 
 pub both_written : (old mid new : Option (List ℕ)) (a b : List ℕ) → Appends old mid a → Appends mid new b → Appends old new (a ++ b)
 both_written None mid new a b x y = tt
@@ -113,28 +109,6 @@ first_few used (r ∷ rs) chained =
     let one = no_fewer used r.config.servers chained.0 in
     let more = first_few r.config.servers rs chained.1 in
     omega (arith, one, more)
-
-pub chained_also : (used : Addresses) (rs : List Reload) → AreChainedFrom used rs → AreChained used rs
-chained_also used [] chained = chained
-chained_also used (r ∷ rs) chained = (chained.0, chained_also r.config.servers rs chained.1)
-
-same : (a b : Configuration) → Some a ≡ Some b → a ≡ b
-same a b e = cc
-
--- what the gate is asked for, the first configuration alone being in use
-pub chain_in_use : (script : ConfiguredScript) (accepted : List Configuration) (rs : List Reload) → rs ≡ reloads_of script → accepted ≡ script.config ∷ [] → HasReloads script → InUse accepted (λ config. AreChained config.servers rs)
-chain_in_use script accepted rs rs_are one has config last =
-    let is = same script.config config (subst (λ (cs : List Configuration). IsLast cs config) one last) in
-    subst (λ (x : List Reload). AreChained config.servers x) (sym rs_are)
-    (subst (λ (c : Configuration). AreChained c.servers (reloads_of script)) is (chained_also script.config.servers (reloads_of script) has.chained))
-
-pub are_judged : (first : Configuration) (rs : List Reload) (ls : List Loading) (refused : List Bool) (before accepted : List Configuration) → before ≡ first ∷ [] → Judges before rs ls accepted → refused ≡ map is_refused ls → AreJudged first rs ls refused accepted
-are_judged first rs ls refused before accepted one judged are =
-    record { configs = before; first_is = subst (λ (cs : List Configuration). IsLast cs first) (sym one) refl; judged = judged; refused_are = are }
-
-pub are_loadings : (first : Configuration) (reloads rs : List Reload) (ls : List Loading) (before accepted : List Configuration) → rs ≡ reloads → IsCertified first.tree → before ≡ first ∷ [] → Judges before rs ls accepted → AreGenerations (trees_of accepted) → AreLoadings Asked first reloads ls
-are_loadings first reloads rs ls before accepted rs_are certified one judged generations =
-    (certified, accepted, subst (λ (x : List Reload). Judges (first ∷ []) x ls accepted) rs_are (subst (λ (cs : List Configuration). Judges cs rs ls accepted) one judged), generations)
 
 pub has_reloads : (read : Result ConfiguredScript ScriptFault)
     → IfOk read (λ s. AreInOrder (length s.script.events.items) (length (servers_known s.config.servers s.reloads.items)) 0 s.reloads.items)

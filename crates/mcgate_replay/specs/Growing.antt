@@ -1,21 +1,25 @@
 -- Scripts whose servers began as is said, and what the gate answers then to what they load. Source: mcgate's own.
-use Rattle.std.specs.Prelude.{◌≡◌, ℕ, suc, ◌+◌, Bool, true, false, not, ◌&&◌, List, [], ◌∷◌, ◌++◌, length, nat_lt, Option, Some, None, ◌≤◌, if◌then◌else◌}
+use Rattle.std.specs.Prelude.{◌≡◌, ℕ, suc, ◌+◌, Bool, true, false, not, ◌&&◌, List, [], ◌∷◌, ◌++◌, length, nat_lt, Option, Some, None, ◌≤◌, ◌⊎◌, if◌then◌else◌}
 use Rattle.route_tree.specs.At.{tree_at}
-use Rattle.route_tree.specs.Route.{Route}
+use Rattle.route_tree.specs.Each.{Each}
+use Rattle.route_tree.specs.Route.{Route, IsTree}
 use Rattle.route_json.specs.Configuration.{Configuration}
 use Rattle.gate_check.specs.Sound.{trees_of}
 use Rattle.gate_check.specs.declared.reloading.ReloadFault.{ReloadFault}
 use Rattle.gate_check.specs.declared.reloading.ReloadFault.TheVariants as faults
 use Rattle.gate_growth.specs.PlaceRows.{AreTooManyPlaces}
 use Rattle.gate_growth.specs.PutsComputed.{puts}
-use Rattle.gate_growth.specs.Ledgers.{most_generations, IsFirstLeftGap}
+use Rattle.gate_growth.specs.Grown.{AreSoundSince}
+use Rattle.gate_growth.specs.Ledgers.{IsFirstLeftGap}
 use Rattle.gate_growth.specs.declared.ledger.page.Beginning.{Beginning}
 use Rattle.gate_growth.specs.declared.ledger.page.Beginning.TheVariants as beginnings
 use Rattle.gate_growth.specs.declared.ledger.unsound.Unsound.{Unsound}
 use Rattle.gate_growth.specs.declared.ledger.unsound.Unsound.TheVariants as reasons
 use Rattle.core_accepted.specs.declared.beginnings.Beginnings.{Beginnings}
-use Rattle.core_accepted.specs.Known.{Known, is_arbitrary, more}
+use Rattle.core_accepted.specs.Known.{Known, is_arbitrary, first_of, more}
+use Rattle.core_accepted.specs.Logs.{BeginSo}
 use Rattle.script_events.specs.declared.script.Reload.{Reload}
+use Rattle.script_events.specs.Opening.{opening_of}
 use Rattle.script_events.specs.Scripted.{Scripted, Piece, Add, Result, Fail, Hold, At, Now, Moment}
 use Rattle.script_run.specs.declared.accepted.judging.Loading.{Loading}
 use Rattle.script_run.specs.declared.accepted.judging.Loading.TheVariants.{Loaded, Refused}
@@ -25,8 +29,8 @@ use Rattle.mcgate_replay.specs.declared.judging.Judging.TheVariants.{Any, Asked,
 -- the gate isn't asked
 abbrev pub is_any : Judging → Bool
 is_any Any = true
-is_any Asked = false
-is_any (Begun begun) = false
+is_any (Asked most) = false
+is_any (Begun begun most) = false
 
 -- ---- what servers may hold at first
 
@@ -59,8 +63,8 @@ first_excluded begun config at (event ∷ events) = if is_excluded begun config 
 -- where something is said of what servers held
 abbrev pub excluded_by : Judging → Configuration → List Scripted → Option ℕ
 excluded_by Any config events = None
-excluded_by Asked config events = None
-excluded_by (Begun begun) config events = first_excluded begun config 0 events
+excluded_by (Asked most) config events = None
+excluded_by (Begun begun most) config events = first_excluded begun config 0 events
 
 -- ---- what the gate answers
 
@@ -71,21 +75,43 @@ loading_of reasons.TooManyPlaces = Some (Refused (faults.TooManyPlaces 0))
 loading_of (reasons.Left generation gap) = Some (Refused (faults.Uncovered generation gap))
 loading_of reasons.NoMemory = None
 
--- why the tree may not follow those that are known: there are as many as have a number; all together have too many places; or its first gap
-abbrev pub MayNotFollow : Known → Route → ReloadFault → Type 0
-MayNotFollow known tree faults.TooManyGenerations = most_generations ≤ length (trees_of known.configs)
-MayNotFollow known tree (faults.TooManyPlaces generation) = AreTooManyPlaces (trees_of known.configs ++ tree ∷ [])
-MayNotFollow known tree (faults.Uncovered generation gap) = IsFirstLeftGap (is_arbitrary known) (trees_of known.configs) tree generation gap
-MayNotFollow known tree faults.NoMemory = ⊥
+-- of trees that are held so many are the most; the first one always is
+abbrev pub IsFew : ℕ → ℕ → Type 0
+IsFew most count = (count ≤ most) ⊎ (count ≡ 1)
 
--- the gate's answer: the configuration is the next generation, of this number, or all stays
-abbrev pub JudgesNext : Known → Reload → Loading → Known → Type 0
-JudgesNext known r (Loaded n) known' = (known' ≡ more r.config known) × (n ≡ length known'.configs)
-JudgesNext known r (Refused fault) known' = (known' ≡ known) × MayNotFollow known r.config.tree fault
+-- why the tree may not follow those that are known: they are as many as are held at most; all together have too many places; or its first gap
+abbrev pub MayNotFollow : ℕ → Known → Route → ReloadFault → Type 0
+MayNotFollow most known tree faults.TooManyGenerations = most ≤ length (trees_of known.configs)
+MayNotFollow most known tree (faults.TooManyPlaces generation) = AreTooManyPlaces (trees_of known.configs ++ tree ∷ [])
+MayNotFollow most known tree (faults.Uncovered generation gap) = IsFirstLeftGap (is_arbitrary known) (trees_of known.configs) tree generation gap
+MayNotFollow most known tree faults.NoMemory = ⊥
+
+-- the gate's answer, where the first is why it refuses a tree: the configuration is the next generation, of this number, or all stays
+abbrev pub JudgesNext : (Known → Route → ReloadFault → Type 0) → Known → Reload → Loading → Known → Type 0
+JudgesNext Why known r (Loaded n) known' = (known' ≡ more r.config known) × (n ≡ length known'.configs)
+JudgesNext Why known r (Refused fault) known' = (known' ≡ known) × Why known r.config.tree fault
 
 -- its answers to these reloads, one after another
-abbrev pub JudgesAll : Known → List Reload → List Loading → Known → Type 0
-JudgesAll known [] [] known' = known' ≡ known
-JudgesAll known [] (l ∷ ls) known' = ⊥
-JudgesAll known (r ∷ rs) [] known' = ⊥
-JudgesAll known (r ∷ rs) (l ∷ ls) known' = (mid : Known) × JudgesNext known r l mid × JudgesAll mid rs ls known'
+abbrev pub JudgesAll : (Known → Route → ReloadFault → Type 0) → Known → List Reload → List Loading → Known → Type 0
+JudgesAll Why known [] [] known' = known' ≡ known
+JudgesAll Why known [] (l ∷ ls) known' = ⊥
+JudgesAll Why known (r ∷ rs) [] known' = ⊥
+JudgesAll Why known (r ∷ rs) (l ∷ ls) known' = (mid : Known) × JudgesNext Why known r l mid × JudgesAll Why mid rs ls known'
+
+-- how many are held after an answer
+abbrev pub held_after : ℕ → Loading → ℕ
+held_after held (Loaded n) = n
+held_after held (Refused fault) = held
+
+-- for whatever reason it refuses trees
+abbrev pub ForAnyReason : Known → Route → ReloadFault → Type 0
+ForAnyReason known tree fault = Unit {0}
+
+-- those that it accepted are sound, by how servers began, and by these events they began so
+pub record AreFollowed (first : Configuration) (rs : List Reload) (ls : List Loading) (events : List Scripted) : Type 0 where
+  pub begun : Beginnings
+  pub known : Known
+  pub judged : JudgesAll ForAnyReason (first_of first begun) rs ls known
+  pub trees_are : Each IsTree (trees_of known.configs)
+  pub sound : AreSoundSince (is_arbitrary known) (trees_of known.configs)
+  pub begins : BeginSo first begun (opening_of events)

@@ -4,7 +4,7 @@ use Rattle.std.specs.Io.KnownBytes.{Appends}
 use Rattle.route_json.specs.Configuration.{Configuration}
 use Rattle.route_json.specs.Servers.{Addresses}
 use Rattle.gate_check.specs.Gate.{IsCertified}
-use Rattle.gate_check.specs.Sound.{AreGenerations, trees_of}
+use Rattle.gate_check.specs.Sound.{trees_of}
 use Rattle.script_events.specs.declared.servers.servers.ScriptServers.{ScriptServers}
 use Rattle.script_events.specs.declared.script.Script.{Script}
 use Rattle.script_events.specs.declared.script.Reload.{Reload}
@@ -19,7 +19,7 @@ use Rattle.fresh_runs.specs.Sharing.{IsFreshByNumber}
 use Rattle.script_run.specs.Driving.{DrivesStepped, StepsPart, AreSpentIn, AreMarks}
 use Rattle.script_run.specs.declared.accepted.judging.Loading.{Loading}
 use Rattle.script_run.specs.declared.accepted.judging.Loading.TheVariants.{Loaded, Refused}
-use Rattle.script_run.specs.Reloads.{Judges, is_refused}
+use Rattle.script_run.specs.Reloads.{is_refused}
 use Rattle.script_events.specs.FirstLine.{WhyNot}
 use Rattle.script_events.specs.Events.{◌>>=◌}
 use Rattle.script_events.specs.Told.{Told, told, told_over, bad_line, bad_event_line, either, events_said, lines_said, servers_known, AreChainedFrom, ReadsScript}
@@ -35,7 +35,8 @@ use Rattle.gate_growth.specs.Grown.{AreSoundSince}
 use Rattle.core_accepted.specs.Known.{Known, is_arbitrary, first_of}
 use Rattle.mcgate_replay.specs.declared.judging.Judging.{Judging}
 use Rattle.mcgate_replay.specs.declared.judging.Judging.TheVariants.{Any, Asked, Begun}
-use Rattle.mcgate_replay.specs.Growing.{is_any, excluded_by, JudgesAll}
+use Rattle.mcgate_replay.specs.Growing.{is_any, excluded_by, IsFew, MayNotFollow, JudgesAll}
+use Rattle.mcgate_replay.specs.Pairing.{ArePaired}
 
 -- the events of a script
 abbrev pub scripted : Script → List Scripted
@@ -103,12 +104,13 @@ BrokeOff driven lines old new Writer = Unit {0}
 
 -- ---- a script through a configuration's tree and those that it loads, which are gated unless they may be any
 
--- what became of the reloads: the gate wasn't asked, and each is loaded; or it accepted the first configuration, and answered so of each reload's against all accepted before, and all that it accepted are generations, or sound where servers began so
+-- what became of the reloads: the gate wasn't asked, and each is loaded; or it accepted the first configuration, and answered so of each reload's against all accepted before, of which so many are held at most, and all that it accepted cover each other, or are sound where servers began so
 abbrev pub AreLoadings : Judging → Configuration → List Reload → List Loading → Type 0
 AreLoadings Any config reloads loadings = loadings ≡ []
-AreLoadings (Begun begun) config reloads loadings =
-    IsCertified config.tree × (known : Known) × JudgesAll (first_of config begun) reloads loadings known × AreSoundSince (is_arbitrary known) (trees_of known.configs)
-AreLoadings Asked config reloads loadings = IsCertified config.tree × (accepted : List Configuration) × Judges (config ∷ []) reloads loadings accepted × AreGenerations (trees_of accepted)
+AreLoadings (Begun begun most) config reloads loadings =
+    IsCertified config.tree × (known : Known) × JudgesAll (MayNotFollow most) (first_of config begun) reloads loadings known
+    × IsFew most (length known.configs) × AreSoundSince (is_arbitrary known) (trees_of known.configs)
+AreLoadings (Asked most) config reloads loadings = IsCertified config.tree × ArePaired most config reloads loadings
 
 -- the events ran, each command through the tree in use when it began, and the lines of the transcript and of the report were written. Where the gate was asked the run is fresh, and no reply is stale
 pub record RunsEvents (judging : Judging) (config : Configuration) (reloads : List Reload) (events : List Scripted) (old new : Option (List ℕ)) : Type 0 where

@@ -1,18 +1,15 @@
 //! Configurations that are loaded while a script runs, judged by what servers held at first.
 
 ghost use Rattle.std.specs.Prelude.{◌≡◌, ◌≤◌, [], length, map, None, IfOk, IfErr, OnOk, MatchResult};
-ghost use Rattle.core_accepted.specs.Known.{first_of};
-ghost use Rattle.core_accepted.specs.Logs.{BeginSo};
 ghost use Rattle.route_json.specs.declared.addresses.servers.TheConstants.{MAX_SERVERS};
 ghost use Rattle.script_events.specs.Bad.{first_bad, Refuses};
-ghost use Rattle.script_events.specs.Opening.{opening_of};
 ghost use Rattle.script_events.specs.Reloads.{AreInOrder};
 ghost use Rattle.script_events.specs.Scripted.{scripted_of, transcript_of};
 ghost use Rattle.script_events.specs.Servers.{AreNewServers, count_of};
 ghost use Rattle.script_run.specs.Driving.{AreMarks};
 ghost use Rattle.script_run.specs.Reloads.{is_refused};
 ghost use Rattle.script_run.specs.Stepped.{StepsFreshly, EndsSteps};
-ghost use Rattle.mcgate_replay.specs.Growing.{JudgesNext, JudgesAll, loading_of};
+ghost use Rattle.mcgate_replay.specs.Growing.{JudgesNext, JudgesAll, MayNotFollow, AreFollowed, IsFew, held_after, loading_of};
 
 use core_accepted::Generations;
 use gate_check::ReloadFault;
@@ -39,14 +36,32 @@ fn refusal(unsound: Unsound) -> Option<Loading>
     }
 }
 
-// Asks whether one more configuration may follow.
+// How many generations are held after what became of a reload.
+fn held_after(held: u32, loading: &Loading) -> u32
+    ensures { result ≡ held_after held loading.now }
+{
+    match loading {
+        Loading::Loaded(number) => *number,
+        Loading::Refused(_) => held,
+    }
+}
+
+// Asks whether one more configuration may follow these, of which there are so many.
 fn judge_next(
     alloc: Global,
+    most: u32,
+    held: u32,
     generations: &mut Generations,
     reload: &Reload,
 ) -> Result<Loading, AllocError>
-    ensures { IfOk result (λ loading. JudgesNext generations.old reload.now loading generations.new) }
+    requires held { held ≡ length generations.old.configs }
+    requires few { IsFew most held }
+    ensures judged { IfOk result (λ loading. JudgesNext (MayNotFollow most) generations.old reload.now loading generations.new) }
+    ensures few { IfOk result (λ loading. IsFew most (held_after held loading)) }
 {
+    if held >= most {
+        return Ok(Loading::Refused(ReloadFault::TooManyGenerations));
+    }
     let config = reload.config.copy(alloc)?;
     match generations.follow(alloc, config) {
         Ok(number) => Ok(Loading::Loaded(number)),
@@ -54,26 +69,32 @@ fn judge_next(
     }
 }
 
-/// Asks of each reload's configuration in order whether it may follow those so far; what may is in use from there on. The only error
-/// is running out of memory: then the first of them may have been accepted.
+/// Asks of each reload's configuration in order whether it may follow those so far; what may is in use from there on, until so many are
+/// held. The only error is running out of memory: then the first of them may have been accepted.
 pub fn judge_all(
     alloc: Global,
+    most: u32,
     generations: &mut Generations,
     reloads: &[Reload],
 ) -> Result<Judged, AllocError>
-    ensures judged { IfOk result (λ judged. JudgesAll generations.old reloads.now judged.loadings.items generations.new) }
+    requires { length generations.old.configs ≡ 1 }
+    ensures judged { IfOk result (λ judged. JudgesAll (MayNotFollow most) generations.old reloads.now judged.loadings.items generations.new) }
+    ensures few { OnOk result (IsFew most (length generations.new.configs)) }
     ensures refused { IfOk result (λ judged. judged.refused.items ≡ map is_refused judged.loadings.items) }
 {
+    let mut held = 1;
     let mut loadings = Vec::new(alloc);
     for reload in reloads {
-        loadings.push(judge_next(alloc, generations, reload)?)?;
+        let loading = judge_next(alloc, most, held, generations, reload)?;
+        held = held_after(held, &loading);
+        loadings.push(loading)?;
     }
     let refused = refused_of(alloc, &loadings)?;
     Ok(Judged { loadings, refused })
 }
 
 /// Runs a script with reloads of which it was asked whether they may follow, if servers held at first what is said of them: each command
-/// through the tree that was accepted last before it began. `first` was in use before the first reload.
+/// through the tree that was accepted last before it began. `first` was in use before the first reload. Trees may be any number.
 ///
 /// All holds that [`drive_stepped`] says, its faults too; and **the run is fresh over all loaded trees**, as of
 /// [`script_run::accepted::drive_judged`], though a tree need not clear what none before it can have left. So the report's `stale` is 0.
@@ -81,7 +102,6 @@ pub fn judge_all(
 /// Source: mcgate's own.
 pub fn drive_grown(
     alloc: Global,
-    generations: &Generations,
     first: &Config,
     reloads: &[Reload],
     judged: &Judged,
@@ -90,9 +110,8 @@ pub fn drive_grown(
     transcript: &mut Transcript,
     marks: &mut Vec<usize>,
 ) -> Result<Report, DriveFault>
-    requires judged { JudgesAll (first_of first.now generations.now.begun) reloads.now judged.now.loadings.items generations.now }
+    requires followed { AreFollowed first.now reloads.now judged.now.loadings.items (map scripted_of script.now.events.items) }
     requires refused { judged.now.refused.items ≡ map is_refused judged.now.loadings.items }
-    requires begins { BeginSo first.now generations.now.begun (opening_of (map scripted_of script.now.events.items)) }
     requires servers { length first.now.servers ≤ count_of servers.old }
     requires few { count_of servers.old ≤ MAX_SERVERS }
     requires order { AreInOrder (length script.now.events.items) (count_of servers.old) 0 reloads.now }
@@ -105,7 +124,6 @@ pub fn drive_grown(
     ensures marked { OnOk result (length marks.new.items ≡ length reloads.now) }
     ensures marks { AreMarks (length transcript.new.shown.items) marks.new.items }
 {
-    let _in_use = generations.config();
     let refused = judged.refused.as_slice();
     drive_stepped(
         alloc, first, reloads, refused, servers, script, transcript, marks,

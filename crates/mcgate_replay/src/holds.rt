@@ -80,7 +80,7 @@ pub fn excluded_event(judging: Judging, config: &Config, events: &[Event]) -> Op
 {
     match judging {
         Judging::Any => None,
-        Judging::Asked => None,
-        Judging::Begun(begun) => first_excluded(begun, config, events),
+        Judging::Asked(_) => None,
+        Judging::Begun(begun, _) => first_excluded(begun, config, events),
     }
 }

@@ -4,6 +4,7 @@
 pub mod growing;
 pub mod holds;
 pub mod judging;
+pub mod pairing;
 pub mod replaying;
 mod running;
 mod transcripts;

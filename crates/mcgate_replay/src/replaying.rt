@@ -23,19 +23,20 @@ use script_events::text::reader::{read_events, read_script};
 use std::alloc::Global;
 use std::io::Write;
 
-// Runs a script if the gate accepts its first tree, or else writes why it is refused.
+// Runs a script if the gate accepts its first tree, or else writes why it is refused. At most so many trees are held.
 fn run_gated<W: Write>(
     alloc: Global,
+    most: u32,
     script: &ConfiguredScript,
     out: &mut W,
 ) -> Result<u8, RunFault>
     requires { HasReloads script.now }
-    ensures ok { IfOk result (RunsGood Asked script.now.config (reloads_of script.now) (events_of script.now) (W.contents out.old) (W.contents out.new)) }
-    ensures err { IfErr result (BreaksTreeOff Asked script.now.config (reloads_of script.now) (events_of script.now) (W.contents out.old) (W.contents out.new)) }
+    ensures ok { IfOk result (RunsGood (Asked most) script.now.config (reloads_of script.now) (events_of script.now) (W.contents out.old) (W.contents out.new)) }
+    ensures err { IfErr result (BreaksTreeOff (Asked most) script.now.config (reloads_of script.now) (events_of script.now) (W.contents out.old) (W.contents out.new)) }
 {
     let first = script.config.copy(alloc)?;
     match judge(alloc, first) {
-        Ok(mut accepted) => run_accepted(alloc, &mut accepted, script, out),
+        Ok(accepted) => run_accepted(alloc, most, &accepted, script, out),
         Err(refused) => print_refused(&refused.config, &refused.reason, out),
     }
 }
@@ -44,17 +45,18 @@ fn run_gated<W: Write>(
 fn run_gated_begun<W: Write>(
     alloc: Global,
     begun: Beginnings,
+    most: u32,
     script: &ConfiguredScript,
     out: &mut W,
 ) -> Result<u8, RunFault>
     requires reloads { HasReloads script.now }
     requires holds { first_excluded begun script.now.config 0 (events_of script.now) ≡ None }
-    ensures ok { IfOk result (RunsGood (Begun begun) script.now.config (reloads_of script.now) (events_of script.now) (W.contents out.old) (W.contents out.new)) }
-    ensures err { IfErr result (BreaksTreeOff (Begun begun) script.now.config (reloads_of script.now) (events_of script.now) (W.contents out.old) (W.contents out.new)) }
+    ensures ok { IfOk result (RunsGood (Begun begun most) script.now.config (reloads_of script.now) (events_of script.now) (W.contents out.old) (W.contents out.new)) }
+    ensures err { IfErr result (BreaksTreeOff (Begun begun most) script.now.config (reloads_of script.now) (events_of script.now) (W.contents out.old) (W.contents out.new)) }
 {
     let first = script.config.copy(alloc)?;
     match judge(alloc, first) {
-        Ok(accepted) => run_begun(alloc, begun, &accepted, script, out),
+        Ok(accepted) => run_begun(alloc, begun, most, &accepted, script, out),
         Err(refused) => print_refused(&refused.config, &refused.reason, out),
     }
 }
@@ -73,8 +75,8 @@ fn run_good<W: Write>(
 {
     match judging {
         Judging::Any => run_any(alloc, script, out),
-        Judging::Asked => run_gated(alloc, script, out),
-        Judging::Begun(begun) => run_gated_begun(alloc, begun, script, out),
+        Judging::Asked(most) => run_gated(alloc, most, script, out),
+        Judging::Begun(begun, most) => run_gated_begun(alloc, begun, most, script, out),
     }
 }
 
@@ -166,7 +168,7 @@ fn replay_events<W: Write>(
 /// that is bad, or why the gate refuses its tree. Faults are looked for in this order, and before anything runs.
 ///
 /// Each command runs through the tree in use when it begins: that of the configuration, and after a reload line that line's, unless
-/// the gate refuses it: it judges each new tree against those of all generations. What became of a reload line stands at its place in
+/// the gate refuses it: it judges each new tree against those of all generations, and takes no more of them than are to be held. What became of a reload line stands at its place in
 /// the transcript. After a `>` each command has ended before the next line; commands of several clients overlap where `+` and `result` step their calls.
 ///
 /// Where the gate isn't asked every tree runs, and the report tells how many replies were stale. Otherwise the trees are those that it

@@ -4,6 +4,7 @@ use crate::replays::scripts::printed_by;
 use core_accepted::{Beginning, Beginnings};
 use examples_tables::tables::{expanded, same, sides, unfolded};
 use mcgate_replay::Judging;
+use mcgate_replay::judging::USUAL_GENERATIONS;
 use std::alloc::Global;
 use std::test::Fail;
 
@@ -28,7 +29,11 @@ over A and B "PoolRoute|A"⏎hold 1 a 7⏎reload over A and B "PoolRoute|B" => 0
 fn printed_of(alloc: Global, begun: Beginnings, script: &str) -> Result<String, Fail> {
     let script = unfolded(alloc, script)?;
     let script = expanded(alloc, script.as_str())?;
-    printed_by(alloc, Judging::Begun(begun), script.as_str())
+    printed_by(
+        alloc,
+        Judging::Begun(begun, USUAL_GENERATIONS),
+        script.as_str(),
+    )
 }
 
 // The example of this line holds.

@@ -4,7 +4,7 @@ use crate::replays::scripts::{judging_of, printed};
 use examples_tables::full_writer::Full;
 use examples_tables::tables::{expanded, same, sides, told, unfolded};
 use mcgate_check::status::WRITER;
-use mcgate_replay::{Judging, run_replay, run_replay_over};
+use mcgate_replay::{run_replay, run_replay_over};
 use route_json::{Config, read_config};
 use std::alloc::{AllocError, Global};
 use std::test::Fail;
@@ -166,7 +166,7 @@ fn events_over_a_refused_tree(rt: HostRuntime) -> Result<(), Fail> {
 // The status of a script whose output is written where there is so much room.
 fn status_in(alloc: Global, script: &str, room: usize) -> u8 {
     let mut out = Full { room };
-    run_replay(alloc, Judging::Asked, script, &mut out)
+    run_replay(alloc, judging_of(false), script, &mut out)
 }
 
 #[test]

@@ -5,6 +5,7 @@
 use examples_tables::faults::faults_hold;
 use examples_tables::tables::{Printer, all_hold, expanded, same, told};
 use mcgate_check::{Form, run_check};
+use mcgate_replay::judging::USUAL_GENERATIONS;
 use mcgate_replay::{Judging, run_replay};
 use std::alloc::{AllocError, Global};
 use std::test::Fail;
@@ -456,7 +457,11 @@ pub fn printed_by(alloc: Global, judging: Judging, script: &str) -> Result<Strin
 
 /// Over any trees, or over those that the gate accepts.
 pub fn judging_of(any: bool) -> Judging {
-    if any { Judging::Any } else { Judging::Asked }
+    if any {
+        Judging::Any
+    } else {
+        Judging::Asked(USUAL_GENERATIONS)
+    }
 }
 
 /// What is printed of a script, with the status; with `any` whatever the gate says of its trees.
@@ -689,35 +694,5 @@ fn the_oldest_of_1025_held_items_is_pushed_out(rt: HostRuntime) -> Result<(), Fa
         got.as_str(),
         "0\n< 0 VALUE k1 0 1\\r\\n1\\r\\nVALUE k1024 0 1\\r\\n1\\r\\nEND\\r\\n\ndone 3 commands 3 calls 0 stale\n"
     );
-    Ok(())
-}
-
-/// A configuration's line, and sixteen lines that load it again.
-fn sixteen_reloads(alloc: Global) -> Result<String, AllocError> {
-    let line = expanded(alloc, "over A and B \"PoolRoute|A\"\n")?;
-    let mut script = String::from_str(alloc, line.as_str())?;
-    for _ in 0..16 {
-        script.push_str("reload ")?;
-        script.push_str(line.as_str())?;
-    }
-    Ok(script)
-}
-
-/// The lines of the generations 2 to 16, and of the reload after them.
-fn sixteen_lines(alloc: Global) -> Result<String, Fail> {
-    let mut lines = String::from_str(alloc, "0\n")?;
-    for generation in 2..17 {
-        writeln!(&mut lines, "reload accepted generation={}", generation)?;
-    }
-    lines.push_str("reload refused: too many generations\ndone 0 commands 0 calls 0 stale\n")?;
-    Ok(lines)
-}
-
-#[test]
-fn sixteen_generations(rt: HostRuntime) -> Result<(), Fail> {
-    let script = sixteen_reloads(rt.alloc())?;
-    let got = printed(rt.alloc(), false, script.as_str())?;
-    let lines = sixteen_lines(rt.alloc())?;
-    assert_eq!(rt; got.as_str(), lines.as_str());
     Ok(())
 }

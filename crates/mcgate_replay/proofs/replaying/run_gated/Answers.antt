@@ -18,7 +18,7 @@ print_refused-requires g c = subst (λ (k : Configuration). IsJudged k.tree c.in
 
 pub returns-in-Err-clause-ok : goal.returns-in-Err-clause-ok
 returns-in-Err-clause-ok g c =
-    IfOk-weaker c.print_refused.result _ _ (λ status p. refused_first Asked refl c.args.script.now.config c.in-Err.refused.config (reloads_of c.args.script.now) (events_of c.args.script.now) _ _ status (c.in-Err.ensures.refused.0 ∙ c.in_ok-first.ensures) p) c.print_refused.ensures.ok
+    IfOk-weaker c.print_refused.result _ _ (λ status p. refused_first (Asked c.args.most) refl c.args.script.now.config c.in-Err.refused.config (reloads_of c.args.script.now) (events_of c.args.script.now) _ _ status (c.in-Err.ensures.refused.0 ∙ c.in_ok-first.ensures) p) c.print_refused.ensures.ok
 
 pub returns-in-Err-clause-err : goal.returns-in-Err-clause-err
-returns-in-Err-clause-err g c = IfErr-weaker c.print_refused.result _ _ (λ fault kept. unwritten Asked c.args.script.now.config (reloads_of c.args.script.now) (events_of c.args.script.now) _ _ fault kept) c.print_refused.ensures.err
+returns-in-Err-clause-err g c = IfErr-weaker c.print_refused.result _ _ (λ fault kept. unwritten (Asked c.args.most) c.args.script.now.config (reloads_of c.args.script.now) (events_of c.args.script.now) _ _ fault kept) c.print_refused.ensures.err
