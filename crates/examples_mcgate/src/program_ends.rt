@@ -89,6 +89,8 @@ mcgate serve --listen a:1 --config c => serve - fail-limit 3 auto
 mcgate serve --any --listen a:1 --config c --reload-every 4 --reload-ms 5 --fail-limit 6 => serve any reload-every 4 reload-ms 5 fail-limit 6 auto
 mcgate serve --listen a:1 --config c --history h => serve - after h fail-limit 3 auto
 mcgate serve --listen a:1 --config c --history h --any => refused, told
+mcgate serve --listen a:1 --config c --stores-wait => serve - fail-limit 3 stores-wait auto
+mcgate serve --listen a:1 --config c --stores-wait 7 => refused, told
 mcgate serve --listen a:1 --config c --stall-ms 7 --memory-mb 8 => serve - fail-limit 3 stall-ms 7 memory 8388608 auto
 mcgate serve --listen a:1 --config c --metrics b:2 => serve - fail-limit 3 metrics b:2 auto
 mcgate serve --listen a:1 --config c --control d => serve - fail-limit 3 control d drain-ms 10000 auto
@@ -274,6 +276,9 @@ fn push_serve(out: &mut String, job: &ServeJob<'_>) -> Result<(), AllocError> {
     push_number(out, "reload-every", job.reload_every)?;
     push_number(out, "reload-ms", job.reload_ms)?;
     push_number(out, "fail-limit", Some(job.settings.fail_limit))?;
+    if job.settings.stores_wait {
+        out.push_str(" stores-wait")?;
+    }
     if job.stall_ms != 10_000 {
         write!(out, " stall-ms {} memory {}", job.stall_ms, job.memory)?;
     }

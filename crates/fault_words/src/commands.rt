@@ -48,7 +48,7 @@ const CHECK_FLAGS: [&str; 8] = [
     "new-servers",
 ];
 
-const SERVE_FLAGS: [&str; 32] = [
+const SERVE_FLAGS: [&str; 33] = [
     "help",
     "check",
     "config",
@@ -65,6 +65,7 @@ const SERVE_FLAGS: [&str; 32] = [
     "connect-ms",
     "fail-limit",
     "retry-ms",
+    "stores-wait",
     "give-up-ms",
     "polls",
     "stall-ms",
@@ -107,6 +108,7 @@ pub fn takes_of(flag: &str) -> Takes {
         | "fleet"
         | "log-json"
         | "drain-on-eof"
+        | "stores-wait"
         | "flush-all" => { Takes::Nothing }
         "config" | "certificate" | "with" | "history" | "after" | "control" => Takes::File,
         "listen" | "metrics" | "add" | "remove" => Takes::Address,

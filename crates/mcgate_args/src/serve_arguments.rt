@@ -79,6 +79,8 @@ opens, fails or comes back.
   --connect-ms N         so has a connection to a server that takes longer to stand, 1000
   --fail-limit N         the calls of a server that failed so many times in a row fail at once, 3
   --retry-ms N           for so long, and then one call tries, 1000
+  --stores-wait          a set, add, replace or cas that a server was asked is awaited however long it takes, and what was asked behind
+                         it; further calls fail at once once it took too long
   --give-up-ms N         a server's connection is kept for so long while late answers are to come; without it, until it ends
   --polls N              after so many reads of a server in a row without a whole answer its calls have failed; without it, any number
   --stall-ms N           a client that takes nothing for so many milliseconds, while more than 1 MiB is to be sent to it, is closed, 10000
@@ -129,6 +131,7 @@ pub fn serve_command<'a>(alloc: Global) -> Result<Command<'a>, AllocError> {
         .arg(option(alloc, "connect-ms"))?
         .arg(option(alloc, "fail-limit"))?
         .arg(option(alloc, "retry-ms"))?
+        .arg(switch(alloc, "stores-wait"))?
         .arg(option(alloc, "give-up-ms"))?
         .arg(option(alloc, "polls"))?
         .arg(option(alloc, "stall-ms"))?
@@ -200,6 +203,7 @@ fn settings_of(given: &ArgMatches<'_>) -> Result<Settings, ArgumentsFault> {
         connect_ms: millis_of(given, "connect-ms", usual.connect_ms)?,
         fail_limit: count_of(given, "fail-limit")?.unwrap_or(usual.fail_limit),
         retry_ms: millis_of(given, "retry-ms", usual.retry_ms)?,
+        stores_wait: given.get_flag("stores-wait"),
         give_up_ms: count_of(given, "give-up-ms")?.map(u64::from),
         polls: count_of(given, "polls")?,
         server_dialect: dialect_of(given, usual.server_dialect)?,

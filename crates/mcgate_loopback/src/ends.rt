@@ -80,6 +80,7 @@ fn settings() -> Settings {
         connect_ms: u64::MAX,
         fail_limit: u32::MAX,
         retry_ms: 0,
+        stores_wait: false,
         give_up_ms: None,
         polls: None,
         server_dialect: ServerDialect::Classic,

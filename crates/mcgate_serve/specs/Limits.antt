@@ -15,4 +15,5 @@ own_limits usual said = record {
   connect_ms = limit_or usual.connect_ms said.connect_ms;
   fail_limit = limit_or usual.fail_limit said.fail_limit;
   retry_ms = limit_or usual.retry_ms said.retry_ms;
+  stores_wait = usual.stores_wait;
 }

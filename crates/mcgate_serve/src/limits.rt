@@ -25,5 +25,6 @@ pub fn own_limits(usual: LinkLimits, said: ServerLimits) -> LinkLimits
         connect_ms: limit_or(usual.connect_ms, said.connect_ms),
         fail_limit: said.fail_limit.unwrap_or(usual.fail_limit),
         retry_ms: limit_or(usual.retry_ms, said.retry_ms),
+        stores_wait: usual.stores_wait,
     }
 }

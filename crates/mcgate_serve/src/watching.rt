@@ -201,8 +201,8 @@ fn server_of<W: Wire>(
     Ok(Some(ServerNumbers {
         text: String::from_str(alloc, text)?,
         limits: limits_told(link),
-        is_up: link.is_connected && !link.awaits_late(),
-        is_late: link.awaits_late(),
+        is_up: link.is_connected && !link.is_late(),
+        is_late: link.is_late(),
         connections: link.tally.stood,
         calls_out: link.calls.len() as u64,
         failures: failures_by_cause(alloc, link)?,
@@ -278,7 +278,7 @@ pub fn stats_of<R: Files + AllocGlobal, W: Wire>(
 
 // How a server is whose link is so.
 fn state_of(link: &Link) -> &'static str {
-    if link.awaits_late() {
+    if link.is_late() {
         "late"
     } else if link.is_connected {
         "up"

@@ -1,7 +1,8 @@
 -- Calls that are late, and their answers, as steps of a walk with which a link goes on to agree.
 use Rattle.std.proofs.Common.{◌≡◌, ℕ, ◌<◌, Bool, true, false, if◌then◌else◌, List, [], ◌∷◌, ◌++◌, take, drop, Option, Some, None, inr, refl, sym, ap, ◌∙◌, subst, append_assoc}
 use Rattle.std.proofs.lemmas.List.{take-append-drop}
-use Rattle.std.specs.Prelude.{is_some, slice_index_or}
+use Rattle.std.proofs.lemmas.List.Elements.{All-nil, All-cons, All-append}
+use Rattle.std.specs.Prelude.{◌&&◌, is_some, slice_index_or}
 use Rattle.std.specs.Option.{option_map, option_to_list}
 use Rattle.mc_types.specs.declared.ask.Dialect.{Dialect}
 use Rattle.mc_types.specs.declared.answer.Answer.{Answer}
@@ -11,14 +12,17 @@ use Rattle.serve_wire.specs.Events.{Event, is_over}
 use Rattle.serve_wire.specs.declared.conn.conn.Conn.{Conn}
 use Rattle.serve_wire.proofs.Steps.{equal}
 use Rattle.core_accepted.specs.declared.served.ServedCore.{ServedCore}
+use Rattle.core_accepted.specs.Late.{is_store}
 use Rattle.core_accepted.specs.Results.{IsSettled}
 use Rattle.serve_links.specs.declared.calls.calls.SentCall.{SentCall}
 use Rattle.serve_links.specs.declared.calls.calls.LateCall.{LateCall}
 use Rattle.serve_links.specs.declared.calls.calls.LateRead.{LateRead}
 use Rattle.serve_links.specs.declared.calls.calls.LateRead.TheVariants as lates
 use Rattle.serve_links.specs.declared.settings.Greeting.{Greeting}
+use Rattle.serve_links.specs.declared.settings.LinkLimits.{LinkLimits}
 use Rattle.serve_links.specs.declared.link.Link.{Link}
-use Rattle.serve_links.specs.Calls.{as_late, IsFirstLate, PassesOver, SettlesFirst}
+use Rattle.serve_links.specs.Calls.{stores_first, SparesStores, as_late, IsFirstLate, PassesOver, SettlesFirst}
+use Rattle.serve_links.specs.Lateness.{awaits_store, LetsStoresWait}
 use Rattle.serve_links.specs.CoreSteps.{Step, Settled, Late, CameLate, IsOfTurn, IsSending}
 use Rattle.serve_links.specs.Dialects.{SpellsIn}
 use Rattle.serve_links.specs.Talks.{SaidAsk, Talk, behind, first_of, turned_late, with_late, talk_in, IsNotAmong, AreDue, AreCalled, MaySettle, IsOrderly, IsFirstOut, IsNextLate}
@@ -60,6 +64,44 @@ passed old new call r within value lookup items = items ∙ ap (λ (o : Option L
 one_late : (calls : List LateCall) (call : LateCall) → said_late (calls ++ call ∷ []) ≡ said_late calls ++ (call.number, call.dialect, call.ask) ∷ []
 one_late [] call = refl
 one_late (first ∷ calls) call = ap (λ (l : List SaidAsk). (first.number, first.dialect, first.ask) ∷ l) (one_late calls call)
+
+-- ---- stores that are awaited
+
+abbrev NoStore : SentCall → Type 0
+NoStore call = is_store call.ticket.ask.op ≡ false
+
+-- its limits and its calls are as they were
+pub waits_still : (x y : Link) → y.limits ≡ x.limits → y.calls.sent.items ≡ x.calls.sent.items → LetsStoresWait x y
+waits_still x y limits sent = record { limits = limits; stores = λ on. ([], sym sent, All-nil NoStore) }
+
+spares_twice : (calls mid left : List SentCall) → SparesStores calls mid → SparesStores mid left → SparesStores calls left
+spares_twice calls mid left first later = (first.0 ++ later.0, first.1 ∙ ap (λ (l : List SentCall). first.0 ++ l) later.1 ∙ sym (append_assoc first.0 later.0 left), All-append NoStore first.0 later.0 first.2 later.2)
+
+-- one after another
+pub waits_twice : (x y z : Link) → LetsStoresWait x y → LetsStoresWait y z → LetsStoresWait x z
+waits_twice x y z first later = record {
+  limits = later.limits ∙ first.limits;
+  stores = λ on. spares_twice x.calls.sent.items y.calls.sent.items z.calls.sent.items (first.stores on) (later.stores (ap (λ (l : LinkLimits). l.stores_wait) first.limits ∙ on));
+}
+
+-- the first call fails, where it is no store that is awaited
+spares_first :
+    (waits : Bool) (sent left : List SentCall) (call : LateCall) (core core' : ServedCore) (client : Option ℕ) → (waits && stores_first sent) ≡ false → IsFirstLate sent (Some call)
+    → SettlesFirst sent core Failed client left core' → waits ≡ true → SparesStores sent left
+spares_first waits [] left call core core' client none is did on = absurd (some_none is)
+  where
+    some_none : Some call ≡ None → ⊥
+    some_none e = cc
+spares_first waits (one ∷ rest) left call core core' client none is did on =
+    (one ∷ [], ap (λ (l : List SentCall). one ∷ l) (sym did.1), All-cons NoStore one [] (sym (ap (λ b. b && stores_first (one ∷ rest)) on) ∙ none) (All-nil NoStore))
+
+pub waits_first :
+    (x y : Link) (call : LateCall) (core core' : ServedCore) (client : Option ℕ) → awaits_store x ≡ false → y.limits ≡ x.limits → IsFirstLate x.calls.sent.items (Some call)
+    → SettlesFirst x.calls.sent.items core Failed client y.calls.sent.items core' → LetsStoresWait x y
+waits_first x y call core core' client none limits first settles = record {
+  limits = limits;
+  stores = spares_first x.limits.stores_wait x.calls.sent.items y.calls.sent.items call core core' client none first settles;
+}
 
 -- ---- a call that is late
 

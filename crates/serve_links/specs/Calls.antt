@@ -1,5 +1,6 @@
 -- What is done with the calls of one server that are out. Source: mcgate's own.
-use Rattle.std.specs.Prelude.{◌≡◌, ℕ, List, [], ◌∷◌, drop, Option, Some, None}
+use Rattle.std.specs.Prelude.{◌≡◌, ℕ, Bool, false, List, [], ◌∷◌, ◌++◌, drop, Option, Some, None}
+use Rattle.std.specs.List.{All}
 use Rattle.mc_types.specs.Fits.{Fits}
 use Rattle.mc_types.specs.declared.ask.Ask.{Ask}
 use Rattle.mc_types.specs.declared.ask.Dialect.{Dialect}
@@ -11,6 +12,7 @@ use Rattle.wire_answers.specs.declared.reader.AnswerRead.TheVariants as reads
 use Rattle.core_proxy.specs.declared.proxy.Core.{Core}
 use Rattle.core_proxy.specs.Settles.{FitsCall, asked}
 use Rattle.core_accepted.specs.declared.served.ServedCore.{ServedCore}
+use Rattle.core_accepted.specs.Late.{is_store}
 use Rattle.core_accepted.specs.Results.{IsSettled}
 use Rattle.serve_links.specs.Dialects.{SpellsIn, IsCutIn}
 use Rattle.serve_links.specs.declared.calls.calls.SentCall.{SentCall}
@@ -36,6 +38,15 @@ IsReadNext dialect core number bytes reads.Foreign = Unit {0}
 abbrev pub first_asked : List SentCall → Option (ℕ × Dialect)
 first_asked [] = None
 first_asked (call ∷ sent) = Some (call.ticket.number, call.dialect)
+
+-- whether the call that went out first is a store
+abbrev pub stores_first : List SentCall → Bool
+stores_first [] = false
+stores_first (call ∷ sent) = is_store call.ticket.ask.op
+
+-- of these calls the first ones are out no more, and none of those is a store
+abbrev pub SparesStores : List SentCall → List SentCall → Type 0
+SparesStores calls left = (gone : List SentCall) × (calls ≡ gone ++ left) × All (λ call. is_store call.ticket.ask.op ≡ false) gone
 
 -- the outcome fits what the first call asks
 abbrev pub FitsFirst : List SentCall → Core → Outcome → Type 0

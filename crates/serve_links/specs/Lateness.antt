@@ -1,11 +1,12 @@
 -- What is late by a clock. Source: mcgate's own.
-use Rattle.std.specs.Prelude.{◌≡◌, ◌⊎◌, ℕ, Bool, true, false, ◌+◌, ◌<◌, ◌≤◌, List, Option, Some, None, slice_get}
+use Rattle.std.specs.Prelude.{◌≡◌, ◌≢◌, ◌⊎◌, ◌&&◌, ℕ, Bool, true, false, ◌+◌, ◌<◌, ◌≤◌, List, [], Option, Some, None, slice_get}
 use Rattle.std.specs.List.{Any}
 use Rattle.serve_wire.specs.declared.conn.conn.Conn.{Conn}
 use Rattle.serve_links.specs.declared.calls.calls.SentCall.{SentCall}
 use Rattle.serve_links.specs.declared.link.Link.{Link}
 use Rattle.serve_links.specs.declared.settings.LinkLimits.{LinkLimits}
 use Rattle.serve_links.specs.declared.settings.Settings.{Settings}
+use Rattle.serve_links.specs.Calls.{stores_first, SparesStores}
 use Rattle.serve_links.specs.Dialects.{awaits_flush}
 
 -- a call began more than so many milliseconds before a clock showed this
@@ -14,11 +15,24 @@ IsLate most now call = call.since + most < now
 
 -- the limits of a server that has none of its own
 abbrev pub usual_limits : Settings → LinkLimits
-usual_limits settings = record { call_ms = settings.call_ms; connect_ms = settings.connect_ms; fail_limit = settings.fail_limit; retry_ms = settings.retry_ms }
+usual_limits settings = record { call_ms = settings.call_ms; connect_ms = settings.connect_ms; fail_limit = settings.fail_limit; retry_ms = settings.retry_ms; stores_wait = settings.stores_wait }
 
 -- one of the calls that are out began longer before than its server's limit
 abbrev pub HasLate : (now : ℕ) → Link → Type 0
 HasLate now link = Any (IsLate link.limits.call_ms now) link.calls.sent.items
+
+-- whether stores are awaited however long they take, and one is the first of the calls that are out
+abbrev pub awaits_store : Link → Bool
+awaits_store link = link.limits.stores_wait && stores_first link.calls.sent.items
+
+-- answers are still to come of calls that were late, or a store is the first of the calls that are out
+abbrev pub AwaitsLate : Link → Type 0
+AwaitsLate link = (link.late.items ≢ []) ⊎ (stores_first link.calls.sent.items ≡ true)
+
+-- its limits stay, and where stores are awaited however long they take none that was out is out no more
+pub record LetsStoresWait (old new : Link) : Type 0 where
+  pub limits : new.limits ≡ old.limits
+  pub stores : old.limits.stores_wait ≡ true → SparesStores old.calls.sent.items new.calls.sent.items
 
 -- its connection doesn't stand, or its server is still to say that it has emptied itself
 abbrev pub IsUnready : Link → Type 0
@@ -46,3 +60,7 @@ HasLateAt at now links = (link : Link) × (slice_get links at ≡ Some link) × 
 
 abbrev pub IsConnectLateAt : (at now : ℕ) → List Link → Type 0
 IsConnectLateAt at now links = (link : Link) × (slice_get links at ≡ Some link) × IsConnectLate now link
+
+-- so it is with each of these links
+abbrev pub AllLetStoresWait : List Link → List Link → Type 0
+AllLetStoresWait old new = (at : ℕ) (x y : Link) → slice_get old at ≡ Some x → slice_get new at ≡ Some y → LetsStoresWait x y

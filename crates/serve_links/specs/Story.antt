@@ -20,7 +20,7 @@ use Rattle.serve_links.specs.declared.news.Cause.TheVariants as causes
 use Rattle.serve_links.specs.CoreSteps.{Step, Opened, NotOpened, Fed, Polled, Stopped, Settled, Gave, Closed, LeftLine, Broke, Loaded, Linked, Asked, Greeted, Spelled, Late, CameLate, Lost, Walks, AreOf}
 use Rattle.serve_links.specs.Shut.{drain_of, AreShut, StaysShut}
 use Rattle.serve_links.specs.Called.{call_in, due_in, TellsCalls}
-use Rattle.serve_links.specs.Talks.{SaidAsk, Talk, Apart, Ending, talk_in, IsCalledIn, MayBeAsked, IsNotAmong, AreDue, AreCalled, IsOrderly, IsOfClients, IsOfServer}
+use Rattle.serve_links.specs.Talks.{SaidAsk, Talk, Apart, Ending, talk_in, IsCalledIn, MayBeAsked, IsStoreFirst, IsNotAmong, AreDue, AreCalled, IsOrderly, IsOfClients, IsOfServer}
 use Rattle.std.specs.Option.{option_map}
 
 -- all that the core was fed for this client since it was opened, by the calls of a walk, the latest first
@@ -223,11 +223,11 @@ pub record LineLost (at : ℕ) (past : List Step) (h : List Event) (link : Link)
 abbrev pub HasHappened : Event → List Event → Type 0
 HasHappened event h = (later earlier : List Event) × (h ≡ later ++ event ∷ earlier)
 
--- what the wire shows, or what was said, of a connection that is given up for this cause: it has ended, or has failed, or reads were in vain while calls are out there, or late answers were to come, or the end of one that can't be kept. For want of a connection none is given up
+-- what the wire shows, or what was said, of a connection that is given up for this cause: it has ended, or has failed, or reads were in vain while calls are out there, or late answers were to come, or that to a store, or the end of one that can't be kept. For want of a connection none is given up
 abbrev pub Shows : Cause → Talk → ℕ → List Event → Type 0
 Shows causes.Unreachable talk c h = ⊥
 Shows causes.ConnectLate talk c h = Unit {0}
-Shows causes.AnswerLate talk c h = (talk.late ≢ []) ⊎ (talk.stands ≡ Ending)
+Shows causes.AnswerLate talk c h = (talk.late ≢ []) ⊎ IsStoreFirst talk.out ⊎ (talk.stands ≡ Ending)
 Shows causes.Closed talk c h = HasHappened (ends c) h
 Shows causes.Broken talk c h = HasHappened (fails c) h
 Shows causes.Foreign talk c h = Unit {0}

@@ -1,5 +1,5 @@
 -- What a walk tells of what was said over each server's connection. Source: mcgate's own.
-use Rattle.std.specs.Prelude.{Option, None, Some, ◌≡◌, ◌≢◌, ℕ, false, List, [], ◌∷◌, ◌++◌, nat_eq, length, if◌then◌else◌}
+use Rattle.std.specs.Prelude.{Option, None, Some, ◌≡◌, ◌≢◌, ℕ, true, false, List, [], ◌∷◌, ◌++◌, nat_eq, length, if◌then◌else◌}
 use Rattle.mc_types.specs.declared.ask.Ask.{Ask}
 use Rattle.mc_types.specs.declared.ask.Dialect.{Dialect}
 use Rattle.mc_types.specs.declared.ask.Dialect.TheVariants.{Classic}
@@ -7,6 +7,7 @@ use Rattle.mc_types.specs.declared.answer.Answer.{Answer}
 use Rattle.mc_types.specs.declared.call.Outcome.{Outcome}
 use Rattle.mc_types.specs.declared.call.Outcome.TheVariants.{Answered, Failed}
 use Rattle.wire_stream.specs.Spelling.{spelling_of}
+use Rattle.core_accepted.specs.Late.{is_store}
 use Rattle.core_commands.specs.declared.ticket.Ticket.{Ticket}
 use Rattle.core_proxy.specs.declared.note.Poll.{Poll}
 use Rattle.core_proxy.specs.declared.note.Poll.TheVariants as polls
@@ -168,6 +169,11 @@ pub record IsFirstOut (number : ℕ) (talk : Talk) : Type 0 where
   pub ask : Ask
   pub others : List SaidAsk
   pub is_first : talk.out ≡ (number, dialect, ask) ∷ others
+
+-- the call that was asked first of those that are out is a store
+abbrev pub IsStoreFirst : List SaidAsk → Type 0
+IsStoreFirst [] = ⊥
+IsStoreFirst (said ∷ others) = is_store said.2.op ≡ true
 
 -- the call of this number, which asks this, is the first of those that were late, nothing else is told before its answer, and these bytes, whatever follows them, spell this one to it, in the dialect in which it was asked
 pub record IsNextLate (number : ℕ) (ask : Ask) (answer : Answer) (bytes : List ℕ) (talk : Talk) : Type 0 where

@@ -3,7 +3,8 @@
 ghost use Rattle.std.specs.Prelude.{◌≡◌, ◌≢◌, true, IfSome, IsSome, ◌+◌, ◌<◌, ◌++◌, false, ◌∷◌, [], None, length, MatchOption, IfOk, IfErr, OnOk, OnErr, option_map};
 ghost use Rattle.mc_types.specs.declared.ask.Dialect.TheVariants.{Classic};
 ghost use Rattle.serve_links.specs.Links.{IsDown, IsTaken, vain_cause};
-ghost use Rattle.serve_links.specs.Lateness.{HasLate, IsUnready, IsConnectLate, IsReadBy, may_give};
+ghost use Rattle.serve_links.specs.Calls.{stores_first};
+ghost use Rattle.serve_links.specs.Lateness.{HasLate, awaits_store, AwaitsLate, IsUnready, IsConnectLate, IsReadBy, may_give};
 ghost use Rattle.wire_parts.specs.Sending.{bytes_of};
 ghost use Rattle.serve_links.specs.Dialects.{awaits_flush};
 ghost use Rattle.serve_links.specs.Epochs.{is_retired, with_retired, IsQuiet};
@@ -188,7 +189,7 @@ pub enum Lateness {
     Connection,
     /// A call is to be answered.
     Call,
-    /// Late answers are to come, or the end of a connection.
+    /// Late answers are to come, or the answer to a store that is awaited however long it takes, or the end of a connection.
     Answer,
 }
 
@@ -205,7 +206,7 @@ pub struct Link {
     /// Calls that went out before those and were late: they have failed, and their answers are still to come. While there are any, further calls
     /// fail at once.
     pub late: VecDeque<LateCall>,
-    // Since when there are, or since when the end of a connection is awaited, in milliseconds.
+    // When a call was late last, or since when the end of a connection is awaited, in milliseconds.
     late_since: u64,
     // Calls that wait until the server takes more, the one that came first in front. Some are out while one waits.
     waiting: VecDeque<SentCall>,
@@ -315,6 +316,38 @@ impl Link {
         ensures some { result ≡ true → self.now.late.items ≢ [] }
     {
         !self.late.is_empty()
+    }
+
+    // Whether stores are awaited however long they take, and one is the first of the calls that are out.
+    pub(crate) fn awaits_store(&self) -> bool
+        ensures { result ≡ awaits_store self.now }
+    {
+        self.limits.stores_wait && self.calls.awaits_store()
+    }
+
+    // Whether a call is out that was late already.
+    fn has_been_late(&self) -> bool {
+        match self.calls.oldest() {
+            Some(since) => since.saturating_add(self.limits.call_ms) < self.late_since,
+            None => false,
+        }
+    }
+
+    // Whether a call that is out was late already, and is still awaited, as the first one is a store.
+    fn is_stalled(&self) -> bool
+        ensures { result ≡ true → stores_first self.now.calls.sent.items ≡ true }
+    {
+        self.awaits_store() && self.has_been_late()
+    }
+
+    /// Whether its server is late: answers are still to come of calls that have failed, or a call that was late is still awaited.
+    pub fn is_late(&self) -> bool
+        ensures { result ≡ true → AwaitsLate self.now }
+    {
+        if self.awaits_late() {
+            return true;
+        }
+        self.is_stalled()
     }
 
     /// Whether its server is still to answer what it was asked first.
@@ -469,9 +502,9 @@ impl Link {
         self.next_waiting()
     }
 
-    // Whether the first of those that wait has waited so long, or late answers are awaited.
+    // Whether the first of those that wait has waited so long, or its server is late.
     fn has_waited_long(&self, pace: u64) -> bool {
-        if self.awaits_late() {
+        if self.is_late() {
             return true;
         }
         match self.waiting.front() {
@@ -518,11 +551,16 @@ impl Link {
         if !self.awaits_late() && self.draining.is_none() {
             return None;
         }
+        self.late_limit(settings)
+    }
+
+    // When it is given up if it stays late, in milliseconds.
+    fn late_limit(&self, settings: &Settings) -> Option<u64> {
         Some(self.late_since.saturating_add(settings.give_up_ms?))
     }
 
     /// When it is late if nothing comes, in milliseconds: its first call, or its connection, has taken too long then, or late answers have, or the end of
-    /// a connection. A connection takes until its server has emptied itself, where that is to be.
+    /// a connection. A connection takes until its server has emptied itself, where that is to be. A store that is awaited however long it takes is late once.
     pub fn time_limit(&self, settings: &Settings) -> Option<u64>
         ensures { self.now.is_connected ≡ true → awaits_flush self.now.awaits_dialect ≡ false → self.now.calls.sent.items ≡ [] → self.now.late.items ≡ [] → self.now.draining ≡ None → result ≡ None }
     {
@@ -531,6 +569,9 @@ impl Link {
         }
         if self.is_unready() {
             return Some(self.opened.saturating_add(self.limits.connect_ms));
+        }
+        if self.is_stalled() {
+            return self.late_limit(settings);
         }
         match self.calls.oldest() {
             Some(since) => Some(since.saturating_add(self.limits.call_ms)),
@@ -544,7 +585,7 @@ impl Link {
             Lateness::Answer
         } else if self.is_unready() {
             Lateness::Connection
-        } else if self.calls.is_empty() {
+        } else if self.calls.is_empty() || self.is_stalled() {
             Lateness::Answer
         } else {
             Lateness::Call
@@ -634,12 +675,12 @@ impl Link {
         self.stand()
     }
 
-    /// Whether a call fails at once: late answers are awaited, or the end of a connection, or no call goes out any more; or the server failed too many times in a row, and either it isn't to be tried
+    /// Whether a call fails at once: its server is late, or the end of a connection is awaited, or no call goes out any more; or the server failed too many times in a row, and either it isn't to be tried
     /// yet, or a call tries.
     pub fn is_held_back(&self, now: u64) -> bool
         ensures { is_retired self.now ≡ true → result ≡ true }
     {
-        if self.awaits_late() || self.draining.is_some() || self.is_retired {
+        if self.is_late() || self.draining.is_some() || self.is_retired {
             return true;
         }
         self.limits.fail_limit <= self.failures && (now < self.held_until || !self.calls.is_empty())
@@ -648,12 +689,15 @@ impl Link {
     /// A read brought whole answers, or none. Whether it has failed by that: where calls are out, and so many reads in a row brought none.
     pub fn has_read(&mut self, has_settled: bool, polls: Option<u32>) -> bool
         ensures failed { result ≡ true → self.new.calls.sent.items ≢ [] }
-        ensures rest { self.new ≡ record self.old { failures = self.new.failures; vain_reads = self.new.vain_reads } }
+        ensures rest { self.new ≡ record self.old { failures = self.new.failures; vain_reads = self.new.vain_reads; news = self.new.news; was_down = self.new.was_down } }
     {
         if has_settled {
             self.failures = 0;
+            self.vain_reads = 0;
+            self.tell_back();
+            return false;
         }
-        if has_settled || self.calls.is_empty() {
+        if self.calls.is_empty() {
             self.vain_reads = 0;
             return false;
         }
@@ -823,8 +867,17 @@ impl Link {
         self.failures = 0;
         self.vain_reads = 0;
         self.awaited = None;
-        self.was_down = false;
-        self.news = Some(LinkNews::Back);
+        self.tell_back();
+    }
+
+    // That its server has answered is news where it was late, and is so no longer.
+    fn tell_back(&mut self)
+        ensures { self.new ≡ record self.old { news = self.new.news; was_down = self.new.was_down } }
+    {
+        if self.was_down && !self.is_late() {
+            self.was_down = false;
+            self.news = Some(LinkNews::Back);
+        }
     }
 
     /// The connection is of no use any more, or could not be made: the number of the one that is to be closed. Late answers are awaited no longer.

@@ -8,7 +8,7 @@ ghost use Rattle.serve_wire.specs.Events.{Event};
 ghost use Rattle.serve_links.specs.CoreSteps.{GoesBy, IsSettlement, IsSending, Fails};
 ghost use Rattle.serve_links.specs.Story.{LineGoes};
 ghost use Rattle.core_accepted.specs.declared.served.ServedCore.{ServedCore};
-ghost use Rattle.serve_links.specs.Lateness.{HasLate};
+ghost use Rattle.serve_links.specs.Lateness.{HasLate, LetsStoresWait};
 ghost use Rattle.serve_links.specs.Links.{AllFail, FailsTo, IsDown};
 ghost use Rattle.serve_links.specs.Settled.{HoldsNoAnswer, SettlesSome, SettlesFront, used_by};
 
@@ -79,10 +79,12 @@ pub fn fail_all(link: &mut Link, core: &mut ServedCore, clients: &mut Clients)
     fail_waiting(link, core, clients)
 }
 
-/// If a call that is out on the link is late by now, all that are have failed, and keep their places. Else nothing is done.
+/// If a call that is out on the link is late by now, all that are have failed, and keep their places: those before the first store, where stores are
+/// awaited however long they take. Else nothing is done.
 pub fn fail_late(link: &mut Link, core: &mut ServedCore, clients: &mut Clients, now: u64)
     ensures goes { (at : ℕ) (h : List Event) → LineGoes IsSending at core.old h link.old core.new h link.new }
     ensures late { HasLate now link.old ⊎ ((link.new ≡ link.old) × (core.new ≡ core.old)) }
+    ensures stores { LetsStoresWait link.old link.new }
     ensures ends { KeepsEnds clients.old clients.new }
 {
     if !link.has_late(now) {
@@ -94,6 +96,7 @@ pub fn fail_late(link: &mut Link, core: &mut ServedCore, clients: &mut Clients, 
 // The calls that are out on the link have failed, and keep their places.
 fn fail_all_late(link: &mut Link, core: &mut ServedCore, clients: &mut Clients, now: u64)
     ensures goes { (at : ℕ) (h : List Event) → LineGoes IsSending at core.old h link.old core.new h link.new }
+    ensures stores { LetsStoresWait link.old link.new }
     ensures ends { KeepsEnds clients.old clients.new }
 {
     link.turn_late(now);

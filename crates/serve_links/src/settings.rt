@@ -35,6 +35,8 @@ pub struct LinkLimits {
     pub fail_limit: u32,
     /// For how many milliseconds they do, before one call tries it.
     pub retry_ms: u64,
+    /// Whether a store that is out is awaited however long it takes, and those behind it with it.
+    pub stores_wait: bool,
 }
 
 /// How many clients there may be, how many calls may be out, how long is waited, and how servers are asked.
@@ -58,6 +60,8 @@ pub struct Settings {
     pub fail_limit: u32,
     /// For how many milliseconds they do, before one call tries it.
     pub retry_ms: u64,
+    /// Whether a store that is out is awaited however long it takes, and those behind it with it.
+    pub stores_wait: bool,
     /// After how many milliseconds in which late answers were awaited a server's connection is given up; without a number it never is.
     pub give_up_ms: Option<u64>,
     /// After so many reads of a server in a row that brought no whole answer its calls have failed; without a number they may be any.
@@ -68,8 +72,8 @@ pub struct Settings {
 }
 
 impl Settings {
-    /// 1,024 clients, 32 commands of each, 256 calls that have gone out to each server, keys shared, one second each time, three failures, no connection
-    /// given up for late answers, any number of reads, and dialects as servers tell.
+    /// 1,024 clients, 32 commands of each, 256 calls that have gone out to each server, keys shared, one second each time, for stores too, three failures,
+    /// no connection given up for late answers, any number of reads, and dialects as servers tell.
     pub fn usual() -> Settings {
         Settings {
             clients: 1_024,
@@ -81,6 +85,7 @@ impl Settings {
             connect_ms: 1_000,
             fail_limit: 3,
             retry_ms: 1_000,
+            stores_wait: false,
             give_up_ms: None,
             polls: None,
             server_dialect: ServerDialect::Auto,
@@ -97,6 +102,7 @@ impl Settings {
             connect_ms: self.connect_ms,
             fail_limit: self.fail_limit,
             retry_ms: self.retry_ms,
+            stores_wait: self.stores_wait,
         }
     }
 

@@ -85,5 +85,5 @@ stops_so at h h' x y r none r_is y_is closes_it still = λ core. by core x.drain
     by core None e =
         line_keeps (quiet_as h h' (still (r_is ∙ ap (option_map (λ (z : Conn). z.number)) e))) (ap line_of y_is ∙ ap line_of (ap (λ (o : Option Conn). record x { draining = o }) (sym e)))
     by core (Some c) e =
-        line_ends (Some causes.AnswerLate) refl refl x y c none e y_is (nothing_read c.number h) (λ t ending. inr ending)
+        line_ends (Some causes.AnswerLate) refl refl x y c none e y_is (nothing_read c.number h) (λ t ending. inr (inr ending))
         (subst (λ o. IfSome o (λ n. Closes n h h')) (r_is ∙ ap (option_map (λ (z : Conn). z.number)) e) closes_it)

@@ -1,5 +1,5 @@
 -- Links that are given up for what their connections show.
-use Rattle.std.proofs.Common.{◌≡◌, ◌≢◌, ℕ, ◌<◌, Bool, true, false, List, [], ◌∷◌, ◌++◌, length, get_or, Option, Some, None, inl, refl, sym, ◌∙◌, subst, ap}
+use Rattle.std.proofs.Common.{◌≡◌, ◌≢◌, ℕ, ◌<◌, Bool, true, false, List, [], ◌∷◌, ◌++◌, length, get_or, Option, Some, None, inl, inr, refl, sym, ◌∙◌, subst, ap}
 use Rattle.std.proofs.Math.ListN.{set}
 use Rattle.std.specs.Prelude.{IfSome, slice_get}
 use Rattle.mc_types.specs.declared.call.Outcome.TheVariants.{Failed}
@@ -16,9 +16,11 @@ use Rattle.serve_links.specs.declared.calls.calls.LateCall.{LateCall}
 use Rattle.serve_links.specs.declared.link.Link.{Link}
 use Rattle.serve_links.specs.declared.news.Cause.{Cause}
 use Rattle.serve_links.specs.declared.news.Cause.TheVariants as causes
+use Rattle.serve_links.specs.Calls.{stores_first}
+use Rattle.serve_links.specs.Lateness.{AwaitsLate}
 use Rattle.serve_links.specs.Links.{vain_cause}
 use Rattle.serve_links.specs.CoreSteps.{Step, Opened, NotOpened, Fed, Polled, Stopped, Settled, Gave, Closed, LeftLine, Broke, Loaded, Linked, Asked, Greeted, Spelled, Late, CameLate, Lost, Walks, AreOf, IsOfTurn, IsGivingUp, IsSending, Fails, GoesBy}
-use Rattle.serve_links.specs.Talks.{SaidAsk, talk_in}
+use Rattle.serve_links.specs.Talks.{SaidAsk, IsStoreFirst, talk_in}
 use Rattle.serve_links.specs.Story.{said_asks, said_late, line_of, LineAgrees, LineLost, LineFails, LineGoesFrom, AnEnd, Agrees, AgreesBut, AllGoFrom, ShowsWhy}
 use Rattle.serve_links.proofs.LinkGoes.{as_failing, line_between, line_keeps}
 use Rattle.serve_links.proofs.Story.{go_between, all_but, but_all}
@@ -140,14 +142,26 @@ late_some at past h y conn a there some none = some (none_said y.late.items (sym
         some_said : (said : SaidAsk) (others : List SaidAsk) → said ∷ others ≡ [] → ⊥
         some_said said others none = cc
 
+-- or whose first call is a store
+store_said : (calls : List SentCall) → stores_first calls ≡ true → IsStoreFirst (said_asks calls)
+store_said [] e = absurd (false_true e)
+  where
+    false_true : false ≡ true → ⊥
+    false_true e = cc
+store_said (call ∷ calls) e = e
+
+late_shows : (at : ℕ) (past : List Step) (h : List Event) (y : Link) (conn : Conn) → LineAgrees at past h y → y.conn ≡ Some conn → AwaitsLate y → ShowsWhy (Some causes.AnswerLate) (talk_in past at) conn.number h
+late_shows at past h y conn a there (inl late) = inl (late_some at past h y conn a there late)
+late_shows at past h y conn a there (inr store) = inr (inl (subst IsStoreFirst (sym (a.conn conn there).out_is) (store_said y.calls.sent.items store)))
+
 pub unanswered : {Q : List Step → AnEnd → Type 0} {Is : Step → Type 0} {a b : AnEnd} (at : ℕ) → AwaitsLateAt at a.links → AllGoFrom (AgreesBut (LineFails (Some causes.AnswerLate)) at) Q Is a b → AllGoFrom Agrees Q Is a b
 unanswered {a = a} at awaits g = go_between (λ past was. failing_at (Some causes.AnswerLate) at past a (this past was) was) (λ past was. was) g
   where
     this : (past : List Step) → Agrees past a → (link : Link) → slice_get a.links at ≡ Some link → LineFails (Some causes.AnswerLate) at past a.history link
     this past was link there =
         let agrees = was.links at link there in
-        let late : link.late.items ≢ [] = subst (λ (o : Option Link). IfSome o (λ z. z.late.items ≢ [])) there awaits in
-        as_failing (Some causes.AnswerLate) at past a.history link (λ conn is. inl (late_some at past a.history link conn agrees is late)) agrees
+        let late : AwaitsLate link = subst (λ (o : Option Link). IfSome o AwaitsLate) there awaits in
+        as_failing (Some causes.AnswerLate) at past a.history link (λ conn is. late_shows at past a.history link conn agrees is late) agrees
 
 -- or for what is no answer, or where that is wanted
 pub foreign_at : (at : ℕ) (past : List Step) (x : AnEnd) → Agrees past x → AgreesBut (LineFails (Some causes.Foreign)) at past x

@@ -32,12 +32,13 @@ use Rattle.serve_links.specs.declared.link.Link.{Link}
 use Rattle.serve_links.specs.CoreSteps.{Step, Polled, Does, IsOfTurn}
 use Rattle.serve_links.specs.Dialects.{asked_in, awaits_flush}
 use Rattle.serve_links.specs.Settled.{SettlesSome, SettlesFront}
-use Rattle.serve_links.specs.Lateness.{HasLate, HasLateAt}
+use Rattle.serve_links.specs.Lateness.{HasLate, HasLateAt, LetsStoresWait, AllLetStoresWait}
 use Rattle.serve_links.specs.Links.{IsTaken}
 use Rattle.serve_links.specs.Lines.{IsNewEnd, OpensBy, greeting_of}
 use Rattle.serve_links.specs.Shut.{drain_of}
 use Rattle.serve_links.specs.Talks.{SaidAsk, talk_in, IsCalledIn}
 use Rattle.serve_links.specs.Story.{LineState, line_of, said_asks, said_late, MayGo, LineAgrees, LineLost, LineGoesFrom, LineGoes, AnEnd, Agrees, AgreesBut, AgreesCalled, AgreesSent, AllGoFrom, fed_in, gave_in}
+use Rattle.serve_links.proofs.LateGoes.{waits_still}
 use Rattle.serve_links.proofs.LinkGoes.{as_lost, line_between, line_settles, line_loses, line_asks, line_waits, line_takes}
 use Rattle.serve_links.proofs.Story.{go_between}
 use Rattle.serve_links.proofs.Due.{one_due, one_apart}
@@ -237,6 +238,35 @@ pub late_at :
     → HasLateAt at t links ⊎ (b ≡ a)
 late_at links x y at shown within was (inl late) = inl (x, slice_get_read links (length links) at x refl within was, subst (λ n. HasLate n x) shown late)
 late_at links x y at shown within was (inr same) = inr same.1
+
+-- links whose calls are as they were let stores wait
+one_waits : (x u v : Link) → Some x ≡ Some u → Some x ≡ Some v → LetsStoresWait u v
+one_waits x u v is now = subst (λ (z : Link). LetsStoresWait u z) (same_link (sym is ∙ now)) (waits_still u u refl refl)
+  where
+    same_link : {y z : Link} → Some y ≡ Some z → y ≡ z
+    same_link e = cc
+
+pub waits_none : (links : List Link) → AllLetStoresWait links links
+waits_none [] at u v is now = absurd (none_some is)
+  where
+    none_some : None ≡ Some u → ⊥
+    none_some e = cc
+waits_none (first ∷ links) zero u v is now = one_waits first u v is now
+waits_none (first ∷ links) (suc at) u v is now = waits_none links at u v is now
+
+-- and so do all where one of them does
+pub waits_set : (links : List Link) (at : ℕ) (x y : Link) → x ≡ get_or links at x → LetsStoresWait x y → AllLetStoresWait links (set links at y)
+waits_set [] at x y there waits i u v is now = absurd (none_some is)
+  where
+    none_some : None ≡ Some u → ⊥
+    none_some e = cc
+waits_set (first ∷ links) zero x y there waits zero u v is now = subst (λ (z : Link). LetsStoresWait z v) (there ∙ same_link is) (subst (λ (z : Link). LetsStoresWait x z) (same_link now) waits)
+  where
+    same_link : {y z : Link} → Some y ≡ Some z → y ≡ z
+    same_link e = cc
+waits_set (first ∷ links) zero x y there waits (suc i) u v is now = waits_none links i u v is now
+waits_set (first ∷ links) (suc at) x y there waits zero u v is now = one_waits first u v is now
+waits_set (first ∷ links) (suc at) x y there waits (suc i) u v is now = waits_set links at x y there waits i u v is now
 
 -- what holds of a link holds of that at its place
 pub awaited_at : (links : List Link) (at : ℕ) (link : Link) → at < length links → link ≡ get_or links at link → HoldsAwaited link → HoldsAwaitedAt at links

@@ -20,6 +20,7 @@ use Rattle.serve_links.specs.declared.news.Cause.TheVariants as causes
 use Rattle.serve_wire.specs.declared.conn.conn.Got.{Got}
 use Rattle.serve_wire.specs.declared.conn.conn.Got.TheVariants as got
 use Rattle.serve_proxy.specs.declared.sockets.Sockets.{Sockets}
+use Rattle.serve_links.specs.Lateness.{AwaitsLate}
 use Rattle.serve_links.specs.Talks.{Standing, left_by}
 use Rattle.serve_links.specs.Story.{LineState, line_of, LineAgrees, LineFails, LineCalled, LineGoesFrom, LineGoes, OneGoes, AnEnd, Agrees, AgreesGiven, AgreesBut, AgreesCalled, AgreesSent, AllGoFrom, AllGo, texts_of}
 
@@ -56,9 +57,9 @@ IsOpenAt at links = (link : Link) × (slice_get links at ≡ Some link) × IsSom
 abbrev pub AsksIn : Dialect → ℕ → List Link → Type 0
 AsksIn dialect at links = MatchOption (slice_get links at) (dialect ≡ Classic) (λ link. dialect ≡ link.dialect)
 
--- answers are still to come of calls of the link at this place, if there is one, that have failed
+-- answers are still to come of calls of the link at this place, if there is one, that were late, or a store is the first of those that are out
 abbrev pub AwaitsLateAt : ℕ → List Link → Type 0
-AwaitsLateAt at links = IfSome (slice_get links at) (λ link. link.late.items ≢ [])
+AwaitsLateAt at links = IfSome (slice_get links at) AwaitsLate
 
 -- where nothing is awaited over a link's connection, neither an answer, nor a late one, nor what its server says to what it was asked first, nothing is held of it: so no byte that came before a call is part of its answer
 abbrev pub HoldsAwaited : Link → Type 0

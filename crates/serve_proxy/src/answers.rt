@@ -250,7 +250,7 @@ fn note_room(link: &Link) -> (bool, bool) {
     }
 }
 
-// Something came over it now, in microseconds: whether that may be news, as it stands by that, or awaits late answers.
+// Something came over it now, in microseconds: whether that may be news, as it stands by that, or is late.
 #[tactic(auto, using(crate::proofs::Staying::kept_line))]
 fn has_come(link: &mut Link, now: u64) -> bool
     ensures line { line_of link.new ≡ line_of link.old }
@@ -258,5 +258,5 @@ fn has_come(link: &mut Link, now: u64) -> bool
     link.calls.note_came(now);
     link.reads_long = link.may_have_more();
     let has_stood = link.stand();
-    has_stood || link.awaits_late()
+    has_stood || link.is_late()
 }

@@ -2,7 +2,7 @@
 
 ghost use Rattle.std.specs.Prelude.{◌≡◌, ◌⊎◌, ℕ, IsSome};
 ghost use Rattle.serve_wire.specs.Events.{time};
-ghost use Rattle.serve_links.specs.Lateness.{HasLateAt, IsConnectLateAt, IsReadAt};
+ghost use Rattle.serve_links.specs.Lateness.{HasLateAt, AllLetStoresWait, IsConnectLateAt, IsReadAt};
 ghost use Rattle.serve_links.specs.Links.{IsDownAt, IsClosedAt};
 ghost use Rattle.serve_links.specs.Talks.{Apart, Ending};
 ghost use Rattle.serve_proxy.specs.Ends.{idle_cause, GoAlone, GoAloneUnless, LineStands, AllFailOn, AllGiveUp, AllLeave, AllGoOn};
@@ -77,7 +77,7 @@ pub fn look_at_idle<W: Wire>(core: &mut ServedCore, sockets: &mut Sockets<W>, at
     }
 }
 
-/// Links whose connections have taken too long fail, if one may have, and so do calls that have, with all others of their links. What has come over them is read and settled before: the system was asked for it
+/// Links whose connections have taken too long fail, if one may have, and so do calls that have, with all others of their links that aren't awaited however long they take. What has come over them is read and settled before: the system was asked for it
 /// after the clock was looked at, and had nothing.
 pub fn fail_late<W: Wire>(core: &mut ServedCore, sockets: &mut Sockets<W>)
     ensures ends { AllGoOn W.history core.old sockets.old core.new sockets.new }
@@ -114,13 +114,13 @@ fn fail_by<W: Wire>(core: &mut ServedCore, sockets: &mut Sockets<W>, at: usize, 
     }
 }
 
-// The link's late answers didn't come for too long, or not the end of its connection: that is kept no longer.
+// The link's late answers didn't come for too long, or not that to a store, or not the end of its connection: that is kept no longer.
 fn give_up<W: Wire>(core: &mut ServedCore, sockets: &mut Sockets<W>, at: usize)
     requires read { IsReadAt at (time (W.history sockets.old.wire)) sockets.old.links.all.items }
     ensures ends { AllFailOn W.history core.old sockets.old core.new sockets.new }
 {
     sockets.stop_draining(at);
-    if !sockets.links.awaits_late(at) {
+    if !sockets.links.is_late(at) {
         return;
     }
     fail_link(core, sockets, at, Cause::AnswerLate)
@@ -139,8 +139,8 @@ fn fail_unconnected<W: Wire>(core: &mut ServedCore, sockets: &mut Sockets<W>, at
     fail_link(core, sockets, at, Cause::ConnectLate)
 }
 
-// The link's calls have all failed. Those that are out keep their places, so that their answers meet no other calls; until these have come, further
-// calls fail at once.
+// The link's calls have all failed, but stores and those behind them where stores are awaited however long they take. Those that are out keep their
+// places, so that their answers meet no other calls; until these have come, further calls fail at once.
 fn fail_calls<W: Wire>(core: &mut ServedCore, sockets: &mut Sockets<W>, at: usize)
     requires read { IsReadAt at (time (W.history sockets.old.wire)) sockets.old.links.all.items }
     ensures ends { AllFailOn W.history core.old sockets.old core.new sockets.new }
@@ -154,6 +154,7 @@ fn fail_sent<W: Wire>(core: &mut ServedCore, sockets: &mut Sockets<W>, at: usize
     requires read { IsReadAt at (time (W.history sockets.old.wire)) sockets.old.links.all.items }
     ensures ends { AllFailOn W.history core.old sockets.old core.new sockets.new }
     ensures late { HasLateAt at (time (W.history sockets.old.wire)) sockets.old.links.all.items ⊎ (core.new ≡ core.old) }
+    ensures stores { AllLetStoresWait sockets.old.links.all.items sockets.new.links.all.items }
 {
     let now = sockets.wire.last_millis();
     match sockets.links.all.get_mut(at) {

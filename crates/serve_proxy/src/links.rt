@@ -620,12 +620,12 @@ impl Links {
         }
     }
 
-    /// Whether answers are still to come of calls of the link that have failed.
-    pub fn awaits_late(&self, at: usize) -> bool
+    /// Whether answers are still to come of calls of the link that were late.
+    pub fn is_late(&self, at: usize) -> bool
         ensures { result ≡ true → AwaitsLateAt at self.now.all.items }
     {
         match self.all.get(at) {
-            Some(link) => link.awaits_late(),
+            Some(link) => link.is_late(),
             None => false,
         }
     }

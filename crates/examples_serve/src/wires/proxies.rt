@@ -319,6 +319,122 @@ taken 7 => get a\r\n
 taken 8 => get c\r\n
 taken 9 => get e\r\n
 
+A get and a set that are out when the get is late: both have failed.
+host 127.0.0.1:5001
+peer 9
+awaits 23
+until 2500
+sends END\r\nSTORED\r\n
+answers 127.0.0.1:5001
+peer 1
+sends get b\r\nset a 0 0 1\r\n7\r\n
+calls 0
+proxy <one server>
+turn 60
+taken 1 => SERVER_ERROR call failed\r\nSERVER_ERROR call failed\r\n
+taken 9 => get b\r\nset a 0 0 1\r\n7\r\n
+
+Where stores wait, the get fails then, and the set is answered once the server goes on.
+host 127.0.0.1:5001
+peer 9
+awaits 23
+until 2500
+sends END\r\nSTO
+until 2600
+sends RED\r\n
+awaits 30
+sends END\r\n
+answers 127.0.0.1:5001
+peer 1
+sends get b\r\nset a 0 0 1\r\n7\r\n
+until 4000
+sends get c\r\n
+calls 0
+waiting-proxy <one server>
+turn 20
+taken 1 => SERVER_ERROR call failed\r\n
+turn 60
+taken 1 => SERVER_ERROR call failed\r\nSTORED\r\nEND\r\n
+open 9 => yes
+taken 9 => get b\r\nset a 0 0 1\r\n7\r\nget c\r\n
+
+Where nothing is out before a set, what is behind it is awaited with it. Once it took too long further calls fail at once, until the server goes on.
+host 127.0.0.1:5001
+peer 9
+awaits 23
+until 4500
+sends STORED\r\nEND\r\n
+awaits 30
+sends END\r\n
+answers 127.0.0.1:5001
+peer 1
+sends set a 0 0 1\r\n7\r\nget b\r\n
+calls 0
+peer 2
+until 3000
+sends get c\r\n
+until 5500
+sends get d\r\n
+calls 0
+waiting-proxy <one server>
+turn 40
+taken 1 => nothing
+taken 2 => SERVER_ERROR call failed\r\n
+turn 60
+taken 1 => STORED\r\nEND\r\n
+taken 2 => SERVER_ERROR call failed\r\nEND\r\n
+open 9 => yes
+taken 9 => set a 0 0 1\r\n7\r\nget b\r\nget d\r\n
+news => server 0: connected; server 0: late: a call took too long; server 0: back
+
+A set that waits fails where its connection ends.
+host 127.0.0.1:5001
+peer 8
+awaits 16
+until 2500
+ends
+answers 127.0.0.1:5001
+peer 9
+awaits 7
+sends END\r\n
+answers 127.0.0.1:5001
+peer 1
+sends set a 0 0 1\r\n7\r\n
+until 4000
+sends get b\r\n
+calls 0
+waiting-proxy <one server>
+turn 20
+taken 1 => nothing
+turn 60
+taken 1 => SERVER_ERROR call failed\r\nEND\r\n
+open 8 => no
+taken 9 => get b\r\n
+
+Or is given up, which it is two seconds after it took too long, where there is such a bound.
+host 127.0.0.1:5001
+peer 8
+awaits 16
+answers 127.0.0.1:5001
+peer 9
+awaits 7
+sends END\r\n
+answers 127.0.0.1:5001
+peer 1
+sends set a 0 0 1\r\n7\r\n
+until 5000
+sends get b\r\n
+calls 0
+waiting-and-giving-up-proxy <one server>
+turn 25
+taken 1 => nothing
+open 8 => yes
+turn 60
+taken 1 => SERVER_ERROR call failed\r\nEND\r\n
+open 8 => no
+taken 9 => get b\r\n
+news => server 0: connected; server 0: late: a call took too long; server 0: failed: late answers didn't come, 1 in a row; server 0: back
+
 A connection that ends or fails while nothing is out costs no command.
 host 127.0.0.1:5001
 peer 7
@@ -927,6 +1043,14 @@ fn giving_up() -> Settings {
     }
 }
 
+// Stores that are out are awaited however long they take.
+fn with_stores_that_wait(settings: Settings) -> Settings {
+    Settings {
+        stores_wait: true,
+        ..settings
+    }
+}
+
 // So many news of links are told after a turn at most.
 const NEWS: usize = 16;
 
@@ -1089,6 +1213,12 @@ impl Scripted<'_> {
             "auto-proxy" => self.begin(text, settings(ServerDialect::Auto)),
             "narrow-proxy" => self.begin(text, narrow()),
             "giving-up-proxy" => self.begin(text, giving_up()),
+            "waiting-proxy" => {
+                self.begin(text, with_stores_that_wait(settings(ServerDialect::Classic)))
+            }
+            "waiting-and-giving-up-proxy" => {
+                self.begin(text, with_stores_that_wait(giving_up()))
+            }
             "turn" => self.turn_often(text.parse::<usize>()?),
             "bounds" => self.bound(text),
             _ => self.peers.script(verb, text),

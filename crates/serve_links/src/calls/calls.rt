@@ -7,8 +7,9 @@ ghost use Rattle.wire_parts.specs.Sending.{bytes_of};
 ghost use Rattle.mc_types.specs.declared.ask.Dialect.TheVariants.{Meta};
 ghost use Rattle.wire_stream.specs.Usual.{IsUsualTo};
 ghost use Rattle.serve_links.specs.Dialects.{asked_in};
+ghost use Rattle.core_accepted.specs.Late.{is_store};
 ghost use Rattle.core_accepted.specs.Results.{IsSettled};
-ghost use Rattle.serve_links.specs.Calls.{IsReadFor, IsReadNext, IsFirstLate, IsReadLate, first_asked, FitsFirst, SettlesFirst, SettlesNext};
+ghost use Rattle.serve_links.specs.Calls.{IsReadFor, IsReadNext, IsFirstLate, IsReadLate, first_asked, stores_first, FitsFirst, SettlesFirst, SettlesNext};
 ghost use Rattle.mc_types.specs.declared.call.Outcome.TheVariants.{Failed};
 ghost use Rattle.std.specs.List.{Any};
 ghost use Rattle.serve_links.specs.Lateness.{IsLate};
@@ -108,6 +109,23 @@ pub fn fail_call(core: &mut ServedCore, ticket: Ticket)
     ensures { IsSettled core.old ticket.number Failed core.new }
 {
     let _ = core.settle(ticket, Outcome::Failed);
+}
+
+// Whether a call of this operation begins an item anew.
+fn is_store(op: Op) -> bool
+    ensures { result ≡ is_store op }
+{
+    match op {
+        Op::Set | Op::Add | Op::Replace | Op::Cas => true,
+        Op::Get
+        | Op::Gat
+        | Op::Append
+        | Op::Prepend
+        | Op::Delete
+        | Op::Incr
+        | Op::Decr
+        | Op::Touch => false,
+    }
 }
 
 // Appends what a server is asked that speaks the meta dialect.
@@ -306,6 +324,16 @@ impl LinkCalls {
     pub fn awaits_get(&self) -> bool {
         match self.sent.front() {
             Some(call) => call.ticket.ask.get().op == Op::Get,
+            None => false,
+        }
+    }
+
+    /// Whether the call in front is a store: a set, an add, a replace or a cas.
+    pub fn awaits_store(&self) -> bool
+        ensures { result ≡ stores_first self.now.sent.items }
+    {
+        match self.sent.front() {
+            Some(call) => is_store(call.ticket.ask.get().op),
             None => false,
         }
     }
