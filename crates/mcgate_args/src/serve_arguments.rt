@@ -79,8 +79,8 @@ opens, fails or comes back.
   --connect-ms N         so has a connection to a server that takes longer to stand, 1000
   --fail-limit N         the calls of a server that failed so many times in a row fail at once, 3
   --retry-ms N           for so long, and then one call tries, 1000
-  --stores-wait          a set, add, replace or cas that a server was asked is awaited however long it takes, and what was asked behind
-                         it; further calls fail at once once it took too long
+  --stores-wait          a set, add, replace or cas that a server was asked is awaited however long it takes, with all behind it; once
+                         it took too long further calls fail at once
   --give-up-ms N         a server's connection is kept for so long while late answers are to come; without it, until it ends
   --polls N              after so many reads of a server in a row without a whole answer its calls have failed; without it, any number
   --stall-ms N           a client that takes nothing for so many milliseconds, while more than 1 MiB is to be sent to it, is closed, 10000

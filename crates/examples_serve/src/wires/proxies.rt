@@ -1214,7 +1214,10 @@ impl Scripted<'_> {
             "narrow-proxy" => self.begin(text, narrow()),
             "giving-up-proxy" => self.begin(text, giving_up()),
             "waiting-proxy" => {
-                self.begin(text, with_stores_that_wait(settings(ServerDialect::Classic)))
+                self.begin(
+                    text,
+                    with_stores_that_wait(settings(ServerDialect::Classic)),
+                )
             }
             "waiting-and-giving-up-proxy" => {
                 self.begin(text, with_stores_that_wait(giving_up()))

@@ -112,7 +112,7 @@ pub fn fail_call(core: &mut ServedCore, ticket: Ticket)
 }
 
 // Whether a call of this operation begins an item anew.
-fn is_store(op: Op) -> bool
+fn begins_item(op: Op) -> bool
     ensures { result ≡ is_store op }
 {
     match op {
@@ -333,7 +333,7 @@ impl LinkCalls {
         ensures { result ≡ stores_first self.now.sent.items }
     {
         match self.sent.front() {
-            Some(call) => is_store(call.ticket.ask.get().op),
+            Some(call) => begins_item(call.ticket.ask.get().op),
             None => false,
         }
     }
