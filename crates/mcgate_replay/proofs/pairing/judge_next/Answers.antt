@@ -9,8 +9,7 @@ use Rattle.mcgate_replay.proofs.pairing.judge_next.Goals as goal
 pub returns-in-Ok-clause-judged : goal.returns-in-Ok-clause-judged
 returns-in-Ok-clause-judged c first =
     let old = c.args.configs.now.items in
-    let added = c.in_ok-push.ensures.items in
-    (
+    let added = c.in_ok-push.ensures.items in (
       ap (held_by first) (added ∙ ap (λ (x : Configuration). old ++ x ∷ []) c.in_ok-config.ensures),
       c.in-Ok.ensures.0 ∙ sym (ap length added ∙ length-append old (c.in_ok-config.config ∷ [])),
     )

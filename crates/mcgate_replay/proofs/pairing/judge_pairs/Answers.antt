@@ -18,8 +18,7 @@ judge_next-requires c = c.loop-reload.invariant.1
 pub loop-reload-init : goal.loop-reload-init
 loop-reload-init c =
     let first = c.args.first.now in
-    let configs = c.in_ok-configs.configs.items in
-    (
+    let configs = c.in_ok-configs.configs.items in (
       subst (λ (ls : List Loading). JudgesAll (MayNotJoin c.args.most) (first_of first any_begun) [] ls (held_by first configs)) (sym c.new-loadings.ensures.items) (held_at_first first configs c.in_ok-configs.ensures),
       subst (λ (cs : List Configuration). AreHeld c.args.most (trees_of cs)) (sym c.in_ok-configs.ensures) c.requires,
     )
@@ -33,10 +32,9 @@ loop-reload-preserved c =
     let r = c.reload-item.result in
     let l = c.in_ok-judge_next.field-0 in
     let mid = held_by first c.loop-reload.configs.items in
-    let new = held_by first c.judge_next.new.configs.items in
-    (
+    let new = held_by first c.judge_next.new.configs.items in (
       subst (λ (ls : List Loading). JudgesAll (MayNotJoin c.args.most) start (take (i + 1) xs) ls new) (sym c.in_ok-push.ensures.items)
-      (one_more_judged (MayNotJoin c.args.most) start mid new xs i c.loop-reload.loadings.items r l c.loop-reload-test.true c.reload-item.is c.loop-reload.invariant.0 (c.in_ok-judge_next.ensures.judged first)),
+          (one_more_judged (MayNotJoin c.args.most) start mid new xs i c.loop-reload.loadings.items r l c.loop-reload-test.true c.reload-item.is c.loop-reload.invariant.0 (c.in_ok-judge_next.ensures.judged first)),
       c.in_ok-judge_next.ensures.held,
     )
 
@@ -45,8 +43,7 @@ returns-clause-judged c =
     let first = c.args.first.now in
     let xs = c.args.reloads.now in
     let all : c.loop-reload.reload-index ≡ length xs = omega arith in
-    let held = held_by first c.loop-reload.configs.items in
-    (
+    let held = held_by first c.loop-reload.configs.items in (
       held,
       subst (λ (rs : List Reload). JudgesAll (MayNotJoin c.args.most) (first_of first any_begun) rs c.loop-reload.loadings.items held) (ap (λ (n : ℕ). take n xs) all ∙ take-length xs) c.loop-reload.invariant.0,
       c.loop-reload.invariant.1,

@@ -18,8 +18,7 @@ judge_all-requires g c =
 pub run_judged-requires-clause-loadings : goal.run_judged-requires-clause-loadings
 run_judged-requires-clause-loadings g c =
     let s = c.args.script.now in
-    let first = begun_first c.args.accepted.now s.config c.args.begun c.in_ok-generations.generations c.requires.accepted c.in_ok-generations.ensures in
-    (
+    let first = begun_first c.args.accepted.now s.config c.args.begun c.in_ok-generations.generations c.requires.accepted c.in_ok-generations.ensures in (
       c.requires.certified,
       c.judge_all.new.generations,
       judged_of (MayNotFollow c.args.most) s.config c.args.begun c.in_ok-generations.generations c.judge_all.new.generations _ (reloads_of s) c.in_ok-judged.judged.loadings.items first c.as_slice-reloads.ensures.value c.in_ok-judged.ensures.judged,
