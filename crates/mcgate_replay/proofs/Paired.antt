@@ -108,10 +108,8 @@ held_more most trees tree held few is covering own =
       sound = sound_more trees tree held.sound covering own;
     }
 
-pub held_pushed : (most : ℕ) (configs new : List Configuration) (config copy : Configuration) → new ≡ configs ++ copy ∷ [] → copy ≡ config → AreHeld most (trees_of configs ++ config.tree ∷ []) → AreHeld most (trees_of new)
-held_pushed most configs new config copy e same held =
-    let is : new ≡ configs ++ config ∷ [] = e ∙ ap (λ (c : Configuration). configs ++ c ∷ []) same in
-    subst (λ (cs : List Configuration). AreHeld most (trees_of cs)) (sym is) (subst (AreHeld most) (sym (trees_more configs config)) held)
+pub held_pushed : (most : ℕ) (configs new : List Configuration) (config : Configuration) → new ≡ configs ++ config ∷ [] → AreHeld most (trees_of configs ++ config.tree ∷ []) → AreHeld most (trees_of new)
+held_pushed most configs new config is held = subst (λ (cs : List Configuration). AreHeld most (trees_of cs)) (sym is) (subst (AreHeld most) (sym (trees_more configs config)) held)
 
 -- the accepted configuration alone
 pub held_first : (most : ℕ) (accepted : List Configuration) (c : Configuration) → accepted ≡ c ∷ [] → AreGenerations (trees_of accepted) → AreHeld most (c.tree ∷ [])

@@ -75,7 +75,7 @@ loading_of reasons.TooManyPlaces = Some (Refused (faults.TooManyPlaces 0))
 loading_of (reasons.Left generation gap) = Some (Refused (faults.Uncovered generation gap))
 loading_of reasons.NoMemory = None
 
--- of trees that are held so many are the most; the first one always is
+-- so many trees are held at most; the first one always is
 abbrev pub IsFew : ℕ → ℕ → Type 0
 IsFew most count = (count ≤ most) ⊎ (count ≡ 1)
 

@@ -90,6 +90,14 @@ fn refusal(fault: ReloadFault) -> Option<Loading>
     }
 }
 
+// The configuration is one of them, too, the last one.
+fn push_copy(alloc: Global, configs: &mut Vec<Config>, config: &Config) -> Result<(), AllocError>
+    ensures { OnOk result (configs.new.items ≡ configs.old.items ++ config.now ∷ []) }
+{
+    configs.push(config.copy(alloc)?)?;
+    Ok(())
+}
+
 // Asks whether one more configuration may join these.
 fn judge_next(
     alloc: Global,
@@ -103,8 +111,7 @@ fn judge_next(
 {
     match next_number(alloc, most, configs, &reload.config) {
         Ok(number) => {
-            let config = reload.config.copy(alloc)?;
-            configs.push(config)?;
+            push_copy(alloc, configs, &reload.config)?;
             Ok(Loading::Loaded(number))
         }
         Err(fault) => refusal(fault).ok_or(AllocError),
@@ -116,7 +123,7 @@ fn alone(alloc: Global, config: &Config) -> Result<Vec<Config>, AllocError>
     ensures { IfOk result (λ configs. configs.items ≡ config.now ∷ []) }
 {
     let mut configs = Vec::new(alloc);
-    configs.push(config.copy(alloc)?)?;
+    push_copy(alloc, &mut configs, config)?;
     Ok(configs)
 }
 

@@ -66,7 +66,13 @@ fn lines_to(alloc: Global, last: u32, refused: bool) -> Result<String, Fail> {
 const ONE: &str = "over A and B \"PoolRoute|A\"\n";
 
 // So many reloads of one tree, of which as many as are held are accepted, and one more isn't.
-fn held(alloc: Global, judging: Judging, count: usize, last: u32, refused: bool) -> Result<(), Fail> {
+fn held(
+    alloc: Global,
+    judging: Judging,
+    count: usize,
+    last: u32,
+    refused: bool,
+) -> Result<(), Fail> {
     let script = reloads(alloc, ONE, count)?;
     let got = printed_by(alloc, judging, script.as_str())?;
     let want = lines_to(alloc, last, refused)?;
@@ -99,10 +105,12 @@ fn other_numbers_of_generations(rt: HostRuntime) -> Result<(), Fail> {
 }
 
 // A tree whose deletes reach both servers, so that the next may read the other one.
-const BOTH: &str = "over A and B {\"type\":\"OperationSelectorRoute\",\"default_policy\":\"PoolRoute|A\",\"operation_policies\":{\"delete\":{\"type\":\"AllSyncRoute\",\"children\":[\"PoolRoute|A\",\"PoolRoute|B\"]}}}\n";
+const BOTH: &str =
+    "over A and B {\"type\":\"OperationSelectorRoute\",\"default_policy\":\"PoolRoute|A\",\"operation_policies\":{\"delete\":{\"type\":\"AllSyncRoute\",\"children\":[\"PoolRoute|A\",\"PoolRoute|B\"]}}}\n";
 
 // The same that reads the other one.
-const OTHER: &str = "over A and B {\"type\":\"OperationSelectorRoute\",\"default_policy\":\"PoolRoute|B\",\"operation_policies\":{\"delete\":{\"type\":\"AllSyncRoute\",\"children\":[\"PoolRoute|A\",\"PoolRoute|B\"]}}}\n";
+const OTHER: &str =
+    "over A and B {\"type\":\"OperationSelectorRoute\",\"default_policy\":\"PoolRoute|B\",\"operation_policies\":{\"delete\":{\"type\":\"AllSyncRoute\",\"children\":[\"PoolRoute|A\",\"PoolRoute|B\"]}}}\n";
 
 // Sixteen of the first, one whose deletes reach one server, and the other.
 fn late_gap(alloc: Global) -> Result<String, AllocError> {
@@ -117,6 +125,8 @@ fn the_seventeenth_tree_is_asked_too(rt: HostRuntime) -> Result<(), Fail> {
     let script = late_gap(rt.alloc())?;
     let got = printed_by(rt.alloc(), Judging::Asked(20), script.as_str())?;
     let mut want = accepted_to(rt.alloc(), 17)?;
-    want.push_str("reload refused generation=17 server=127.0.0.1:5002 read=get delete=delete prefix= residue=0/1\ndone 0 commands 0 calls 0 stale\n")?;
+    want.push_str(
+        "reload refused generation=17 server=127.0.0.1:5002 read=get delete=delete prefix= residue=0/1\ndone 0 commands 0 calls 0 stale\n",
+    )?;
     same("a late gap", got.as_str(), want.as_str())
 }

@@ -33,7 +33,7 @@ loop-reload-preserved c =
     let l = c.in_ok-judge_next.field-0 in
     let mid = held_by first c.loop-reload.configs.items in
     let new = held_by first c.judge_next.new.configs.items in (
-      subst (λ (ls : List Loading). JudgesAll (MayNotJoin c.args.most) start (take (i + 1) xs) ls new) (sym c.in_ok-push.ensures.items)
+      subst (λ (ls : List Loading). JudgesAll (MayNotJoin c.args.most) start (take (i + 1) xs) ls new) (sym {A = List Loading} c.in_ok-push.ensures.items)
           (one_more_judged (MayNotJoin c.args.most) start mid new xs i c.loop-reload.loadings.items r l c.loop-reload-test.true c.reload-item.is c.loop-reload.invariant.0 (c.in_ok-judge_next.ensures.judged first)),
       c.in_ok-judge_next.ensures.held,
     )
