@@ -72,13 +72,13 @@ from_end history old mid new same g = subst (λ x. Serves history x new) same g
 
 -- it is the same end
 pub same_box : {W : Type 0} (old new : ProxyEnd W) → new ≡ old → new.core ≡ old.core
-same_box old new same = ap (λ e. e.core) same
+same_box {W} old new same = ap (λ (e : ProxyEnd W). e.core) same
 
 pub same_core : {W : Type 0} (old new : ProxyEnd W) → new ≡ old → new.core.value ≡ old.core.value
-same_core old new same = ap (λ e. e.core.value) same
+same_core {W} old new same = ap (λ (e : ProxyEnd W). e.core.value) same
 
 pub stayed : {W : Type 0} (history : W → List Event) (first old new : ProxyEnd W) → new ≡ old → Stay history first.sockets old.sockets → Stay history first.sockets new.sockets
-stayed history first old new same stay = subst (λ e. Stay history first.sockets e.sockets) (sym same) stay
+stayed {W} history first old new same stay = subst (λ (e : ProxyEnd W). Stay history first.sockets e.sockets) (sym same) stay
 
 -- it wasn't loaded
 pub not_loaded : (old mid new : ServedCore) (configuration : Configuration) (fault : LoadFault) → mid ≡ old → LoadStops mid configuration fault new → (fault ≡ Refused NoMemory → ⊥) → new ≡ old

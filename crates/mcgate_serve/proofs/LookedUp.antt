@@ -58,4 +58,4 @@ still_none quiet none = λ conn. ((quiet conn).same_role ∙ (none conn).0, (qui
 
 -- on the same wire
 pub looked_as : {W : Type 0} (history : W → List Event) (from : ℕ) (servers : Addresses) (old new : W) → new ≡ old → AreLookedUp from servers (history old) → AreLookedUp from servers (history new)
-looked_as history from servers old new same looked = subst (λ w. AreLookedUp from servers (history w)) (sym same) looked
+looked_as {W} history from servers old new same looked = subst (λ (w : W). AreLookedUp from servers (history w)) (sym same) looked

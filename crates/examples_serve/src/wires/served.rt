@@ -238,6 +238,17 @@ fn serving_of(
     Ok(Serving::new(rt, end, servers, None, started, lines, None, None)?)
 }
 
+fn serve_text(
+    rt: &HostRuntime,
+    end: ProxyEnd<Memory>,
+    job: &ServeJob<'_>,
+    text: String,
+) -> Result<Serving<Memory>, Fail> {
+    let servers = servers_of(rt.alloc(), text.as_str())?;
+    let started = started_of(rt, job, text)?;
+    serving_of(rt, end, servers, started)
+}
+
 fn begin_serving(
     rt: &HostRuntime,
     wire: Memory,
@@ -245,9 +256,7 @@ fn begin_serving(
 ) -> Result<Serving<Memory>, Fail> {
     let text = fs::read_to_string(rt, FILE)?;
     let end = begin_end(rt, wire, text.as_str(), job.settings)?;
-    let servers = servers_of(rt.alloc(), text.as_str())?;
-    let started = started_of(rt, job, text)?;
-    serving_of(rt, end, servers, started)
+    serve_text(rt, end, job, text)
 }
 
 fn run(rt: &HostRuntime, serving: &mut Serving<Memory>, job: &ServeJob<'_>) -> Result<(), Fail> {
