@@ -24,7 +24,7 @@ use Rattle.gate_growth.specs.declared.ledger.unsound.Unsound.{Unsound}
 use Rattle.gate_growth.specs.declared.ledger.unsound.Unsound.TheVariants as reasons
 use Rattle.gate_growth.proofs.Since.{grown_are_fresh}
 use Rattle.core_accepted.specs.declared.beginnings.Beginnings.{Beginnings}
-use Rattle.core_accepted.specs.Known.{Known, is_arbitrary, first_of, more}
+use Rattle.core_accepted.specs.Known.{Known, is_arbitrary, first_of}
 use Rattle.core_accepted.specs.Logs.{BeginSo}
 use Rattle.script_events.specs.declared.script.Reload.{Reload}
 use Rattle.script_events.specs.declared.script.Report.{Report}

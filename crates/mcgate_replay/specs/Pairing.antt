@@ -1,5 +1,5 @@
 -- Scripts whose servers may have held anything, and what the gate answers then to what they load: it looks at pairs of trees. Source: mcgate's own.
-use Rattle.std.specs.Prelude.{◌≡◌, ◌≢◌, ℕ, ◌<◌, ◌≤◌, List, [], ◌∷◌, length}
+use Rattle.std.specs.Prelude.{◌≡◌, ◌≢◌, ℕ, ◌<◌, ◌≤◌, List, length}
 use Rattle.route_tree.specs.Each.{Each}
 use Rattle.route_tree.specs.Route.{Route, IsTree}
 use Rattle.route_json.specs.Configuration.{Configuration}

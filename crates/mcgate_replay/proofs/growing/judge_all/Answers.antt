@@ -25,7 +25,7 @@ loop-reload-preserved c =
     let l = c.in_ok-loading.loading in
     let old = c.loop-reload.generations in
     let new = c.judge_next.new.generations in
-    let after = c.held_after.ensures in (
+    let after = c.held_after-held.ensures in (
       subst (λ (ls : List Loading). JudgesAll Why c.args.generations.now (take (i + 1) xs) ls new) (sym c.in_ok-push.ensures.items)
           (one_more_judged Why c.args.generations.now old new xs i c.loop-reload.loadings.items r l c.loop-reload-test.true c.reload-item.is c.loop-reload.invariant.0 c.in_ok-loading.ensures.judged),
       after ∙ held_then Why old new r l c.loop-reload.held c.in_ok-loading.ensures.judged c.loop-reload.invariant.1,

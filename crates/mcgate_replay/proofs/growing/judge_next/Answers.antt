@@ -9,8 +9,8 @@ use Rattle.mcgate_replay.specs.Growing.{JudgesNext, MayNotFollow, IsFew, held_af
 use Rattle.mcgate_replay.proofs.Grown.{told_refused, few_told}
 use Rattle.mcgate_replay.proofs.growing.judge_next.Goals as goal
 
-pub returns-then-held-ge-most-clause-judged : goal.returns-then-held-ge-most-clause-judged
-returns-then-held-ge-most-clause-judged c = let len = length_trees c.args.generations.now.configs in let held = c.requires.held in (refl, omega (arith, len, held))
+pub returns-then-held-most-clause-judged : goal.returns-then-held-most-clause-judged
+returns-then-held-most-clause-judged c = let len = length_trees c.args.generations.now.configs in let held = c.requires.held in (refl, omega (arith, len, held))
 
 pub returns-in-Ok-clause-judged : goal.returns-in-Ok-clause-judged
 returns-in-Ok-clause-judged c =

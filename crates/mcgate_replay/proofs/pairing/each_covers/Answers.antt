@@ -1,4 +1,4 @@
-use Rattle.std.proofs.Common.{◌≡◌, ◌+◌, ◌<◌, length, slice_get, Some, refl, arith}
+use Rattle.std.proofs.Common.{◌+◌, ◌<◌, length, refl, arith}
 use Rattle.gate_check.specs.Sound.{trees_of}
 use Rattle.gate_check.proofs.Following.{covering_more, tree_of_config}
 use Rattle.mcgate_replay.proofs.Paired.{fails_here}

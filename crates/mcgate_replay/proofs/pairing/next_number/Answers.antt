@@ -1,4 +1,4 @@
-use Rattle.std.proofs.Common.{◌+◌, ◌<◌, length, sym, ap, ◌∙◌, subst, arith}
+use Rattle.std.proofs.Common.{◌+◌, ◌<◌, length, sym, ap, subst, arith}
 use Rattle.route_tree.specs.Route.{Route, IsTree}
 use Rattle.gate_check.specs.Places.{CoversAt}
 use Rattle.gate_check.specs.Reload.{AreCovering, IsFaultAmong}

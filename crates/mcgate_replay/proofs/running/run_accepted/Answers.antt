@@ -1,6 +1,5 @@
 use Rattle.std.proofs.Common.{List, subst}
 use Rattle.script_events.specs.declared.script.Reload.{Reload}
-use Rattle.mcgate_replay.specs.Growing.{AreFollowed}
 use Rattle.mcgate_replay.specs.Pairing.{ArePaired}
 use Rattle.mcgate_replay.specs.Replay.{events_of, reloads_of}
 use Rattle.mcgate_replay.proofs.Paired.{held_first, paired_followed}

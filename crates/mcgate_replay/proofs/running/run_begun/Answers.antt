@@ -1,10 +1,9 @@
-use Rattle.std.proofs.Common.{List, length, ap, subst}
+use Rattle.std.proofs.Common.{length, ap, subst}
 use Rattle.route_tree.specs.Each.{Each}
 use Rattle.route_tree.specs.Route.{IsTree}
 use Rattle.gate_check.specs.Sound.{trees_of}
-use Rattle.core_accepted.specs.Known.{Known, first_of}
-use Rattle.script_events.specs.declared.script.Reload.{Reload}
-use Rattle.mcgate_replay.specs.Growing.{JudgesAll, MayNotFollow}
+use Rattle.core_accepted.specs.Known.{Known}
+use Rattle.mcgate_replay.specs.Growing.{MayNotFollow}
 use Rattle.mcgate_replay.specs.Replay.{events_of, reloads_of}
 use Rattle.mcgate_replay.proofs.Grown.{begun_first, judged_of, begun_followed}
 use Rattle.mcgate_replay.proofs.Opens.{holds_begin_so}
