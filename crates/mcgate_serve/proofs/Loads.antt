@@ -6,7 +6,7 @@ use Rattle.route_json.specs.Configuration.{Configuration}
 use Rattle.core_accepted.specs.declared.served.ServedCore.{ServedCore}
 use Rattle.serve_wire.specs.Events.{Event}
 use Rattle.serve_links.specs.CoreSteps.{Step, Opened, NotOpened, Fed, Polled, Stopped, Settled, Gave, Closed, LeftLine, Broke, Loaded, Linked, Asked, Greeted, Spelled, Late, CameLate, Lost, AreOf, IsOfTurn}
-use Rattle.serve_links.specs.Story.{AnEnd, AllGoFrom}
+use Rattle.serve_links.specs.Story.{AnEnd, AllGo, AllGoFrom}
 use Rattle.serve_proxy.specs.declared.proxy.ProxyEnd.{ProxyEnd}
 use Rattle.serve_proxy.specs.Beginning.{LoadStops}
 use Rattle.serve_proxy.specs.Ends.{Stay, AllGoOn, AllGrowFrom, AllGrow, IsLoadOf}
@@ -54,8 +54,11 @@ pub turned : {P Q : List Step → AnEnd → Type 0} {a b : AnEnd} → AllGoFrom 
 turned g = grows (record { steps = g.steps; kinds = each_of_turn g.steps g.kinds; walks = g.walks; agree = g.agree; texts = g.texts })
 
 -- nothing is done with the core, nor on any connection
+pub stays_on : {W : Type 0} {Is : Step → Type 0} (history : W → List Event) (old new : ProxyEnd W) → new.core ≡ old.core → Stay history old.sockets new.sockets → AllGo Is (proxy_of history old) (proxy_of history new)
+stays_on history old new core ends = and_then (stays old.core.value ends) (calls_still (ap (λ c. c.value) core))
+
 pub stood : {W : Type 0} {Is : Step → Type 0} (history : W → List Event) (old new : ProxyEnd W) → new.core ≡ old.core → Stay history old.sockets new.sockets → AllGrow Is (proxy_of history old) (proxy_of history new)
-stood history old new core ends = grows (and_then (stays old.core.value ends) (calls_still (ap (λ c. c.value) core)))
+stood history old new core ends = grows (stays_on history old new core ends)
 
 pub same_end : {W : Type 0} (history : W → List Event) (old new : ProxyEnd W) → new ≡ old → Serves history old new
 same_end history old new same = subst (λ x. Serves history old x) (sym same) (stood history old old refl (stay_still (history old.sockets.wire) old.sockets.clients old.sockets.links.all.items))

@@ -10,4 +10,4 @@ returns-clause-remembered g c =
 pub returns-clause-in_use : goal.returns-clause-in_use
 returns-clause-in_use g c =
     loads_as c.args.self.now.in_use c.judge_text.new.self.in_use c.note_said.new.self.in_use c.args.self.now.servers c.as_str.result.now (string_bytes c.args.text) c.args.self.now.end.core.value c.judge_text.new.self.end.core.value
-    c.note_said.new.self.end.core.value c.note_said.ensures.in_use c.as_str.ensures.value (same_core c.judge_text.new.self.end c.note_said.new.self.end c.note_said.ensures.ends) c.in_ok-judge_text.ensures.in_use
+    c.note_said.new.self.end.core.value c.note_said.ensures.in_use c.as_str.ensures.value (same_core c.judge_text.new.self.end c.note_said.new.self.end c.note_said.ensures.ends) c.in_ok-is_used.ensures.in_use
