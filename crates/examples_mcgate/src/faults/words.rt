@@ -63,7 +63,7 @@ words: mcgate loopback --any => mcgate loopback: unknown flag --any
 words: mcgate replay --generations 0 => mcgate replay: --generations 0: expected a number in 1..=4294967295
 words: mcgate loopback --generations=many => mcgate loopback: --generations many: expected a number in 1..=4294967295
 words: mcgate loopback --generation 3 => mcgate loopback: unknown flag --generation; did you mean --generations?
-words: mcgate replay f --generations => mcgate replay: --generations wants a number after it
+words: mcgate replay f --generations => mcgate replay: --generations wants a number in 1..=4294967295 after it
 words: mcgate serve --generations 3 => mcgate serve: unknown flag --generations
 words: mcgate replay --generations 3 f => 
 words: mcgate replay -- --any f => mcgate replay: one word too many: f
