@@ -18,6 +18,8 @@ pub enum AddressTrouble<'a> {
     TooHigh(u32),
     /// The host has colons and no brackets.
     NoBrackets(&'a str),
+    /// What stands behind `unix:` is no path from the root on, or one that is too long.
+    NoPath(&'a str),
 }
 
 // What is wrong with the text of a port.
@@ -39,11 +41,21 @@ fn host_trouble(host: &str) -> Option<AddressTrouble<'_>> {
     }
 }
 
-/// What is wrong with the form of an address, `HOST:PORT`; `None` where its form is right, and then the system knows no such host, or
-/// refuses the address for a cause of its own.
+// What is wrong with a path behind `unix:`.
+fn path_trouble(path: &str) -> Option<AddressTrouble<'_>> {
+    if path.starts_with("/") && path.len() > 1 && path.len() <= 107 {
+        None
+    } else {
+        Some(AddressTrouble::NoPath(path))
+    }
+}
+
+/// What is wrong with the form of an address, `HOST:PORT` or `unix:PATH`; `None` where its form is right, and then the system knows no
+/// such host, or refuses the address for a cause of its own.
 pub fn address_trouble(text: &str) -> Option<AddressTrouble<'_>> {
     match text.rsplit_once(':') {
         None => Some(AddressTrouble::NoPort),
+        Some((host, path)) if host == "unix" => path_trouble(path),
         Some((host, port)) => match port_trouble(port) {
             Some(trouble) => Some(trouble),
             None => host_trouble(host),
@@ -69,6 +81,13 @@ impl Display for AddressTrouble<'_> {
                     f,
                     "a host with colons stands in brackets: [{}]",
                     Escaped(host.as_bytes())
+                )
+            }
+            AddressTrouble::NoPath(path) => {
+                write!(
+                    f,
+                    "{} is no path: expected / and more behind unix:, at most 107 bytes",
+                    Escaped(path.as_bytes())
                 )
             }
         }

@@ -48,13 +48,15 @@ const CHECK_FLAGS: [&str; 8] = [
     "new-servers",
 ];
 
-const SERVE_FLAGS: [&str; 33] = [
+const SERVE_FLAGS: [&str; 37] = [
     "help",
     "check",
     "config",
     "listen",
     "fleet",
     "unix-mode",
+    "tcp-backlog",
+    "reuse-port",
     "any",
     "history",
     "certificate",
@@ -67,6 +69,8 @@ const SERVE_FLAGS: [&str; 33] = [
     "retry-ms",
     "stores-wait",
     "give-up-ms",
+    "keepalive-s",
+    "resolve-s",
     "polls",
     "stall-ms",
     "memory-mb",
@@ -109,6 +113,7 @@ pub fn takes_of(flag: &str) -> Takes {
         | "log-json"
         | "drain-on-eof"
         | "stores-wait"
+        | "reuse-port"
         | "flush-all" => { Takes::Nothing }
         "config" | "certificate" | "with" | "history" | "after" | "control" => Takes::File,
         "listen" | "metrics" | "add" | "remove" => Takes::Address,

@@ -1,6 +1,7 @@
--- Addresses of servers. Source: mcgate's own.
-use Rattle.std.specs.Prelude.{ℕ, ◌^◌, ◌==◌, ◌&&◌, List, [], ◌∷◌, length, nat_lt, nat_le, Bool, false, Option, Some, None, if◌then◌else◌}
-use Rattle.std.specs.List.{list_all}
+-- Addresses of servers: a host and a port, or a path. Source: mcgate's own; of paths, unix(7), "Address format".
+use Rattle.std.specs.Prelude.{ℕ, ◌^◌, ◌==◌, ◌&&◌, ◌||◌, List, [], ◌∷◌, length, nat_eq, nat_lt, nat_le, codes, Bool, false, Option, Some, None, if◌then◌else◌}
+use Rattle.std.specs.List.{list_all, starts_with}
+use Rattle.std.specs.Str.{bytes_eq}
 use Rattle.text_words.specs.Number.{number_below}
 
 -- a byte that an address may have
@@ -35,6 +36,11 @@ abbrev pub is_host_and_port : Option (List ℕ × List ℕ) → Bool
 is_host_and_port None = false
 is_host_and_port (Some p) = nat_lt 0 (length p.0) && is_port p.1
 
--- 3 to 255 bytes, each 33..=126, with a port after the last colon and something before it
+-- `unix`, and a path from the root on of 2 to 107 bytes, after the last colon: a socket of this machine
+abbrev pub is_path : Option (List ℕ × List ℕ) → Bool
+is_path None = false
+is_path (Some p) = bytes_eq p.0 (codes "unix") && starts_with nat_eq p.1 (codes "/") && nat_lt 1 (length p.1) && nat_le (length p.1) 107
+
+-- 3 to 255 bytes, each 33..=126, with a port after the last colon and something before it, or a path after `unix:`
 abbrev pub is_address : List ℕ → Bool
-is_address a = nat_le 3 (length a) && nat_le (length a) 255 && list_all is_printable a && is_host_and_port (around_colon a)
+is_address a = nat_le 3 (length a) && nat_le (length a) 255 && list_all is_printable a && (is_host_and_port (around_colon a) || is_path (around_colon a))

@@ -97,6 +97,8 @@ address: a:99999 => port 99999 is above 65535
 address: a:x => x is no port: expected 0 to 65535
 address: ::1:11211 => a host with colons stands in brackets: [::1]
 address: [::1]:11211 => 
+address: unix:/a => 
+address: unix:a => a is no path: expected / and more behind unix:, at most 107 bytes
 address: 127.0.0.1:0 => "
 }
 

@@ -23,7 +23,15 @@ h 1:1 => false
 h\u{7f}:1 => false
 é:1 => false
 «253 h»:1 => true
-«254 h»:1 => false"
+«254 h»:1 => false
+unix:/a => true
+unix:/ => false
+unix:a => false
+unix: => false
+Unix:/a => false
+unix:/a:b => false
+unix:/«106 a» => true
+unix:/«107 a» => false"
 }
 
 struct OfAddresses;
@@ -56,6 +64,11 @@ a::1 => None
 1:2:3:4 => Some(("1:2:3:4", 1))
 h:1#2 => Some(("h:1#2", 1))
 h:1#2:3 => Some(("h:1#2", 3))
+unix:/a/b => Some(("unix:/a/b", 1))
+unix:/a:3 => Some(("unix:/a", 3))
+unix:/a#2:3 => Some(("unix:/a#2", 3))
+unix:/a:17 => None
+unix:/a:80:2 => None
 [::1]:5001#7 => Some(("[::1]:5001#7", 1))
 h#2:1 => Some(("h#2:1", 1))
 h:1#999999999 => Some(("h:1#999999999", 1))
