@@ -17,6 +17,10 @@ pub struct ServeJob<'a> {
     pub listen: &'a str,
     /// The mode of the file at that path.
     pub unix_mode: u32,
+    /// So many connections may wait to be accepted where it listens at a host and a port.
+    pub tcp_backlog: u32,
+    /// Others of a fleet may listen at the same host and port.
+    pub reuse_port: bool,
     /// Where to listen for who asks for numbers over HTTP.
     pub metrics: Option<&'a str>,
     /// The path of the socket at which it is told things.
@@ -28,6 +32,10 @@ pub struct ServeJob<'a> {
     /// It drains once standard input has ended.
     pub drain_on_eof: bool,
     pub settings: Settings,
+    /// After so many seconds in which a server's host acknowledged nothing its connection has ended.
+    pub keepalive_s: u32,
+    /// After so many seconds a server's name is looked up again.
+    pub resolve_s: u32,
     /// How servers began.
     pub begun: Beginnings,
     /// A tree that the gate refuses is served too.
@@ -55,6 +63,15 @@ pub struct ServeJob<'a> {
 // How many milliseconds a client may take nothing.
 const STALL_MS: u64 = 10_000;
 
+// How many connections may wait to be accepted.
+const TCP_BACKLOG: u32 = 1_024;
+
+// How many seconds a server's host may acknowledge nothing.
+const KEEPALIVE_S: u32 = 60;
+
+// After how many seconds a server's name is looked up again.
+const RESOLVE_S: u32 = 60;
+
 // How many milliseconds it may drain.
 const DRAIN_MS: u64 = 10_000;
 
@@ -72,6 +89,8 @@ opens, fails or comes back.
   --listen unix:PATH     clients of this machine connect at PATH; --listen fd:0: to the socket that standard input is, which listens
                          several places with a comma between two: --listen HOST:PORT,unix:PATH
   --unix-mode WORD       who may connect at PATH: 600, the user that it runs as, 660, its group too, or 666, everybody; 600
+  --tcp-backlog N        so many connections may wait to be accepted at HOST:PORT, 1024
+  --reuse-port           others of the fleet may listen at the same HOST:PORT, and connections are shared out; with --fleet alone
   --clients N            at most so many clients at once, 1024 where it is left out
   --client-window N      at most so many commands of one client without a shown reply, 32
   --link-window N        at most so many calls out at one server, 256
@@ -82,6 +101,9 @@ opens, fails or comes back.
   --stores-wait          a set, add, replace or cas that a server was asked is awaited however long it takes, with all behind it; once
                          it took too long further calls fail at once
   --give-up-ms N         a server's connection is kept for so long while late answers are to come; without it, until it ends
+  --keepalive-s N        a server's connection has ended once its host has acknowledged nothing for so many seconds, 60
+  --resolve-s N          servers' names are looked up again after so many seconds, and after a failure; a name that leads to another
+                         machine is followed with --new-servers empty or flush, and told of else, 60
   --polls N              after so many reads of a server in a row without a whole answer its calls have failed; without it, any number
   --stall-ms N           a client that takes nothing for so many milliseconds, while more than 1 MiB is to be sent to it, is closed, 10000
   --memory-mb N          where more than so many MiB are to be sent to all clients, the client to which most are is closed, 1024
@@ -124,6 +146,8 @@ pub fn serve_command<'a>(alloc: Global) -> Result<Command<'a>, AllocError> {
         .arg(option(alloc, "config"))?
         .arg(option(alloc, "listen"))?
         .arg(option(alloc, "unix-mode"))?
+        .arg(option(alloc, "tcp-backlog"))?
+        .arg(switch(alloc, "reuse-port"))?
         .arg(option(alloc, "clients"))?
         .arg(option(alloc, "client-window"))?
         .arg(option(alloc, "link-window"))?
@@ -133,6 +157,8 @@ pub fn serve_command<'a>(alloc: Global) -> Result<Command<'a>, AllocError> {
         .arg(option(alloc, "retry-ms"))?
         .arg(switch(alloc, "stores-wait"))?
         .arg(option(alloc, "give-up-ms"))?
+        .arg(option(alloc, "keepalive-s"))?
+        .arg(option(alloc, "resolve-s"))?
         .arg(option(alloc, "polls"))?
         .arg(option(alloc, "stall-ms"))?
         .arg(option(alloc, "memory-mb"))?
@@ -222,6 +248,14 @@ fn fleet_of(given: &ArgMatches<'_>) -> Result<bool, ArgumentsFault> {
     Ok(true)
 }
 
+// Whether others may listen there too, which stand before the same servers: so they are a fleet.
+fn shares_port(given: &ArgMatches<'_>) -> Result<bool, ArgumentsFault> {
+    if given.get_flag("reuse-port") && !given.get_flag("fleet") {
+        return Err(ArgumentsFault::Refused);
+    }
+    Ok(given.get_flag("reuse-port"))
+}
+
 // The file of what is remembered. Of trees that no gate accepted nothing is.
 fn history_of<'a>(given: &ArgMatches<'a>) -> Result<Option<&'a str>, ArgumentsFault> {
     match given.get_str("history") {
@@ -257,12 +291,16 @@ pub fn serve_job<'a>(given: &ArgMatches<'a>) -> Result<Job<'a>, ArgumentsFault> 
         file,
         listen,
         unix_mode: mode_of(given)?,
+        tcp_backlog: count_of(given, "tcp-backlog")?.unwrap_or(TCP_BACKLOG),
+        reuse_port: shares_port(given)?,
         metrics: given.get_str("metrics"),
         control: given.get_str("control"),
         log: log_of(given)?,
         drain_ms: millis_of(given, "drain-ms", DRAIN_MS)?,
         drain_on_eof: drains_on_eof(given, listen)?,
         settings: settings_of(given)?,
+        keepalive_s: count_of(given, "keepalive-s")?.unwrap_or(KEEPALIVE_S),
+        resolve_s: count_of(given, "resolve-s")?.unwrap_or(RESOLVE_S),
         begun: begun_of(given)?,
         any,
         fleet: fleet_of(given)?,

@@ -19,6 +19,6 @@ pub mod record;
 pub mod sockets;
 pub mod wire;
 
-pub use outcomes::{Accepted, Connected, ReadOutcome, Ready, Report, WriteOutcome};
+pub use outcomes::{Accepted, Connected, Lead, ReadOutcome, Ready, Report, WriteOutcome};
 pub use record::Record;
 pub use wire::Wire;

@@ -24,6 +24,17 @@ pub enum Connected {
     Failed,
 }
 
+/// Where a name leads that was looked up again.
+#[derive(Clone, Copy, PartialEq, Eq)]
+pub enum Lead {
+    /// To the machine that is called there, among others perhaps.
+    Same,
+    /// To a machine, where none was known so far.
+    First,
+    /// To other machines alone.
+    Other,
+}
+
 /// What one read gave.
 #[derive(Clone, Copy, PartialEq, Eq)]
 pub enum ReadOutcome {

@@ -2,6 +2,7 @@
 
 pub mod listener;
 pub mod open;
+pub mod options;
 pub mod sockets;
 
 pub use listener::Listener;

@@ -5,7 +5,7 @@ ghost use Rattle.std.specs.Io.Slices.{io_slices_bytes};
 ghost use Rattle.serve_wire.specs.Events.{Event, admits, ticks, looks_up, role, time};
 ghost use Rattle.serve_wire.specs.Calls.{Accepts, Connects, Reads, Writes, Closes};
 
-use crate::outcomes::{Accepted, Connected, ReadOutcome, Report, WriteOutcome};
+use crate::outcomes::{Accepted, Connected, Lead, ReadOutcome, Report, WriteOutcome};
 use bytes::BytesMut;
 use std::io;
 use std::io::IoSlice;
@@ -56,6 +56,9 @@ pub trait Wire {
     /// Looks up an address, which is where this text names a server from now on, so that connections to it can be begun without a wait.
     fn resolve<N: Net>(&mut self, net: &N, text: &[u8], address: &[u8]) -> io::Result<()>
         ensures { history self.new ≡ looks_up text.now ∷ history self.old };
+
+    /// Where an address leads now, beside the machine that this text names. Nothing changes by that. An error comes where it leads nowhere.
+    fn look_again<N: Net>(&self, net: &N, text: &[u8], address: &[u8]) -> io::Result<Lead>;
 
     /// Begins a connection to this server, at the address that its text was found to name. It is reported as this server's.
     fn connect<N: Net>(&mut self, net: &N, server: usize, text: &[u8]) -> Connected

@@ -6,7 +6,7 @@ ghost use Rattle.serve_wire.specs.Events.{IsNew, is_open, time};
 ghost use Rattle.serve_wire.specs.Calls.{Adds, Fits};
 
 use crate::memory::peer::Peer;
-use crate::{Accepted, Connected, ReadOutcome, Record, Report, Wire, WriteOutcome};
+use crate::{Accepted, Connected, Lead, ReadOutcome, Record, Report, Wire, WriteOutcome};
 use bytes::BytesMut;
 use std::alloc::{AllocError, Global};
 use std::collections::VecDeque;
@@ -64,6 +64,8 @@ struct Caller {
 struct Host {
     text: Vec<u8>,
     is_known: bool,
+    // Whether its name leads to another machine than when it was looked up.
+    has_moved: bool,
     peers: VecDeque<Peer>,
 }
 
@@ -143,6 +145,17 @@ fn host_at<'a>(hosts: &'a mut Vec<Host>, text: &[u8]) -> Option<&'a mut Host> {
     None
 }
 
+// Where the name of a host leads.
+fn lead_to(host: &Host) -> Lead {
+    if !host.is_known {
+        Lead::First
+    } else if host.has_moved {
+        Lead::Other
+    } else {
+        Lead::Same
+    }
+}
+
 // Why there is no connection.
 #[derive(Clone, Copy, PartialEq, Eq)]
 enum Fault {
@@ -207,9 +220,17 @@ impl Memory {
             self.hosts.push(Host {
                 text,
                 is_known: false,
+                has_moved: false,
                 peers,
             })?,
         )
+    }
+
+    /// The name of this host leads to another machine from now on.
+    pub fn moves(&mut self, text: &[u8]) {
+        if let Some(host) = host_at(&mut self.hosts, text) {
+            host.has_moved = true;
+        }
     }
 
     /// The next connection to this host has this far end.
@@ -431,10 +452,20 @@ impl Wire for Memory {
         match host_at(&mut self.hosts, text) {
             Some(host) => {
                 host.is_known = true;
+                host.has_moved = false;
                 Ok(())
             }
             None => Err(io::Error::from(ErrorKind::AddrNotAvailable)),
         }
+    }
+
+    fn look_again<N: Net>(&self, _net: &N, text: &[u8], _address: &[u8]) -> io::Result<Lead> {
+        for host in self.hosts.as_slice() {
+            if host.text.as_slice() == text {
+                return Ok(lead_to(host));
+            }
+        }
+        Err(io::Error::from(ErrorKind::AddrNotAvailable))
     }
 
     fn connect<N: Net>(&mut self, _net: &N, server: usize, text: &[u8]) -> Connected {

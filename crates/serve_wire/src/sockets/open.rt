@@ -28,19 +28,27 @@ pub enum Owner {
     Server(usize),
 }
 
-/// A stream, its connection's number, and whose it is.
+/// A stream, its connection's number, whose it is, and whether it was begun by a path, and so stands at once.
 #[derive(Drop)]
 pub struct Open {
     pub number: usize,
     pub owner: Owner,
     pub stream: TcpStream,
+    pub is_local: bool,
 }
 
-/// The address that a text names.
+/// Where a server is: at a host and a port, or at a path of this machine.
+#[derive(Drop)]
+pub enum Place {
+    Host(SocketAddr),
+    Path(String),
+}
+
+/// The place that a text names.
 #[derive(Drop)]
 pub struct Address {
     pub text: Vec<u8>,
-    pub socket: SocketAddr,
+    pub place: Place,
 }
 
 fn read_some(mut stream: &TcpStream, into: &mut BytesMut) -> ReadOutcome

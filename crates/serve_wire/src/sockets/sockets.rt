@@ -4,11 +4,12 @@ ghost use Rattle.std.specs.Prelude.{◌≡◌, ◌≤◌, ◌<◌, ◌+◌, ◌*
 ghost use Rattle.serve_wire.specs.Events.{IsNew, is_open, time};
 
 use crate::sockets::listener::{Listener, accept_at};
-use crate::sockets::open::{Address, Open, Owner};
-use crate::{Accepted, Connected, ReadOutcome, Ready, Record, Report, Wire, WriteOutcome};
+use crate::sockets::open::{Address, Open, Owner, Place};
+use crate::sockets::options::end_if_gone;
+use crate::{Accepted, Connected, Lead, ReadOutcome, Ready, Record, Report, Wire, WriteOutcome};
 use bytes::BytesMut;
 use mio::event::Event;
-use mio::net::{TcpListener, TcpStream};
+use mio::net::{TcpListener, TcpStream, UnixStream};
 use mio::unix::SourceFd;
 use mio::{Events, Interest, Poll, Token};
 use slab::Slab;
@@ -16,7 +17,7 @@ use std::alloc::{AllocError, Global};
 use std::io;
 use std::io::{ErrorKind, IoSlice};
 use std::net::{Net, Shutdown, SocketAddr, ToSocketAddrs};
-use std::os::fd::{AsRawFd, RawFd};
+use std::os::fd::{AsRawFd, OwnedFd, RawFd};
 use std::rt::Clock;
 use std::time::{Duration, Instant};
 
@@ -59,6 +60,8 @@ pub struct Sockets {
     open: Slab<Open>,
     count: usize,
     addresses: Vec<Address>,
+    // After so many seconds in which its host acknowledged nothing a server's connection fails.
+    gone_after: Option<u32>,
     start: Instant,
     // Whether the last wait told of a descriptor for which a wait ends.
     is_woken: bool,
@@ -85,9 +88,22 @@ fn watch_all(poll: &Poll, listeners: &[Listener]) -> io::Result<()> {
     Ok(())
 }
 
-fn watch_stream(poll: &Poll, stream: &TcpStream, token: usize) -> io::Result<()> {
-    stream.set_nodelay(true)?;
-    watch(poll, stream.as_raw_fd(), token)
+// A connection to this place is begun.
+fn begin_at<N: Net>(net: &N, place: &Place, gone_after: Option<u32>) -> io::Result<TcpStream> {
+    match place {
+        Place::Host(socket) => {
+            let stream = TcpStream::connect(net, *socket)?;
+            stream.set_nodelay(true)?;
+            if let Some(seconds) = gone_after {
+                end_if_gone(stream.as_raw_fd(), seconds);
+            }
+            Ok(stream)
+        }
+        Place::Path(path) => {
+            let stream = UnixStream::connect(net, path.as_str())?;
+            Ok(TcpStream::from(OwnedFd::from(stream)))
+        }
+    }
 }
 
 fn ready_of(event: &Event) -> Ready {
@@ -193,30 +209,67 @@ fn address_at<'a>(addresses: &'a [Address], text: &[u8]) -> Option<&'a Address>
     None
 }
 
-// This text names this address from now on.
+// This text names this place from now on.
 fn put_address(
     alloc: Global,
     addresses: &mut Vec<Address>,
     text: &[u8],
-    socket: SocketAddr,
+    place: Place,
 ) -> Result<(), AllocError> {
     for known in addresses.iter_mut() {
         if known.text.as_slice() == text {
-            known.socket = socket;
+            known.place = place;
             return Ok(());
         }
     }
     let text = text.to_vec(alloc)?;
-    Ok(addresses.push(Address { text, socket })?)
+    Ok(addresses.push(Address { text, place })?)
 }
 
-// The first address that a text names.
-fn look_up<N: Net>(net: &N, text: &[u8]) -> io::Result<SocketAddr> {
-    let Ok(text) = std::str::from_utf8(text) else {
-        return Err(io::Error::from(ErrorKind::InvalidInput));
+// The text of an address.
+fn text_of(address: &[u8]) -> io::Result<&str> {
+    match std::str::from_utf8(address) {
+        Ok(text) => Ok(text),
+        Err(_) => Err(io::Error::from(ErrorKind::InvalidInput)),
+    }
+}
+
+// The path in an address, `unix:` and a path.
+fn path_in(address: &str) -> Option<&str> {
+    let path = address.strip_prefix("unix:")?;
+    if path.starts_with("/") {
+        Some(path)
+    } else {
+        None
+    }
+}
+
+// The first place that an address names.
+fn look_up<N: Net>(alloc: Global, net: &N, address: &[u8]) -> io::Result<Place> {
+    let address = text_of(address)?;
+    if let Some(path) = path_in(address) {
+        return Ok(Place::Path(String::from_str(alloc, path)?));
+    }
+    match address.to_socket_addrs(net)?.next() {
+        Some(socket) => Ok(Place::Host(socket)),
+        None => Err(io::Error::from(ErrorKind::AddrNotAvailable)),
+    }
+}
+
+// Where an address leads now, where calls go to this place.
+fn lead_of<N: Net>(net: &N, address: &str, place: &Place) -> io::Result<Lead> {
+    let Place::Host(socket) = place else {
+        return Ok(Lead::Same);
     };
-    match text.to_socket_addrs(net)?.next() {
-        Some(socket) => Ok(socket),
+    let mut lead = None;
+    for found in address.to_socket_addrs(net)? {
+        if found == *socket {
+            return Ok(Lead::Same);
+        }
+        lead = Some(Lead::Other);
+    }
+    match lead {
+        Some(lead) => Ok(lead),
         None => Err(io::Error::from(ErrorKind::AddrNotAvailable)),
     }
 }
@@ -251,6 +304,7 @@ impl Sockets {
             open: Slab::new(alloc),
             count: 0,
             addresses: Vec::new(alloc),
+            gone_after: None,
             start,
             is_woken: false,
             shown: 0,
@@ -265,6 +319,13 @@ impl Sockets {
             Some(listener) => listener.local_addr(),
             None => Err(io::Error::from(ErrorKind::NotConnected)),
         }
+    }
+
+    /// From now on a server's new connection fails once its host has acknowledged nothing for so many seconds.
+    pub fn end_those_gone(&mut self, seconds: u32)
+        ensures { self.new.log ≡ self.old.log }
+    {
+        self.gone_after = Some(seconds);
     }
 
     /// From now on a wait also ends once this descriptor is readable, which only [`was_woken`](Sockets::was_woken) tells. An error comes where the
@@ -331,6 +392,7 @@ impl Wire for Sockets {
                 number,
                 owner,
                 stream,
+                is_local: true,
             })
             .is_err()
         {
@@ -357,8 +419,18 @@ impl Wire for Sockets {
 
     fn resolve<N: Net>(&mut self, net: &N, text: &[u8], address: &[u8]) -> io::Result<()> {
         self.log.note(&[LOOKS_UP, 0, 0], text);
-        let socket = look_up(net, address)?;
-        Ok(put_address(self.alloc, &mut self.addresses, text, socket)?)
+        let place = look_up(self.alloc, net, address)?;
+        Ok(put_address(self.alloc, &mut self.addresses, text, place)?)
+    }
+
+    fn look_again<N: Net>(&self, net: &N, text: &[u8], address: &[u8]) -> io::Result<Lead> {
+        match address_at(&self.addresses, text) {
+            Some(known) => lead_of(net, text_of(address)?, &known.place),
+            None => {
+                let _ = look_up(self.alloc, net, address)?;
+                Ok(Lead::First)
+            }
+        }
     }
 
     fn connect<N: Net>(&mut self, net: &N, server: usize, text: &[u8]) -> Connected {
@@ -368,19 +440,21 @@ impl Wire for Sockets {
         let Some(number) = next_number(&self.open, self.count) else {
             return Connected::Failed;
         };
-        let Ok(stream) = TcpStream::connect(net, address.socket) else {
+        let Ok(stream) = begin_at(net, &address.place, self.gone_after) else {
             return Connected::Failed;
         };
-        if watch_stream(&self.poll, &stream, number).is_err() {
+        if watch(&self.poll, stream.as_raw_fd(), number).is_err() {
             return Connected::Failed;
         }
         let owner = Owner::Server(server);
+        let is_local = matches!(&address.place, Place::Path(_));
         if self
             .open
             .insert(Open {
                 number,
                 owner,
                 stream,
+                is_local,
             })
             .is_err()
         {
@@ -394,7 +468,7 @@ impl Wire for Sockets {
 
     fn is_connected(&self, conn: usize) -> bool {
         match open_at(&self.open, self.count, conn) {
-            Some(open) => open.stream.peer_addr().is_ok(),
+            Some(open) => open.is_local || open.stream.peer_addr().is_ok(),
             None => false,
         }
     }
