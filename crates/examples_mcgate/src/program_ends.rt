@@ -100,6 +100,10 @@ mcgate serve --listen a:1 --config c --drain-on-eof => serve - fail-limit 3 drai
 mcgate serve --listen a:1,fd:0 --config c --drain-on-eof => refused
 mcgate serve --listen unix:a --unix-mode 660 --config c => serve - at unix:a 660 fail-limit 3 auto
 mcgate serve --listen unix:a --unix-mode 777 --config c => refused, told
+mcgate serve --listen a:1 --config c --fleet --reuse-port --tcp-backlog 9 => serve - fleet port shared backlog 9 fail-limit 3 auto
+mcgate serve --listen a:1 --config c --reuse-port => refused, told
+mcgate serve --listen a:1 --config c --keepalive-s 5 --resolve-s 7 => serve - keepalive-s 5 resolve-s 7 fail-limit 3 auto
+mcgate serve --listen a:1 --config c --resolve-s 0 => refused, told
 mcgate serve --listen a:1 --config c --log-level warn => serve - fail-limit 3 log warn auto
 mcgate serve --listen a:1 --config c --log-json => serve - fail-limit 3 log info json auto
 mcgate serve --listen a:1 --config c --log-level all => refused, told
@@ -259,6 +263,14 @@ fn mode_word(mode: u32) -> &'static str {
     }
 }
 
+// A number that isn't the usual one.
+fn push_unusual(out: &mut String, word: &str, number: u32, usual: u32) -> Result<(), AllocError> {
+    if number != usual {
+        write!(out, " {word} {number}")?;
+    }
+    Ok(())
+}
+
 fn push_serve(out: &mut String, job: &ServeJob<'_>) -> Result<(), AllocError> {
     write!(out, "serve {}", any_word(job.any))?;
     if job.fleet {
@@ -267,6 +279,12 @@ fn push_serve(out: &mut String, job: &ServeJob<'_>) -> Result<(), AllocError> {
     if job.listen != "a:1" {
         write!(out, " at {} {}", job.listen, mode_word(job.unix_mode))?;
     }
+    if job.reuse_port {
+        out.push_str(" port shared")?;
+    }
+    push_unusual(out, "backlog", job.tcp_backlog, 1_024)?;
+    push_unusual(out, "keepalive-s", job.keepalive_s, 60)?;
+    push_unusual(out, "resolve-s", job.resolve_s, 60)?;
     if let Some(certificate) = job.certificate {
         write!(out, " by {certificate}")?;
     }

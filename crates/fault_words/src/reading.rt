@@ -167,8 +167,10 @@ impl Reader {
 
     // What is wrong with the forms that are asked for.
     fn forms<'a>(&self) -> Option<Cause<'a>> {
-        if self.has("with") && !self.has("fleet") {
-            return Some(Cause::Beside("with", "fleet"));
+        for flag in ["with", "reuse-port"] {
+            if self.has(flag) && !self.has("fleet") {
+                return Some(Cause::Beside(flag, "fleet"));
+            }
         }
         self.apart("explain", "dot")
             .or(self.fleet())
