@@ -1,5 +1,7 @@
 //! Where a proxy listens: at hosts and ports, at paths of the machine, and on a socket that it was given.
 
+use crate::shared_port::{let_wait, listen_beside};
+use mcgate_args::serve_arguments::ServeJob;
 use mcgate_serve::serving::resolve;
 use mio::net::TcpListener;
 use serve_wire::sockets::Listener;
@@ -49,27 +51,38 @@ fn given_listener<R: Given>(rt: &R) -> io::Result<TcpListener> {
     Ok(TcpListener::from_std(listener))
 }
 
-// It listens where a text says; the file of a path gets this mode.
-fn listener_at<R: Files + Net + Given>(rt: &R, text: &str, mode: u32) -> io::Result<Listener> {
+// It listens at a host and a port.
+fn tcp_listener_at<N: Net>(net: &N, text: &str, job: &ServeJob<'_>) -> io::Result<TcpListener> {
+    let address = resolve(net, text)?;
+    if job.reuse_port {
+        return listen_beside(net, address, job.tcp_backlog);
+    }
+    let listener = TcpListener::bind(net, address)?;
+    let_wait(&listener, job.tcp_backlog)?;
+    Ok(listener)
+}
+
+// It listens where a text says.
+fn listener_at<R: Files + Net + Given>(
+    rt: &R,
+    text: &str,
+    job: &ServeJob<'_>,
+) -> io::Result<Listener> {
     match place_of(text) {
-        ListenPlace::Address(address) => {
-            let listener = TcpListener::bind(rt, resolve(rt, address)?)?;
-            Ok(Listener::Tcp(listener))
-        }
-        ListenPlace::Path(path) => Ok(Listener::Unix(listen_at(rt, path, mode)?)),
+        ListenPlace::Address(address) => Ok(Listener::Tcp(tcp_listener_at(rt, address, job)?)),
+        ListenPlace::Path(path) => Ok(Listener::Unix(listen_at(rt, path, job.unix_mode)?)),
         ListenPlace::Input => Ok(Listener::Tcp(given_listener(rt)?)),
     }
 }
 
-/// It listens at each of these places, which have a comma between two; the file of a path gets this mode.
+/// It listens at each of the places that a job names, which have a comma between two.
 pub fn listeners_at<R: Files + Net + Given + AllocGlobal>(
     rt: &R,
-    places: &str,
-    mode: u32,
+    job: &ServeJob<'_>,
 ) -> io::Result<Vec<Listener>> {
     let mut listeners = Vec::new(rt.alloc());
-    for text in places.split(',') {
-        listeners.push(listener_at(rt, text, mode)?)?;
+    for text in job.listen.split(',') {
+        listeners.push(listener_at(rt, text, job)?)?;
     }
     Ok(listeners)
 }

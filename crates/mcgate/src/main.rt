@@ -7,6 +7,7 @@ mod descriptors;
 mod listening;
 mod over_tcp;
 mod serve;
+mod shared_port;
 mod sharing;
 mod slots;
 mod telling;

@@ -187,7 +187,9 @@ fn open_wire<R: Files + Net + Clock + AllocGlobal + Given>(
 ) -> io::Result<Sockets>
     ensures { IfOk result (λ wire. history_of wire ≡ []) }
 {
-    Sockets::listen_by(rt, listeners_at(rt, job.listen, job.unix_mode)?)
+    let mut wire = Sockets::listen_by(rt, listeners_at(rt, job)?)?;
+    wire.end_those_gone(job.keepalive_s);
+    Ok(wire)
 }
 
 // The wire looks up these servers. Those that name no host are told of.
@@ -237,6 +239,14 @@ fn look_up_text<R: Net + Eprint>(
     Ok(())
 }
 
+// Whether a server's address leads anywhere. A path does, and names need not be looked up for that.
+fn look_up_server<N: Net>(net: &N, address: &str) -> io::Result<()> {
+    if !address.starts_with("unix:/") {
+        let _ = resolve(net, address)?;
+    }
+    Ok(())
+}
+
 // The same where there is no wire: how many name no host.
 fn tell_unknown<R: Net + Eprint>(
     rt: &R,
@@ -246,7 +256,7 @@ fn tell_unknown<R: Net + Eprint>(
     let mut unknown = 0usize;
     for at in 0..servers.len() {
         if let Some(text) = text_at(servers, at) {
-            let found = resolve(rt, address_in(text)).map(|_| ());
+            let found = look_up_server(rt, address_in(text));
             if !tell_if_unknown(rt, lines, text, found)? {
                 unknown = unknown.saturating_add(1);
             }
