@@ -13,6 +13,7 @@ use std::net::{Net, SocketAddr};
 use std::os::fd::{AsRawFd, OwnedFd};
 
 // An address as the system takes it: its family, its bytes, and how many these are.
+#[derive(Drop)]
 struct Bytes {
     family: i32,
     raw: [u8; _SS_SIZE],
