@@ -96,8 +96,9 @@ pub fn judge_all(
 /// Runs a script with reloads of which it was asked whether they may follow, if servers held at first what is said of them: each command
 /// through the tree that was accepted last before it began. `first` was in use before the first reload. Trees may be any number.
 ///
-/// All holds that [`drive_stepped`] says, its faults too; and **the run is fresh over all loaded trees**, as of
-/// [`script_run::accepted::drive_judged`], though a tree need not clear what none before it can have left. So the report's `stale` is 0.
+/// All holds that [`drive_stepped`] says, its faults too; and **the run is fresh over all loaded trees**: where a delete of a key was
+/// acknowledged, no command that began later shows data that descend from a store of that key by a command before that delete,
+/// whichever trees the two ran by; though a tree need not clear what none before it can have left. So the report's `stale` is 0.
 ///
 /// Source: mcgate's own.
 pub fn drive_grown(

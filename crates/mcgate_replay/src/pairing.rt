@@ -5,7 +5,7 @@ ghost use Rattle.route_json.specs.Configuration.{Configuration};
 ghost use Rattle.gate_check.specs.Places.{CoversAt};
 ghost use Rattle.gate_check.specs.Reload.{AreCovering, IsFaultAmong};
 ghost use Rattle.gate_check.specs.Sound.{trees_of};
-ghost use Rattle.script_run.specs.Reloads.{is_refused, loading_of};
+ghost use Rattle.script_run.specs.Reloads.{is_refused};
 ghost use Rattle.mcgate_replay.specs.Growing.{JudgesNext};
 ghost use Rattle.mcgate_replay.specs.Pairing.{of_generation, IsFaultOf, IsJoinFault, MayNotJoin, AreHeld, ArePaired, held_by};
 
@@ -14,7 +14,7 @@ use gate_check::reloading::all_cover;
 use route_json::Config;
 use route_tree::Tree;
 use script_events::Reload;
-use script_run::accepted::judging::refused_of;
+use script_run::accepted::judging::{refusal, refused_of};
 use script_run::accepted::{Judged, Loading};
 use std::alloc::{AllocError, Global};
 
@@ -77,16 +77,6 @@ fn next_number(
             Err(fault) => Err(fault),
             Ok(()) => Ok(held as u32 + 1),
         },
-    }
-}
-
-// What is told of a fault; nothing where memory was refused.
-fn refusal(fault: ReloadFault) -> Option<Loading>
-    ensures { result ≡ loading_of fault }
-{
-    match fault {
-        ReloadFault::NoMemory => None,
-        fault => Some(Loading::Refused(fault)),
     }
 }
 

@@ -1,37 +1,16 @@
--- A script that steps its calls, by trees that the gate accepted, has a fresh run.
-use Rattle.std.proofs.Common.{◌≡◌, ℕ, zero, suc, ◌+◌, ◌-◌, ◌<◌, ◌≤◌, Bool, true, false, cond, List, [], ◌∷◌, length, map, nat_lt, slice_get, Option, Some, None, refl, sym, ap, ◌∙◌, subst, arith}
+-- The tree by which each command of a script runs that loads configurations.
+use Rattle.std.proofs.Common.{◌≡◌, ℕ, zero, suc, ◌-◌, ◌<◌, ◌≤◌, Bool, true, false, cond, List, [], ◌∷◌, nat_lt, slice_get, Option, Some, None, refl, sym, ap, ◌∙◌, subst, arith}
 use Rattle.std.proofs.lemmas.Bool.{ltb-true, lt-ltb}
-use Rattle.fresh_runs.specs.Cover.{IsCovered}
-use Rattle.fresh_runs.specs.Log.{Shown}
-use Rattle.fresh_runs.specs.Overlap.{Entry, run_of}
-use Rattle.fresh_runs.specs.Sharing.{AreAlone, LosesOnly, IsFreshByNumber}
-use Rattle.fresh_runs.proofs.SharingFresh.{fresh_by_number}
-use Rattle.fresh_runs.proofs.SharingStale.{counts_stale}
-use Rattle.route_tree.specs.At.{tree_at}
+use Rattle.fresh_runs.specs.Sharing.{AreAlone}
 use Rattle.route_tree.specs.Plan.{Plan}
 use Rattle.route_tree.specs.Route.{Route}
-use Rattle.route_tree.specs.Word.{tree_words}
 use Rattle.core_proxy.specs.Claims.{bars_by}
-use Rattle.core_proxy.specs.CoreState.{dialect}
 use Rattle.core_commands.specs.declared.sharing.Sharing.TheVariants.{Alone}
-use Rattle.route_json.specs.Configuration.{Configuration}
-use Rattle.gate_check.specs.Sound.{AreGenerations, GenerationsAreFresh, IsLast, trees_of}
 use Rattle.script_events.specs.declared.script.Reload.{Reload}
-use Rattle.script_events.specs.declared.script.Report.{Report}
-use Rattle.script_events.specs.declared.script.Transcript.{Transcript}
-use Rattle.script_events.specs.declared.script.DriveFault.{DriveFault}
-use Rattle.script_events.specs.declared.script.DriveFault.TheVariants.{BadEvent, NoMemory, Spent}
-use Rattle.script_events.specs.Scripted.{Scripted, transcript_of}
-use Rattle.script_events.specs.Opening.{opening_of}
 use Rattle.script_events.specs.Reloads.{one_more, tree_after}
 use Rattle.script_events.specs.Reloads as reloads
 use Rattle.script_run.specs.Standing.{tree_by}
-use Rattle.script_events.specs.declared.servers.servers.ScriptServers.{ScriptServers}
-use Rattle.script_run.specs.Driving.{one_loaded, trees_loaded, loaded_trees, RunsBy, DrivesStepped, StepsPart, EndsStepped}
-use Rattle.script_run.specs.declared.accepted.judging.Loading.{Loading}
-use Rattle.script_run.specs.Reloads.{Judges, is_refused}
-use Rattle.script_run.specs.Stepped.{StepsFreshly, StepsPartFreshly, EndsSteps}
-use Rattle.script_run.proofs.Loadings.{accepted_in, accepted_rise, loaded_at}
+use Rattle.script_run.specs.Driving.{one_loaded, trees_loaded, loaded_trees}
 
 -- ---- the tree of a command, by how many reloads had come when it began
 
@@ -100,39 +79,6 @@ module _ (first : Route) (refused : List Bool) (rs : List Reload) where
           ∙ sym (ap (λ b. one_more b (slice_get rs many) (tree_after first refused rs many)) eb ∙ ap (λ o. one_more false o (tree_after first refused rs many)) eo))
           (before ls (same_tail load.1 r.config.tree (loaded_trees ls) (trees_loaded refused rs many) is))
 
--- ---- freshness
-
 -- each command has its key alone
 pub alone : (plans : ℕ → List ℕ → Plan) → AreAlone (bars_by Alone plans)
 alone plans number other ask client same = (refl, refl)
-
-module _ (law : GenerationsAreFresh) (configs configs' : List Configuration) (rs : List Reload) (ls : List Loading) (c : Configuration) (events : List Scripted) (judged : Judges configs rs ls configs') (are : AreGenerations (trees_of configs')) (some : 0 < length configs) (last : IsLast configs c) where
-  -- what a delete clears is all that later commands take, whichever trees the two run by
-  steps_covered : (many : ℕ) (loads : List (ℕ × Route)) → loaded_trees loads ≡ trees_loaded (map is_refused ls) rs many → IsCovered (tree_words (λ n key. tree_at (tree_by c.tree loads n) key))
-  steps_covered many loads is =
-      let come = have_come c.tree (map is_refused ls) rs many loads is in
-      (law (trees_of configs') are).1 (tree_by c.tree loads)
-      (record {
-        generation = λ n. (length configs - 1) + accepted_in ls (come.at n);
-        loaded = λ n. loaded_at configs configs' rs ls c judged some last (come.at n) ∙ ap Some (sym (come.tree n));
-        rising = λ n m lt. let h = accepted_rise ls (come.at n) (come.at m) (come.rising n m lt) in omega (arith, h);
-      })
-
-  steps_fresh : (many : ℕ) (loads : List (ℕ × Route)) (log : List (Entry dialect)) → loaded_trees loads ≡ trees_loaded (map is_refused ls) rs many → LosesOnly (run_of log) → RunsBy c.tree loads events log → IsFreshByNumber (opening_of events) (run_of log)
-  steps_fresh many loads log is lost run =
-      let plans : ℕ → List ℕ → Plan = λ n key. tree_at (tree_by c.tree loads n) key in
-      fresh_by_number (tree_words plans) (bars_by Alone plans) (steps_covered many loads is) (alone plans) (opening_of events) (run_of log) lost run
-
-  pub steps_freshly : (given : List Shown) (marks : List ℕ) (report : Report) → DrivesStepped c.tree (map is_refused ls) rs events given marks report → StepsFreshly c.tree ls rs events given marks report
-  steps_freshly given marks report d =
-      let plans : ℕ → List ℕ → Plan = λ n key. tree_at (tree_by c.tree d.loads n) key in
-      let by : IsFreshByNumber (opening_of events) (run_of d.log) = steps_fresh (length rs) d.loads d.log d.loads_are d.loses d.run in
-      record { drives = d; fresh = by; none_stale = d.stale ∙ (counts_stale (tree_words plans) (bars_by Alone plans) (opening_of events) (alone plans)).none (run_of d.log) d.run by }
-
-  part_freshly : (given : List Shown) (marks : List ℕ) (servers : ScriptServers) → StepsPart c.tree (map is_refused ls) rs events given marks servers → StepsPartFreshly c.tree ls rs events given marks servers
-  part_freshly given marks servers p = record { part = p; fresh = steps_fresh p.loaded p.loads p.log p.loads_are p.loses p.run }
-
-  pub ends_steps : (t : Transcript) (marks : List ℕ) (before after : ScriptServers) (fault : DriveFault) → EndsStepped c.tree (map is_refused ls) rs events t marks before after fault → EndsSteps c.tree ls rs events t marks before after fault
-  ends_steps t marks before after (BadEvent index) e = e
-  ends_steps t marks before after NoMemory e = part_freshly (transcript_of t) marks after e
-  ends_steps t marks before after Spent e = (record { part = e.0; fresh = steps_fresh e.0.loaded e.0.loads e.0.log e.0.loads_are e.0.loses e.0.run }, e.1)

@@ -1,7 +1,5 @@
-//! Scripts through configurations that the gate accepted: nothing that they show was deleted before.
+//! What the gate says to the configurations that a script loads.
 
 pub mod judging;
-pub mod stepping;
 
-pub use judging::{Judged, Loading, judge_reloads};
-pub use stepping::drive_judged;
+pub use judging::{Judged, Loading};

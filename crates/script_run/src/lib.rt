@@ -1,5 +1,4 @@
-//! Scripts that step their calls, run through trees of routes on servers in memory; and through configurations that the
-//! gate accepted, where nothing that they show was deleted before.
+//! Scripts that step their calls, run through trees of routes on servers in memory, some of them loaded while a script runs.
 #![tactic(auto)]
 
 pub mod accepted;
