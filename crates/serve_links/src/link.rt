@@ -342,7 +342,8 @@ impl Link {
 
     /// Whether its server is late: answers are still to come of calls that have failed, or a call that was late is still awaited.
     pub fn is_late(&self) -> bool
-        ensures { result ≡ true → AwaitsLate self.now }
+        ensures late { result ≡ true → AwaitsLate self.now }
+        ensures none { result ≡ false → self.now.late.items ≡ [] }
     {
         if self.awaits_late() {
             return true;

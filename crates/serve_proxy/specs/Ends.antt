@@ -61,6 +61,10 @@ AsksIn dialect at links = MatchOption (slice_get links at) (dialect ≡ Classic)
 abbrev pub AwaitsLateAt : ℕ → List Link → Type 0
 AwaitsLateAt at links = IfSome (slice_get links at) AwaitsLate
 
+-- no answers are still to come of calls of the link that were late, if there is one
+abbrev pub AwaitsNoneAt : ℕ → List Link → Type 0
+AwaitsNoneAt at links = IfSome (slice_get links at) (λ link. link.late.items ≡ [])
+
 -- where nothing is awaited over a link's connection, neither an answer, nor a late one, nor what its server says to what it was asked first, nothing is held of it: so no byte that came before a call is part of its answer
 abbrev pub HoldsAwaited : Link → Type 0
 HoldsAwaited link = link.calls.sent.items ≡ [] → link.late.items ≡ [] → link.awaits_dialect ≡ None → IfSome link.conn (λ conn. conn.held.items ≡ [])

@@ -12,7 +12,7 @@ ghost use Rattle.serve_proxy.specs.Epochs.{share_address, HaveEnded, IsInTurn, A
 ghost use Rattle.serve_proxy.specs.Emptying.{AddsEach, EmptiesAt};
 ghost use Rattle.serve_proxy.specs.Limiting.{LimitsAt};
 ghost use Rattle.serve_links.specs.Story.{line_of, texts_of};
-ghost use Rattle.serve_proxy.specs.Ends.{lines_of, LinksTake, LinksGive, LineStands, LineTakes, HoldsAwaited, HoldsAwaitedAt, IsOpenAt, AsksIn, AwaitsLateAt, EndsGo, AddsLines};
+ghost use Rattle.serve_proxy.specs.Ends.{lines_of, LinksTake, LinksGive, LineStands, LineTakes, HoldsAwaited, HoldsAwaitedAt, IsOpenAt, AsksIn, AwaitsLateAt, AwaitsNoneAt, EndsGo, AddsLines};
 
 use crate::clock::earlier;
 use crate::texts::{is_over, share_address, text_at};
@@ -622,7 +622,8 @@ impl Links {
 
     /// Whether answers are still to come of calls of the link that were late.
     pub fn is_late(&self, at: usize) -> bool
-        ensures { result ≡ true → AwaitsLateAt at self.now.all.items }
+        ensures late { result ≡ true → AwaitsLateAt at self.now.all.items }
+        ensures none { result ≡ false → AwaitsNoneAt at self.now.all.items }
     {
         match self.all.get(at) {
             Some(link) => link.is_late(),

@@ -6,4 +6,4 @@ pub returns-then-not-is_late : goal.returns-then-not-is_late
 returns-then-not-is_late g c = record { ends = c.stop_draining.ensures.ends c.args.core.now }
 
 pub returns : goal.returns
-returns g c = record { ends = and_then (c.stop_draining.ensures.ends c.args.core.now) (unanswered c.args.at (c.is_late.ensures c.if-not-is_late.false) c.fail_link.ensures.ends) }
+returns g c = record { ends = and_then (c.stop_draining.ensures.ends c.args.core.now) (unanswered c.args.at (c.is_late.ensures.late c.if-not-is_late.false) c.fail_link.ensures.ends) }
