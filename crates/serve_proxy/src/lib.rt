@@ -46,5 +46,5 @@ mod worklist;
 
 pub use core_accepted::{Beginning, Beginnings};
 pub use proxy::ProxyEnd;
-pub use serve_links::{Cause, LinkLimits, LinkNews, ServerDialect, Settings, Tally};
+pub use serve_links::{CallTally, Cause, LinkLimits, LinkNews, ServerDialect, Settings, Tally};
 pub use texts::text_at;

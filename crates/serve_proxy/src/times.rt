@@ -4,6 +4,7 @@
 //! that. Where memory is refused for what is noted here, the command is in no count.
 
 ghost use Rattle.std.specs.Prelude.{◌≡◌};
+ghost use Rattle.serve_proxy.specs.Times.{with_ended};
 
 use serve_links::CallTally;
 use std::alloc::{AllocError, Global};
@@ -42,6 +43,14 @@ pub struct CommandTimes {
 // Where the command of this number stands among these.
 fn place_of(number: u64, begun: &[Begun]) -> Option<usize> {
     begun.iter().position(|it| it.number == number)
+}
+
+// Clients up to this id can be noted.
+fn add_places(alloc: Global, clients: &mut Vec<ClientTimes>, id: usize) -> Result<(), AllocError> {
+    for _ in clients.len()..=id {
+        clients.push(ClientTimes::new(alloc))?;
+    }
+    Ok(())
 }
 
 impl ClientTimes {
@@ -109,29 +118,22 @@ impl CommandTimes {
         }
     }
 
-    // A client of this id can be noted.
-    fn make_place(&mut self, id: usize) -> Result<(), AllocError>
-        ensures { self.new.tally ≡ self.old.tally }
+    // A client of this id can be noted, if memory is there for that.
+    fn make_place(&mut self, id: usize)
+        ensures { self.new ≡ record self.old { clients = self.new.clients } }
     {
-        for _ in self.clients.len()..=id {
-            self.clients.push(ClientTimes::new(self.alloc))?;
+        if id < self.clients.len() {
+            return;
         }
-        Ok(())
-    }
-
-    // The commands of this client, where they can be noted.
-    fn of(&mut self, id: usize) -> Option<&mut ClientTimes> {
-        if id >= self.clients.len() && self.make_place(id).is_err() {
-            return None;
-        }
-        self.clients.get_mut(id)
+        let _ = add_places(self.alloc, &mut self.clients, id);
     }
 
     /// The client's next command comes to the line of its key now.
     pub fn queue(&mut self, id: usize, now: u64)
         ensures { self.new.tally ≡ self.old.tally }
     {
-        if let Some(client) = self.of(id) {
+        self.make_place(id);
+        if let Some(client) = self.clients.get_mut(id) {
             client.queued = Some(now);
         }
     }
@@ -149,7 +151,8 @@ impl CommandTimes {
     pub fn begin(&mut self, id: usize, number: u64, now: u64)
         ensures { self.new.tally ≡ self.old.tally }
     {
-        if let Some(client) = self.of(id) {
+        self.make_place(id);
+        if let Some(client) = self.clients.get_mut(id) {
             client.begin(number, now);
         }
     }
@@ -158,14 +161,27 @@ impl CommandTimes {
     fn take(&mut self, id: usize, number: u64, now: u64) -> Option<u64>
         ensures { self.new.tally ≡ self.old.tally }
     {
-        self.of(id)?.end(number, now)
+        self.make_place(id);
+        match self.clients.get_mut(id) {
+            Some(client) => client.end(number, now),
+            None => None,
+        }
+    }
+
+    // A command ends now that counts from then, if that is known.
+    fn note(&mut self, from: Option<u64>, now: u64)
+        ensures { self.new ≡ with_ended from now self.old }
+    {
+        match from {
+            Some(from) => self.tally.note_answered(now.saturating_sub(from)),
+            None => {}
+        }
     }
 
     /// The client's command of this number ends now.
     pub fn end(&mut self, id: usize, number: u64, now: u64) {
-        if let Some(from) = self.take(id, number, now) {
-            self.tally.note_answered(now.saturating_sub(from));
-        }
+        let from = self.take(id, number, now);
+        self.note(from, now)
     }
 
     /// The client is gone, and another one may have its id.
