@@ -20,8 +20,8 @@ use watch_admin::http::request::Page;
 use watch_admin::http::visitors::Visitors;
 use watch_admin::json::write_json;
 use watch_admin::numbers::{
-    ClientNumbers, CommandNumbers, ConfigNumbers, FailureNumbers, LimitNumbers, Numbers,
-    ProcessNumbers, ServerNumbers, SpanNumbers, families_of,
+    ClientNumbers, CommandNumbers, CommandTimes, ConfigNumbers, FailureNumbers, LimitNumbers,
+    Numbers, ProcessNumbers, ServerNumbers, SpanNumbers, families_of,
 };
 use watch_admin::places::PLACES;
 use watch_admin::prometheus::write_prometheus;
@@ -148,7 +148,7 @@ fn most_of(alloc: Global, place: usize) -> Result<String, AllocError> {
     String::from_str(alloc, text)
 }
 
-// How many answers of a server took how long.
+// How many answers of a server, or commands, took how long.
 fn spans_of(alloc: Global, counts: &[u64]) -> Result<Vec<SpanNumbers>, AllocError> {
     let mut spans = Vec::new(alloc);
     for (place, count) in counts.iter().enumerate() {
@@ -158,6 +158,16 @@ fn spans_of(alloc: Global, counts: &[u64]) -> Result<Vec<SpanNumbers>, AllocErro
         })?;
     }
     Ok(spans)
+}
+
+// How long commands took that have ended.
+fn command_times_of<W: Wire>(alloc: Global, end: &ProxyEnd<W>) -> Result<CommandTimes, AllocError> {
+    let times = end.command_times();
+    Ok(CommandTimes {
+        ended: times.answered,
+        micros: times.micros,
+        spans: spans_of(alloc, times.spans())?,
+    })
 }
 
 // How often the link of a server failed, for each cause.
@@ -260,6 +270,7 @@ fn numbers_of<R: Files + AllocGlobal, W: Wire>(
         config: seen.config,
         clients: clients_of(end, seen),
         commands: commands_of(rt.alloc(), end)?,
+        command_times: command_times_of(rt.alloc(), end)?,
         servers: servers_of(rt.alloc(), end, servers)?,
         scrapes: times.scrapes,
     })

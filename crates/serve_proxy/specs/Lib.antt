@@ -8,3 +8,4 @@ pub mod Limiting
 pub mod Stalls
 pub mod Spares
 pub mod Budgets
+pub mod Times

@@ -235,6 +235,7 @@ impl<W: Wire> Sockets<W> {
         ensures ends { AllGoClosed W.history id self.old self.new }
     {
         self.stalls.forget(id);
+        self.times.forget(id);
         self.drop_end(id);
         self.note_held(id);
     }
@@ -246,5 +247,6 @@ impl<W: Wire> Sockets<W> {
         if let Some(client) = self.clients.get_mut(id) {
             client.conn.give_back(self.alloc, IDLE_ROOM);
         }
+        self.times.give_back(id);
     }
 }

@@ -13,7 +13,7 @@
 //! - A server's answers are read, and settle the calls that are out, oldest first (`answers.rt`).
 //! - A link that broke, is late or brought what is no answer fails its calls (`failing.rt`).
 //! - Settled commands go on when their clients are polled next (`serving.rt`), and the core's replies go to the client's end
-//!   (`showing.rt`), from which they are sent.
+//!   (`showing.rt`), from which they are sent. How long commands took is counted (`times.rt`).
 //! - Where it is to end, clients go once nothing of them is under way (`draining.rt`).
 //! - A client that takes nothing of much that is to be sent to it is closed after a while (`stalls.rt`), and how much is held for clients is
 //!   counted (`budget.rt`).
@@ -41,9 +41,10 @@ mod showing;
 mod sockets;
 mod stalls;
 mod texts;
+mod times;
 mod worklist;
 
 pub use core_accepted::{Beginning, Beginnings};
 pub use proxy::ProxyEnd;
-pub use serve_links::{Cause, LinkLimits, LinkNews, ServerDialect, Settings, Tally};
+pub use serve_links::{CallTally, Cause, LinkLimits, LinkNews, ServerDialect, Settings, Tally};
 pub use texts::text_at;

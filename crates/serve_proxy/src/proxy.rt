@@ -36,7 +36,7 @@ use gate_check::{Accepted, ReloadFault};
 use route_json::Config;
 use route_json::addresses::{Servers, address_in};
 use route_tree::Tree;
-use serve_links::{Cause, Link, LinkLimits, LinkNews, Settings, Tally};
+use serve_links::{CallTally, Cause, Link, LinkLimits, LinkNews, Settings, Tally};
 use serve_wire::Wire;
 use std::alloc::{AllocError, Global};
 use std::io;
@@ -282,6 +282,13 @@ impl<W: Wire> ProxyEnd<W> {
         ensures { result ≡ self.now.sockets.tally }
     {
         self.sockets.tally
+    }
+
+    /// How long commands took that have ended, from when each began or came to the line of its key: as many as that are `answered`.
+    pub fn command_times(&self) -> CallTally
+        ensures { result ≡ self.now.sockets.times.tally }
+    {
+        self.sockets.times.tally()
     }
 
     /// How many clients there are.

@@ -197,6 +197,7 @@ fn leave_line<W: Wire>(core: &mut ServedCore, sockets: &mut Sockets<W>, id: usiz
 {
     if core.leave_line(id) {
         sockets.is_freed = true;
+        sockets.times.leave_line(id);
     }
 }
 
@@ -209,15 +210,18 @@ fn poll_once<W: Wire, N: Net>(
 ) -> Rest
     ensures ends { AllGoOn W.history core.old sockets.old core.new sockets.new }
 {
+    let now = sockets.wire.last_micros();
     match core.poll(id) {
         Ok(Polled::Call(ticket)) => {
             sockets.note_called(id);
+            sockets.times.begin(id, ticket.number, now);
             send_call(net, core, sockets, id, ticket);
             Rest::More
         }
         Ok(Polled::Did(note)) => {
             sockets.note_went_on(id);
             sockets.tally.note_command(&note);
+            sockets.times.end(id, note.number, now);
             sockets.is_freed = true;
             Rest::More
         }
@@ -227,7 +231,11 @@ fn poll_once<W: Wire, N: Net>(
         }
         Ok(Polled::Idle) => Rest::Idle,
         Ok(Polled::Waiting) => Rest::Waiting,
-        Ok(Polled::Queued) | Ok(Polled::Busy) => Rest::Busy,
+        Ok(Polled::Queued) => {
+            sockets.times.queue(id, now);
+            Rest::Busy
+        }
+        Ok(Polled::Busy) => Rest::Busy,
         Err(CoreFault::NoMemory) => {
             sockets.is_freed = true;
             sockets.end_client(id);

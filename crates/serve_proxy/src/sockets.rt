@@ -10,6 +10,7 @@ use crate::clock::{earlier, until};
 use crate::links::Links;
 use crate::rooms::Rooms;
 use crate::stalls::Stalls;
+use crate::times::CommandTimes;
 use crate::worklist::Worklist;
 use serve_clients::Clients;
 use serve_links::Tally;
@@ -37,6 +38,7 @@ pub struct Sockets<W: Wire> {
     /// Whether clients are polled in rounds.
     pub in_rounds: bool,
     pub tally: Tally,
+    pub times: CommandTimes,
 }
 
 /// A connection that is done with is closed, if there is one.
@@ -78,6 +80,7 @@ impl<W: Wire> Sockets<W> {
             is_freed: false,
             in_rounds: false,
             tally: Tally::new(),
+            times: CommandTimes::new(alloc),
         }
     }
 

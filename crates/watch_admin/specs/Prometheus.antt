@@ -1,5 +1,5 @@
 -- Families in Prometheus' text format, version 0.0.4. Source: that format.
-use Rattle.std.specs.Prelude.{ℕ, List, [], ◌∷◌, ◌++◌, codes, flat_map, string_bytes}
+use Rattle.std.specs.Prelude.{ℕ, List, [], ◌∷◌, ◌++◌, ◌==◌, if◌then◌else◌, length, codes, flat_map, string_bytes}
 use Rattle.watch_admin.specs.declared.families.Amount.{Amount}
 use Rattle.watch_admin.specs.declared.families.Label.{Label}
 use Rattle.watch_admin.specs.declared.families.Sample.{Sample}
@@ -22,16 +22,16 @@ abbrev pub labels_text : List Label → List ℕ
 labels_text [] = []
 labels_text (label ∷ labels) = label_text label ++ flat_map next_label_text labels
 
--- NAMEPART{
-abbrev pub front_text : List ℕ → List ℕ → List ℕ
-front_text name part = name ++ part ++ codes "{"
+-- {LABELS}, or nothing where there are none
+abbrev pub braced_text : List Label → List ℕ
+braced_text labels = if length labels == 0 then [] else codes "{" ++ labels_text labels ++ codes "}"
 
 abbrev pub end_text : Amount → List ℕ
-end_text amount = codes "} " ++ amount_text amount ++ codes "\n"
+end_text amount = codes " " ++ amount_text amount ++ codes "\n"
 
--- NAMEPART{LABELS} AMOUNT
+-- NAMEPART{LABELS} AMOUNT, or NAMEPART AMOUNT
 abbrev pub sample_text : List ℕ → List ℕ → Sample → List ℕ
-sample_text name part sample = front_text name part ++ labels_text sample.labels.items ++ end_text sample.amount
+sample_text name part sample = name ++ part ++ braced_text sample.labels.items ++ end_text sample.amount
 
 abbrev pub each_text : List ℕ → List ℕ → List Sample → List ℕ
 each_text name part samples = flat_map (sample_text name part) samples

@@ -36,10 +36,10 @@ pub struct Label {
     pub value: String,
 }
 
-/// A number that has labels.
+/// A number and its labels.
 #[derive(Drop)]
 pub struct Sample {
-    /// One or more.
+    /// None only where it tells of times.
     pub labels: Vec<Label>,
     pub amount: Amount,
 }

@@ -68,13 +68,24 @@ pub struct FailureNumbers {
     pub count: u64,
 }
 
-/// Answers of a server that took up to so long.
+/// Answers of a server, or commands, that took up to so long.
 #[derive(Drop)]
 pub struct SpanNumbers {
     /// In seconds, or `+Inf`.
     pub most: String,
     /// How many took that long, and longer than those of the row before.
     pub count: u64,
+}
+
+/// How long commands took that have ended.
+#[derive(Drop)]
+pub struct CommandTimes {
+    /// How many of them have a time.
+    pub ended: u64,
+    /// How long these took altogether.
+    pub micros: u64,
+    /// How many of them took how long, the shortest ones first.
+    pub spans: Vec<SpanNumbers>,
 }
 
 /// How long a server is waited for, and after how many failures it is left alone for how long.
@@ -123,6 +134,7 @@ pub struct Numbers {
     pub config: ConfigNumbers,
     pub clients: ClientNumbers,
     pub commands: Vec<CommandNumbers>,
+    pub command_times: CommandTimes,
     pub servers: Vec<ServerNumbers>,
     /// How many requests for these numbers were answered before.
     pub scrapes: u64,
@@ -329,6 +341,50 @@ fn add_commands(
         "Commands that have ended, one for each key: with an item in the reply, as an acknowledged delete, or otherwise.",
         samples,
     ))?;
+    Ok(())
+}
+
+// A number without a label.
+fn bare_sample(alloc: Global, amount: Amount) -> Sample {
+    Sample {
+        labels: Vec::new(alloc),
+        amount,
+    }
+}
+
+// How many commands took at most how long.
+fn command_buckets(alloc: Global, times: &CommandTimes) -> Result<Vec<Sample>, AllocError> {
+    let mut buckets = Vec::new(alloc);
+    let mut count = 0u64;
+    for span in &times.spans {
+        count = count.saturating_add(span.count);
+        buckets.push(sample(alloc, "le", span.most.as_str(), count)?)?;
+    }
+    Ok(buckets)
+}
+
+fn add_command_times(
+    alloc: Global,
+    times: &CommandTimes,
+    families: &mut Vec<Family>,
+) -> Result<(), AllocError> {
+    let mut spread = Spread {
+        buckets: command_buckets(alloc, times)?,
+        sums: Vec::new(alloc),
+        counts: Vec::new(alloc),
+    };
+    spread
+        .sums
+        .push(bare_sample(alloc, Amount::Micros(times.micros)))?;
+    spread
+        .counts
+        .push(bare_sample(alloc, Amount::Count(times.ended)))?;
+    families.push(Family {
+        name: "mcgate_command_seconds",
+        kind: MetricKind::Histogram,
+        help: "How long commands took that have ended, from when they began, or came to wait for their key.",
+        samples: Samples::Times(spread),
+    })?;
     Ok(())
 }
 
@@ -569,6 +625,7 @@ pub fn families_of(alloc: Global, numbers: &Numbers) -> Result<Vec<Family>, Allo
     add_config(alloc, &numbers.config, &mut families)?;
     add_clients(alloc, &numbers.clients, &mut families)?;
     add_commands(alloc, numbers.commands.as_slice(), &mut families)?;
+    add_command_times(alloc, &numbers.command_times, &mut families)?;
     add_servers(alloc, numbers.servers.as_slice(), &mut families)?;
     families.push(counter(
         "mcgate_scrapes_total",

@@ -1,8 +1,8 @@
 //! Families in Prometheus' text format.
 
-ghost use Rattle.std.specs.Prelude.{OnOk};
+ghost use Rattle.std.specs.Prelude.{OnOk, ◌++◌};
 ghost use Rattle.std.specs.Io.KnownBytes.{Appends};
-ghost use Rattle.watch_admin.specs.Prometheus.{label_text, labels_text, front_text, end_text, sample_text, each_text, one_text, spread_text, samples_text, help_text, type_text, family_text, families_text};
+ghost use Rattle.watch_admin.specs.Prometheus.{label_text, labels_text, braced_text, end_text, sample_text, each_text, one_text, spread_text, samples_text, help_text, type_text, family_text, families_text};
 
 use crate::families::{Amount, Family, Label, Sample, Samples, Spread};
 use crate::quoted::Quoted;
@@ -32,24 +32,36 @@ fn write_labels<W: Write>(labels: &[Label], out: &mut W) -> io::Result<()>
     Ok(())
 }
 
-fn write_front<W: Write>(name: &str, part: &str, out: &mut W) -> io::Result<()>
-    ensures { OnOk result (Appends (W.contents out.old) (W.contents out.new) (front_text name.now part.now)) }
+// Writes `{LABELS}`, or nothing where there are none.
+fn write_braced<W: Write>(labels: &[Label], out: &mut W) -> io::Result<()>
+    ensures { OnOk result (Appends (W.contents out.old) (W.contents out.new) (braced_text labels.now)) }
 {
-    write!(out, "{name}{part}{{")
+    if labels.is_empty() {
+        return Ok(());
+    }
+    write!(out, "{{")?;
+    write_labels(labels, out)?;
+    write!(out, "}}")
+}
+
+fn write_name<W: Write>(name: &str, part: &str, out: &mut W) -> io::Result<()>
+    ensures { OnOk result (Appends (W.contents out.old) (W.contents out.new) (name.now ++ part.now)) }
+{
+    write!(out, "{name}{part}")
 }
 
 fn write_amount<W: Write>(amount: Amount, out: &mut W) -> io::Result<()>
     ensures { OnOk result (Appends (W.contents out.old) (W.contents out.new) (end_text amount)) }
 {
-    writeln!(out, "}} {amount}")
+    writeln!(out, " {amount}")
 }
 
-// Writes `NAMEPART{LABELS} AMOUNT`.
+// Writes `NAMEPART{LABELS} AMOUNT`, or `NAMEPART AMOUNT` without labels.
 fn write_sample<W: Write>(name: &str, part: &str, sample: &Sample, out: &mut W) -> io::Result<()>
     ensures { OnOk result (Appends (W.contents out.old) (W.contents out.new) (sample_text name.now part.now sample.now)) }
 {
-    write_front(name, part, out)?;
-    write_labels(sample.labels.as_slice(), out)?;
+    write_name(name, part, out)?;
+    write_braced(sample.labels.as_slice(), out)?;
     write_amount(sample.amount, out)
 }
 

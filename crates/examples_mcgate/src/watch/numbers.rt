@@ -6,7 +6,7 @@ use std::test::Fail;
 use watch_admin::families::Family;
 use watch_admin::json::write_json;
 use watch_admin::numbers::{
-    ClientNumbers, CommandNumbers, ConfigNumbers, FailureNumbers, LimitNumbers, Numbers,
+    ClientNumbers, CommandNumbers, CommandTimes, ConfigNumbers, FailureNumbers, LimitNumbers, Numbers,
     ProcessNumbers, ServerNumbers, SpanNumbers, families_of,
 };
 use watch_admin::prometheus::write_prometheus;
@@ -54,6 +54,12 @@ mcgate_client_bytes_total{direction="out"} 18446744073709551615
 mcgate_commands_total{op="get",reply="item"} 11
 mcgate_commands_total{op="get",reply="acknowledged"} 12
 mcgate_commands_total{op="get",reply="other"} 13
+# HELP mcgate_command_seconds How long commands took that have ended, from when they began, or came to wait for their key.
+# TYPE mcgate_command_seconds histogram
+mcgate_command_seconds_bucket{le="0.0001"} 10
+mcgate_command_seconds_bucket{le="+Inf"} 18
+mcgate_command_seconds_sum 2.000020
+mcgate_command_seconds_count 18
 # HELP mcgate_server_up 1 where a connection to the server stands.
 # TYPE mcgate_server_up gauge
 mcgate_server_up{server="\"a\\:1?"} 1
@@ -110,6 +116,7 @@ fn stats() -> &'static str {
 "mcgate_slow_clients_closed_total":9,
 "mcgate_client_bytes_total":[{"direction":"in","value":10},{"direction":"out","value":18446744073709551615}],
 "mcgate_commands_total":[{"op":"get","reply":"item","value":11},{"op":"get","reply":"acknowledged","value":12},{"op":"get","reply":"other","value":13}],
+"mcgate_command_seconds":{"le":[{"le":"0.0001","value":10},{"le":"+Inf","value":18}],"sum":[{"value":2.000020}],"n":[{"value":18}]},
 "mcgate_server_up":[{"server":"\"a\\:1?","value":1}],
 "mcgate_server_late":[{"server":"\"a\\:1?","value":0}],
 "mcgate_server_connections_total":[{"server":"\"a\\:1?","value":14}],
@@ -205,6 +212,11 @@ fn families(alloc: Global) -> Result<Vec<Family>, AllocError> {
             sent_bytes: u64::MAX,
         },
         commands: commands(alloc)?,
+        command_times: CommandTimes {
+            ended: 18,
+            micros: 2_000_020,
+            spans: spans(alloc)?,
+        },
         servers: servers(alloc)?,
         scrapes: 17,
     };

@@ -17,7 +17,8 @@ use std::test::Fail;
 use std::time::Duration;
 
 // Far ends have names that are numbers. `peer` begins the script of one, which then calls at a time or answers the next connection to a
-// host. `proxy` looks up the servers of its configuration and begins. `news` are those since they were asked for last.
+// host. `proxy` looks up the servers of its configuration and begins. `news` are those since they were asked for last. `times` are how many
+// commands ended in how many microseconds, and how many of these took how long.
 fn texts() -> &'static str {
     r"Bytes come cut anywhere, and go out by the piece.
 host 127.0.0.1:5001
@@ -66,6 +67,8 @@ taken 8 => get a\r\nget k\r\n
 taken 9 => get b\r\nget d\r\n
 taken 1 => VALUE a 0 1\r\n1\r\nEND\r\nEND\r\n
 taken 2 => END\r\nVALUE d 0 1\r\n2\r\nEND\r\n
+-- From 0 to 30 a, to 5 b, and from 5 to 30 k, to 5 d.
+times => 4 in 60000: 1 0 0 0 0 1 0 2 0 0 0
 
 A write that fails half-way: the call has failed, its connection is closed, and the next call goes to a new one as a whole.
 host 127.0.0.1:5001
@@ -697,6 +700,8 @@ taken 8 => get k\r\nadd k 0 0 1\r\n7\r\ndelete k\r\n
 taken 9 => get k\r\ndelete k\r\n
 taken 1 => VALUE k 0 1\r\n7\r\nEND\r\n
 taken 2 => DELETED\r\n
+-- The get from 0 to 50, and the delete from 20 on, when it came to wait, to 50.
+times => 2 in 80000: 0 0 0 0 0 0 0 2 0 0 0
 
 A client that leaves its replies untaken stands in no line: nobody waits for a key behind it.
 host 127.0.0.1:5001
@@ -1269,6 +1274,15 @@ impl Scripted<'_> {
         mem::replace(&mut self.told, none)
     }
 
+    fn times(&mut self) -> Result<String, Fail> {
+        let times = self.proxy()?.command_times();
+        let mut text = format!(in self.rt.alloc(); "{} in {}:", times.answered, times.micros)?;
+        for count in times.spans() {
+            write!(text, " {count}")?;
+        }
+        Ok(text)
+    }
+
     fn turn(&mut self) -> Result<(), Fail> {
         let rt = self.rt;
         Ok(self.proxy()?.turn_within(rt, Duration::from_millis(100))?)
@@ -1304,6 +1318,7 @@ impl Stage for Scripted<'_> {
             "load" => self.load(text),
             "took" => Ok(yes_or_no(self.took(text)?).to_string(alloc)?),
             "news" => Ok(self.news()),
+            "times" => self.times(),
             _ => {
                 self.set(verb, text)?;
                 Ok(String::new(alloc))

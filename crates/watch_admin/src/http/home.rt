@@ -10,7 +10,7 @@ pub fn home_text() -> &'static str {
 <title>mcgate</title>
 <style>
 body { font: 15px/1.45 system-ui, sans-serif; margin: 1.5em auto; max-width: 72em; padding: 0 1em; color: #222; background: #fff }
-h1 { font-size: 1.4em } h1 small { font-weight: normal; color: #666; font-size: .65em } h2 { font-size: 1.05em; margin: 1.6em 0 .4em }
+h1 { font-size: 1.4em } h1 small { font-weight: normal; color: #666; font-size: .65em } h2 { font-size: 1.05em; margin: 1.6em 0 .4em } h2 small { font-weight: normal; color: #666 }
 table { border-collapse: collapse; width: 100% } th, td { text-align: right; padding: .25em .7em; border-bottom: 1px solid #ddd }
 th { color: #666; font-weight: normal } th:first-child, td:first-child { text-align: left } td { font-variant-numeric: tabular-nums }
 .up { color: #17722f } .late, .warn { color: #9a6200; font-weight: bold } .down { color: #b3261e; font-weight: bold } .unused { color: #777 }
@@ -24,7 +24,7 @@ li b { font-weight: 600 } li i { color: #666; font-style: normal }
 <div id="told"></div>
 <h2>Servers</h2>
 <table id="servers"></table>
-<h2>Commands</h2>
+<h2>Commands <small id="took"></small></h2>
 <table id="commands"></table>
 <h2>Clients and configurations</h2>
 <table id="others"></table>
@@ -78,8 +78,8 @@ function state(now, server) {
   return sum(now.mcgate_server_connections_total, {server}) + sum(now.mcgate_server_failures_total, {server}) ? "down" : "unused";
 }
 
-function spans(now, then, server) {
-  const of = it => (it.mcgate_server_call_seconds || {le: []}).le.filter(row => row.server === server);
+function spans(now, then, name, labels) {
+  const of = it => (it[name] || {le: []}).le.filter(row => has(row, labels));
   const old = of(then);
   return of(now).map((row, place) => ({le: row.le, value: row.value - (old[place] ? old[place].value : 0)}));
 }
@@ -98,7 +98,7 @@ function serverRow(now, then, seconds, server) {
   const how = state(now, server);
   const grown = outcome => rate(sum(now.mcgate_server_calls_total, {server, outcome}), sum(then.mcgate_server_calls_total, {server, outcome}), seconds);
   const failed = grown("failed");
-  return [server, [how, how], number(grown("answered")), [number(failed), failed ? "down" : ""], ...answers(spans(now, then, server)),
+  return [server, [how, how], number(grown("answered")), [number(failed), failed ? "down" : ""], ...answers(spans(now, then, "mcgate_server_call_seconds", {server})),
     number(sum(now.mcgate_server_calls_out, {server})), causes(now, server)];
 }
 
@@ -130,6 +130,8 @@ function show(now, then, seconds) {
     now.mcgate_server_up.map(row => serverRow(now, then, seconds, row.server)));
   const ops = [...new Set(now.mcgate_commands_total.map(row => row.op))].filter(op => sum(now.mcgate_commands_total, {op}));
   fill("commands", ["command", "per second", "with an item", "acknowledged", "others", "so far"], ops.map(op => commandRow(now, then, seconds, op)));
+  const [half, mostly] = answers(spans(now, then, "mcgate_command_seconds", {}));
+  at("took").textContent = half ? "half took " + half + ", 99 % " + mostly : "";
   const moved = direction => rate(sum(now.mcgate_client_bytes_total, {direction}), sum(then.mcgate_client_bytes_total, {direction}), seconds);
   const came = verdict => number(sum(now.mcgate_client_connections_total, {verdict}));
   const loads = verdict => number(sum(now.mcgate_reloads_total, {verdict}));
