@@ -83,6 +83,13 @@ same_core {W} old new same = ap (λ (e : ProxyEnd W). e.core.value) same
 pub stayed : {W : Type 0} (history : W → List Event) (first old new : ProxyEnd W) → new ≡ old → Stay history first.sockets old.sockets → Stay history first.sockets new.sockets
 stayed {W} history first old new same stay = subst (λ (e : ProxyEnd W). Stay history first.sockets e.sockets) (sym same) stay
 
+-- nothing is done on any connection
+pub stays_still : {W : Type 0} (history : W → List Event) (end : ProxyEnd W) → Stay history end.sockets end.sockets
+stays_still history end = stay_still (history end.sockets.wire) end.sockets.clients end.sockets.links.all.items
+
+pub stays_same : {W : Type 0} (history : W → List Event) (old new : ProxyEnd W) → new ≡ old → Stay history old.sockets new.sockets
+stays_same history old new same = stayed history old old new same (stays_still history old)
+
 -- it wasn't loaded
 pub not_loaded : (old mid new : ServedCore) (configuration : Configuration) (fault : LoadFault) → mid ≡ old → LoadStops mid configuration fault new → (fault ≡ Refused NoMemory → ⊥) → new ≡ old
 not_loaded old mid new configuration fault same stops other = ⊎_elim (λ e. e ∙ same) (λ h. absurd (other h.0)) stops

@@ -23,3 +23,7 @@ IsDueAt (Some emptying) servers at = IsNamedAt (texts emptying.names.items) serv
 abbrev pub EmptiesOnly : (ℕ → Type 0) → List Link → List Link → Type 0
 EmptiesOnly Is old new =
     (i : ℕ) (link : Link) → slice_get new i ≡ Some link → link.flushes ≡ true → ((was : Link) × (slice_get old i ≡ Some was) × (was.flushes ≡ true)) ⊎ Is i
+
+-- the server of this number, if there is one, is emptied before its first call over its next connection
+abbrev pub FlushesAt : ℕ → List Link → Type 0
+FlushesAt at links = (link : Link) → slice_get links at ≡ Some link → link.flushes ≡ true

@@ -130,6 +130,21 @@ impl Emptying {
         Ok(())
     }
 
+    // So is the server of this name, which isn't written yet.
+    fn note(&mut self, alloc: Global, name: &str) -> Result<(), AllocError> {
+        if !has(&self.names, name) {
+            self.names.push(String::from_str(alloc, name)?)?;
+            self.is_written = false;
+        }
+        Ok(())
+    }
+
+    /// So is the server of this name. The file has it before it is used.
+    pub fn add_one<R: Files + AllocGlobal>(&mut self, rt: &R, name: &str) -> io::Result<()> {
+        self.note(rt.alloc(), name)?;
+        self.write(rt)
+    }
+
     /// So are these servers from this number on. The file has them before they are used.
     pub fn add<R: Files + AllocGlobal>(
         &mut self,
@@ -139,10 +154,7 @@ impl Emptying {
     ) -> io::Result<()> {
         for at in from..servers.len() {
             if let Some(name) = text_at(servers, at) {
-                if !has(&self.names, name) {
-                    self.names.push(String::from_str(rt.alloc(), name)?)?;
-                    self.is_written = false;
-                }
+                self.note(rt.alloc(), name)?;
             }
         }
         self.write(rt)

@@ -10,6 +10,7 @@ mod input_end;
 mod limits;
 pub mod lines;
 pub mod listens;
+pub mod names;
 mod outages;
 mod remembering;
 pub mod serving;

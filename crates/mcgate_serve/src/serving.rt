@@ -2,6 +2,7 @@
 
 ghost use Rattle.std.specs.Prelude.{◌≡◌, ◌≢◌, ◌⊎◌, ◌≤◌, IsTrue, IfOk, IfSome, OnOk, string_bytes, ℕ, List, Some, ◌∷◌, length, slice_get};
 ghost use Rattle.serve_wire.specs.Events.{looks_up};
+ghost use Rattle.serve_wire.specs.declared.outcomes.Lead.TheVariants.{Other};
 ghost use Rattle.serve_links.specs.Story.{HasHappened};
 ghost use Rattle.core_accepted.specs.declared.loading.LoadFault.TheVariants.{Refused};
 ghost use Rattle.gate_check.specs.declared.reloading.ReloadFault.TheVariants.{NoMemory};
@@ -14,7 +15,8 @@ ghost use Rattle.mcgate_serve.specs.Serves.{SaysAfter, proxy_of, Serves, MayLoad
 ghost use Rattle.mcgate_serve.specs.InFleet.{StandsBeside, in_use_after};
 ghost use Rattle.mcgate_serve.specs.Remembers.{StandsIn, StandsIfLoaded};
 ghost use Rattle.mcgate_serve.specs.LooksUp.{AreLookedUp};
-ghost use Rattle.mcgate_serve.specs.Emptied.{IsDueAt, EmptiesOnly};
+ghost use Rattle.mcgate_serve.specs.Emptied.{IsDueAt, EmptiesOnly, FlushesAt};
+ghost use Rattle.mcgate_serve.specs.Names.{follows};
 
 use crate::controlling::Controlling;
 use crate::draining::Draining;
@@ -23,6 +25,7 @@ use crate::input_end::InputEnd;
 use crate::limits::own_limits;
 use crate::lines::Lines;
 use crate::listens::Listens;
+use crate::names::{Names, follows};
 use crate::outages::Outages;
 use crate::remembering::{Kept, Remembering, forget, remember};
 use crate::special::is_special;
@@ -45,7 +48,7 @@ use route_json::{Config, ConfigFault, read_config_after};
 use serde_json::Value;
 use serve_links::LinkNews;
 use serve_proxy::{ProxyEnd, text_at};
-use serve_wire::Wire;
+use serve_wire::{Lead, Wire};
 use std::alloc::{AllocError, Global};
 use std::io;
 use std::io::{ErrorKind, Write};
@@ -55,6 +58,9 @@ use std::time::{Duration, Instant};
 use watch_admin::control::answers::Ruling;
 use watch_admin::control::requests::{Request, request_of};
 use watch_admin::places::PLACES;
+
+// What is told where a name is followed.
+const OTHER_MACHINE: &str = "its name leads to another machine: the next connection goes there";
 
 /// The first address that a text names, or why it names none.
 pub fn resolve<N: Net>(net: &N, text: &str) -> io::Result<SocketAddr> {
@@ -114,6 +120,8 @@ pub struct Serving<W: Wire> {
     turns: u32,
     lines: Lines,
     outages: Outages,
+    /// When servers' names were looked up.
+    names: Names,
     seen: Seen,
     /// Who asks for numbers, where it listens for them.
     watching: Option<Watching>,
@@ -266,6 +274,7 @@ impl<W: Wire + Drop> Serving<W> {
     {
         let (text, memory) = started.into_parts();
         let before = before_of(&memory);
+        let names = Names::of(rt.alloc(), &servers);
         Ok(Serving {
             end,
             servers,
@@ -279,6 +288,7 @@ impl<W: Wire + Drop> Serving<W> {
             turns: 0,
             lines,
             outages: Outages::new(rt.alloc()),
+            names,
             seen: Seen::new(before.saturating_add(1)),
             watching,
             controlling,
@@ -500,6 +510,7 @@ impl<W: Listens> Serving<W> {
     {
         self.lines.look(rt);
         self.tell_news(rt);
+        self.look_names(rt, job);
         self.settle_emptying(rt);
         self.look_if_due(rt, job)?;
         self.turn_watching(rt);
@@ -708,6 +719,7 @@ impl<W: Listens> Serving<W> {
         let Ok(number) = u32::try_from(at) else {
             return;
         };
+        self.note_news(at, news);
         if !self.may_tell(at, news) {
             return;
         }
@@ -740,6 +752,251 @@ impl<W: Listens> Serving<W> {
             return true;
         }
         self.outages.note_down(at, self.lines.now())
+    }
+
+    // The name of a server whose connection failed is soon looked up again.
+    fn note_news(&mut self, at: usize, news: LinkNews)
+        ensures { self.new.end ≡ self.old.end }
+    {
+        match news {
+            LinkNews::Failed(_, _) => self.names.note_failed(at),
+            LinkNews::Opened | LinkNews::Back | LinkNews::Late => {}
+        }
+    }
+
+    // Whether calls may go by this server's name: it has a connection, or never had one, or its connection has just failed.
+    fn goes_by_name(&self, at: usize) -> bool {
+        match self.end.link(at) {
+            Some(link) => {
+                link.conn.is_some() || link.tally.stood == 0 || self.names.has_failed(at)
+            }
+            None => false,
+        }
+    }
+
+    // The name of a server is looked up again, if one is due.
+    fn look_names<R: Files + Net + AllocGlobal + Eprint>(&mut self, rt: &R, job: &ServeJob<'_>)
+        ensures core { self.new.end.core ≡ self.old.end.core }
+        ensures ends { Stay W.history self.old.end.sockets self.new.end.sockets }
+        ensures memory { self.new.memory ≡ self.old.memory }
+        ensures in_use { self.new.in_use ≡ self.old.in_use }
+    {
+        let now = self.end.wire().last_millis();
+        match self.names.next_due(&self.servers, now, job.resolve_s) {
+            Some(at) => self.look_if_called(rt, job, at, now),
+            None => {}
+        }
+    }
+
+    // That of this server, where calls may go by it.
+    fn look_if_called<R: Files + Net + AllocGlobal + Eprint>(
+        &mut self,
+        rt: &R,
+        job: &ServeJob<'_>,
+        at: usize,
+        now: u64,
+    )
+        ensures core { self.new.end.core ≡ self.old.end.core }
+        ensures ends { Stay W.history self.old.end.sockets self.new.end.sockets }
+        ensures memory { self.new.memory ≡ self.old.memory }
+        ensures in_use { self.new.in_use ≡ self.old.in_use }
+    {
+        if !self.goes_by_name(at) {
+            return self.names.pass(at, now);
+        }
+        self.names.note_looked(at, now);
+        match self.lead_of(rt, at) {
+            Ok(lead) => self.take_lead(rt, job, at, now, lead),
+            Err(_) => self.tell_name(
+                rt,
+                at,
+                now,
+                "its name can't be looked up, calls go on as before",
+            ),
+        }
+    }
+
+    // Where its name leads now.
+    fn lead_of<R: Net>(&self, rt: &R, at: usize) -> io::Result<Lead> {
+        match text_at(&self.servers, at) {
+            Some(text) => self.end.look_again(rt, text),
+            None => Err(io::Error::from(ErrorKind::NotFound)),
+        }
+    }
+
+    // It leads so: that is followed, or told if that is to be known.
+    fn take_lead<R: Files + Net + AllocGlobal + Eprint>(
+        &mut self,
+        rt: &R,
+        job: &ServeJob<'_>,
+        at: usize,
+        now: u64,
+        lead: Lead,
+    )
+        ensures kept { follows job.now.begun.added job.now.any job.now.fleet lead ≡ false → self.new.end ≡ self.old.end }
+        ensures core { self.new.end.core ≡ self.old.end.core }
+        ensures ends { Stay W.history self.old.end.sockets self.new.end.sockets }
+        ensures memory { self.new.memory ≡ self.old.memory }
+        ensures in_use { self.new.in_use ≡ self.old.in_use }
+    {
+        if follows(job.begun, job.any, job.fleet, lead) {
+            self.follow(rt, job.settings.flushes_new, at, now, lead)
+        } else {
+            self.tell_kept(rt, at, now, lead)
+        }
+    }
+
+    // Another machine isn't called, which is told.
+    fn tell_kept<R: Eprint>(&mut self, rt: &R, at: usize, now: u64, lead: Lead)
+        ensures end { self.new.end ≡ self.old.end }
+        ensures memory { self.new.memory ≡ self.old.memory }
+        ensures in_use { self.new.in_use ≡ self.old.in_use }
+    {
+        match lead {
+            Lead::Other => self.tell_name(
+                rt,
+                at,
+                now,
+                "its name leads to another machine, which may hold anything: calls go on to the one before (see --new-servers)",
+            ),
+            Lead::Same | Lead::First => {}
+        }
+    }
+
+    // A line of this server, and for a while no other of its name.
+    fn tell_name<R: Eprint>(&mut self, rt: &R, at: usize, now: u64, words: &str)
+        ensures end { self.new.end ≡ self.old.end }
+        ensures memory { self.new.memory ≡ self.old.memory }
+        ensures in_use { self.new.in_use ≡ self.old.in_use }
+    {
+        if !self.names.may_tell(at, now) {
+            return;
+        }
+        if let Some(text) = text_at(&self.servers, at) {
+            let line = format_args!("mcgate: server {text}: {words}");
+            self.lines.warn(rt, line);
+        }
+    }
+
+    // Connections that are begun from now on go where its name leads. Where new servers are emptied first so is another machine.
+    fn follow<R: Files + Net + AllocGlobal + Eprint>(
+        &mut self,
+        rt: &R,
+        flushes: bool,
+        at: usize,
+        now: u64,
+        lead: Lead,
+    )
+        ensures emptied { flushes ≡ true → lead ≡ Other → (self.new.end ≡ self.old.end) ⊎ FlushesAt at self.new.end.sockets.links.all.items }
+        ensures core { self.new.end.core ≡ self.old.end.core }
+        ensures ends { Stay W.history self.old.end.sockets self.new.end.sockets }
+        ensures memory { self.new.memory ≡ self.old.memory }
+        ensures in_use { self.new.in_use ≡ self.old.in_use }
+    {
+        match lead {
+            Lead::Other => self.follow_other(rt, flushes, at, now),
+            Lead::Same | Lead::First => self.move_to(rt, at, "its name is known now"),
+        }
+    }
+
+    // The same of another machine.
+    fn follow_other<R: Files + Net + AllocGlobal + Eprint>(
+        &mut self,
+        rt: &R,
+        flushes: bool,
+        at: usize,
+        now: u64,
+    )
+        ensures emptied { flushes ≡ true → (self.new.end ≡ self.old.end) ⊎ FlushesAt at self.new.end.sockets.links.all.items }
+        ensures core { self.new.end.core ≡ self.old.end.core }
+        ensures ends { Stay W.history self.old.end.sockets self.new.end.sockets }
+        ensures memory { self.new.memory ≡ self.old.memory }
+        ensures in_use { self.new.in_use ≡ self.old.in_use }
+    {
+        if flushes {
+            self.follow_emptied(rt, at, now)
+        } else {
+            self.move_to(rt, at, OTHER_MACHINE)
+        }
+    }
+
+    // The same of one that is emptied before its first call.
+    fn follow_emptied<R: Files + Net + AllocGlobal + Eprint>(&mut self, rt: &R, at: usize, now: u64)
+        ensures emptied { (self.new.end ≡ self.old.end) ⊎ FlushesAt at self.new.end.sockets.links.all.items }
+        ensures core { self.new.end.core ≡ self.old.end.core }
+        ensures ends { Stay W.history self.old.end.sockets self.new.end.sockets }
+        ensures memory { self.new.memory ≡ self.old.memory }
+        ensures in_use { self.new.in_use ≡ self.old.in_use }
+    {
+        if !self.notes_moved(rt, at, now) {
+            return;
+        }
+        self.end.empty_first(at);
+        self.move_to(rt, at, OTHER_MACHINE)
+    }
+
+    // It is written that this server is to be emptied. Whether it was: where it can't be that is told, and while what its connection was asked first
+    // isn't answered it isn't, since the one before would be taken for emptied by that answer.
+    fn notes_moved<R: Files + AllocGlobal + Eprint>(&mut self, rt: &R, at: usize, now: u64) -> bool
+        ensures end { self.new.end ≡ self.old.end }
+        ensures memory { self.new.memory ≡ self.old.memory }
+        ensures in_use { self.new.in_use ≡ self.old.in_use }
+    {
+        if self.is_asked_first(at) {
+            self.names.note_failed(at);
+            return false;
+        }
+        if self.note_moved(rt, at).is_ok() {
+            return true;
+        }
+        self.tell_name(
+            rt,
+            at,
+            now,
+            "its name leads to another machine, and it can't be written that this is to be emptied: calls go on to the one before",
+        );
+        false
+    }
+
+    // Whether its connection was asked something first that isn't answered yet.
+    fn is_asked_first(&self, at: usize) -> bool {
+        match self.end.link(at) {
+            Some(link) => link.conn.is_some() && link.awaits_greeting(),
+            None => false,
+        }
+    }
+
+    fn note_moved<R: Files + AllocGlobal>(&mut self, rt: &R, at: usize) -> io::Result<()>
+        ensures end { self.new.end ≡ self.old.end }
+        ensures memory { self.new.memory ≡ self.old.memory }
+        ensures in_use { self.new.in_use ≡ self.old.in_use }
+    {
+        let Some(emptying) = &mut self.emptying else {
+            return Err(io::Error::from(ErrorKind::NotFound));
+        };
+        match text_at(&self.servers, at) {
+            Some(name) => emptying.add_one(rt, name),
+            None => Err(io::Error::from(ErrorKind::NotFound)),
+        }
+    }
+
+    // Connections to this server that are begun from now on go where its name leads, which is told.
+    fn move_to<R: Net + Eprint>(&mut self, rt: &R, at: usize, words: &str)
+        ensures links { self.new.end.sockets.links ≡ self.old.end.sockets.links }
+        ensures core { self.new.end.core ≡ self.old.end.core }
+        ensures ends { Stay W.history self.old.end.sockets self.new.end.sockets }
+        ensures memory { self.new.memory ≡ self.old.memory }
+        ensures in_use { self.new.in_use ≡ self.old.in_use }
+    {
+        match text_at(&self.servers, at) {
+            Some(text) => {
+                if self.end.resolve(rt, text).is_ok() {
+                    let line = format_args!("mcgate: server {text}: {words}");
+                    self.lines.tell(rt, line);
+                }
+            }
+            None => {}
+        }
     }
 
     // Tells what came of a text on standard error too, where lines have a time.

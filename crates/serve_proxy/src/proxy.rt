@@ -37,7 +37,7 @@ use route_json::Config;
 use route_json::addresses::{Servers, address_in};
 use route_tree::Tree;
 use serve_links::{CallTally, Cause, Link, LinkLimits, LinkNews, Settings, Tally};
-use serve_wire::Wire;
+use serve_wire::{Lead, Wire};
 use std::alloc::{AllocError, Global};
 use std::io;
 use std::net::Net;
@@ -153,11 +153,20 @@ impl<W: Wire> ProxyEnd<W> {
     pub fn resolve<N: Net>(&mut self, net: &N, text: &str) -> io::Result<()>
         ensures core { self.new.core ≡ self.old.core }
         ensures looked { W.history self.new.sockets.wire ≡ looks_up text.now ∷ W.history self.old.sockets.wire }
+        ensures links { self.new.sockets.links ≡ self.old.sockets.links }
         ensures ends { Stay W.history self.old.sockets self.new.sockets }
     {
         self.sockets
             .wire
             .resolve(net, text.as_bytes(), address_in(text).as_bytes())
+    }
+
+    /// Where the address in a server's name leads now, beside the machine to which connections are begun. Nothing changes by that. An error comes
+    /// where it leads nowhere.
+    pub fn look_again<N: Net>(&self, net: &N, text: &str) -> io::Result<Lead> {
+        self.sockets
+            .wire
+            .look_again(net, text.as_bytes(), address_in(text).as_bytes())
     }
 
     /// Commands that begin from now on run by this configuration's tree, and those that are under way end on the trees on which they

@@ -1157,16 +1157,20 @@ fn end_over(
     )?)
 }
 
-/// The end that begins by a configuration, whose servers were looked up.
+/// The end that begins by a configuration, whose servers were looked up. The name of one of them may lead elsewhere since.
 pub fn begin(
     rt: &HostRuntime,
     wire: Memory,
     text: &str,
+    moved: Option<&str>,
     settings: Settings,
 ) -> Result<ProxyEnd<Memory>, Fail> {
     let mut wire = wire;
     let servers = servers_of(rt.alloc(), text)?;
     resolve_all(rt, &mut wire, &servers);
+    if let Some(name) = moved {
+        wire.moves(name.as_bytes());
+    }
     let accepted = judged(rt.alloc(), read_config(rt.alloc(), text)?)?;
     end_over(rt, wire, accepted, &servers, settings)
 }
@@ -1187,7 +1191,7 @@ fn load(
 impl Scripted<'_> {
     fn begin(&mut self, text: &str, settings: Settings) -> Result<(), Fail> {
         let wire = self.peers.take()?;
-        self.proxy = Some(begin(self.rt, wire, text, settings)?);
+        self.proxy = Some(begin(self.rt, wire, text, None, settings)?);
         self.config = text.to_string(self.rt.alloc())?;
         Ok(())
     }

@@ -13,8 +13,9 @@ use mcgate_serve::serving::Serving;
 use mcgate_serve::started::{Begun, Started};
 use mcgate_serve::starting::begin;
 use route_json::addresses::Servers;
-use serve_proxy::{Beginnings, ProxyEnd, ServerDialect};
+use serve_proxy::{Beginning, Beginnings, ProxyEnd, ServerDialect, Settings};
 use serve_wire::memory::Memory;
+use serve_wire::{Lead, Wire};
 use std::fs;
 use std::io::ErrorKind;
 use std::test::Fail;
@@ -24,8 +25,11 @@ const FILE: &str = "served.json";
 
 const HISTORY: &str = "served.history";
 
+// Beside it, the names of servers that are to be emptied.
+const TO_EMPTY: &str = "served.history.flush";
+
 // `file` puts a text into the file, and `serve` turns the loop so often, which begins by the text where it hasn't yet. A turn in which
-// nothing comes takes a second.
+// nothing comes takes a second. `moves` names a host whose name leads elsewhere once that has begun, and `new` says how new servers are.
 fn texts() -> &'static str {
     r#"A text that brings a server is loaded, and deletes go to that one too. One that the gate refuses and one that is none change nothing.
 host 127.0.0.1:5001
@@ -154,7 +158,106 @@ serve 5
 remembered => 1
 file <A, both cleared>
 serve 5
-remembered => 2"#
+remembered => 2
+
+A name leads to another machine: where nothing is said of new servers that isn't followed, though the connection has failed.
+host one:1
+peer 8
+awaits 7
+sends END\r\n
+until 5000
+ends
+answers one:1
+peer 9
+awaits 7
+sends END\r\n
+answers one:1
+peer 1
+sends get a\r\n
+until 65000
+sends get b\r\n
+calls 0
+moves one:1
+file {"pools":{"A":{"servers":["one:1"]}},"route":"PoolRoute|A"}
+serve 80
+leads one:1 => elsewhere
+taken 9 => get b\r\n
+
+Where they are empty it is followed, within a minute.
+host one:1
+host two:1
+peer 8
+awaits 7
+sends END\r\n
+answers one:1
+peer 1
+sends get a\r\n
+until 90000
+calls 0
+moves one:1
+new empty
+file {"pools":{"A":{"servers":["one:1","two:1"]}},"route":"PoolRoute|A"}
+serve 55
+leads one:1 => elsewhere
+serve 25
+leads one:1 => there
+taken 8 => get a\r\n
+open 8 => yes
+named => no
+
+It is after a failure of the connection, a second later at most.
+host one:1
+peer 8
+awaits 7
+sends END\r\n
+until 5000
+ends
+answers one:1
+peer 1
+sends get a\r\n
+until 90000
+calls 0
+moves one:1
+new empty
+file {"pools":{"A":{"servers":["one:1"]}},"route":"PoolRoute|A"}
+serve 4
+leads one:1 => elsewhere
+serve 8
+leads one:1 => there
+
+Where they are emptied first this one is: its name is written until it was.
+host one:1
+peer 8
+awaits 7
+sends END\r\n
+until 70000
+ends
+answers one:1
+peer 9
+awaits 11
+sends OK\r\n
+awaits 18
+sends END\r\n
+answers one:1
+peer 1
+sends get a\r\n
+until 80000
+sends get b\r\n
+calls 0
+moves one:1
+new flush
+history
+file {"pools":{"A":{"servers":["one:1"]}},"route":"PoolRoute|A"}
+serve 65
+leads one:1 => there
+named => yes
+taken 8 => get a\r\n
+open 8 => yes
+serve 25
+taken 8 => get a\r\n
+taken 9 => flush_all\r\nget b\r\n
+taken 1 => END\r\nEND\r\n
+named => no"#
 }
 
 // It is told what goes wrong, and nothing else.
@@ -163,8 +266,43 @@ const LOG: Log = Log {
     json: false,
 };
 
+// What is said of new servers.
+#[derive(Clone, Copy, PartialEq, Eq)]
+enum New {
+    Any,
+    Empty,
+    Flush,
+}
+
+fn new_of(word: &str) -> New {
+    match word {
+        "empty" => New::Empty,
+        "flush" => New::Flush,
+        _ => New::Any,
+    }
+}
+
+fn begun_of(new: New) -> Beginnings {
+    let mut begun = Beginnings::any();
+    if new != New::Any {
+        begun.added = Beginning::Own;
+    }
+    begun
+}
+
+fn settings_of(dialect: ServerDialect, new: New) -> Settings {
+    let mut settings = settings(dialect);
+    settings.flushes_new = new == New::Flush;
+    settings
+}
+
 // The file is read again after each turn.
-fn job_of(dialect: ServerDialect, history: Option<&'static str>, turns: u32) -> ServeJob<'static> {
+fn job_of(
+    dialect: ServerDialect,
+    new: New,
+    history: Option<&'static str>,
+    turns: u32,
+) -> ServeJob<'static> {
     ServeJob {
         file: FILE,
         listen: "memory",
@@ -176,10 +314,10 @@ fn job_of(dialect: ServerDialect, history: Option<&'static str>, turns: u32) -> 
         log: Some(LOG),
         drain_ms: 1_000,
         drain_on_eof: false,
-        settings: settings(dialect),
+        settings: settings_of(dialect, new),
         keepalive_s: 60,
         resolve_s: 60,
-        begun: Beginnings::any(),
+        begun: begun_of(new),
         any: false,
         fleet: false,
         certificate: None,
@@ -208,6 +346,9 @@ struct Served<'a> {
     peers: Peers,
     serving: Option<Serving<Memory>>,
     dialect: ServerDialect,
+    new: New,
+    // A host whose name leads elsewhere once it has begun.
+    moved: Option<String>,
     history: Option<&'static str>,
 }
 
@@ -217,6 +358,8 @@ fn make_served(rt: &HostRuntime) -> Served<'_> {
         peers: Peers::new(rt.alloc()),
         serving: None,
         dialect: ServerDialect::Classic,
+        new: New::Any,
+        moved: None,
         history: None,
     }
 }
@@ -256,10 +399,11 @@ fn serve_text(
 fn begin_serving(
     rt: &HostRuntime,
     wire: Memory,
+    moved: Option<&str>,
     job: &ServeJob<'_>,
 ) -> Result<Serving<Memory>, Fail> {
     let text = fs::read_to_string(rt, FILE)?;
-    let end = begin_end(rt, wire, text.as_str(), job.settings)?;
+    let end = begin_end(rt, wire, text.as_str(), moved, job.settings)?;
     serve_text(rt, end, job, text)
 }
 
@@ -276,13 +420,17 @@ impl Served<'_> {
             return Ok(());
         }
         let wire = self.peers.take()?;
-        self.serving = Some(begin_serving(self.rt, wire, job)?);
+        let moved = match &self.moved {
+            Some(name) => Some(name.as_str()),
+            None => None,
+        };
+        self.serving = Some(begin_serving(self.rt, wire, moved, job)?);
         Ok(())
     }
 
     fn serve(&mut self, turns: u32) -> Result<(), Fail> {
         let rt = self.rt;
-        let job = job_of(self.dialect, self.history, turns);
+        let job = job_of(self.dialect, self.new, self.history, turns);
         self.begin_if_new(&job)?;
         match &mut self.serving {
             Some(serving) => run(rt, serving, &job),
@@ -303,6 +451,24 @@ impl Served<'_> {
         Ok(text.as_str().lines().count())
     }
 
+    // Where a name leads, beside the machine that is called.
+    fn lead_of(&self, name: &str) -> Result<&'static str, Fail> {
+        let name = name.as_bytes();
+        match self.wire()?.look_again(self.rt, name, name)? {
+            Lead::Same => Ok("there"),
+            Lead::First => Ok("somewhere"),
+            Lead::Other => Ok("elsewhere"),
+        }
+    }
+
+    // Whether a server is named beside the history, as one that is to be emptied.
+    fn names_some(&self) -> bool {
+        match fs::read_to_string(self.rt, TO_EMPTY) {
+            Ok(text) => !text.is_empty(),
+            Err(_) => false,
+        }
+    }
+
     // Events that give nothing.
     fn set(&mut self, verb: &str, text: &str) -> Result<(), Fail> {
         match verb {
@@ -314,6 +480,14 @@ impl Served<'_> {
             }
             "history" => {
                 self.history = Some(HISTORY);
+                Ok(())
+            }
+            "new" => {
+                self.new = new_of(text);
+                Ok(())
+            }
+            "moves" => {
+                self.moved = Some(text.to_string(self.rt.alloc())?);
                 Ok(())
             }
             _ => self.peers.script(verb, text),
@@ -340,6 +514,8 @@ impl Stage for Served<'_> {
             }
             "took" => Ok(yes_or_no(self.took(text)?).to_string(alloc)?),
             "remembered" => Ok(self.remembered()?.to_string(alloc)?),
+            "leads" => Ok(self.lead_of(text)?.to_string(alloc)?),
+            "named" => Ok(yes_or_no(self.names_some()).to_string(alloc)?),
             _ => {
                 self.set(verb, text)?;
                 Ok(String::new(alloc))
@@ -356,10 +532,12 @@ fn play(rt: &HostRuntime, example: &str) -> Result<(), Fail> {
 
 #[test]
 fn loops_in_memory(rt: HostRuntime) -> Result<(), Fail> {
-    remove(&rt, HISTORY)?;
     for example in texts().split("\n\n") {
+        remove(&rt, HISTORY)?;
+        remove(&rt, TO_EMPTY)?;
         play(&rt, example)?;
     }
     remove(&rt, HISTORY)?;
+    remove(&rt, TO_EMPTY)?;
     remove(&rt, FILE)
 }
