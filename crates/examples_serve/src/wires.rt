@@ -1,6 +1,8 @@
 //! Worked examples of wires: ends over a wire in memory whose far ends do what a script says, and real sockets.
 
 #[cfg(test)]
+mod names;
+#[cfg(test)]
 mod peers;
 #[cfg(test)]
 mod proxies;

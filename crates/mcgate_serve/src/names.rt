@@ -15,8 +15,10 @@ const SOON_MS: u64 = 1_000;
 // Of a name that isn't followed is told once in so many milliseconds.
 const QUIET_MS: u64 = 60_000;
 
-// After a look-up there is none for so many times as long as it took.
+// After a look-up there is none for so many times as long as it took, of so many milliseconds at most.
 const REST: u64 = 4;
+
+const LONGEST_MS: u64 = 30_000;
 
 /// Whether calls go where a server's name leads from now on. Another machine may hold anything, unless it is said that new servers begin
 /// empty, or nothing is promised; and others of a fleet may still call the one before.
@@ -89,9 +91,7 @@ pub struct Names {
     all: Vec<Name>,
     // None is due before.
     due_from: u64,
-    // When a look-up began of which it isn't known how long it took.
-    began: Option<u64>,
-    // Until then there is none.
+    // Until then there is no look-up.
     rests_until: u64,
 }
 
@@ -101,7 +101,6 @@ impl Names {
         let mut names = Names {
             all: Vec::new(alloc),
             due_from: 0,
-            began: None,
             rests_until: 0,
         };
         names.make_places(servers, 0);
@@ -124,16 +123,6 @@ impl Names {
         }
     }
 
-    // By now a look-up took as long as that.
-    fn note_rest(&mut self, now: u64, every: u64) {
-        if let Some(began) = self.began {
-            let took = now.saturating_sub(began);
-            let rest = took.saturating_mul(REST).min(every);
-            self.rests_until = now.saturating_add(rest);
-            self.began = None;
-        }
-    }
-
     // The one that is due first, and when.
     fn first(&self, every: u64) -> (usize, u64) {
         let mut first = 0usize;
@@ -150,7 +139,7 @@ impl Names {
         (first, from)
     }
 
-    // It is looked up by nobody before that is due.
+    // That one, if it is due by now.
     fn first_by(&mut self, now: u64, every: u64) -> Option<usize> {
         let (at, from) = self.first(every);
         self.due_from = from;
@@ -161,7 +150,6 @@ impl Names {
     pub fn next_due(&mut self, servers: &Servers, now: u64, every_s: u32) -> Option<usize> {
         let every = u64::from(every_s).saturating_mul(1_000);
         self.make_places(servers, now);
-        self.note_rest(now, every);
         if now < self.due_from || now < self.rests_until {
             return None;
         }
@@ -184,18 +172,18 @@ impl Names {
         }
     }
 
-    /// It isn't due any more.
-    pub fn pass(&mut self, at: usize, now: u64) {
+    /// It is looked up now, or needn't be.
+    pub fn note_looked(&mut self, at: usize, now: u64) {
         if let Some(name) = self.all.get_mut(at) {
             name.looked = now;
             name.has_failed = false;
         }
     }
 
-    /// It is looked up now.
-    pub fn note_looked(&mut self, at: usize, now: u64) {
-        self.began = Some(now);
-        self.pass(at, now);
+    /// That took so many milliseconds, in which nothing else was done: so there is no other look-up for a while.
+    pub fn note_took(&mut self, now: u64, took: u64) {
+        let rest = took.min(LONGEST_MS).saturating_mul(REST);
+        self.rests_until = now.saturating_add(took).saturating_add(rest);
     }
 
     /// Whether it is told now that it isn't followed.

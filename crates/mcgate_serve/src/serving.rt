@@ -59,6 +59,17 @@ use watch_admin::control::answers::Ruling;
 use watch_admin::control::requests::{Request, request_of};
 use watch_admin::places::PLACES;
 
+// For how many milliseconds it has gone on; 0 where the clock doesn't tell.
+fn millis_since<R: Clock>(rt: &R, began: io::Result<Instant>) -> u64 {
+    let Ok(began) = began else {
+        return 0;
+    };
+    match began.elapsed(rt) {
+        Ok(passed) => u64::try_from(passed.as_millis()).unwrap_or(u64::MAX),
+        Err(_) => 0,
+    }
+}
+
 // What is told where a name is followed.
 const OTHER_MACHINE: &str = "its name leads to another machine: the next connection goes there";
 
@@ -775,7 +786,12 @@ impl<W: Listens> Serving<W> {
     }
 
     // The name of a server is looked up again, if one is due.
-    fn look_names<R: Files + Net + AllocGlobal + Eprint>(&mut self, rt: &R, job: &ServeJob<'_>)
+    #[tactic(auto, using(crate::proofs::Loads::stays_still))]
+    fn look_names<R: Files + Net + Clock + AllocGlobal + Eprint>(
+        &mut self,
+        rt: &R,
+        job: &ServeJob<'_>,
+    )
         ensures core { self.new.end.core ≡ self.old.end.core }
         ensures ends { Stay W.history self.old.end.sockets self.new.end.sockets }
         ensures memory { self.new.memory ≡ self.old.memory }
@@ -789,7 +805,8 @@ impl<W: Listens> Serving<W> {
     }
 
     // That of this server, where calls may go by it.
-    fn look_if_called<R: Files + Net + AllocGlobal + Eprint>(
+    #[tactic(auto, using(crate::proofs::Loads::stays_still))]
+    fn look_if_called<R: Files + Net + Clock + AllocGlobal + Eprint>(
         &mut self,
         rt: &R,
         job: &ServeJob<'_>,
@@ -801,10 +818,28 @@ impl<W: Listens> Serving<W> {
         ensures memory { self.new.memory ≡ self.old.memory }
         ensures in_use { self.new.in_use ≡ self.old.in_use }
     {
-        if !self.goes_by_name(at) {
-            return self.names.pass(at, now);
-        }
+        let is_called = self.goes_by_name(at);
         self.names.note_looked(at, now);
+        if is_called {
+            let began = Instant::now(rt);
+            self.look_at_name(rt, job, at, now);
+            self.names.note_took(now, millis_since(rt, began));
+        }
+    }
+
+    #[tactic(auto, using(crate::proofs::Loads::stays_same, crate::proofs::Loads::same_box))]
+    fn look_at_name<R: Files + Net + AllocGlobal + Eprint>(
+        &mut self,
+        rt: &R,
+        job: &ServeJob<'_>,
+        at: usize,
+        now: u64,
+    )
+        ensures core { self.new.end.core ≡ self.old.end.core }
+        ensures ends { Stay W.history self.old.end.sockets self.new.end.sockets }
+        ensures memory { self.new.memory ≡ self.old.memory }
+        ensures in_use { self.new.in_use ≡ self.old.in_use }
+    {
         match self.lead_of(rt, at) {
             Ok(lead) => self.take_lead(rt, job, at, now, lead),
             Err(_) => self.tell_name(
@@ -825,6 +860,7 @@ impl<W: Listens> Serving<W> {
     }
 
     // It leads so: that is followed, or told if that is to be known.
+    #[tactic(auto, using(crate::proofs::Loads::stays_same, crate::proofs::Loads::same_box))]
     fn take_lead<R: Files + Net + AllocGlobal + Eprint>(
         &mut self,
         rt: &R,
@@ -921,6 +957,7 @@ impl<W: Listens> Serving<W> {
     }
 
     // The same of one that is emptied before its first call.
+    #[tactic(auto, using(crate::proofs::Loads::stays_same, crate::proofs::Loads::same_box))]
     fn follow_emptied<R: Files + Net + AllocGlobal + Eprint>(&mut self, rt: &R, at: usize, now: u64)
         ensures emptied { (self.new.end ≡ self.old.end) ⊎ FlushesAt at self.new.end.sockets.links.all.items }
         ensures core { self.new.end.core ≡ self.old.end.core }
@@ -981,6 +1018,7 @@ impl<W: Listens> Serving<W> {
     }
 
     // Connections to this server that are begun from now on go where its name leads, which is told.
+    #[tactic(auto, using(crate::proofs::Loads::stays_still))]
     fn move_to<R: Net + Eprint>(&mut self, rt: &R, at: usize, words: &str)
         ensures links { self.new.end.sockets.links ≡ self.old.end.sockets.links }
         ensures core { self.new.end.core ≡ self.old.end.core }

@@ -185,18 +185,16 @@ taken 9 => get b\r\n
 
 Where they are empty it is followed, within a minute.
 host one:1
-host two:1
 peer 8
 awaits 7
 sends END\r\n
 answers one:1
 peer 1
 sends get a\r\n
-until 90000
 calls 0
 moves one:1
 new empty
-file {"pools":{"A":{"servers":["one:1","two:1"]}},"route":"PoolRoute|A"}
+file {"pools":{"A":{"servers":["one:1"]}},"route":"PoolRoute|A"}
 serve 55
 leads one:1 => elsewhere
 serve 25
@@ -215,14 +213,13 @@ ends
 answers one:1
 peer 1
 sends get a\r\n
-until 90000
 calls 0
 moves one:1
 new empty
 file {"pools":{"A":{"servers":["one:1"]}},"route":"PoolRoute|A"}
 serve 4
 leads one:1 => elsewhere
-serve 8
+serve 12
 leads one:1 => there
 
 Where they are emptied first this one is: its name is written until it was.
@@ -248,12 +245,12 @@ moves one:1
 new flush
 history
 file {"pools":{"A":{"servers":["one:1"]}},"route":"PoolRoute|A"}
-serve 65
+serve 68
 leads one:1 => there
 named => yes
 taken 8 => get a\r\n
 open 8 => yes
-serve 25
+serve 35
 taken 8 => get a\r\n
 taken 9 => flush_all\r\nget b\r\n
 taken 1 => END\r\nEND\r\n
