@@ -2,6 +2,7 @@
 
 ghost use Rattle.std.specs.Prelude.{◌≡◌};
 ghost use Rattle.mcgate_serve.specs.Names.{follows};
+ghost use Rattle.serve_wire.specs.declared.outcomes.Lead.TheVariants.{Other};
 
 use core_accepted::{Beginning, Beginnings};
 use route_json::addresses::{Servers, address_in};
@@ -28,10 +29,18 @@ pub fn follows(begun: Beginnings, any: bool, fleet: bool, lead: Lead) -> bool
     match lead {
         Lead::Same => false,
         Lead::First => true,
-        Lead::Other => match begun.added {
-            Beginning::Own => !fleet,
-            Beginning::Any => any && !fleet,
-        },
+        Lead::Other => follows_other(begun.added, any, fleet),
+    }
+}
+
+// The same where it leads to another machine.
+fn follows_other(added: Beginning, any: bool, fleet: bool) -> bool
+    ensures { result ≡ follows added any fleet Other }
+{
+    match (fleet, added) {
+        (true, _) => false,
+        (false, Beginning::Own) => true,
+        (false, Beginning::Any) => any,
     }
 }
 
