@@ -6,8 +6,8 @@ use std::test::Fail;
 use watch_admin::families::Family;
 use watch_admin::json::write_json;
 use watch_admin::numbers::{
-    ClientNumbers, CommandNumbers, CommandTimes, ConfigNumbers, FailureNumbers, LimitNumbers, Numbers,
-    ProcessNumbers, ServerNumbers, SpanNumbers, families_of,
+    ClientNumbers, CommandNumbers, CommandTimes, ConfigNumbers, FailureNumbers, LimitNumbers,
+    Numbers, ProcessNumbers, ServerNumbers, SpanNumbers, families_of,
 };
 use watch_admin::prometheus::write_prometheus;
 
