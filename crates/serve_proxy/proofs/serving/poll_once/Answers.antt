@@ -22,8 +22,8 @@ returns-in-Ok-Waiting g c = record { ends = quietly_go (by_poll c.args.id c.poll
 pub returns-in-Ok-Queued : goal.returns-in-Ok-Queued
 returns-in-Ok-Queued g c = record { ends = quietly_go (by_poll c.args.id c.poll.result c.args.core.now c.poll.new.self c.poll.ensures.ok c.poll.ensures.err c.poll.ensures.fresh c.poll.ensures.stops) }
 
-pub returns-in-Ok-Queued-2 : goal.returns-in-Ok-Queued-2
-returns-in-Ok-Queued-2 g c = record { ends = quietly_go (by_poll c.args.id c.poll.result c.args.core.now c.poll.new.self c.poll.ensures.ok c.poll.ensures.err c.poll.ensures.fresh c.poll.ensures.stops) }
+pub returns-in-Ok-Busy : goal.returns-in-Ok-Busy
+returns-in-Ok-Busy g c = record { ends = quietly_go (by_poll c.args.id c.poll.result c.args.core.now c.poll.new.self c.poll.ensures.ok c.poll.ensures.err c.poll.ensures.fresh c.poll.ensures.stops) }
 
 pub returns-in-Err-NoMemory : goal.returns-in-Err-NoMemory
 returns-in-Err-NoMemory g c = record { ends = and_then ((quietly_go (by_poll c.args.id c.poll.result c.args.core.now c.poll.new.self c.poll.ensures.ok c.poll.ensures.err c.poll.ensures.fresh c.poll.ensures.stops))) (failing (c.end_client.ensures.ends c.poll.new.self)) }
