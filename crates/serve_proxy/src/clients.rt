@@ -244,9 +244,9 @@ impl<W: Wire> Sockets<W> {
     pub fn give_back_end(&mut self, id: usize)
         ensures ends { Stay W.history self.old self.new }
     {
+        self.times.shrink(id);
         if let Some(client) = self.clients.get_mut(id) {
             client.conn.give_back(self.alloc, IDLE_ROOM);
         }
-        self.times.give_back(id);
     }
 }

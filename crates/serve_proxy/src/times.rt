@@ -3,7 +3,7 @@
 //! Times are what the clock of an end showed last, in microseconds. A command that waits for its key counts from when it came to the line of
 //! that. Where memory is refused for what is noted here, the command is in no count.
 
-ghost use Rattle.std.specs.Prelude.{◌≡◌};
+ghost use Rattle.std.specs.Prelude.{◌≡◌, ◌<◌, length, IfSome};
 ghost use Rattle.serve_proxy.specs.Times.{with_ended};
 
 use serve_links::CallTally;
@@ -41,7 +41,9 @@ pub struct CommandTimes {
 }
 
 // Where the command of this number stands among these.
-fn place_of(number: u64, begun: &[Begun]) -> Option<usize> {
+fn place_of(number: u64, begun: &[Begun]) -> Option<usize>
+    ensures { IfSome result (λ place. place < length begun.now) }
+{
     begun.iter().position(|it| it.number == number)
 }
 
@@ -194,7 +196,7 @@ impl CommandTimes {
     }
 
     /// The memory for commands that ended goes back.
-    pub fn give_back(&mut self, id: usize)
+    pub fn shrink(&mut self, id: usize)
         ensures { self.new.tally ≡ self.old.tally }
     {
         if let Some(client) = self.clients.get_mut(id) {
