@@ -1,6 +1,6 @@
 //! A proxy that runs: its turns, what is told of its servers, and the configurations that are loaded meanwhile.
 
-ghost use Rattle.std.specs.Prelude.{◌≡◌, ◌≢◌, ◌⊎◌, ◌≤◌, IsTrue, IfOk, IfSome, OnOk, string_bytes, ℕ, List, Some, ◌∷◌, length, slice_get};
+ghost use Rattle.std.specs.Prelude.{◌≡◌, ◌≢◌, ◌⊎◌, ◌≤◌, true, false, IsTrue, IfOk, IfSome, OnOk, string_bytes, ℕ, List, Some, ◌∷◌, length, slice_get};
 ghost use Rattle.serve_wire.specs.Events.{looks_up};
 ghost use Rattle.serve_wire.specs.declared.outcomes.Lead.TheVariants.{Other};
 ghost use Rattle.serve_links.specs.Story.{HasHappened};
