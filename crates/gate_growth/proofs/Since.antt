@@ -8,7 +8,7 @@ use Rattle.mc_types.specs.declared.ask.Ask.{Ask}
 use Rattle.mc_types.specs.declared.answer.Answer.{Answer}
 use Rattle.mc_types.specs.declared.call.Origin.TheVariants.{Client}
 use Rattle.mc_types.specs.Items.{Item}
-use Rattle.fresh_runs.specs.Run.{Call}
+use Rattle.fresh_runs.specs.Calls.{Call}
 use Rattle.fresh_runs.specs.Cover.{TakesIn, IsCleared}
 use Rattle.fresh_runs.specs.Untouched.{IsUntouched, IsCoveredOrUntouched}
 use Rattle.fresh_runs.proofs.UntouchedFresh.{fresh, fresh_by_number}

@@ -3,7 +3,7 @@
 
 ghost use Rattle.std.specs.Prelude.{ℕ};
 ghost use Rattle.mc_types.specs.declared.ask.Ask.{Ask};
-ghost use Rattle.fresh_runs.specs.SharingLaws.{nobody_bars};
+ghost use Rattle.fresh_runs.specs.Freshness.{nobody_bars};
 ghost use Rattle.gate_growth.specs.Grown.{SoundIsSoundSince, ArbitraryIsToday, ReloadIsSound, RefinedIsKnown, SinceIsCovered, GrownGenerationsAreFresh, GrownRunsOfTreesAreFresh};
 ghost use Rattle.gate_growth.specs.Slots.{GrowingSlotsAreSound};
 

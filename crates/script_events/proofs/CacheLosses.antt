@@ -2,8 +2,7 @@
 use Rattle.std.proofs.Common.{◌≡◌, ℕ, zero, suc, ◌+◌, ◌<◌, ◌≤◌, Bool, true, false, cond, List, [], ◌∷◌, ◌++◌, length, Option, None, refl, sym, ap, ◌∙◌, subst, arith, nat_eq, bytes_eq}
 use Rattle.std.specs.Prelude.{slice_set, slice_index_or}
 use Rattle.mc_types.specs.Items.{Item}
-use Rattle.fresh_runs.specs.Run.{Event, Loses, Restarts}
-use Rattle.fresh_runs.specs.Fleet.{after_event}
+use Rattle.fresh_runs.specs.Run.{Event, Loses, Restarts, after_event}
 use Rattle.cache_server.specs.Contents.{Contents, losing, restarted}
 use Rattle.cache_server.specs.Held.{holds, IsLoss}
 use Rattle.script_events.specs.Caches.{loss_of, held_at, plain_for, place_of, changed_at, after_loss, lost_in}

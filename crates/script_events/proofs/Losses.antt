@@ -2,8 +2,8 @@
 use Rattle.std.proofs.Common.{◌≡◌, ℕ, zero, suc, ◌+◌, ◌<◌, cond, List, [], ◌∷◌, ◌++◌, length, map, take, get_or, Option, None, refl, sym, ap, ◌∙◌, subst, arith, nat_eq, bytes_eq}
 use Rattle.mc_types.specs.Items.{Item}
 use Rattle.fresh_runs.specs.Fleet as once
-use Rattle.fresh_runs.specs.Sharing.{after_event}
-use Rattle.fresh_runs.specs.SharingFleet.{after_losses}
+use Rattle.fresh_runs.specs.Run.{after_event}
+use Rattle.fresh_runs.specs.Fleet.{after_losses}
 use Rattle.fresh_runs.specs.ScriptLog.{lost_by}
 use Rattle.cache_server.specs.Contents.{Contents}
 use Rattle.script_events.specs.Caches.{loss_of, held_at, after_loss, lost_in}

@@ -7,12 +7,11 @@ use Rattle.mc_types.specs.declared.call.Origin.{Origin}
 use Rattle.mc_types.specs.declared.call.Outcome.TheVariants.{Answered, Failed}
 use Rattle.mc_types.specs.Items.{Item, after_call}
 use Rattle.mc_types.specs.Agree.{Agrees}
-use Rattle.fresh_runs.specs.Run.{End, Read, Unread, Never, outcome_of}
-use Rattle.fresh_runs.specs.Fleet.{StampIn}
+use Rattle.fresh_runs.specs.Calls.{End, Read, Unread, Never, outcome_of}
+use Rattle.fresh_runs.specs.Fleet.{StampIn, Fleet, after_losses, AreLosses}
 use Rattle.fresh_runs.specs.Single.{FitsOutcome}
-use Rattle.fresh_runs.specs.Sharing.{Event, Begins, Replies, Breaks, Turns, Restarts}
-use Rattle.fresh_runs.specs.Sharing as run
-use Rattle.fresh_runs.specs.SharingFleet.{Fleet, after_losses, AreLosses}
+use Rattle.fresh_runs.specs.Run.{Event, Begins, Replies, Breaks, Turns, Restarts}
+use Rattle.fresh_runs.specs.Run as run
 use Rattle.fresh_runs.specs.ScriptLog.{lost_by}
 use Rattle.cache_server.specs.Contents.{Contents}
 use Rattle.cache_server.specs.Held as cache

@@ -3,9 +3,8 @@ use Rattle.std.proofs.Common.{◌≡◌, ℕ, Bool, true, false, cond, List, ◌
 use Rattle.mc_types.specs.declared.ask.Ask.{Ask}
 use Rattle.mc_types.specs.Items.{Item}
 use Rattle.fresh_runs.specs.Life.{Mark, held_in}
-use Rattle.fresh_runs.specs.Run.{End, Read, Unread, Never, marks_of}
-use Rattle.fresh_runs.specs.Fleet.{after_end}
-use Rattle.fresh_runs.specs.Sharing.{Event, Begins, Calls, Replies, Breaks, Turns, Restarts, life_of, held, after_event}
+use Rattle.fresh_runs.specs.Calls.{End, Read, Unread, Never, marks_of, after_end}
+use Rattle.fresh_runs.specs.Run.{Event, Begins, Calls, Replies, Breaks, Turns, Restarts, life_of, held, after_event}
 
 cond_ap : {A B : Type 0} (f : A → B) (b : Bool) (x y : A) → f (cond b x y) ≡ cond b (f x) (f y)
 cond_ap f true x y = refl

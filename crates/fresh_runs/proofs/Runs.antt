@@ -5,8 +5,8 @@ use Rattle.mc_types.specs.declared.ask.Op.TheVariants.{Delete}
 use Rattle.mc_types.specs.declared.ask.Ask.{Ask}
 use Rattle.mc_types.specs.declared.answer.Answer.{Answer}
 use Rattle.mc_types.specs.Items.{Item}
-use Rattle.fresh_runs.specs.Run.{Call}
-use Rattle.fresh_runs.specs.Sharing.{Event, Begins, Calls, Replies, Breaks, Turns, Restarts, under_way, calls_so_far, before, HasEnded, IsNewNumber, item_at, Run, IsAcknowledged, IsShown}
+use Rattle.fresh_runs.specs.Calls.{Call}
+use Rattle.fresh_runs.specs.Run.{Event, Begins, Calls, Replies, Breaks, Turns, Restarts, under_way, calls_so_far, before, HasEnded, IsNewNumber, item_at, Run, IsAcknowledged, IsShown}
 use Rattle.fresh_runs.proofs.Lists.{bool_is}
 
 pub some_ask : (a b : Ask) → ◌≡◌ {A = Option Ask} (Some a) (Some b) → a ≡ b

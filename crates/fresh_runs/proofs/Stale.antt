@@ -12,14 +12,13 @@ use Rattle.mc_types.specs.Acknowledged.{says_gone}
 use Rattle.mc_types.specs.Agree.{Agrees}
 use Rattle.mc_types.specs.Shows.{shows}
 use Rattle.mc_types.specs.Items.{Item}
-use Rattle.fresh_runs.specs.Run.{Call, End, Read, Unread, Never, outcome_of}
+use Rattle.fresh_runs.specs.Calls.{Call, End, Read, Unread, Never, outcome_of}
 use Rattle.fresh_runs.specs.Cover.{IsAnswerOf}
-use Rattle.fresh_runs.specs.Stale.{is_delete_op, stale_since}
-use Rattle.fresh_runs.specs.Sharing.{Event, Begins, Calls, Replies, Breaks, Turns, Restarts, under_way, calls_so_far, held, item_at, EndsWell, Run, IsAcknowledged, AreAlone, IsFreshByNumber}
-use Rattle.fresh_runs.specs.SharingStale.{is_acknowledged, is_outlived, stale_item, last_gone, shown_item, stale_in, tally_of, CountsStale, IsFoundAt, SharedShownIsHeld}
+use Rattle.fresh_runs.specs.Stale.{is_delete_op, stale_since, is_acknowledged, is_outlived, stale_item, last_gone, shown_item, stale_in, tally_of, CountsStale, IsFoundAt, ShownIsHeld}
+use Rattle.fresh_runs.specs.Run.{Event, Begins, Calls, Replies, Breaks, Turns, Restarts, under_way, calls_so_far, held, item_at, EndsWell, Run, IsAcknowledged, AreAlone, IsFreshByNumber}
 use Rattle.fresh_runs.proofs.Lists.{bool_is, get_last}
 use Rattle.fresh_runs.proofs.Finding.{shown_needs_item}
-use Rattle.fresh_runs.proofs.Sharing.{some_ask, began_after, above}
+use Rattle.fresh_runs.proofs.Runs.{some_ask, began_after, above}
 
 and_left : (a b : Bool) → (a && b) ≡ true → a ≡ true
 and_left true b h = refl
@@ -221,6 +220,6 @@ module _ (words : ℕ → Ask → List Call → Answer → Option ℕ → Type 0
   found_by reply None run shown = shown
   found_by reply (Some i) run shown = found_at i reply run shown
 
-pub shown_is_held : (words : ℕ → Ask → List Call → Answer → Option ℕ → Type 0) (Bars : ℕ → Ask → ℕ → Ask → Type 0) → SharedShownIsHeld words Bars
+pub shown_is_held : (words : ℕ → Ask → List Call → Answer → Option ℕ → Type 0) (Bars : ℕ → Ask → ℕ → Ask → Type 0) → ShownIsHeld words Bars
 shown_is_held words Bars = λ shown opening past number key reply from run.
     found_by words Bars opening past number reply from run.1 (shown number run.0.0 (calls_so_far past number) reply from run.0.3)
