@@ -48,7 +48,7 @@ pub fn grown_generations_are_fresh<W: HasBars>()
     ensures { GrownGenerationsAreFresh W.bars }
 {}
 
-/// The same of runs in which a key has one command at a time.
+/// The same with just what copies barring deletes, and by numbers where a key has one command at a time.
 pub fn grown_runs_of_trees_are_fresh()
     ensures { GrownRunsOfTreesAreFresh }
 {}
