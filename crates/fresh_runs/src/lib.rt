@@ -7,14 +7,10 @@
 //!                                           after another)
 //! ```
 //!
-//! The code is small ([`marks`], [`agree`]). What counts are `specs/`, and the laws that say what follows from what.
+//! There is no code: what counts are `specs/`, and the laws that say what follows from what.
 #![tactic(auto)]
 
-pub mod agree;
 pub mod laws;
-pub mod marks;
 pub mod overlap_laws;
 
-pub use agree::agrees;
 pub use laws::HasWords;
-pub use marks::{HeldItem, Mark, held};

@@ -4,7 +4,7 @@ ghost use Rattle.std.specs.Prelude.{◌≡◌, ◌++◌, ◌↔◌, IfOk, IsTrue
 ghost use Rattle.mc_types.specs.Items.{Item, after_call, after_done, is_done, number_text, counted, recounted, with_content, is_up};
 ghost use Rattle.mc_types.specs.Agree.{Agrees};
 ghost use Rattle.fresh_runs.specs.Life.{held_in};
-ghost use Rattle.fresh_runs.specs.Marks.{life_of_marks};
+ghost use Rattle.examples_parts.specs.Marks.{life_of_marks};
 
 use itoa::Buffer;
 use mc_types::{Answer, Ask, Body, Code, Key, Op};

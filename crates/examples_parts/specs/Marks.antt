@@ -1,8 +1,8 @@
 -- The marks of the plain program, as a life. Source: mcgate's own.
 use Rattle.std.specs.Prelude.{List, [], ◌∷◌}
 use Rattle.fresh_runs.specs.Life as lives
-use Rattle.fresh_runs.specs.declared.marks.Mark.{Mark}
-use Rattle.fresh_runs.specs.declared.marks.Mark.TheVariants.{Applied, Lost, Restarted}
+use Rattle.examples_parts.specs.declared.marks.Mark.{Mark}
+use Rattle.examples_parts.specs.declared.marks.Mark.TheVariants.{Applied, Lost, Restarted}
 
 -- one mark
 abbrev pub mark_of : Mark → lives.Mark
