@@ -11,10 +11,10 @@ use Rattle.script_events.specs.declared.servers.event.Loss.TheVariants.{Item as 
 use Rattle.script_events.proofs.CacheLosses.{lost_more, lost_len}
 use Rattle.script_events.specs.Losing.{told_of, events_of, AreLost}
 
--- a loss as an event is the loss that is told
-is_told : (loss : Loss) → loss_of loss ≡ lost_by (told_of loss)
-is_told (LostItem server key) = refl
-is_told (Restart server) = refl
+-- a loss, as it is told, leaves the same
+pub same_event : (loss : Loss) (h : ℕ → List ℕ → Option Item) (s : ℕ) (k : List ℕ) → after_event (loss_of loss) h s k ≡ after_event (lost_by (told_of loss)) h s k
+same_event (LostItem server key) h s k = refl
+same_event (Restart server) h s k = refl
 
 -- what a loss leaves at a place goes by what was held there
 pub same_held : (loss : Loss) (g h : ℕ → List ℕ → Option Item) (s : ℕ) (k : List ℕ) → g s k ≡ h s k → after_event (lost_by (told_of loss)) g s k ≡ after_event (lost_by (told_of loss)) h s k
@@ -37,7 +37,7 @@ one_more losses loss old mid new a contents held =
     record {
       contents = contents ∙ ap (after_loss (loss_of loss)) a.contents ∙ sym (lost_more (map loss_of losses) (loss_of loss) old) ∙ ap (λ l. lost_in l old) (sym (map_more losses loss));
       holds = λ s k.
-          held s k ∙ ap (λ e. after_event e (held_at mid) s k) (is_told loss) ∙ same_held loss (held_at mid) (after_losses (events_of losses) (held_at old)) s k (a.holds s k)
+          held s k ∙ same_event loss (held_at mid) s k ∙ same_held loss (held_at mid) (after_losses (events_of losses) (held_at old)) s k (a.holds s k)
           ∙ ap (λ es. after_losses es (held_at old) s k) (sym (events_more losses loss));
     }
 
