@@ -1,7 +1,7 @@
 -- The runs of cores are a fleet's.
 use Rattle.std.proofs.Common.{◌≡◌, ℕ, List, Option}
 use Rattle.mc_types.specs.Items.{Item}
-use Rattle.fresh_runs.specs.SharingLaws.{nobody_bars}
+use Rattle.fresh_runs.specs.Freshness.{nobody_bars}
 use Rattle.fresh_runs.specs.Overlap.{run_of}
 use Rattle.route_tree.specs.Route.{Route}
 use Rattle.core_accepted.specs.declared.served.ServedCore.{ServedCore}

@@ -12,14 +12,14 @@ use Rattle.mc_types.specs.ErrorTexts.{own_text}
 use Rattle.mc_types.specs.Items.{Item}
 use Rattle.mc_types.specs.Asks.{IsAsk}
 use Rattle.mc_types.specs.Fits.{Fits}
-use Rattle.fresh_runs.specs.Run.{Call, Read, Never}
+use Rattle.fresh_runs.specs.Calls.{Call, Read, Never}
 use Rattle.fresh_runs.specs.Single.{server_words}
-use Rattle.fresh_runs.specs.Sharing.{Event, Begins, Calls, Replies, under_way, IsApart, IsNewNumber}
-use Rattle.fresh_runs.specs.Sharing as sharing
-use Rattle.fresh_runs.specs.SharingLaws.{nobody_bars, answered_call, refill_words}
-use Rattle.fresh_runs.proofs.Sharing.{way_below}
+use Rattle.fresh_runs.specs.Run.{Event, Begins, Calls, Replies, under_way, IsApart, IsNewNumber}
+use Rattle.fresh_runs.specs.Run as sharing
+use Rattle.fresh_runs.specs.Freshness.{nobody_bars, answered_call, refill_words}
+use Rattle.fresh_runs.proofs.Runs.{way_below}
 use Rattle.fresh_runs.proofs.Example.{a_delete, a_get, a_get_is, hit_fits}
-use Rattle.fresh_runs.proofs.SharingExample as races
+use Rattle.fresh_runs.proofs.Example as races
 use Rattle.core_accepted.specs.Late.{Does, Lands, seen}
 use Rattle.core_accepted.specs.Pipes.{PipeStep, Sends, Moves, Steps, moments_of}
 use Rattle.core_accepted.specs.Examples.{two_lines, GivenUpIsStale, bars_within, FleetCopiesRace}

@@ -6,10 +6,10 @@ use Rattle.mc_types.specs.declared.call.Origin.{Origin}
 use Rattle.mc_types.specs.declared.call.Origin.TheVariants.{Client, CopyOf}
 use Rattle.mc_types.specs.declared.call.Outcome.TheVariants.{Failed}
 use Rattle.mc_types.specs.Items.{Item}
-use Rattle.fresh_runs.specs.Run.{Call}
-use Rattle.fresh_runs.specs.Sharing.{Event, Begins, Calls, Replies, Breaks, Turns, Restarts, calls_so_far, CopiesBar}
+use Rattle.fresh_runs.specs.Calls.{Call}
+use Rattle.fresh_runs.specs.Run.{Event, Begins, Calls, Replies, Breaks, Turns, Restarts, calls_so_far, CopiesBar}
 use Rattle.fresh_runs.proofs.Stamps.{get_left}
-use Rattle.fresh_runs.proofs.SharingFresh as sharing
+use Rattle.fresh_runs.proofs.Fresh as sharing
 use Rattle.core_accepted.specs.Late.{Moment, Does, Lands, seen, HasFailed, Run, WasOver, LandsInTime, LandsEver}
 use Rattle.core_accepted.specs.Pipes.{CopiesStay, WasOverOn}
 use Rattle.core_accepted.specs.FleetLaws.{NothingCopies, FleetIsFresh, OneProxyIsFresh, StickyIsFresh, PatientIsFresh, LandsHarmless, SharedFleetIsFresh, SettledIsFresh, WasSettled}

@@ -2,14 +2,12 @@
 use Rattle.std.proofs.Common.{◌≡◌, ℕ, zero, suc, ◌-◌, Bool, true, false, cond, nat_lt, List, [], ◌∷◌, ◌++◌, length, slice_get, Option, Some, None, Result, Ok, Err, refl, sym, ap, ◌∙◌, subst, arith}
 use Rattle.std.specs.Prelude.{IfOk, IfErr}
 use Rattle.fresh_runs.specs.Overlap as log
-use Rattle.fresh_runs.specs.Overlap.{Entry}
-use Rattle.fresh_runs.specs.OverlapState.{LeadsTo}
+use Rattle.fresh_runs.specs.Overlap.{Entry, run_of}
+use Rattle.fresh_runs.specs.OverlapState.{LeadsTo, OverlapState}
 use Rattle.mc_types.specs.Items.{Item}
-use Rattle.fresh_runs.specs.Overlap.{run_of}
-use Rattle.fresh_runs.specs.OverlapState.{OverlapState}
-use Rattle.fresh_runs.specs.Sharing.{AreAlone, CopiesBar, LosesOnly, IsFreshByNumber}
+use Rattle.fresh_runs.specs.Run.{AreAlone, CopiesBar, LosesOnly, IsFreshByNumber}
 use Rattle.fresh_runs.proofs.OverlapRuns.{runs}
-use Rattle.fresh_runs.proofs.SharingStale.{counts_stale}
+use Rattle.fresh_runs.proofs.Stale.{counts_stale}
 use Rattle.route_tree.specs.At.{tree_at}
 use Rattle.route_tree.specs.Plan.{Plan}
 use Rattle.route_tree.specs.Each.{Each}

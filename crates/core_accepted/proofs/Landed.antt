@@ -6,7 +6,7 @@ use Rattle.mc_types.specs.declared.ask.Ask.{Ask}
 use Rattle.mc_types.specs.declared.answer.Answer.{Answer}
 use Rattle.mc_types.specs.Items.{Item, after_call, after_done, recounted, counted, is_done, removes}
 use Rattle.fresh_runs.proofs.Stamps.{by_test}
-use Rattle.fresh_runs.proofs.SharingStamps.{Has}
+use Rattle.fresh_runs.proofs.Seen.{Has}
 use Rattle.core_accepted.specs.Late.{is_store}
 
 has_map : (Q : ℕ → Type 0) (o : Option Item) (f : Item → Item) → ((item : Item) → (f item).stamp ≡ item.stamp) → Has Q o → Has Q (option_map f o)

@@ -5,10 +5,10 @@ use Rattle.mc_types.specs.declared.ask.Ask.{Ask}
 use Rattle.mc_types.specs.declared.answer.Answer.{Answer}
 use Rattle.mc_types.specs.declared.call.Origin.{Origin}
 use Rattle.mc_types.specs.Items.{Item}
-use Rattle.fresh_runs.specs.Run.{Call, outcome_of}
-use Rattle.fresh_runs.specs.Sharing.{Event, Begins, Calls, Replies, Breaks, Turns, Restarts, under_way, calls_so_far, before, HasEnded, IsNewNumber, IsFront, IsAcknowledged}
+use Rattle.fresh_runs.specs.Calls.{Call, outcome_of}
+use Rattle.fresh_runs.specs.Run.{Event, Begins, Calls, Replies, Breaks, Turns, Restarts, under_way, calls_so_far, before, HasEnded, IsNewNumber, IsFront, IsAcknowledged}
 use Rattle.fresh_runs.proofs.Lists.{get_last}
-use Rattle.fresh_runs.proofs.Sharing.{some_ask, no_ask, differs, differ, second, ended_below, acked_below, new_calls}
+use Rattle.fresh_runs.proofs.Runs.{some_ask, no_ask, differs, differ, second, ended_below, acked_below, new_calls}
 use Rattle.core_accepted.specs.Late.{Moment, Does, Lands, seen, begun, Run}
 
 -- what is under way has begun

@@ -3,9 +3,9 @@ use Rattle.std.proofs.Common.{◌≡◌, ℕ, Bool, true, false, cond, if◌then
 use Rattle.std.proofs.lemmas.Bool.{eqb-true}
 use Rattle.mc_types.specs.declared.ask.Ask.{Ask}
 use Rattle.mc_types.specs.declared.answer.Answer.{Answer}
-use Rattle.fresh_runs.specs.Run.{Call, outcome_of}
+use Rattle.fresh_runs.specs.Calls.{Call, outcome_of}
 use Rattle.fresh_runs.specs.Cover.{IsCovered}
-use Rattle.fresh_runs.specs.Sharing.{Event, Begins, Calls, Replies, Breaks, Turns, Restarts, under_way, calls_so_far, IsNewNumber, IsFront}
+use Rattle.fresh_runs.specs.Run.{Event, Begins, Calls, Replies, Breaks, Turns, Restarts, under_way, calls_so_far, IsNewNumber, IsFront}
 use Rattle.route_tree.specs.Route.{Route, IsTree}
 use Rattle.route_tree.specs.Each.{Each}
 use Rattle.route_tree.specs.Plan.{Plan}

@@ -10,12 +10,12 @@ use Rattle.mc_types.specs.declared.call.Origin.TheVariants.{Client, CopyOf}
 use Rattle.mc_types.specs.declared.call.Outcome.TheVariants.{Answered, Failed}
 use Rattle.mc_types.specs.Items.{Item}
 use Rattle.fresh_runs.specs.Life.{held_in}
-use Rattle.fresh_runs.specs.Run.{Call, End, Read, Unread, Never, outcome_of}
+use Rattle.fresh_runs.specs.Calls.{Call, End, Read, Unread, Never, outcome_of}
 use Rattle.fresh_runs.specs.Cover.{ClearsIn, IsCleared, IsCovered}
-use Rattle.fresh_runs.specs.Sharing.{Event, Begins, Calls, Replies, Breaks, Turns, Restarts, under_way, calls_so_far, before, HasEnded, IsNewNumber, IsFront, CopiesBar, AcknowledgedBy, IsAcknowledged}
+use Rattle.fresh_runs.specs.Run.{Event, Begins, Calls, Replies, Breaks, Turns, Restarts, under_way, calls_so_far, before, HasEnded, IsNewNumber, IsFront, CopiesBar, AcknowledgedBy, IsAcknowledged}
 use Rattle.fresh_runs.proofs.Stamps.{by_test, clear_marks, get_left, get_seam, clears_split}
-use Rattle.fresh_runs.proofs.SharingStamps.{Has, Gives, has_from_gone, has_marks, delete_marks}
-use Rattle.fresh_runs.proofs.Sharing.{some_ask, no_ask, differs, differ, second, acked_below, new_calls, ended_since, acked_since, acked_over, acked_delete}
+use Rattle.fresh_runs.proofs.Seen.{Has, Gives, has_from_gone, has_marks, delete_marks}
+use Rattle.fresh_runs.proofs.Runs.{some_ask, no_ask, differs, differ, second, acked_below, new_calls, ended_since, acked_since, acked_over, acked_delete}
 use Rattle.core_accepted.specs.Late.{Moment, Does, Lands, seen, life_of, begun, HasFailed, held, item_at, GivesStamp, MayCome, Run, IsShown, IsFreshBy, is_store, LandsInTime}
 use Rattle.core_accepted.specs.LateLaws.{IsPart}
 use Rattle.core_accepted.proofs.Late.{way_begun, over, not_apart, began_after, above, acked_begun, made}

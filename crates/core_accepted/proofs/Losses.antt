@@ -1,7 +1,7 @@
 -- Losses of servers of a core that is served.
 use Rattle.std.proofs.Common.{◌≡◌, ℕ, List, [], ◌∷◌, Option, refl}
 use Rattle.mc_types.specs.Items.{Item}
-use Rattle.fresh_runs.specs.Sharing.{Event, Begins, Calls, Replies, Breaks, Turns, Restarts, after_event}
+use Rattle.fresh_runs.specs.Run.{Event, Begins, Calls, Replies, Breaks, Turns, Restarts, after_event}
 use Rattle.fresh_runs.specs.Overlap.{Entry, Happens}
 use Rattle.fresh_runs.specs.OverlapState.{IsLike, MayStep, after}
 use Rattle.fresh_runs.proofs.OverlapSteps.{walks_more}

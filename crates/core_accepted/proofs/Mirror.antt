@@ -9,10 +9,10 @@ use Rattle.mc_types.specs.declared.call.Origin.TheVariants.{Client, CopyOf}
 use Rattle.mc_types.specs.Items.{Item}
 use Rattle.mc_types.specs.Agree.{Agrees}
 use Rattle.fresh_runs.specs.Life.{Turned, held_in}
-use Rattle.fresh_runs.specs.Run.{Call, End, Read, Unread, Never, outcome_of}
-use Rattle.fresh_runs.specs.Sharing.{Event, Begins, Calls, Replies, Breaks, Turns, Restarts, under_way, calls_so_far, IsNewNumber, IsApart, IsFront}
-use Rattle.fresh_runs.specs.Sharing as sharing
-use Rattle.fresh_runs.proofs.Sharing.{differs, differ, second}
+use Rattle.fresh_runs.specs.Calls.{Call, End, Read, Unread, Never, outcome_of}
+use Rattle.fresh_runs.specs.Run.{Event, Begins, Calls, Replies, Breaks, Turns, Restarts, under_way, calls_so_far, IsNewNumber, IsApart, IsFront}
+use Rattle.fresh_runs.specs.Run as sharing
+use Rattle.fresh_runs.proofs.Runs.{differs, differ, second}
 use Rattle.core_accepted.specs.Late.{Moment, Does, Lands, seen, held, item_at, EndsWell, GivesStamp, Run, LandsEver}
 use Rattle.core_accepted.specs.Parts.{part, IsChange, MovesBack, EndsAs, LeavesKey, LeavesRestart, AreChanges, Same, More}
 use Rattle.core_accepted.specs.Mirror.{mirror, IsMirrored, FleetIsMirrored}

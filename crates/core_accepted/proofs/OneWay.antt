@@ -10,10 +10,10 @@ use Rattle.mc_types.specs.declared.call.Origin.TheVariants.{Client}
 use Rattle.mc_types.specs.declared.call.Outcome.TheVariants.{Answered}
 use Rattle.mc_types.specs.Acknowledged.{says_gone}
 use Rattle.mc_types.specs.Items.{Item}
-use Rattle.fresh_runs.specs.Run.{Call, Read}
+use Rattle.fresh_runs.specs.Calls.{Call, Read}
 use Rattle.fresh_runs.specs.Cover.{ClearsIn, IsCovered}
-use Rattle.fresh_runs.specs.Sharing.{Event, Begins, Calls, Replies, Run, IsApart}
-use Rattle.fresh_runs.specs.SharingLaws.{nobody_bars, answered_call}
+use Rattle.fresh_runs.specs.Run.{Event, Begins, Calls, Replies, Run, IsApart}
+use Rattle.fresh_runs.specs.Freshness.{nobody_bars, answered_call}
 use Rattle.fresh_runs.proofs.Covered.{single_covered}
 use Rattle.fresh_runs.proofs.Example.{a_delete, a_get}
 use Rattle.core_accepted.specs.Examples.{first_words, second_words_of, second_words, words_from, words_beside, OneWayIsStale}

@@ -5,9 +5,9 @@ use Rattle.mc_types.specs.declared.ask.Ask.{Ask}
 use Rattle.mc_types.specs.declared.answer.Answer.{Answer}
 use Rattle.mc_types.specs.declared.call.Origin.{Origin}
 use Rattle.mc_types.specs.Items.{Item}
-use Rattle.fresh_runs.specs.Run.{Call, End, outcome_of}
-use Rattle.fresh_runs.specs.Sharing.{Event, Begins, Calls, Replies, Breaks, Turns, Restarts, under_way, calls_so_far, IsNewNumber, IsFront}
-use Rattle.fresh_runs.proofs.Sharing.{no_ask, differs, differ, second, way_below}
+use Rattle.fresh_runs.specs.Calls.{Call, End, outcome_of}
+use Rattle.fresh_runs.specs.Run.{Event, Begins, Calls, Replies, Breaks, Turns, Restarts, under_way, calls_so_far, IsNewNumber, IsFront}
+use Rattle.fresh_runs.proofs.Runs.{no_ask, differs, differ, second, way_below}
 use Rattle.core_accepted.specs.Late.{Moment, Does, Lands, seen, Run, LandsEver}
 use Rattle.core_accepted.specs.Pipes.{PipeStep, Sends, Moves, Closes, moments_of, Steps}
 use Rattle.core_accepted.specs.Parts.{MayDo, Own, RunIsOwn, IsOther, IsChange, MovesBack, EndsAs, LeavesKey, LeavesRestart, AreChanges, Same, More, OwnIsChanged, renamed, OwnIsRenamed, part, BarsWithin, NumbersRise, MayServe, Serves, AreInOrder, ArePartsOf, IsFleet, PartsAreRun, FleetHasSteps, FleetOfPartsIsFresh, NoStoreLands, PartsAreFresh, AreRunsOf, RunsAreParts, PartLaws}

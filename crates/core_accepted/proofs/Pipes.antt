@@ -7,12 +7,12 @@ use Rattle.mc_types.specs.declared.call.Origin.{Origin}
 use Rattle.mc_types.specs.declared.call.Origin.TheVariants.{Client, CopyOf}
 use Rattle.mc_types.specs.declared.call.Outcome.TheVariants.{Failed}
 use Rattle.mc_types.specs.Items.{Item}
-use Rattle.fresh_runs.specs.Run.{Call, End, Read, Unread, Never, outcome_of}
+use Rattle.fresh_runs.specs.Calls.{Call, End, Read, Unread, Never, outcome_of}
 use Rattle.fresh_runs.specs.Cover.{ClearsIn}
-use Rattle.fresh_runs.specs.Sharing.{Event, Begins, Calls, Replies, Breaks, Turns, Restarts, under_way, calls_so_far, before, HasEnded, IsNewNumber}
+use Rattle.fresh_runs.specs.Run.{Event, Begins, Calls, Replies, Breaks, Turns, Restarts, under_way, calls_so_far, before, HasEnded, IsNewNumber}
 use Rattle.fresh_runs.specs.Overlap.{Ticket}
 use Rattle.fresh_runs.proofs.Stamps.{by_test, get_left, clears_split}
-use Rattle.fresh_runs.proofs.Sharing.{some_ask, no_ask, differs, differ, second, new_calls, ended_since}
+use Rattle.fresh_runs.proofs.Runs.{some_ask, no_ask, differs, differ, second, new_calls, ended_since}
 use Rattle.core_accepted.specs.Late.{Moment, Does, Lands, seen, begun, Run, WasOver, IsTimely, LandsInTime, LandsEver}
 use Rattle.core_accepted.specs.FleetLaws.{IsSticky}
 use Rattle.core_accepted.specs.Pipes.{PipeStep, Sends, Moves, Closes, moments_of, is_pipe, behind_first, IsFirstIn, pipe_of, Steps, WasOverOn, CopiesStay}

@@ -12,13 +12,13 @@ use Rattle.mc_types.specs.Agree.{AgreesAs}
 use Rattle.mc_types.specs.Asks.{IsAsk}
 use Rattle.mc_types.specs.Fits.{Fits}
 use Rattle.fresh_runs.specs.Life.{held_in}
-use Rattle.fresh_runs.specs.Run.{Call, Read}
+use Rattle.fresh_runs.specs.Calls.{Call, Read}
 use Rattle.fresh_runs.specs.Single.{server_call, server_words}
-use Rattle.fresh_runs.specs.Sharing.{Event, Begins, Calls, Replies, Breaks, Turns, Restarts, under_way, calls_so_far, before, HasEnded, IsNewNumber, IsApart, IsFront, IsAcknowledged}
-use Rattle.fresh_runs.specs.SharingLaws.{nobody_bars}
+use Rattle.fresh_runs.specs.Run.{Event, Begins, Calls, Replies, Breaks, Turns, Restarts, under_way, calls_so_far, before, HasEnded, IsNewNumber, IsApart, IsFront, IsAcknowledged}
+use Rattle.fresh_runs.specs.Freshness.{nobody_bars}
 use Rattle.fresh_runs.proofs.Lists.{only_one}
 use Rattle.fresh_runs.proofs.Stamps.{get_left}
-use Rattle.fresh_runs.proofs.Sharing.{differs, second, acked_below, new_calls}
+use Rattle.fresh_runs.proofs.Runs.{differs, second, acked_below, new_calls}
 use Rattle.fresh_runs.proofs.Example.{a_get}
 use Rattle.core_accepted.specs.Late.{Moment, Does, Lands, seen, life_of, HasFailed, held, item_at, Run, LandsEver}
 use Rattle.core_accepted.specs.Weakest.{UntimelyIsStale}

@@ -3,7 +3,7 @@ use Rattle.std.specs.Prelude.{◌≡◌, ℕ, ◌<◌, List, Option, Some}
 use Rattle.mc_types.specs.declared.ask.Ask.{Ask}
 use Rattle.mc_types.specs.Items.{Item}
 use Rattle.fresh_runs.specs.Overlap.{Entry, run_of}
-use Rattle.fresh_runs.specs.SharingLaws.{nobody_bars}
+use Rattle.fresh_runs.specs.Freshness.{nobody_bars}
 use Rattle.route_tree.specs.Route.{Route}
 use Rattle.core_proxy.specs.CoreState.{dialect}
 use Rattle.core_accepted.specs.declared.served.ServedCore.{ServedCore}

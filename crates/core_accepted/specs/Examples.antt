@@ -7,10 +7,10 @@ use Rattle.mc_types.specs.declared.answer.Answer.{Answer}
 use Rattle.mc_types.specs.declared.call.Origin.TheVariants.{Client}
 use Rattle.mc_types.specs.Acknowledged.{says_gone}
 use Rattle.mc_types.specs.Items.{Item}
-use Rattle.fresh_runs.specs.Run.{Call, OpensAtZero}
+use Rattle.fresh_runs.specs.Calls.{Call, OpensAtZero}
 use Rattle.fresh_runs.specs.Cover.{IsCovered}
 use Rattle.fresh_runs.specs.Single.{server_words}
-use Rattle.fresh_runs.specs.SharingLaws.{StaleSharedRun, nobody_bars, answered_call, refill_words}
+use Rattle.fresh_runs.specs.Freshness.{StaleRun, nobody_bars, answered_call, refill_words}
 use Rattle.core_accepted.specs.Late.{IsFreshBy, WasOver}
 use Rattle.core_accepted.specs.Pipes.{PipeStep, moments_of, Steps}
 
@@ -37,7 +37,7 @@ bars_within proxy number ask other client = (proxy number ≡ proxy other) × (a
 -- though no call fails, deletes clear what later commands take, and each proxy keeps its own copies and deletes apart: where a get copies, a fleet's run may be stale
 pub record FleetCopiesRace : Type 0 where
   pub covered : IsCovered refill_words
-  pub races : StaleSharedRun refill_words (bars_within (λ n. n))
+  pub races : StaleRun refill_words (bars_within (λ n. n))
 
 -- two trees: by the first reads take server 0, and deletes clear it; by the second reads take server 1, and deletes clear both
 abbrev pub first_words : ℕ → Ask → List Call → Answer → Option ℕ → Type 0
@@ -65,4 +65,4 @@ words_beside number ask calls reply from = MatchBool (nat_eq number 1) (first_wo
 -- a proxy may load the first tree in place of the second at any number; yet while one proxy of a fleet runs by the first and another by the second, a run may be stale, though nothing copies and no call fails
 pub record OneWayIsStale : Type 0 where
   pub loads : (load : ℕ) → IsCovered (words_from load)
-  pub stale : StaleSharedRun words_beside nobody_bars
+  pub stale : StaleRun words_beside nobody_bars

@@ -6,10 +6,10 @@ use Rattle.mc_types.specs.declared.call.Origin.{Origin}
 use Rattle.mc_types.specs.declared.call.Origin.TheVariants.{Client}
 use Rattle.mc_types.specs.declared.call.Outcome.TheVariants.{Failed}
 use Rattle.mc_types.specs.Items.{Item}
-use Rattle.fresh_runs.specs.Run.{Call}
+use Rattle.fresh_runs.specs.Calls.{Call}
 use Rattle.fresh_runs.specs.Cover.{IsCovered}
-use Rattle.fresh_runs.specs.Sharing.{Event, Begins, Calls, Replies, Breaks, Turns, Restarts, calls_so_far, HasEnded, CopiesBar}
-use Rattle.fresh_runs.specs.Sharing as sharing
+use Rattle.fresh_runs.specs.Run.{Event, Begins, Calls, Replies, Breaks, Turns, Restarts, calls_so_far, HasEnded, CopiesBar}
+use Rattle.fresh_runs.specs.Run as sharing
 use Rattle.core_accepted.specs.Late.{Moment, seen, Run, IsFreshBy, WasOver, LandsEver, is_store}
 use Rattle.core_accepted.specs.Pipes.{PipeStep, moments_of, Steps, WasOverOn}
 

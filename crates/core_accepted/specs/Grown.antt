@@ -2,7 +2,7 @@
 use Rattle.std.specs.Prelude.{◌≡◌, ℕ, Bool, List, Option, Some}
 use Rattle.mc_types.specs.Items.{Item}
 use Rattle.fresh_runs.specs.Overlap.{Entry, run_of}
-use Rattle.fresh_runs.specs.Sharing.{LosesOnly}
+use Rattle.fresh_runs.specs.Run.{LosesOnly}
 use Rattle.route_tree.specs.Each.{Each}
 use Rattle.route_tree.specs.Route.{IsTree}
 use Rattle.gate_check.specs.Sound.{trees_of}

@@ -10,9 +10,9 @@ use Rattle.mc_types.specs.declared.call.Outcome.TheVariants.{Failed}
 use Rattle.mc_types.specs.Items.{Item}
 use Rattle.mc_types.specs.Agree.{Agrees}
 use Rattle.fresh_runs.specs.Life.{Mark, Applied, Restarted, Turned, held_in}
-use Rattle.fresh_runs.specs.Run.{Call, End, Read, Unread, Never, outcome_of, marks_of}
+use Rattle.fresh_runs.specs.Calls.{Call, End, Read, Unread, Never, outcome_of, marks_of}
 use Rattle.fresh_runs.specs.Cover.{ClearsIn}
-use Rattle.fresh_runs.specs.Sharing.{Event, Begins, Calls, Replies, Breaks, Turns, Restarts, under_way, calls_so_far, before, HasEnded, IsNewNumber, IsApart, IsFront, IsAcknowledged}
+use Rattle.fresh_runs.specs.Run.{Event, Begins, Calls, Replies, Breaks, Turns, Restarts, under_way, calls_so_far, before, HasEnded, IsNewNumber, IsApart, IsFront, IsAcknowledged}
 
 -- an event of a run; or a server applies a call that had failed for its command, with the stamp to give, the server's true answer, which nobody reads, and the count of spaces put after a number
 pub data Moment : Type 0 where

@@ -3,9 +3,9 @@ use Rattle.std.specs.Prelude.{ℕ, List, Option}
 use Rattle.mc_types.specs.declared.ask.Ask.{Ask}
 use Rattle.mc_types.specs.declared.answer.Answer.{Answer}
 use Rattle.mc_types.specs.Items.{Item}
-use Rattle.fresh_runs.specs.Run.{Call}
+use Rattle.fresh_runs.specs.Calls.{Call}
 use Rattle.fresh_runs.specs.Cover.{IsCovered}
-use Rattle.fresh_runs.specs.Sharing.{Event, CopiesBar}
+use Rattle.fresh_runs.specs.Run.{Event, CopiesBar}
 use Rattle.core_accepted.specs.Late.{Moment, Run, IsFreshBy, WasOver, LandsInTime}
 
 -- a store that counts as made before a delete is one whose command was over when the delete began

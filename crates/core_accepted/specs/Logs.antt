@@ -4,8 +4,8 @@ use Rattle.mc_types.specs.Items.{Item}
 use Rattle.fresh_runs.specs.Overlap as log
 use Rattle.fresh_runs.specs.Overlap.{Entry, run_of}
 use Rattle.fresh_runs.specs.OverlapState.{LeadsTo}
-use Rattle.fresh_runs.specs.Sharing.{LosesOnly, IsFresh, IsFreshByNumber}
-use Rattle.fresh_runs.specs.SharingStale.{stale_in}
+use Rattle.fresh_runs.specs.Run.{LosesOnly, IsFresh, IsFreshByNumber}
+use Rattle.fresh_runs.specs.Stale.{stale_in}
 use Rattle.route_tree.specs.At.{tree_at}
 use Rattle.route_tree.specs.Each.{Each}
 use Rattle.route_tree.specs.Route.{Route, IsTree}

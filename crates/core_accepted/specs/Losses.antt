@@ -1,7 +1,7 @@
 -- What servers may do to a core that is served. Source: mcgate's own.
 use Rattle.std.specs.Prelude.{◌≡◌, ℕ, List, ◌∷◌, Option}
 use Rattle.mc_types.specs.Items.{Item}
-use Rattle.fresh_runs.specs.Sharing.{Event, Begins, Calls, Replies, Breaks, Turns, Restarts, after_event}
+use Rattle.fresh_runs.specs.Run.{Event, Begins, Calls, Replies, Breaks, Turns, Restarts, after_event}
 use Rattle.fresh_runs.specs.Overlap.{Entry, Happens}
 use Rattle.core_proxy.specs.CoreState.{dialect}
 use Rattle.core_accepted.specs.declared.served.ServedCore.{ServedCore}

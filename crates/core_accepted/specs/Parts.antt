@@ -5,10 +5,10 @@ use Rattle.mc_types.specs.declared.answer.Answer.{Answer}
 use Rattle.mc_types.specs.declared.call.Origin.{Origin}
 use Rattle.mc_types.specs.Items.{Item}
 use Rattle.mc_types.specs.Agree.{Agrees}
-use Rattle.fresh_runs.specs.Run.{Call, End, outcome_of}
+use Rattle.fresh_runs.specs.Calls.{Call, End, outcome_of}
 use Rattle.fresh_runs.specs.Cover.{IsCovered}
-use Rattle.fresh_runs.specs.Sharing.{Event, Begins, Calls, Replies, Breaks, Turns, Restarts, under_way, calls_so_far, IsNewNumber, IsApart, IsFront}
-use Rattle.fresh_runs.specs.Sharing as sharing
+use Rattle.fresh_runs.specs.Run.{Event, Begins, Calls, Replies, Breaks, Turns, Restarts, under_way, calls_so_far, IsNewNumber, IsApart, IsFront}
+use Rattle.fresh_runs.specs.Run as sharing
 use Rattle.core_accepted.specs.Late.{Moment, Does, Lands, seen, HasFailed, held, GivesStamp, EndsWell, Run, IsFreshBy, WasOver, LandsEver, is_store}
 use Rattle.core_accepted.specs.Pipes.{PipeStep, Sends, Moves, Closes, moments_of, Obeys, Steps, WasOverOn}
 use Rattle.core_accepted.specs.FleetLaws.{NothingCopies}

@@ -6,8 +6,8 @@ use Rattle.mc_types.specs.declared.call.Origin.{Origin}
 use Rattle.mc_types.specs.declared.call.Origin.TheVariants.{CopyOf}
 use Rattle.mc_types.specs.declared.call.Outcome.TheVariants.{Failed}
 use Rattle.mc_types.specs.Items.{Item}
-use Rattle.fresh_runs.specs.Run.{Call, End, Read, Unread, Never}
-use Rattle.fresh_runs.specs.Sharing.{Event, Begins, Calls, Replies, Breaks, Turns, Restarts, under_way, calls_so_far, HasEnded}
+use Rattle.fresh_runs.specs.Calls.{Call, End, Read, Unread, Never}
+use Rattle.fresh_runs.specs.Run.{Event, Begins, Calls, Replies, Breaks, Turns, Restarts, under_way, calls_so_far, HasEnded}
 use Rattle.fresh_runs.specs.Overlap.{Ticket}
 use Rattle.core_accepted.specs.Late.{Moment, Does, Lands, seen, MayCome, LandsEver, is_store}
 

@@ -2,11 +2,11 @@
 use Rattle.std.specs.Prelude.{◌≡◌, ℕ, ◌+◌, ◌<◌, ◌≤◌, Bool, false, List, Option, Some, slice_get}
 use Rattle.mc_types.specs.declared.ask.Op.{Op}
 use Rattle.mc_types.specs.Items.{Item}
-use Rattle.fresh_runs.specs.Run.{Words}
+use Rattle.fresh_runs.specs.Calls.{Words}
 use Rattle.fresh_runs.specs.Cover.{IsCovered}
-use Rattle.fresh_runs.specs.Sharing as sharing
-use Rattle.fresh_runs.specs.Sharing.{Event}
-use Rattle.fresh_runs.specs.SharingLaws.{nobody_bars}
+use Rattle.fresh_runs.specs.Run as sharing
+use Rattle.fresh_runs.specs.Run.{Event}
+use Rattle.fresh_runs.specs.Freshness.{nobody_bars}
 use Rattle.route_tree.specs.Route.{Route, IsTree}
 use Rattle.route_tree.specs.Each.{Each}
 use Rattle.route_tree.specs.At.{tree_at}

@@ -5,8 +5,8 @@ use Rattle.mc_types.specs.declared.ask.Ask.{Ask}
 use Rattle.mc_types.specs.declared.call.Origin.TheVariants.{Client}
 use Rattle.mc_types.specs.Items.{Item}
 use Rattle.fresh_runs.specs.Single.{server_words}
-use Rattle.fresh_runs.specs.Sharing.{before, HasEnded, IsAcknowledged}
-use Rattle.fresh_runs.specs.SharingLaws.{nobody_bars}
+use Rattle.fresh_runs.specs.Run.{before, HasEnded, IsAcknowledged}
+use Rattle.fresh_runs.specs.Freshness.{nobody_bars}
 use Rattle.core_accepted.specs.Late.{Moment, seen, HasFailed, Run, IsFreshBy, WasOver, LandsEver}
 
 -- by these moments the run of a single server goes on, and is stale

@@ -2,7 +2,7 @@
 
 ghost use Rattle.std.specs.Prelude.{◌≡◌, ◌↔◌, List, true, IfOk, OnErr};
 ghost use Rattle.mc_types.specs.declared.call.Origin.TheVariants.{Client as OfClient};
-ghost use Rattle.fresh_runs.specs.Run.{Call};
+ghost use Rattle.fresh_runs.specs.Calls.{Call};
 ghost use Rattle.route_tree.specs.At.{tree_at};
 ghost use Rattle.route_tree.specs.Route.{IsTree};
 ghost use Rattle.route_tree.specs.Word.{Given, Word};

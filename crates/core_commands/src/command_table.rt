@@ -3,7 +3,7 @@
 ghost use Rattle.std.specs.Prelude.{◌≡◌, ◌+◌, ◌++◌, ◌∷◌, [], ◌↔◌, ℕ, List, true, false, not, Some, None, if◌then◌else◌, nat_eq, IfOk, IfSome, OnOk, OnErr, IsSome, is_some, option_copied, slice_get};
 ghost use Rattle.std.specs.List.{list_any};
 ghost use Rattle.indexmap.specs.IndexMap.{get, index_of_by, values, index_map_len, swap_remove_entry, IsEmpty};
-ghost use Rattle.fresh_runs.specs.Run.{Call as CallMade};
+ghost use Rattle.fresh_runs.specs.Calls.{Call as CallMade};
 ghost use Rattle.fresh_runs.specs.Single.{FitsOutcome};
 ghost use Rattle.route_tree.specs.Word.{Given};
 ghost use Rattle.route_job.specs.Given.{given_of};

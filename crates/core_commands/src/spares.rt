@@ -1,7 +1,7 @@
 //! Memory of commands that ended, for those that begin.
 
 ghost use Rattle.std.specs.Prelude.{◌≡◌, ◌↔◌, List, []};
-ghost use Rattle.fresh_runs.specs.Run.{Call as CallMade};
+ghost use Rattle.fresh_runs.specs.Calls.{Call as CallMade};
 ghost use Rattle.route_tree.specs.Word.{Given};
 ghost use Rattle.route_job.specs.Given.{given_of};
 ghost use Rattle.route_job.specs.Jobs.{Comes, IsDone};

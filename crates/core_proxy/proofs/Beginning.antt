@@ -6,7 +6,7 @@ use Rattle.std.specs.List.{list_any}
 use Rattle.indexmap.specs.IndexMap as map
 use Rattle.mc_types.specs.declared.answer.Answer.{Answer}
 use Rattle.mc_types.specs.declared.call.Origin.TheVariants.{Client as OfClient}
-use Rattle.fresh_runs.specs.Run.{Call}
+use Rattle.fresh_runs.specs.Calls.{Call}
 use Rattle.fresh_runs.specs.Log.{Part}
 use Rattle.wire_parts.specs.Stream.{Place}
 use Rattle.fresh_runs.specs.Overlap.{Front, Slot, Owner, Starts, is_last, is_last_slot, after_start, slot_of, slot_in, IsNext, ticket_in}

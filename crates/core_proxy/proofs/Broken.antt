@@ -3,7 +3,7 @@ use Rattle.std.proofs.Common.{◌≡◌, ℕ, ◌<◌, Bool, true, false, cond, 
 use Rattle.std.proofs.lemmas.Bool.{eqb-true, eq-eqb}
 use Rattle.mc_types.specs.declared.answer.Answer.{Answer}
 use Rattle.mc_types.specs.declared.call.Outcome.{Outcome}
-use Rattle.fresh_runs.specs.Run.{Call, End, Never}
+use Rattle.fresh_runs.specs.Calls.{Call, End, Never}
 use Rattle.fresh_runs.specs.Overlap as log
 use Rattle.fresh_runs.specs.Overlap.{Entry, Slot, Ticket, Happens, ticket_in, out_after}
 use Rattle.fresh_runs.specs.OverlapState.{Leads, Either}

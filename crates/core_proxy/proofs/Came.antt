@@ -5,10 +5,10 @@ use Rattle.mc_types.specs.declared.ask.Ask.{Ask}
 use Rattle.mc_types.specs.declared.call.Outcome.{Outcome}
 use Rattle.mc_types.specs.declared.call.Origin.{Origin}
 use Rattle.mc_types.specs.declared.call.Origin.TheVariants.{Client as OfClient}
-use Rattle.fresh_runs.specs.Run.{End, outcome_of}
+use Rattle.fresh_runs.specs.Calls.{End, outcome_of}
 use Rattle.fresh_runs.specs.Fleet.{EndsIn}
 use Rattle.fresh_runs.specs.Single.{FitsOutcome}
-use Rattle.fresh_runs.specs.Sharing.{Event, Calls, after_event}
+use Rattle.fresh_runs.specs.Run.{Event, Calls, after_event}
 use Rattle.fresh_runs.specs.Overlap.{ticket_in, without, out_after}
 use Rattle.fresh_runs.specs.OverlapState.{HasResult, found_after}
 use Rattle.route_job.specs.Rest.{ask_under, origin_under}

@@ -2,7 +2,7 @@
 use Rattle.std.proofs.Common.{◌≡◌, ℕ, ◌+◌, ◌<◌, Bool, true, false, cond, List, [], ◌∷◌, Option, Some, None, option_map, refl, sym, ap, ◌∙◌, subst, nat_eq}
 use Rattle.std.proofs.lemmas.Bool.{eqb-true}
 use Rattle.mc_types.specs.declared.answer.Answer.{Answer}
-use Rattle.fresh_runs.specs.Run.{Call}
+use Rattle.fresh_runs.specs.Calls.{Call}
 use Rattle.fresh_runs.specs.Log.{Part}
 use Rattle.fresh_runs.specs.Overlap as log
 use Rattle.fresh_runs.specs.Overlap.{Front, Slot, is_last, is_last_slot, after_end, slot_of, slot_in, answered_in, ticket_in}

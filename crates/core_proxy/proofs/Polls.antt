@@ -9,7 +9,7 @@ use Rattle.mc_types.specs.Acknowledged.{Acknowledges}
 use Rattle.mc_types.specs.declared.answer.Answer.{Answer}
 use Rattle.mc_types.specs.declared.ask.Ask.{Ask}
 use Rattle.mc_types.specs.declared.call.Origin.TheVariants.{Client as OfClient}
-use Rattle.fresh_runs.specs.Run.{Call}
+use Rattle.fresh_runs.specs.Calls.{Call}
 use Rattle.fresh_runs.specs.Overlap.{Slot, Owner, Entry, Starts, Sends, Ends, Shows, Passes, Drops}
 use Rattle.fresh_runs.specs.Log.{Part}
 use Rattle.fresh_runs.proofs.OverlapSteps.{walks_lead}

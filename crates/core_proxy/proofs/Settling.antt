@@ -6,9 +6,9 @@ use Rattle.mc_types.specs.declared.answer.Answer.{Answer}
 use Rattle.mc_types.specs.declared.call.Outcome.{Outcome}
 use Rattle.mc_types.specs.declared.call.Origin.{Origin}
 use Rattle.mc_types.specs.declared.call.Origin.TheVariants.{Client as OfClient}
-use Rattle.fresh_runs.specs.Run.{Call, End, outcome_of}
+use Rattle.fresh_runs.specs.Calls.{Call, End, outcome_of}
 use Rattle.fresh_runs.specs.Fleet.{EndsIn}
-use Rattle.fresh_runs.specs.Sharing.{Event, Calls, after_event}
+use Rattle.fresh_runs.specs.Run.{Event, Calls, after_event}
 use Rattle.fresh_runs.specs.Overlap.{Owner, Happens, ticket_in, out_after}
 use Rattle.fresh_runs.specs.OverlapState.{Leads, Either, found_after}
 use Rattle.fresh_runs.proofs.OverlapSteps.{walks_lead}

@@ -5,11 +5,11 @@ use Rattle.mc_types.specs.Asks.{IsAsk}
 use Rattle.mc_types.specs.declared.answer.Answer.{Answer}
 use Rattle.mc_types.specs.declared.call.Outcome.{Outcome}
 use Rattle.mc_types.specs.declared.call.Origin.TheVariants.{Client as OfClient}
-use Rattle.fresh_runs.specs.Run.{Call, End, outcome_of}
+use Rattle.fresh_runs.specs.Calls.{Call, End, outcome_of}
 use Rattle.fresh_runs.specs.Fleet.{EndsIn}
 use Rattle.fresh_runs.specs.Single.{FitsOutcome}
 use Rattle.fresh_runs.specs.Log.{Part}
-use Rattle.fresh_runs.specs.Sharing.{Event, Calls, after_event}
+use Rattle.fresh_runs.specs.Run.{Event, Calls, after_event}
 use Rattle.fresh_runs.specs.Overlap.{Slot, Starts, Sends, Happens, Shows, Passes, after_start, slot_of, IsNext, out_after}
 use Rattle.fresh_runs.specs.OverlapState.{Leads, found_after}
 use Rattle.wire_parts.specs.Stream.{Place}

@@ -1,8 +1,9 @@
 //! Worked cases of what a server holds, by hand from memcached's protocol.txt, "Increment/Decrement" and "Storage
 //! commands", and from the rule that a stamp is the number of the command whose data began the item.
 
+use crate::agree::agrees;
+use crate::marks::{HeldItem, Mark, held};
 use crate::reading::{ask, drop_answer, drop_ask, halves, key, number, same, wire};
-use fresh_runs::{HeldItem, Mark, agrees, held};
 use mc_types::{Answer, Ask, Body, Key};
 use std::alloc::{AllocError, Global};
 use std::test::Fail;

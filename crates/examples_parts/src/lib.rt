@@ -4,6 +4,7 @@
 //! change of an example proves the example alone.
 #![tactic(auto)]
 
+mod agree;
 #[cfg(test)]
 mod answering;
 #[cfg(test)]
@@ -17,6 +18,7 @@ mod clients;
 mod fresh_cores;
 #[cfg(test)]
 mod held_items;
+mod marks;
 #[cfg(test)]
 mod polls;
 #[cfg(test)]

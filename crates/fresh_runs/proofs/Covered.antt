@@ -2,18 +2,20 @@
 use Rattle.std.proofs.Common.{◌≡◌, ℕ, Bool, true, false, cond, List, [], ◌∷◌, Some, None, MatchOption, refl, sym, ap, ◌∙◌, subst, slice_get, inl}
 use Rattle.mc_types.specs.declared.ask.Ask.{Ask}
 use Rattle.mc_types.specs.declared.answer.Answer.{Answer}
+use Rattle.mc_types.specs.declared.call.Origin.TheVariants.{Client, CopyOf}
 use Rattle.mc_types.specs.declared.call.Outcome.{Outcome}
 use Rattle.mc_types.specs.declared.call.Outcome.TheVariants.{Answered, Failed}
 use Rattle.mc_types.specs.Acknowledged.{says_gone}
 use Rattle.mc_types.specs.Asks.{IsAsk}
 use Rattle.mc_types.specs.Fits.{Fits}
 use Rattle.mc_types.specs.Shows.{shows}
-use Rattle.fresh_runs.specs.Run.{Call}
+use Rattle.fresh_runs.specs.Calls.{Call}
+use Rattle.fresh_runs.specs.Run.{CopiesBar}
 use Rattle.fresh_runs.specs.Cover.{ClearsIn, IsCovered, IsAnswerOf, ShowsWhatItFound}
 use Rattle.fresh_runs.specs.Single.{FitsOutcome, reply_of, from_of, server_call, server_words}
-use Rattle.fresh_runs.specs.Freshness.{SingleServerLaws}
+use Rattle.fresh_runs.specs.Freshness.{SingleServerLaws, nobody_bars}
 use Rattle.fresh_runs.proofs.Lists.{only_one}
-use Rattle.fresh_runs.proofs.Fresh.{fresh}
+use Rattle.fresh_runs.proofs.Fresh.{fresh, runs_are_fresh}
 
 module _ (server_of : List ℕ → ℕ) where
   clears : (delete : Ask) (outcome : Outcome) (server : ℕ) → server_of delete.key ≡ server → says_gone (reply_of outcome) ≡ true → ClearsIn (server_call server_of delete outcome ∷ []) server
@@ -47,5 +49,20 @@ module _ (server_of : List ℕ → ℕ) where
       (subst (λ l. MatchOption (from_of word.1) (shows (reply_of word.1) ≡ false) (λ i. IsAnswerOf l i (reply_of word.1))) (sym word.3)
       (outcome_shown ask word.1 word.0 word.2)))
 
+  client_is : (i : ℕ) → Client ≡ CopyOf i → ⊥
+  client_is i e = cc
+
+  -- it copies nothing
+  single_copies : CopiesBar (server_words server_of) nobody_bars
+  single_copies number ask calls reply from word j call i at o n delete op same =
+      let is : server_call server_of ask word.1 ≡ call = only_one (server_call server_of ask word.1) call j (subst (λ l. slice_get l j ≡ Some call) word.3 at) in
+      client_is i (ap (λ (c : Call). c.origin) is ∙ o)
+
   pub single_laws : SingleServerLaws server_of
-  single_laws = record { covered = single_covered; shows = single_shows; fresh = fresh (server_words server_of) single_covered }
+  single_laws =
+      record {
+        covered = single_covered;
+        shows = single_shows;
+        fresh = runs_are_fresh (server_words server_of) single_covered;
+        shares = fresh (server_words server_of) nobody_bars single_covered single_copies;
+      }

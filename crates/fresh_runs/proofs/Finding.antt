@@ -1,7 +1,5 @@
 -- A reply that shows a part of an item shows one that was held.
-use Rattle.std.proofs.Common.{◌≡◌, ℕ, Bool, true, false, cond, not, ◌&&◌, ◌||◌, is_some, List, [], ◌∷◌, ◌++◌, length, Option, Some, None, MatchOption, ⊎_elim, refl, sym, ap, ◌∙◌, subst, arith, slice_get, bytes_eq, nat_eq}
-use Rattle.std.proofs.lemmas.Slice.Eq.{bytes_eq-Decides}
-use Rattle.std.proofs.lemmas.Bool.{eqb-true, eq-eqb}
+use Rattle.std.proofs.Common.{◌≡◌, Bool, true, false, not, ◌&&◌, ◌||◌, is_some, List, [], ◌∷◌, ◌++◌, Option, Some, ⊎_elim, refl, ap, ◌∙◌}
 use Rattle.mc_types.specs.Tokens.{Letter, LetterC, LetterF, LetterK, LetterS, LetterT, LetterV, LetterO, letter_of, same_letter, has_letter, wants, are_served}
 use Rattle.mc_types.specs.declared.token.Token.{Token}
 use Rattle.mc_types.specs.declared.ask.Op.{Op}
@@ -14,17 +12,12 @@ use Rattle.mc_types.specs.declared.answer.Code.TheVariants.{Hd, Va, En, Ns, Ex, 
 use Rattle.mc_types.specs.declared.answer.Fields.{Fields}
 use Rattle.mc_types.specs.declared.answer.Answer.{Answer}
 use Rattle.mc_types.specs.declared.answer.Answer.TheVariants.{Stored, NotStored, Exists, NotFound, Deleted, Touched, Number, Hit, Miss, Meta, ClientError, Error, ServerError}
-use Rattle.mc_types.specs.declared.call.Origin.{Origin}
-use Rattle.mc_types.specs.declared.call.Outcome.TheVariants.{Answered}
 use Rattle.mc_types.specs.Asks.{IsAsk, HasShapeOf, shape_of, of_store}
 use Rattle.mc_types.specs.Fits.{Fits, FitsIn, FitsClassic, FitsMeta, FitsMetaCode, FitsStore, FitsCas, FitsFetch, FitsDelete, FitsTouch, FitsCount, FitsMetaStore, AreBare, is_error}
 use Rattle.mc_types.specs.Items.{Item}
 use Rattle.mc_types.specs.Agree.{Agrees, AgreesAs, AgreesFetch, AgreesCount}
 use Rattle.mc_types.specs.Shows.{shows, fields_show}
-use Rattle.fresh_runs.specs.Run.{Call, End, Read, Unread, Never, outcome_of, Event, Begins, Calls, Replies, Loses, Restarts, calls_so_far, held, item_at, EndsWell, Run}
-use Rattle.fresh_runs.specs.Cover.{IsAnswerOf}
-use Rattle.fresh_runs.specs.Shown.{IsFoundAt, ShownIsHeld}
-use Rattle.fresh_runs.proofs.Lists.{bool_is, get_last}
+use Rattle.fresh_runs.proofs.Lists.{bool_is}
 
 -- An answer that shows a part of an item was given for one.
 
@@ -179,72 +172,3 @@ in_dialect_held dialects.Meta ask answer held shape fits h agrees = meta_held as
 
 pub shown_needs_item : (ask : Ask) (answer : Answer) (held : Option Item) → IsAsk ask → Fits ask answer → shows answer ≡ true → Agrees ask answer held → Held held
 shown_needs_item ask answer held asked fits h agrees = in_dialect_held ask.dialect ask answer held asked.shape fits.listed h agrees
-
--- Each call that was answered agrees with what was found at it.
-
-read_agrees : (opening : ℕ → List ℕ → Option Item) (past : List Event) (number server : ℕ) (ask : Ask) (origin : Origin) (end : End) (answer : Answer) → EndsWell opening past number server ask origin end → outcome_of end ≡ Answered answer → Agrees ask answer (held opening past server ask.key)
-read_agrees opening past number server ask origin (Read stamp a spaces) answer ends is = let e : a ≡ answer = cc in subst (λ b. Agrees ask b (held opening past server ask.key)) e ends.0
-read_agrees opening past number server ask origin (Unread stamp a spaces) answer ends is = absurd (cc)
-read_agrees opening past number server ask origin Never answer ends is = absurd (cc)
-
-module _ (words : ℕ → Ask → List Call → Answer → Option ℕ → Type 0) (opening : ℕ → List ℕ → Option Item) (key : List ℕ) (i : ℕ) (call : Call) (answer : Answer) (answered : call.outcome ≡ Answered answer) where
-  -- it is on the key, and agrees with this
-  abbrev AgreesWith : Option Item → Type 0
-  AgreesWith found = (call.ask.key ≡ key) × Agrees call.ask answer found
-
-  pub agrees_at : (past : List Event) → Run words opening past → slice_get (calls_so_far past key) i ≡ Some call → AgreesWith (item_at opening past key i)
-  agrees_at [] run got = absurd (cc)
-  agrees_at (Begins number ask ∷ past) run got =
-      (elim (bytes_eq ask.key key) as (λ b. slice_get (cond b [] (calls_so_far past key)) i ≡ Some call → AgreesWith (cond b None (item_at opening past key i))) [
-        | true ↦ λ e. absurd (cc)
-        | false ↦ λ e. agrees_at past run.1 e
-      ]) got
-  agrees_at (Replies number k reply from ∷ past) run got =
-      (elim (bytes_eq k key) as (λ b. slice_get (cond b [] (calls_so_far past key)) i ≡ Some call → AgreesWith (cond b None (item_at opening past key i))) [
-        | true ↦ λ e. absurd (cc)
-        | false ↦ λ e. agrees_at past run.1 e
-      ]) got
-  agrees_at (Calls number server ask origin end ∷ past) run got =
-      let calls = calls_so_far past key in
-      let made : Call = record { server = server; ask = ask; origin = origin; outcome = outcome_of end } in
-      let found = held opening past server key in
-      let before = item_at opening past key i in
-      (elim (bytes_eq ask.key key) as (λ b. bytes_eq ask.key key ≡ b → slice_get (cond b (calls ++ made ∷ []) calls) i ≡ Some call → AgreesWith (cond b (cond (nat_eq (length calls) i) found before) before)) [
-        | true ↦ λ same e.
-            let at : ask.key ≡ key = (bytes_eq-Decides ask.key key).0 same in
-            ⊎_elim
-            (λ l.
-            let other : nat_eq (length calls) i ≡ false = ⊎_elim (λ y. absurd (let e = eqb-true (length calls) i y in let lt = l.1 in omega arith)) (λ n. n) (bool_is (nat_eq (length calls) i)) in
-            subst (λ b. AgreesWith (cond b found before)) (sym other) (agrees_at past run.1 l.0))
-            (λ r.
-            let here : nat_eq (length calls) i ≡ true = eq-eqb (length calls) i (sym r.0) in
-            let agrees = subst (λ k. Agrees ask answer (held opening past server k)) at (read_agrees opening past number server ask origin end answer run.0.3 (ap (λ (c : Call). c.outcome) r.1 ∙ answered)) in
-            subst (λ b. AgreesWith (cond b found before)) (sym here) (ap (λ (c : Call). c.ask.key) (sym r.1) ∙ at, subst (λ (c : Call). Agrees c.ask answer found) r.1 agrees))
-            (get_last calls made call i e)
-        | false ↦ λ _ e. agrees_at past run.1 e
-      ]) refl got
-  agrees_at (Loses server k ∷ past) run got = agrees_at past run.1 got
-  agrees_at (Restarts server ∷ past) run got = agrees_at past run.1 got
-
-module _ (words : ℕ → Ask → List Call → Answer → Option ℕ → Type 0) (opening : ℕ → List ℕ → Option Item) (past : List Event) (key : List ℕ) where
-  found_at : (i : ℕ) (reply : Answer) → Run words opening past → IsAnswerOf (calls_so_far past key) i reply → IsFoundAt opening past key i reply
-  found_at i reply run is =
-      let agrees = agrees_at words opening key i is.call reply is.answered past run is.made in
-      let item = shown_needs_item is.call.ask reply (item_at opening past key i) is.asked is.fits is.showing agrees.1 in
-      record {
-        call = is.call;
-        made = is.made;
-        on_key = agrees.0;
-        answered = is.answered;
-        item = item.0;
-        there = item.1;
-        matches = subst (Agrees is.call.ask reply) item.1 agrees.1;
-      }
-
-  found : (reply : Answer) (from : Option ℕ) → Run words opening past → MatchOption from (shows reply ≡ false) (λ i. IsAnswerOf (calls_so_far past key) i reply) → MatchOption from (shows reply ≡ false) (λ i. IsFoundAt opening past key i reply)
-  found reply None run shown = shown
-  found reply (Some i) run shown = found_at i reply run shown
-
-pub shown_is_held : (words : ℕ → Ask → List Call → Answer → Option ℕ → Type 0) → ShownIsHeld words
-shown_is_held words = λ shown opening past number key reply from run.
-    found words opening past key reply from run.1 (shown number run.0.0 (calls_so_far past key) reply from run.0.2)

@@ -3,7 +3,7 @@ use Rattle.std.proofs.Common.{ℕ, List, Option, inl}
 use Rattle.mc_types.specs.declared.ask.Ask.{Ask}
 use Rattle.mc_types.specs.declared.answer.Answer.{Answer}
 use Rattle.mc_types.specs.Items.{Item}
-use Rattle.fresh_runs.specs.Run.{Call}
+use Rattle.fresh_runs.specs.Calls.{Call}
 use Rattle.fresh_runs.specs.Cover.{IsCovered}
 use Rattle.fresh_runs.specs.Untouched.{IsCoveredOrUntouched}
 

@@ -6,7 +6,7 @@ use Rattle.mc_types.specs.declared.ask.Ask.{Ask}
 use Rattle.mc_types.specs.declared.answer.Answer.{Answer}
 use Rattle.mc_types.specs.Items.{Item, after_call, after_done, is_done, removes}
 use Rattle.fresh_runs.specs.Life.{Mark, held_in}
-use Rattle.fresh_runs.specs.Run.{End, Read, Unread, Never, marks_of}
+use Rattle.fresh_runs.specs.Calls.{End, Read, Unread, Never, marks_of}
 use Rattle.fresh_runs.proofs.Stamps.{by_test}
 use Rattle.fresh_runs.specs.Untouched.{IsPutting}
 

@@ -4,10 +4,10 @@ use Rattle.mc_types.specs.declared.ask.Op.TheVariants.{Get}
 use Rattle.mc_types.specs.declared.ask.Dialect.TheVariants.{Classic}
 use Rattle.mc_types.specs.declared.ask.Ask.{Ask}
 use Rattle.mc_types.specs.declared.answer.Answer.TheVariants.{Miss}
-use Rattle.fresh_runs.specs.Run.{Words}
+use Rattle.fresh_runs.specs.Calls.{Words}
 use Rattle.fresh_runs.specs.Protocol.{Protocol}
 use Rattle.fresh_runs.specs.Log.{Part}
-use Rattle.fresh_runs.specs.SharingLaws.{nobody_bars}
+use Rattle.fresh_runs.specs.Freshness.{nobody_bars}
 use Rattle.fresh_runs.specs.Overlap.{Slot, Owner, Entry, Feeds, Starts, Ends, Shows, Gives, output_of}
 use Rattle.fresh_runs.specs.OverlapState.{OverlapState, MayWalk}
 use Rattle.fresh_runs.specs.OverlapLaws.{no_standing}

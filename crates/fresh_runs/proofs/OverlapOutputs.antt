@@ -4,7 +4,7 @@ use Rattle.std.proofs.lemmas.Bool.{eqb-true}
 use Rattle.mc_types.specs.declared.ask.Ask.{Ask}
 use Rattle.mc_types.specs.declared.answer.Answer.{Answer}
 use Rattle.mc_types.specs.Items.{Item}
-use Rattle.fresh_runs.specs.Run.{Words}
+use Rattle.fresh_runs.specs.Calls.{Words}
 use Rattle.fresh_runs.specs.Protocol.{Protocol, IsReader, IsStuck}
 use Rattle.fresh_runs.specs.Log.{Part}
 use Rattle.fresh_runs.specs.Overlap.{Front, Slot, Entry, Feeds, Starts, Sends, Happens, Ends, Shows, Passes, Gives, Drops, Frees, Resets, is_last, is_last_slot, start_front, fed_front, after_start, after_end, slot_of, slot_in, answered_in, behind_head, front_of, queue_of, output_of, given_of, IsNext, IsSettled, Follows}

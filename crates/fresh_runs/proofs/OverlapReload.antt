@@ -2,13 +2,13 @@
 use Rattle.std.proofs.Common.{◌≡◌, ℕ, ◌+◌, ◌<◌, List, [], ◌∷◌, ◌++◌, Option, Some, None, false, sym, ◌∙◌, arith}
 use Rattle.mc_types.specs.declared.ask.Ask.{Ask}
 use Rattle.mc_types.specs.Items.{Item}
-use Rattle.fresh_runs.specs.Run.{Words, Call}
-use Rattle.fresh_runs.specs.Sharing.{Event, Begins, Calls, Replies, Breaks, Turns, Restarts, IsNewNumber, IsFront, IsApart}
+use Rattle.fresh_runs.specs.Calls.{Words, Call}
+use Rattle.fresh_runs.specs.Run.{Event, Begins, Calls, Replies, Breaks, Turns, Restarts, IsNewNumber, IsFront, IsApart}
 use Rattle.fresh_runs.specs.Protocol.{Protocol}
 use Rattle.fresh_runs.specs.Overlap.{Owner, Entry, Feeds, Starts, Sends, Happens, Ends, Shows, Passes, Gives, Drops, Frees, Resets, start_front, run_of, Follows}
 use Rattle.fresh_runs.specs.OverlapState.{OverlapState, LeadsTo}
 use Rattle.fresh_runs.specs.OverlapLaws.{AreKept, AreKeptBars}
-use Rattle.fresh_runs.proofs.Sharing.{way_below}
+use Rattle.fresh_runs.proofs.Runs.{way_below}
 use Rattle.fresh_runs.proofs.OverlapSteps.{owner_way}
 
 module _ (words new : Words) (below : ℕ) (kept : AreKept below words new) where

@@ -4,8 +4,8 @@ use Rattle.std.proofs.lemmas.Bool.{eqb-true}
 use Rattle.mc_types.specs.declared.ask.Ask.{Ask}
 use Rattle.mc_types.specs.declared.answer.Answer.{Answer}
 use Rattle.mc_types.specs.Items.{Item}
-use Rattle.fresh_runs.specs.Run.{Words}
-use Rattle.fresh_runs.specs.Sharing.{Event, Begins, Replies, Breaks}
+use Rattle.fresh_runs.specs.Calls.{Words}
+use Rattle.fresh_runs.specs.Run.{Event, Begins, Replies, Breaks}
 use Rattle.fresh_runs.specs.Protocol.{Protocol}
 use Rattle.fresh_runs.specs.Log.{Part}
 use Rattle.fresh_runs.specs.Overlap.{Slot, Entry, Feeds, Starts, Sends, Happens, Ends, Shows, Passes, Gives, Drops, Frees, Resets, slot_of, slot_in, answered_in, behind_head, run_of, queue_of, Follows}

@@ -4,8 +4,8 @@ use Rattle.std.proofs.lemmas.Bool.{eqb-true}
 use Rattle.mc_types.specs.declared.ask.Ask.{Ask}
 use Rattle.mc_types.specs.declared.answer.Answer.{Answer}
 use Rattle.mc_types.specs.Items.{Item}
-use Rattle.fresh_runs.specs.Run.{Words}
-use Rattle.fresh_runs.specs.Sharing.{Begins, Calls, Replies, Breaks, Turns, Restarts, Run}
+use Rattle.fresh_runs.specs.Calls.{Words}
+use Rattle.fresh_runs.specs.Run.{Begins, Calls, Replies, Breaks, Turns, Restarts, Run}
 use Rattle.fresh_runs.specs.Protocol.{Protocol, IsReader, Goes}
 use Rattle.fresh_runs.specs.Log.{Part}
 use Rattle.fresh_runs.specs.Overlap.{Front, Entry, Feeds, Starts, Sends, Happens, Ends, Shows, Passes, Gives, Drops, Frees, Resets, is_last, start_front, fed_front, after_start, after_end, run_of, front_of, Follows}

@@ -7,16 +7,16 @@ use Rattle.mc_types.specs.declared.call.Origin.{Origin}
 use Rattle.mc_types.specs.declared.call.Origin.TheVariants.{Client, CopyOf}
 use Rattle.mc_types.specs.Agree.{Agrees}
 use Rattle.mc_types.specs.Items.{Item}
-use Rattle.fresh_runs.specs.Run.{Words, Call, End, Read, Unread, Never, outcome_of}
+use Rattle.fresh_runs.specs.Calls.{Words, Call, End, Read, Unread, Never, outcome_of}
 use Rattle.fresh_runs.specs.Fleet.{StampIn, EndsIn}
-use Rattle.fresh_runs.specs.Sharing.{Event, Begins, Calls, Replies, Breaks, Turns, Restarts, under_way, calls_so_far, held, item_at, GivesStamp, EndsWell, IsNewNumber, IsFront, IsApart}
+use Rattle.fresh_runs.specs.Run.{Event, Begins, Calls, Replies, Breaks, Turns, Restarts, under_way, calls_so_far, held, item_at, GivesStamp, EndsWell, IsNewNumber, IsFront, IsApart}
 use Rattle.fresh_runs.specs.Protocol.{Protocol}
 use Rattle.fresh_runs.specs.Log.{Part}
 use Rattle.fresh_runs.specs.Overlap.{Front, Slot, Owner, ticket_in, Entry, Feeds, Starts, Sends, Happens, Ends, Shows, Passes, Gives, Drops, Frees, Resets, start_front, fed_front, after_start, after_end, slot_of, slot_in, answered_in, behind_head, without, run_of, output_of, given_of, owner_of, IsNext, Follows}
 use Rattle.fresh_runs.specs.OverlapState.{OverlapState, Either, after, MayStep, IsLike, walked, MayWalk, Walks, LeadsTo, Leads}
 use Rattle.fresh_runs.proofs.Lists.{bool_is, get_last}
-use Rattle.fresh_runs.proofs.Sharing.{some_ask, no_ask, way_below, new_calls}
-use Rattle.fresh_runs.proofs.SharingHeld.{held_after, event_same}
+use Rattle.fresh_runs.proofs.Runs.{some_ask, no_ask, way_below, new_calls}
+use Rattle.fresh_runs.proofs.HeldAfter.{held_after, event_same}
 
 pub new_more : (n : ℕ) (past : List Event) → IsNewNumber n past → IsNewNumber (n + 1) past
 new_more n [] h = let lt = h in omega arith

@@ -4,15 +4,15 @@ use Rattle.std.proofs.lemmas.Bool.{le-ltb}
 use Rattle.mc_types.specs.declared.ask.Ask.{Ask}
 use Rattle.mc_types.specs.declared.answer.Answer.{Answer}
 use Rattle.mc_types.specs.Items.{Item}
-use Rattle.fresh_runs.specs.Run.{Words}
-use Rattle.fresh_runs.specs.Sharing.{Event, Begins, Calls, Replies, Breaks, Turns, Restarts, LosesOnly, IsNewNumber, calls_in, commands_in}
+use Rattle.fresh_runs.specs.Calls.{Words}
+use Rattle.fresh_runs.specs.Run.{Event, Begins, Calls, Replies, Breaks, Turns, Restarts, LosesOnly, IsNewNumber, calls_in, commands_in}
 use Rattle.fresh_runs.specs.Log.{Loss, Lose, Restart}
 use Rattle.fresh_runs.specs.Protocol.{Protocol}
 use Rattle.fresh_runs.specs.Overlap.{Entry, Feeds, Starts, Sends, Happens, Ends, Shows, Passes, Gives, Drops, Frees, Resets, run_of, Follows}
 use Rattle.fresh_runs.specs.OverlapStream.{stream_of}
 use Rattle.fresh_runs.specs.OverlapLaws.{AreKept}
 use Rattle.fresh_runs.specs.ScriptLog.{Piece, Add, Result, Fail, Hold, At, Now, Moment, Reload, Line, Takes, Results, Spills, Loads, Does, lost_by, entries_by, IsPlain, fed_by, core_of, losses_of, made_in, fed_of, tree_at, words_in, IsScript}
-use Rattle.fresh_runs.proofs.Sharing.{way_below}
+use Rattle.fresh_runs.proofs.Runs.{way_below}
 use Rattle.fresh_runs.proofs.OverlapReload.{follows_kept}
 
 new_up : (n m : ℕ) (past : List Event) → n ≤ m → IsNewNumber n past → IsNewNumber m past

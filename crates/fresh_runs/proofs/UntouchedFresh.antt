@@ -10,13 +10,14 @@ use Rattle.mc_types.specs.declared.call.Origin.TheVariants.{Client, CopyOf}
 use Rattle.mc_types.specs.declared.call.Outcome.TheVariants.{Answered, Failed}
 use Rattle.mc_types.specs.Items.{Item}
 use Rattle.fresh_runs.specs.Life.{held_in}
-use Rattle.fresh_runs.specs.Run.{Call, End, Read, Unread, Never, outcome_of}
+use Rattle.fresh_runs.specs.Calls.{Call, End, Read, Unread, Never, outcome_of}
 use Rattle.fresh_runs.specs.Cover.{ClearsIn, IsCleared}
-use Rattle.fresh_runs.specs.Sharing.{Event, Begins, Calls, Replies, Breaks, Turns, Restarts, LosesOnly, life_of, under_way, calls_so_far, before, HasEnded, IsNewNumber, AreAlone, held, item_at, GivesStamp, IsFront, CopiesBar, MayCome, Run, AcknowledgedBy, IsAcknowledged, IsShown, IsFresh, IsFreshByNumber}
+use Rattle.fresh_runs.specs.Run.{Event, Begins, Calls, Replies, Breaks, Turns, Restarts, LosesOnly, life_of, under_way, calls_so_far, before, HasEnded, IsNewNumber, AreAlone, held, item_at, GivesStamp, IsFront, CopiesBar, MayCome, Run, AcknowledgedBy, IsAcknowledged, IsShown, IsFresh, IsFreshByNumber}
 use Rattle.fresh_runs.proofs.Stamps.{by_test, clear_marks, get_left, get_seam, clears_split}
-use Rattle.fresh_runs.proofs.SharingStamps.{Has, Gives, has_from_gone, has_marks, delete_marks}
-use Rattle.fresh_runs.proofs.Sharing.{some_ask, no_ask, differs, differ, acked_below, shown_below, new_calls, new_item_at, ended_since, acked_since, acked_over, acked_delete, over, apart, began_after, above}
+use Rattle.fresh_runs.proofs.Seen.{Has, Gives, has_from_gone, has_marks, delete_marks}
+use Rattle.fresh_runs.proofs.Runs.{some_ask, no_ask, differs, differ, acked_below, shown_below, new_calls, new_item_at, ended_since, acked_since, acked_over, acked_delete, over, apart, began_after, above}
 use Rattle.fresh_runs.specs.Untouched.{IsPutting, IsUntouched, IsCoveredOrUntouched}
+use Rattle.fresh_runs.specs.Freshness.{everybody_bars, copying_bars, RunsAreFreshFrom}
 use Rattle.fresh_runs.proofs.Nothing.{nothing_marks}
 
 module _ (words : ℕ → Ask → List Call → Answer → Option ℕ → Type 0) (Bars : ℕ → Ask → ℕ → Ask → Type 0) (opening : ℕ → List ℕ → Option Item) (cover : IsCoveredOrUntouched words opening) (copies : CopiesBar words Bars) (n : ℕ) (delete : Ask) (op : delete.op ≡ Delete) (began : List Event) (Q : ℕ → Type 0) (young : (past : List Event) → Run words Bars opening past → before past n ≡ began → (under_way past n ≡ Some delete) ⊎ IsAcknowledged past n delete → (m : ℕ) (client : Ask) → under_way past m ≡ Some client → client.key ≡ delete.key → (m ≡ n → ⊥) → Q m) where
@@ -379,3 +380,13 @@ module _ (words : ℕ → Ask → List Call → Answer → Option ℕ → Type 0
         (λ acked. above words Bars opening past run' n x delete (began_after words Bars opening past run' n x delete client acked there same (all x n client delete same)))
         way)
         events run lost refl m item (shown_later events run n m delete item lt ack shown) shown
+
+-- what copies bars deletes, where just that is barred
+copying_is : (words : ℕ → Ask → List Call → Answer → Option ℕ → Type 0) → CopiesBar words (copying_bars words)
+copying_is words number ask calls reply from word j call i at o n delete op same = (op, record { calls = calls; reply = reply; from = from; word = word; at = j; call = call; copied = i; made = at; copies = o })
+
+pub runs_fresh_from : (words : ℕ → Ask → List Call → Answer → Option ℕ → Type 0) (opening : ℕ → List ℕ → Option Item) → IsCoveredOrUntouched words opening → RunsAreFreshFrom words opening
+runs_fresh_from words opening cover events lost = (
+  fresh words (copying_bars words) opening cover (copying_is words) events lost,
+  fresh_by_number words everybody_bars opening cover (λ number other ask client same. tt) events lost,
+)

@@ -9,7 +9,7 @@ use Rattle.mc_types.specs.Acknowledged.{Acknowledges, says_gone}
 use Rattle.mc_types.specs.Asks.{IsAsk}
 use Rattle.mc_types.specs.Fits.{Fits}
 use Rattle.mc_types.specs.Shows.{shows}
-use Rattle.fresh_runs.specs.Run.{Call}
+use Rattle.fresh_runs.specs.Calls.{Call}
 
 -- call i of the list is one of the server
 abbrev pub IsCallOf : List Call → ℕ → ℕ → Type 0

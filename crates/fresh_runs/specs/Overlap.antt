@@ -4,9 +4,9 @@ use Rattle.mc_types.specs.declared.ask.Ask.{Ask}
 use Rattle.mc_types.specs.declared.answer.Answer.{Answer}
 use Rattle.mc_types.specs.declared.call.Origin.{Origin}
 use Rattle.mc_types.specs.Items.{Item}
-use Rattle.fresh_runs.specs.Run.{Words}
+use Rattle.fresh_runs.specs.Calls.{Words}
 use Rattle.fresh_runs.specs.Log.{Part}
-use Rattle.fresh_runs.specs.Sharing.{Event, Begins, Calls, Replies, Breaks, Turns, Restarts, commands_in, MayCome}
+use Rattle.fresh_runs.specs.Run.{Event, Begins, Calls, Replies, Breaks, Turns, Restarts, commands_in, MayCome}
 use Rattle.fresh_runs.specs.Protocol.{Protocol, IsStuck}
 
 -- where the starting of a client's commands stands: its reader stands before the message at the front, this key of it is next, and whether the key before it has no reply yet

@@ -3,10 +3,10 @@ use Rattle.std.specs.Prelude.{◌≡◌, ℕ, map, List, [], ◌++◌, Option, S
 use Rattle.mc_types.specs.declared.ask.Ask.{Ask}
 use Rattle.mc_types.specs.declared.answer.Answer.{Answer}
 use Rattle.mc_types.specs.Items.{Item}
-use Rattle.fresh_runs.specs.Run.{Words, Call}
-use Rattle.fresh_runs.specs.Sharing.{LosesOnly, Run, CopiesBar, AreAlone, IsFresh, IsFreshByNumber}
+use Rattle.fresh_runs.specs.Calls.{Words, Call}
+use Rattle.fresh_runs.specs.Run.{LosesOnly, Run, CopiesBar, AreAlone, IsFresh, IsFreshByNumber}
 use Rattle.fresh_runs.specs.Cover.{IsCovered}
-use Rattle.fresh_runs.specs.SharingStale.{stale_in, tally_of}
+use Rattle.fresh_runs.specs.Stale.{stale_in, tally_of}
 use Rattle.fresh_runs.specs.Protocol.{Protocol, silence, IsReader, Goes, Splits}
 use Rattle.fresh_runs.specs.Stream.{Done, written_from, written_all, NoneEnds, AreWhole}
 use Rattle.fresh_runs.specs.Overlap.{Slot, Owner, Entry, start_front, run_of, front_of, queue_of, output_of, given_of, is_dropped, owner_of, Follows, IsSettled}

@@ -4,9 +4,9 @@ use Rattle.mc_types.specs.declared.ask.Ask.{Ask}
 use Rattle.mc_types.specs.declared.answer.Answer.{Answer}
 use Rattle.mc_types.specs.declared.call.Origin.{Origin}
 use Rattle.mc_types.specs.Items.{Item}
-use Rattle.fresh_runs.specs.Run.{Words, Call, End, outcome_of}
+use Rattle.fresh_runs.specs.Calls.{Words, Call, End, outcome_of}
 use Rattle.fresh_runs.specs.Fleet.{EndsIn}
-use Rattle.fresh_runs.specs.Sharing.{Event, Begins, Calls, Replies, Breaks, Turns, Restarts, held, calls_so_far, item_at, IsNewNumber, after_event, calls_in, commands_in}
+use Rattle.fresh_runs.specs.Run.{Event, Begins, Calls, Replies, Breaks, Turns, Restarts, held, calls_so_far, item_at, IsNewNumber, after_event, calls_in, commands_in}
 use Rattle.fresh_runs.specs.Protocol.{Protocol}
 use Rattle.fresh_runs.specs.Overlap.{Front, Slot, Owner, Ticket, ticket_in, out_after, Entry, Feeds, Starts, Sends, Happens, Ends, Shows, Passes, Gives, Drops, Frees, Resets, is_last, start_front, fed_front, after_start, after_end, slot_of, slot_in, answered_in, behind_head, run_of, front_of, queue_of, output_of, given_of, is_dropped, owner_of, out_of, IsNext, IsFirst, Follows}
 

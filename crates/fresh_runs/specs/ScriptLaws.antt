@@ -3,8 +3,8 @@ use Rattle.std.specs.Prelude.{◌≡◌, ℕ, List, [], Option, None}
 use Rattle.mc_types.specs.declared.ask.Ask.{Ask}
 use Rattle.mc_types.specs.declared.answer.Answer.{Answer}
 use Rattle.mc_types.specs.Items.{Item}
-use Rattle.fresh_runs.specs.Run.{Words}
-use Rattle.fresh_runs.specs.Sharing.{LosesOnly, calls_in}
+use Rattle.fresh_runs.specs.Calls.{Words}
+use Rattle.fresh_runs.specs.Run.{LosesOnly, calls_in}
 use Rattle.fresh_runs.specs.Protocol.{Protocol, silence}
 use Rattle.fresh_runs.specs.Overlap.{run_of, Follows}
 use Rattle.fresh_runs.specs.OverlapStream.{stream_of}

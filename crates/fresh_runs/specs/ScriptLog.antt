@@ -4,8 +4,8 @@ use Rattle.mc_types.specs.declared.ask.Ask.{Ask}
 use Rattle.mc_types.specs.declared.answer.Answer.{Answer}
 use Rattle.mc_types.specs.declared.call.Origin.{Origin}
 use Rattle.mc_types.specs.Items.{Item}
-use Rattle.fresh_runs.specs.Run.{Words, Call, End, Read, Unread, Never}
-use Rattle.fresh_runs.specs.Sharing.{Event, Calls, Turns, Restarts, calls_so_far, commands_in, IsApart}
+use Rattle.fresh_runs.specs.Calls.{Words, Call, End, Read, Unread, Never}
+use Rattle.fresh_runs.specs.Run.{Event, Calls, Turns, Restarts, calls_so_far, commands_in, IsApart}
 pub use Rattle.fresh_runs.specs.Log.{Manner, Before, After, Junk, Cut}
 use Rattle.fresh_runs.specs.Log.{Loss, Lose, Restart, Part}
 use Rattle.fresh_runs.specs.Protocol.{Protocol}

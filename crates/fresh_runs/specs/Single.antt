@@ -11,7 +11,7 @@ use Rattle.mc_types.specs.ErrorTexts.{own_text}
 use Rattle.mc_types.specs.Asks.{IsAsk}
 use Rattle.mc_types.specs.Fits.{Fits}
 use Rattle.mc_types.specs.Shows.{shows}
-use Rattle.fresh_runs.specs.Run.{Call}
+use Rattle.fresh_runs.specs.Calls.{Call}
 
 -- an answer fits the ask; a call may always fail
 abbrev pub FitsOutcome : Ask → Outcome → Type 0

@@ -5,7 +5,7 @@ ghost use Rattle.fresh_runs.specs.ScriptLaws.{Stage, ScriptHasCore, no_stage};
 ghost use Rattle.std.specs.Prelude.{ℕ, List, Option, None};
 ghost use Rattle.mc_types.specs.declared.ask.Ask.{Ask};
 ghost use Rattle.mc_types.specs.Items.{Item};
-ghost use Rattle.fresh_runs.specs.Run.{Words};
+ghost use Rattle.fresh_runs.specs.Calls.{Words};
 ghost use Rattle.fresh_runs.specs.Protocol.{Protocol, silence};
 
 use std::marker::Brand;

@@ -1,7 +1,7 @@
 -- Looks that all ended well make a valid certificate, and a tree that covers itself is a first generation.
 use Rattle.std.proofs.Common.{◌≡◌, ℕ, zero, suc, ◌<◌, List, [], ◌∷◌, length, slice_get, Some, refl, subst, arith}
 use Rattle.route_tree.specs.Each.{Each}
-use Rattle.fresh_runs.proofs.Fresh.{fresh}
+use Rattle.fresh_runs.proofs.Fresh.{runs_are_fresh}
 use Rattle.route_tree.specs.Direct.{words_of}
 use Rattle.route_tree.specs.Route.{Route, IsTree}
 use Rattle.gate_check.specs.declared.places.table.Class.{Class}
@@ -52,4 +52,4 @@ pub certified_is_fresh : CertifiedIsFresh
 certified_is_fresh tree is certified =
     let h : HasCertificate tree certified.0 = certified.1 in
     let covers : CoversAt tree tree = valid_is_sound tree h.table certified.0 h.is_table.is_table h.valid in
-    (covers, fresh (words_of tree) (sound_is_covered (λ n. tree) (λ n. is) (λ n m lt. covers)))
+    (covers, runs_are_fresh (words_of tree) (sound_is_covered (λ n. tree) (λ n. is) (λ n m lt. covers)))

@@ -1,7 +1,7 @@
 -- Every run over sound generations is fresh.
 use Rattle.std.proofs.Common.{ℕ, List}
 use Rattle.fresh_runs.specs.Cover.{IsCovered}
-use Rattle.fresh_runs.proofs.Fresh.{fresh}
+use Rattle.fresh_runs.proofs.Fresh.{runs_are_fresh}
 use Rattle.route_tree.specs.Route.{Route, IsTree}
 use Rattle.route_tree.specs.At.{tree_at}
 use Rattle.route_tree.specs.Word.{tree_words}
@@ -17,6 +17,6 @@ covered trees are tree loaded =
 
 pub generations_are_fresh : GenerationsAreFresh
 generations_are_fresh trees are = (
-  (λ tree loaded. fresh (tree_words (λ n key. tree_at (tree n) key)) (covered trees are tree loaded)),
+  (λ tree loaded. runs_are_fresh (tree_words (λ n key. tree_at (tree n) key)) (covered trees are tree loaded)),
   covered trees are,
 )

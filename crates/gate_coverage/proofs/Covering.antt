@@ -20,7 +20,7 @@ use Rattle.mc_types.specs.Tokens.{LetterC, LetterF, LetterK, LetterS, LetterO, w
 use Rattle.mc_types.specs.Asks.{IsAsk, of_store, HasShapeOf, meta_shape, shape_of}
 use Rattle.mc_types.specs.Fits.{Fits, FitsIn, FitsClassic, FitsMeta, FitsMetaCode, FitsMetaStore, FitsMetaDelete, StandAs}
 use Rattle.mc_types.specs.Shows.{shows, fields_show}
-use Rattle.fresh_runs.specs.Run.{Call}
+use Rattle.fresh_runs.specs.Calls.{Call}
 use Rattle.fresh_runs.specs.Single.{FitsOutcome}
 use Rattle.route_tree.specs.Each.{Each}
 use Rattle.route_tree.specs.Operation.{same_op}

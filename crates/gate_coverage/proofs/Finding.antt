@@ -14,7 +14,7 @@ use Rattle.mc_types.specs.Asks.{IsAsk}
 use Rattle.mc_types.specs.Fits.{Fits}
 use Rattle.mc_types.specs.Rank.{rank_of, IsWorst, NoneAbove}
 use Rattle.mc_types.specs.Shows.{shows}
-use Rattle.fresh_runs.specs.Run.{Call}
+use Rattle.fresh_runs.specs.Calls.{Call}
 use Rattle.route_tree.specs.Operation.{same_op}
 use Rattle.route_tree.specs.Plan.{Plan, Plans, PlanPolicies, Server, Null, Failing, AllSync, Failover, MissFailover, WarmUp, ByOperation, End, More, Otherwise, Policy, IsNotEmpty, IsGood, AreGood, ArePoliciesGood}
 use Rattle.route_tree.specs.Word.{Given, rank, given_by, plain_get, refill, is_plain_get, Word, WordOfAll, WordOfFirst, WordOfHead, WordOfPolicy, Then, AfterRefill, Refilled, AfterWarm, AfterCold, WarmUpWord}

@@ -17,7 +17,7 @@ use Rattle.mc_types.specs.Acknowledged.{says_gone}
 use Rattle.mc_types.specs.Asks.{IsAsk}
 use Rattle.mc_types.specs.Fits.{Fits, FitsIn, FitsClassic, FitsMeta, FitsDelete}
 use Rattle.mc_types.specs.Rank.{rank_of, IsWorst, NoneAbove}
-use Rattle.fresh_runs.specs.Run.{Call}
+use Rattle.fresh_runs.specs.Calls.{Call}
 use Rattle.fresh_runs.specs.Cover.{ClearsIn}
 use Rattle.fresh_runs.specs.Single.{FitsOutcome}
 use Rattle.route_tree.specs.Each.{Each}

@@ -19,7 +19,7 @@ use Rattle.mc_types.specs.declared.call.Outcome.TheVariants.{Answered, Failed}
 use Rattle.mc_types.specs.Fits.{Fits, FitsIn, FitsClassic, FitsMeta, FitsMetaCode}
 use Rattle.mc_types.specs.Rank.{rank_of, IsWorst, NoneAbove}
 use Rattle.mc_types.specs.Shows.{shows, fields_show}
-use Rattle.fresh_runs.specs.Run.{Call}
+use Rattle.fresh_runs.specs.Calls.{Call}
 use Rattle.fresh_runs.specs.Single.{FitsOutcome}
 use Rattle.route_tree.specs.Operation.{same_op}
 use Rattle.route_tree.specs.Plan.{Plan, Plans, PlanPolicies, Server, Null, Failing, AllSync, Failover, MissFailover, WarmUp, ByOperation, End, More, Otherwise, Policy}

@@ -3,7 +3,7 @@ use Rattle.std.proofs.Common.{◌≡◌, ℕ, true, ◌||◌, ⊎_elim, subst}
 use Rattle.mc_types.specs.declared.ask.Op.{Op}
 use Rattle.mc_types.specs.declared.ask.Op.TheVariants.{Get, Gat, Set, Add, Replace, Append, Prepend, Cas, Delete, Incr, Decr, Touch}
 use Rattle.mc_types.specs.declared.call.Origin.TheVariants.{Client}
-use Rattle.fresh_runs.specs.Run.{Call}
+use Rattle.fresh_runs.specs.Calls.{Call}
 use Rattle.route_tree.specs.Each.{IsIn}
 use Rattle.route_tree.specs.Plan.{Plan, IsGood}
 use Rattle.route_tree.specs.Servers.{servers}

@@ -12,7 +12,7 @@ use Rattle.mc_types.specs.declared.call.Outcome.TheVariants.{Answered}
 use Rattle.mc_types.specs.Fits.{Fits}
 use Rattle.mc_types.specs.Rank.{rank_of}
 use Rattle.mc_types.specs.Shows.{shows}
-use Rattle.fresh_runs.specs.Run.{Call}
+use Rattle.fresh_runs.specs.Calls.{Call}
 use Rattle.route_tree.specs.Each.{Each}
 use Rattle.route_tree.specs.Operation.{same_op}
 use Rattle.route_tree.specs.Plan.{Plan, Plans, PlanPolicies, Server, Null, Failing, AllSync, Failover, MissFailover, WarmUp, ByOperation, End, More, Otherwise, Policy, IsGood, AreGood, ArePoliciesGood}

@@ -7,7 +7,7 @@ use Rattle.mc_types.specs.declared.answer.Answer.{Answer}
 use Rattle.mc_types.specs.declared.call.Origin.TheVariants.{Client}
 use Rattle.mc_types.specs.KeyText.{IsKey}
 use Rattle.mc_types.specs.Items.{Item}
-use Rattle.fresh_runs.specs.Run.{Call}
+use Rattle.fresh_runs.specs.Calls.{Call}
 use Rattle.fresh_runs.specs.Protocol.{Protocol, IsStuck}
 use Rattle.route_tree.specs.Each.{Each}
 use Rattle.route_tree.specs.Plan.{Plan, IsGood}

@@ -12,9 +12,9 @@ use Rattle.mc_types.specs.Acknowledged.{says_gone}
 use Rattle.mc_types.specs.Agree.{Agrees, AgreesAs, AgreesHeld}
 use Rattle.mc_types.specs.Items.{Item}
 use Rattle.fresh_runs.specs.Life.{Mark, held_in}
-use Rattle.fresh_runs.specs.Run.{Call, Read, outcome_of, marks_of}
-use Rattle.fresh_runs.specs.Sharing.{Event, Begins, Calls, Replies, life_of, under_way, calls_so_far, held, item_at, EndsWell, IsNewNumber, IsFront, Run, IsAcknowledged, IsShown}
-use Rattle.fresh_runs.proofs.Sharing.{new_calls}
+use Rattle.fresh_runs.specs.Calls.{Call, Read, outcome_of, marks_of}
+use Rattle.fresh_runs.specs.Run.{Event, Begins, Calls, Replies, life_of, under_way, calls_so_far, held, item_at, EndsWell, IsNewNumber, IsFront, Run, IsAcknowledged, IsShown}
+use Rattle.fresh_runs.proofs.Runs.{new_calls}
 use Rattle.route_tree.specs.Each.{Each}
 use Rattle.route_tree.specs.Plan.{Plan}
 use Rattle.route_tree.specs.Word.{answer_of_nothing, tree_words}

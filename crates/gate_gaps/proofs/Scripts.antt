@@ -7,8 +7,8 @@ use Rattle.mc_types.specs.declared.answer.Answer.{Answer}
 use Rattle.mc_types.specs.declared.call.Outcome.{Outcome}
 use Rattle.mc_types.specs.declared.call.Outcome.TheVariants.{Answered, Failed}
 use Rattle.mc_types.specs.Items.{Item}
-use Rattle.fresh_runs.specs.Run.{Call, Words, outcome_of}
-use Rattle.fresh_runs.specs.Sharing.{Event, Begins, Calls, Replies, under_way, calls_so_far, commands_in, MayCome, Run, IsFreshByNumber}
+use Rattle.fresh_runs.specs.Calls.{Call, Words, outcome_of}
+use Rattle.fresh_runs.specs.Run.{Event, Begins, Calls, Replies, under_way, calls_so_far, commands_in, MayCome, Run, IsFreshByNumber}
 use Rattle.fresh_runs.specs.Protocol.{Protocol, IsStuck}
 use Rattle.fresh_runs.specs.Log as said
 use Rattle.fresh_runs.specs.Log.{Part}

@@ -11,8 +11,8 @@ use Rattle.mc_types.specs.Fits.{Fits}
 use Rattle.mc_types.specs.Items.{Item}
 use Rattle.mc_types.specs.Rank.{rank_of}
 use Rattle.mc_types.specs.Shows.{shows}
-use Rattle.fresh_runs.specs.Run.{Call, End, Read, Never}
-use Rattle.fresh_runs.specs.Sharing.{Event, Begins, Calls, Replies, Run, IsFreshByNumber}
+use Rattle.fresh_runs.specs.Calls.{Call, End, Read, Never}
+use Rattle.fresh_runs.specs.Run.{Event, Begins, Calls, Replies, Run, IsFreshByNumber}
 use Rattle.route_tree.specs.Each.{Each}
 use Rattle.route_tree.specs.Plan.{Plan, IsGood}
 use Rattle.route_tree.specs.Word.{answer_of_nothing, tree_words}

@@ -3,8 +3,8 @@ use Rattle.std.specs.Prelude.{◌≡◌, ℕ, zero, suc, ◌≤◌, true, List, 
 use Rattle.mc_types.specs.declared.ask.Ask.{Ask}
 use Rattle.mc_types.specs.declared.answer.Answer.{Answer}
 use Rattle.mc_types.specs.Items.{Item}
-use Rattle.fresh_runs.specs.Run.{Words}
-use Rattle.fresh_runs.specs.Sharing.{IsFreshByNumber, commands_in}
+use Rattle.fresh_runs.specs.Calls.{Words}
+use Rattle.fresh_runs.specs.Run.{IsFreshByNumber, commands_in}
 use Rattle.fresh_runs.specs.Protocol.{Protocol, IsStuck}
 use Rattle.fresh_runs.specs.Log.{Scripted, Piece, Add, Result, Fail, Hold, At, Now, Moment, Before}
 use Rattle.fresh_runs.specs.Overlap.{run_of, IsSettled}

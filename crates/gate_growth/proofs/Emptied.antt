@@ -7,9 +7,9 @@ use Rattle.mc_types.specs.declared.call.Origin.{Origin}
 use Rattle.mc_types.specs.declared.call.Origin.TheVariants.{Client, CopyOf}
 use Rattle.mc_types.specs.Items.{Item}
 use Rattle.mc_types.specs.Agree.{Agrees}
-use Rattle.fresh_runs.specs.Run.{Call, End, Read, Unread, Never}
-use Rattle.fresh_runs.specs.Sharing.{Event, Begins, Calls, Replies, Breaks, Turns, Restarts, held, item_at, calls_so_far, GivesStamp, EndsWell, Run, IsShown}
-use Rattle.fresh_runs.proofs.SharingHeld.{held_after, event_same}
+use Rattle.fresh_runs.specs.Calls.{Call, End, Read, Unread, Never}
+use Rattle.fresh_runs.specs.Run.{Event, Begins, Calls, Replies, Breaks, Turns, Restarts, held, item_at, calls_so_far, GivesStamp, EndsWell, Run, IsShown}
+use Rattle.fresh_runs.proofs.HeldAfter.{held_after, event_same}
 use Rattle.gate_growth.specs.Emptied.{WasEmptied, AreEmptiedFirst, emptied_opening, EmptiedIsFresh}
 use Rattle.fresh_runs.proofs.UntouchedFresh.{fresh, fresh_by_number}
 

@@ -1,6 +1,6 @@
 -- Calls that put an item on a server, in parts of a list of calls.
 use Rattle.std.proofs.Common.{ℕ, ◌+◌, List, [], ◌++◌, length, ◌⊎◌, inl, inr, ⊎_elim}
-use Rattle.fresh_runs.specs.Run.{Call}
+use Rattle.fresh_runs.specs.Calls.{Call}
 use Rattle.fresh_runs.specs.Untouched.{PutsIn}
 use Rattle.route_tree.proofs.Showing.{get_front, get_back}
 use Rattle.gate_coverage.proofs.Choices.{get_either}

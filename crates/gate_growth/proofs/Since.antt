@@ -8,11 +8,10 @@ use Rattle.mc_types.specs.declared.ask.Ask.{Ask}
 use Rattle.mc_types.specs.declared.answer.Answer.{Answer}
 use Rattle.mc_types.specs.declared.call.Origin.TheVariants.{Client}
 use Rattle.mc_types.specs.Items.{Item}
-use Rattle.fresh_runs.specs.Run.{Call}
+use Rattle.fresh_runs.specs.Calls.{Call}
 use Rattle.fresh_runs.specs.Cover.{TakesIn, IsCleared}
 use Rattle.fresh_runs.specs.Untouched.{IsUntouched, IsCoveredOrUntouched}
-use Rattle.fresh_runs.proofs.UntouchedFresh.{fresh, fresh_by_number}
-use Rattle.fresh_runs.proofs.UntouchedAlone as alone
+use Rattle.fresh_runs.proofs.UntouchedFresh.{fresh, fresh_by_number, runs_fresh_from}
 use Rattle.route_tree.specs.Tag.{key_hash}
 use Rattle.route_tree.specs.Each.{Each}
 use Rattle.route_tree.specs.Plan.{Plan}
@@ -163,5 +162,5 @@ grown_are_fresh Bars arbitrary trees are since tree loaded opening opens events 
     )
 
 pub grown_runs_of_trees : GrownRunsOfTreesAreFresh
-grown_runs_of_trees arbitrary trees are since tree loaded opening opens events run =
-    alone.fresh (tree_words (λ n key. tree_at (tree n) key)) opening (is_covered arbitrary trees are since tree loaded opening opens) events run
+grown_runs_of_trees arbitrary trees are since tree loaded opening opens =
+    runs_fresh_from (tree_words (λ n key. tree_at (tree n) key)) opening (is_covered arbitrary trees are since tree loaded opening opens)

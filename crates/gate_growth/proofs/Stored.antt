@@ -7,7 +7,7 @@ use Rattle.mc_types.specs.declared.ask.Ask.{Ask}
 use Rattle.mc_types.specs.declared.answer.Answer.{Answer}
 use Rattle.mc_types.specs.declared.call.Origin.{Origin}
 use Rattle.mc_types.specs.declared.call.Origin.TheVariants.{Client, CopyOf}
-use Rattle.fresh_runs.specs.Run.{Call}
+use Rattle.fresh_runs.specs.Calls.{Call}
 use Rattle.fresh_runs.proofs.Lists.{only_one}
 use Rattle.fresh_runs.specs.Untouched.{IsPutting, PutsIn}
 use Rattle.route_tree.specs.Operation.{same_op}

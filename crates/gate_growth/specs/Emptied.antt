@@ -3,8 +3,8 @@ use Rattle.std.specs.Prelude.{◌≡◌, ℕ, Bool, true, List, [], ◌∷◌, O
 use Rattle.mc_types.specs.declared.ask.Ask.{Ask}
 use Rattle.mc_types.specs.declared.answer.Answer.{Answer}
 use Rattle.mc_types.specs.Items.{Item}
-use Rattle.fresh_runs.specs.Run.{Call}
-use Rattle.fresh_runs.specs.Sharing.{Event, Begins, Calls, Replies, Breaks, Turns, Restarts, LosesOnly, Run, CopiesBar, AreAlone, IsFresh, IsFreshByNumber}
+use Rattle.fresh_runs.specs.Calls.{Call}
+use Rattle.fresh_runs.specs.Run.{Event, Begins, Calls, Replies, Breaks, Turns, Restarts, LosesOnly, Run, CopiesBar, AreAlone, IsFresh, IsFreshByNumber}
 use Rattle.fresh_runs.specs.Untouched.{IsCoveredOrUntouched}
 
 -- the server was emptied

@@ -2,8 +2,8 @@
 use Rattle.std.specs.Prelude.{◌≡◌, ◌↔◌, ℕ, suc, ◌%◌, ◌<◌, ◌≤◌, Bool, true, false, List, [], ◌∷◌, ◌++◌, Option, Some, None, ◌⊎◌, slice_get, take}
 use Rattle.mc_types.specs.declared.ask.Ask.{Ask}
 use Rattle.mc_types.specs.Items.{Item}
-use Rattle.fresh_runs.specs.Sharing.{Event, LosesOnly, Run, CopiesBar, AreAlone, IsFresh, IsFreshByNumber}
-use Rattle.fresh_runs.specs.Run as alone
+use Rattle.fresh_runs.specs.Run.{Event, LosesOnly, Run, CopiesBar, AreAlone, IsFresh, IsFreshByNumber}
+use Rattle.fresh_runs.specs.Freshness.{RunsAreFreshFrom}
 use Rattle.fresh_runs.specs.Untouched.{IsCoveredOrUntouched}
 use Rattle.route_tree.specs.declared.place.Place.{Place}
 use Rattle.route_tree.specs.Each.{Each}
@@ -82,11 +82,11 @@ GrownGenerationsAreFresh Bars =
     → (events : List Event) → LosesOnly events → Run (tree_words (λ n key. tree_at (tree n) key)) Bars opening events
     → (CopiesBar (tree_words (λ n key. tree_at (tree n) key)) Bars → IsFresh opening events) × (AreAlone Bars → IsFreshByNumber opening events)
 
--- every run in which a key has one command at a time, by the tree that is loaded when it begins, is fresh
+-- every run of commands, each by the tree that is loaded when it begins, is fresh
 abbrev pub EveryGrownRunIsFresh : (ℕ → Bool) → List Route → Type 0
 EveryGrownRunIsFresh arbitrary trees =
     (tree : ℕ → Route) → AreLoaded trees tree → (opening : ℕ → List ℕ → Option Item) → OpensBy arbitrary trees opening
-    → (events : List alone.Event) → alone.Run (tree_words (λ n key. tree_at (tree n) key)) opening events → alone.IsFresh opening events
+    → RunsAreFreshFrom (tree_words (λ n key. tree_at (tree n) key)) opening
 
 -- so it is over sound generations
 abbrev pub GrownRunsOfTreesAreFresh : Type 0

@@ -1,5 +1,4 @@
 pub mod UntouchedLaws
-pub mod UntouchedAlone
 pub mod Emptied
 pub mod Puts
 pub mod PutsComputed

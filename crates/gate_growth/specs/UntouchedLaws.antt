@@ -3,9 +3,10 @@ use Rattle.std.specs.Prelude.{◌≡◌, ℕ, List, Option, None}
 use Rattle.mc_types.specs.declared.ask.Ask.{Ask}
 use Rattle.mc_types.specs.declared.answer.Answer.{Answer}
 use Rattle.mc_types.specs.Items.{Item, after_call}
-use Rattle.fresh_runs.specs.Run.{Call}
+use Rattle.fresh_runs.specs.Calls.{Call}
 use Rattle.fresh_runs.specs.Cover.{IsCovered}
-use Rattle.fresh_runs.specs.Sharing.{Event, LosesOnly, Run, CopiesBar, AreAlone, IsFresh, IsFreshByNumber}
+use Rattle.fresh_runs.specs.Run.{Event, LosesOnly, Run, CopiesBar, AreAlone, IsFresh, IsFreshByNumber}
+use Rattle.fresh_runs.specs.Freshness.{RunsAreFreshFrom}
 use Rattle.fresh_runs.specs.Untouched.{IsPutting, IsCoveredOrUntouched}
 
 -- where nothing is held, a call that doesn't put an item leaves nothing, whatever it is answered
@@ -29,3 +30,7 @@ module _ (words : ℕ → Ask → List Call → Answer → Option ℕ → Type 0
   GrownIsFreshByNumber =
       IsCoveredOrUntouched words opening → AreAlone Bars
       → (events : List Event) → LosesOnly events → Run words Bars opening events → IsFreshByNumber opening events
+
+-- with just what copies barring deletes, and with each command alone on its key, each run from there is fresh
+abbrev pub GrownRunsAreFresh : (ℕ → Ask → List Call → Answer → Option ℕ → Type 0) → (ℕ → List ℕ → Option Item) → Type 0
+GrownRunsAreFresh words opening = IsCoveredOrUntouched words opening → RunsAreFreshFrom words opening

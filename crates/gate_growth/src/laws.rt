@@ -3,7 +3,7 @@
 
 ghost use Rattle.std.specs.Prelude.{ℕ};
 ghost use Rattle.mc_types.specs.declared.ask.Ask.{Ask};
-ghost use Rattle.fresh_runs.specs.SharingLaws.{nobody_bars};
+ghost use Rattle.fresh_runs.specs.Freshness.{nobody_bars};
 ghost use Rattle.gate_growth.specs.Grown.{SoundIsSoundSince, ArbitraryIsToday, ReloadIsSound, RefinedIsKnown, SinceIsCovered, GrownGenerationsAreFresh, GrownRunsOfTreesAreFresh};
 ghost use Rattle.gate_growth.specs.Slots.{GrowingSlotsAreSound};
 
@@ -48,7 +48,7 @@ pub fn grown_generations_are_fresh<W: HasBars>()
     ensures { GrownGenerationsAreFresh W.bars }
 {}
 
-/// The same of runs in which a key has one command at a time.
+/// The same with just what copies barring deletes, and by numbers where a key has one command at a time.
 pub fn grown_runs_of_trees_are_fresh()
     ensures { GrownRunsOfTreesAreFresh }
 {}

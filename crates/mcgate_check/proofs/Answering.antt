@@ -6,8 +6,8 @@ use Rattle.std.proofs.lemmas.Bool.{eq-eqb}
 use Rattle.std.proofs.lemmas.List.{length-replicate}
 use Rattle.fresh_runs.specs.Log.{Scripted, Shown}
 use Rattle.fresh_runs.specs.Overlap.{run_of}
-use Rattle.fresh_runs.specs.Sharing.{AreAlone}
-use Rattle.fresh_runs.proofs.SharingStale.{counts_stale}
+use Rattle.fresh_runs.specs.Run.{AreAlone}
+use Rattle.fresh_runs.proofs.Stale.{counts_stale}
 use Rattle.wire_parts.specs.declared.skip.Skip.TheVariants.{Nothing}
 use Rattle.wire_parts.specs.Stream.{Stands}
 use Rattle.wire_stream.specs.Spelling.{message_of}

@@ -4,7 +4,7 @@ use Rattle.mc_types.specs.declared.ask.Op.TheVariants.{Delete}
 use Rattle.fresh_runs.specs.Log.{Scripted}
 use Rattle.fresh_runs.specs.Overlap.{Entry, run_of}
 use Rattle.fresh_runs.specs.OverlapStream.{stream_of}
-use Rattle.fresh_runs.specs.Sharing.{LosesOnly, IsFreshByNumber, commands_in}
+use Rattle.fresh_runs.specs.Run.{LosesOnly, IsFreshByNumber, commands_in}
 use Rattle.route_tree.specs.Place.{tree_at_place}
 use Rattle.route_tree.specs.At.{tree_at}
 use Rattle.route_tree.specs.Route.{Route}

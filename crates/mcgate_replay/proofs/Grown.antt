@@ -4,8 +4,8 @@ use Rattle.std.specs.Prelude.{IfOk, ok_or, ◌⊎◌}
 use Rattle.mc_types.specs.Items.{Item}
 use Rattle.fresh_runs.specs.Log.{Shown}
 use Rattle.fresh_runs.specs.Overlap.{Entry, run_of}
-use Rattle.fresh_runs.specs.Sharing.{LosesOnly, IsFreshByNumber}
-use Rattle.fresh_runs.proofs.SharingStale.{counts_stale}
+use Rattle.fresh_runs.specs.Run.{LosesOnly, IsFreshByNumber}
+use Rattle.fresh_runs.proofs.Stale.{counts_stale}
 use Rattle.route_tree.specs.At.{tree_at}
 use Rattle.route_tree.specs.Each.{Each}
 use Rattle.route_tree.specs.Plan.{Plan}

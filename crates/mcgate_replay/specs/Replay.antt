@@ -15,7 +15,7 @@ use Rattle.script_events.specs.Scripted.{Scripted, Shown, scripted_of}
 use Rattle.script_events.specs.Opening.{opening_of}
 use Rattle.script_events.specs.Reloads.{AreInOrder}
 use Rattle.fresh_runs.specs.Overlap.{run_of}
-use Rattle.fresh_runs.specs.Sharing.{IsFreshByNumber}
+use Rattle.fresh_runs.specs.Run.{IsFreshByNumber}
 use Rattle.script_run.specs.Driving.{DrivesStepped, StepsPart, AreSpentIn, AreMarks}
 use Rattle.script_run.specs.declared.accepted.judging.Loading.{Loading}
 use Rattle.script_run.specs.declared.accepted.judging.Loading.TheVariants.{Loaded, Refused}

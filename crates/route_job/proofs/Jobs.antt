@@ -4,7 +4,7 @@ use Rattle.mc_types.specs.declared.ask.Ask.{Ask}
 use Rattle.mc_types.specs.declared.call.Origin.{Origin}
 use Rattle.mc_types.specs.declared.call.Origin.TheVariants.{Client}
 use Rattle.mc_types.specs.declared.call.Outcome.{Outcome}
-use Rattle.fresh_runs.specs.Run.{Call}
+use Rattle.fresh_runs.specs.Calls.{Call}
 use Rattle.fresh_runs.specs.Single.{FitsOutcome}
 use Rattle.route_tree.specs.Tag.{key_hash}
 use Rattle.route_tree.proofs.PlainTrees.{plan_plain}

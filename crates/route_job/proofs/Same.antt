@@ -4,7 +4,7 @@ use Rattle.std.proofs.lemmas.Bool.{cases_lt, lt-ltb, le-ltb, MatchBool-at_true, 
 use Rattle.mc_types.specs.declared.ask.Ask.{Ask}
 use Rattle.mc_types.specs.declared.call.Origin.{Origin}
 use Rattle.mc_types.specs.Rank.{IsWorst, NoneAbove}
-use Rattle.fresh_runs.specs.Run.{Call}
+use Rattle.fresh_runs.specs.Calls.{Call}
 use Rattle.route_tree.specs.Plan.{Plan, Plans, End, More, AllSync}
 use Rattle.route_tree.specs.Word.{Given, rank, Gives, Then, Word, WordOfFirst, IsEnd}
 use Rattle.route_job.specs.Parts.{SameAt, worse, WorstWith, AfterFirst}

@@ -8,7 +8,7 @@ use Rattle.mc_types.specs.Rank.{IsWorst}
 use Rattle.mc_types.specs.ErrorTexts.{own_text}
 use Rattle.mc_types.specs.declared.answer.Answer.TheVariants.{ServerError}
 use Rattle.mc_types.specs.declared.error_text.OwnText.TheVariants.{OutOfMemory}
-use Rattle.fresh_runs.specs.Run.{Call}
+use Rattle.fresh_runs.specs.Calls.{Call}
 use Rattle.route_tree.specs.Plan.{Plans, End, More}
 use Rattle.route_tree.specs.Word.{Given, rank, Gives, WordOfAll, WordOfFirst}
 

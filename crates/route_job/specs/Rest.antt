@@ -3,7 +3,7 @@ use Rattle.std.specs.Prelude.{ℕ, List, [], ◌∷◌, Option, Some, None, opti
 use Rattle.mc_types.specs.declared.ask.Ask.{Ask}
 use Rattle.mc_types.specs.declared.call.Origin.{Origin}
 use Rattle.mc_types.specs.declared.call.Origin.TheVariants.{CopyOf}
-use Rattle.fresh_runs.specs.Run.{Call}
+use Rattle.fresh_runs.specs.Calls.{Call}
 use Rattle.route_tree.specs.At.{plain_for, plain_for_all}
 use Rattle.route_tree.specs.Plan.{Server}
 use Rattle.route_tree.specs.Word.{Given, rank, Gives, Then, Word, plain_get, refill, AfterCold, AfterWarm, AfterRefill}

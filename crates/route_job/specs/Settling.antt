@@ -4,7 +4,7 @@ use Rattle.std.specs.Coded.{×_prop, le_prop, Coded-set, coded_bool}
 use Rattle.mc_types.specs.declared.ask.Ask.{Ask}
 use Rattle.mc_types.specs.declared.call.Origin.{Origin}
 use Rattle.mc_types.specs.declared.call.Origin.TheVariants.{Client}
-use Rattle.fresh_runs.specs.Run.{Call}
+use Rattle.fresh_runs.specs.Calls.{Call}
 use Rattle.route_tree.specs.Word.{Given}
 use Rattle.route_tree.specs.At.{plain_for, plain_for_all}
 use Rattle.route_tree.specs.Plan.{count, count_of_all}

@@ -2,7 +2,7 @@
 
 ghost use Rattle.std.specs.Prelude.{◌≡◌, ◌↔◌, MatchBool, ◌+◌, ◌≤◌, List, [], ◌∷◌, IfNone, IfOk, IfSome, OnOk, OnErr};
 ghost use Rattle.mc_types.specs.declared.call.Origin.TheVariants.{Client};
-ghost use Rattle.fresh_runs.specs.Run.{Call as CallMade};
+ghost use Rattle.fresh_runs.specs.Calls.{Call as CallMade};
 ghost use Rattle.fresh_runs.specs.Single.{FitsOutcome};
 ghost use Rattle.route_tree.specs.At.{tree_at};
 ghost use Rattle.route_tree.specs.Word.{Given, Word};

@@ -12,7 +12,7 @@ use Rattle.mc_types.specs.declared.call.Outcome.{Outcome}
 use Rattle.mc_types.specs.declared.call.Outcome.TheVariants.{Answered, Failed}
 use Rattle.mc_types.specs.Asks.{IsAsk}
 use Rattle.mc_types.specs.Shows.{shows}
-use Rattle.fresh_runs.specs.Run.{Call}
+use Rattle.fresh_runs.specs.Calls.{Call}
 use Rattle.fresh_runs.specs.Single.{FitsOutcome}
 use Rattle.fresh_runs.specs.Cover.{IsAnswerOf}
 use Rattle.route_tree.specs.Operation.{same_op}

@@ -6,7 +6,7 @@ use Rattle.mc_types.specs.declared.ask.Ask.{Ask}
 use Rattle.mc_types.specs.declared.answer.Answer.{Answer}
 use Rattle.mc_types.specs.declared.call.Origin.{Origin}
 use Rattle.mc_types.specs.declared.call.Outcome.{Outcome}
-use Rattle.fresh_runs.specs.Run.{Call}
+use Rattle.fresh_runs.specs.Calls.{Call}
 use Rattle.fresh_runs.specs.Single.{FitsOutcome, server_words}
 use Rattle.fresh_runs.specs.Cover.{ShowsWhatItFound}
 use Rattle.route_tree.specs.Each.{Each}

@@ -2,8 +2,7 @@
 use Rattle.std.proofs.Common.{◌≡◌, ℕ, zero, suc, ◌+◌, ◌<◌, ◌≤◌, Bool, true, false, cond, List, [], ◌∷◌, ◌++◌, length, Option, None, refl, sym, ap, ◌∙◌, subst, arith, nat_eq, bytes_eq}
 use Rattle.std.specs.Prelude.{slice_set, slice_index_or}
 use Rattle.mc_types.specs.Items.{Item}
-use Rattle.fresh_runs.specs.Run.{Event, Loses, Restarts}
-use Rattle.fresh_runs.specs.Fleet.{after_event}
+use Rattle.fresh_runs.specs.Run.{Event, Turns, Restarts, after_event}
 use Rattle.cache_server.specs.Contents.{Contents, losing, restarted}
 use Rattle.cache_server.specs.Held.{holds, IsLoss}
 use Rattle.script_events.specs.Caches.{loss_of, held_at, plain_for, place_of, changed_at, after_loss, lost_in}
@@ -41,7 +40,7 @@ lost_beyond caches (Restart server) le s k =
     (none_beyond caches server k le ∙ ap (λ b. cond b None (held_at caches server k)) (sym (same server)))
     (λ other. ap (λ b. cond b None (held_at caches s k)) (sym other))
 
-pub item_lost : (caches : List Contents) (server : ℕ) (key : List ℕ) (x y : Contents) → server < length caches → x ≡ slice_index_or caches server x → IsLoss (key ∷ []) x y → (s : ℕ) (k : List ℕ) → held_at (slice_set caches server y) s k ≡ after_event (Loses server key) (held_at caches) s k
+pub item_lost : (caches : List Contents) (server : ℕ) (key : List ℕ) (x y : Contents) → server < length caches → x ≡ slice_index_or caches server x → IsLoss (key ∷ []) x y → (s : ℕ) (k : List ℕ) → held_at (slice_set caches server y) s k ≡ after_event (Turns server key None) (held_at caches) s k
 item_lost caches server key x y lt at loss s k = loses_at caches server x y (key ∷ []) lt at loss s k
 
 pub all_lost : (caches : List Contents) (server : ℕ) (y : Contents) → server < length caches → ((k : List ℕ) → holds y k ≡ None) → (s : ℕ) (k : List ℕ) → held_at (slice_set caches server y) s k ≡ after_event (Restarts server) (held_at caches) s k
@@ -63,7 +62,7 @@ item_contents caches server place key loss x y is at lt got to =
 
 pub item_held : (caches : List Contents) (server place : ℕ) (key : List ℕ) (loss : Loss) (x y : Contents) → loss ≡ LostItem server key → place ≡ server → place < length caches → x ≡ slice_index_or caches place x → IsLoss (key ∷ []) x y → (s : ℕ) (k : List ℕ) → held_at (slice_set caches place y) s k ≡ after_event (loss_of loss) (held_at caches) s k
 item_held caches server place key loss x y is at lt got lost s k =
-    item_lost caches place key x y lt got lost s k ∙ ap (λ p. after_event (Loses p key) (held_at caches) s k) at ∙ ap (λ l. after_event (loss_of l) (held_at caches) s k) (sym is)
+    item_lost caches place key x y lt got lost s k ∙ ap (λ p. after_event (Turns p key None) (held_at caches) s k) at ∙ ap (λ l. after_event (loss_of l) (held_at caches) s k) (sym is)
 
 pub all_contents : (caches : List Contents) (server place : ℕ) (loss : Loss) (x y : Contents) → loss ≡ Restart server → place ≡ server → place < length caches → x ≡ slice_index_or caches place x → y ≡ restarted x → slice_set caches place y ≡ after_loss (loss_of loss) caches
 all_contents caches server place loss x y is at lt got to =

@@ -5,7 +5,7 @@ use Rattle.std.specs.Prelude.{slice_set, slice_index_or, nat_abs, nat_le, Result
 use Rattle.mc_types.specs.declared.ask.Ask.{Ask}
 use Rattle.mc_types.specs.declared.answer.Answer.{Answer}
 use Rattle.mc_types.specs.declared.call.Outcome.TheVariants.{Answered, Failed}
-use Rattle.fresh_runs.specs.Run.{Read, Unread, Never}
+use Rattle.fresh_runs.specs.Calls.{Read, Unread, Never}
 use Rattle.fresh_runs.specs.ScriptLog.{Before, After, Junk, Cut}
 use Rattle.cache_server.specs.Contents.{Contents}
 use Rattle.cache_server.specs.Table.{Applies}

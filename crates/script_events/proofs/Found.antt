@@ -6,7 +6,7 @@ use Rattle.mc_types.specs.declared.call.Outcome.{Outcome}
 use Rattle.mc_types.specs.declared.call.Outcome.TheVariants.{Answered, Failed}
 use Rattle.mc_types.specs.Items.{Item}
 use Rattle.mc_types.specs.Agree.{Agrees}
-use Rattle.fresh_runs.specs.Run.{Call}
+use Rattle.fresh_runs.specs.Calls.{Call}
 use Rattle.fresh_runs.specs.Cover.{IsAnswerOf}
 use Rattle.fresh_runs.proofs.Finding.{shown_needs_item}
 use Rattle.script_events.specs.Found.{stamp_in, stamp_at, IsStamp, AgreesWith, IsFound, AreFound}

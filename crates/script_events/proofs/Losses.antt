@@ -1,9 +1,8 @@
 -- Losses, one after another, as events of a run.
 use Rattle.std.proofs.Common.{◌≡◌, ℕ, zero, suc, ◌+◌, ◌<◌, cond, List, [], ◌∷◌, ◌++◌, length, map, take, get_or, Option, None, refl, sym, ap, ◌∙◌, subst, arith, nat_eq, bytes_eq}
 use Rattle.mc_types.specs.Items.{Item}
-use Rattle.fresh_runs.specs.Fleet as once
-use Rattle.fresh_runs.specs.Sharing.{after_event}
-use Rattle.fresh_runs.specs.SharingFleet.{after_losses}
+use Rattle.fresh_runs.specs.Run.{after_event}
+use Rattle.fresh_runs.specs.Fleet.{after_losses}
 use Rattle.fresh_runs.specs.ScriptLog.{lost_by}
 use Rattle.cache_server.specs.Contents.{Contents}
 use Rattle.script_events.specs.Caches.{loss_of, held_at, after_loss, lost_in}
@@ -12,8 +11,8 @@ use Rattle.script_events.specs.declared.servers.event.Loss.TheVariants.{Item as 
 use Rattle.script_events.proofs.CacheLosses.{lost_more, lost_len}
 use Rattle.script_events.specs.Losing.{told_of, events_of, AreLost}
 
--- what a loss leaves is said alike by both forms of runs
-pub same_event : (loss : Loss) (h : ℕ → List ℕ → Option Item) (s : ℕ) (k : List ℕ) → once.after_event (loss_of loss) h s k ≡ after_event (lost_by (told_of loss)) h s k
+-- a loss, as it is told, leaves the same
+pub same_event : (loss : Loss) (h : ℕ → List ℕ → Option Item) (s : ℕ) (k : List ℕ) → after_event (loss_of loss) h s k ≡ after_event (lost_by (told_of loss)) h s k
 same_event (LostItem server key) h s k = refl
 same_event (Restart server) h s k = refl
 
@@ -33,7 +32,7 @@ map_more (l ∷ losses) loss = ap (λ es. loss_of l ∷ es) (map_more losses los
 pub none_lost : (caches : List Contents) → AreLost [] caches caches
 none_lost caches = record { contents = refl; holds = λ s k. refl }
 
-pub one_more : (losses : List Loss) (loss : Loss) (old mid new : List Contents) → AreLost losses old mid → new ≡ after_loss (loss_of loss) mid → ((s : ℕ) (k : List ℕ) → held_at new s k ≡ once.after_event (loss_of loss) (held_at mid) s k) → AreLost (losses ++ loss ∷ []) old new
+pub one_more : (losses : List Loss) (loss : Loss) (old mid new : List Contents) → AreLost losses old mid → new ≡ after_loss (loss_of loss) mid → ((s : ℕ) (k : List ℕ) → held_at new s k ≡ after_event (loss_of loss) (held_at mid) s k) → AreLost (losses ++ loss ∷ []) old new
 one_more losses loss old mid new a contents held =
     record {
       contents = contents ∙ ap (after_loss (loss_of loss)) a.contents ∙ sym (lost_more (map loss_of losses) (loss_of loss) old) ∙ ap (λ l. lost_in l old) (sym (map_more losses loss));

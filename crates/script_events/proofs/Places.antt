@@ -4,8 +4,8 @@ use Rattle.std.specs.Prelude.{slice_get, slice_set, slice_index_or}
 use Rattle.std.proofs.Math.Dec.{eqb-suc-zero, eqb-zero-suc, eqb-suc-suc}
 use Rattle.std.proofs.lemmas.Bool.{eqb-true, eq-eqb}
 use Rattle.mc_types.specs.Items.{Item}
-use Rattle.fresh_runs.specs.Run.{Event, Loses}
 use Rattle.fresh_runs.specs.Fleet.{after_losses}
+use Rattle.script_events.specs.Law.{spills_of}
 use Rattle.cache_server.specs.Contents.{Contents}
 use Rattle.cache_server.specs.Held.{holds, without, IsLoss}
 use Rattle.script_events.specs.Caches.{held_at}
@@ -42,20 +42,16 @@ pub without_same : (lost : List (List ℕ)) (f g : List ℕ → Option Item) →
 without_same [] f g is k = is k
 without_same (key ∷ lost) f g is k = ap (λ o. cond (bytes_eq key k) None o) (without_same lost f g is k)
 
--- the keys that a server lost, as events
-abbrev pub losing_all : ℕ → List (List ℕ) → List Event
-losing_all server [] = []
-losing_all server (key ∷ lost) = Loses server key ∷ losing_all server lost
-
-pub lost_else : (server : ℕ) (lost : List (List ℕ)) (h : ℕ → List ℕ → Option Item) (s : ℕ) (k : List ℕ) → nat_eq server s ≡ false → after_losses (losing_all server lost) h s k ≡ h s k
+-- keys that a server loses, one after another
+pub lost_else : (server : ℕ) (lost : List (List ℕ)) (h : ℕ → List ℕ → Option Item) (s : ℕ) (k : List ℕ) → nat_eq server s ≡ false → after_losses (spills_of server lost) h s k ≡ h s k
 lost_else server [] h s k other = refl
 lost_else server (key ∷ lost) h s k other =
-    ap (λ b. cond b (cond (bytes_eq key k) None (after_losses (losing_all server lost) h s k)) (after_losses (losing_all server lost) h s k)) other ∙ lost_else server lost h s k other
+    ap (λ b. cond b (cond (bytes_eq key k) None (after_losses (spills_of server lost) h s k)) (after_losses (spills_of server lost) h s k)) other ∙ lost_else server lost h s k other
 
-pub lost_here : (server : ℕ) (lost : List (List ℕ)) (h : ℕ → List ℕ → Option Item) (k : List ℕ) → after_losses (losing_all server lost) h server k ≡ without lost (h server) k
+pub lost_here : (server : ℕ) (lost : List (List ℕ)) (h : ℕ → List ℕ → Option Item) (k : List ℕ) → after_losses (spills_of server lost) h server k ≡ without lost (h server) k
 lost_here server [] h k = refl
 lost_here server (key ∷ lost) h k =
-    ap (λ b. cond b (cond (bytes_eq key k) None (after_losses (losing_all server lost) h server k)) (after_losses (losing_all server lost) h server k)) (same server)
+    ap (λ b. cond b (cond (bytes_eq key k) None (after_losses (spills_of server lost) h server k)) (after_losses (spills_of server lost) h server k)) (same server)
     ∙ ap (λ o. cond (bytes_eq key k) None o) (lost_here server lost h k)
 
 -- two servers are the same or not, where something is to be shown of each
@@ -67,8 +63,8 @@ by_server P server s here there =
     ]) refl
 
 -- one cache lost keys, and the others are the same
-pub loses_at : (caches : List Contents) (server : ℕ) (x y : Contents) (lost : List (List ℕ)) → server < length caches → x ≡ slice_index_or caches server x → IsLoss lost x y → (s : ℕ) (k : List ℕ) → held_at (slice_set caches server y) s k ≡ after_losses (losing_all server lost) (held_at caches) s k
+pub loses_at : (caches : List Contents) (server : ℕ) (x y : Contents) (lost : List (List ℕ)) → server < length caches → x ≡ slice_index_or caches server x → IsLoss lost x y → (s : ℕ) (k : List ℕ) → held_at (slice_set caches server y) s k ≡ after_losses (spills_of server lost) (held_at caches) s k
 loses_at caches server x y lost lt is loss s k =
-    by_server (λ t. held_at (slice_set caches server y) t k ≡ after_losses (losing_all server lost) (held_at caches) t k) server s
+    by_server (λ t. held_at (slice_set caches server y) t k ≡ after_losses (spills_of server lost) (held_at caches) t k) server s
     (held_here caches server y lt k ∙ loss k ∙ without_same lost (holds x) (held_at caches server) (λ q. sym (held_there caches server x lt is q)) k ∙ sym (lost_here server lost (held_at caches) k))
     (λ other. held_else caches server y lt s k other ∙ sym (lost_else server lost (held_at caches) s k other))

@@ -7,12 +7,11 @@ use Rattle.mc_types.specs.declared.call.Origin.{Origin}
 use Rattle.mc_types.specs.declared.call.Outcome.TheVariants.{Answered, Failed}
 use Rattle.mc_types.specs.Items.{Item, after_call}
 use Rattle.mc_types.specs.Agree.{Agrees}
-use Rattle.fresh_runs.specs.Run.{End, Read, Unread, Never, outcome_of}
-use Rattle.fresh_runs.specs.Fleet.{StampIn}
+use Rattle.fresh_runs.specs.Calls.{End, Read, Unread, Never, outcome_of}
+use Rattle.fresh_runs.specs.Fleet.{StampIn, Fleet, after_losses, AreLosses}
 use Rattle.fresh_runs.specs.Single.{FitsOutcome}
-use Rattle.fresh_runs.specs.Sharing.{Event, Begins, Replies, Breaks, Turns, Restarts}
-use Rattle.fresh_runs.specs.Sharing as run
-use Rattle.fresh_runs.specs.SharingFleet.{Fleet, after_losses, AreLosses}
+use Rattle.fresh_runs.specs.Run.{Event, Begins, Replies, Breaks, Turns, Restarts}
+use Rattle.fresh_runs.specs.Run as run
 use Rattle.fresh_runs.specs.ScriptLog.{lost_by}
 use Rattle.cache_server.specs.Contents.{Contents}
 use Rattle.cache_server.specs.Held as cache
@@ -23,7 +22,7 @@ use Rattle.script_events.specs.Caches.{held_at}
 use Rattle.script_events.specs.declared.servers.event.Loss.{Loss}
 use Rattle.script_events.specs.declared.servers.event.Loss.TheVariants.{Item as LostItem, Restart}
 use Rattle.script_events.specs.declared.servers.event.Made.{Made}
-use Rattle.script_events.proofs.Places.{held_here, held_else, without_same, by_server, same}
+use Rattle.script_events.proofs.Places.{held_here, held_else, without_same, by_server, same, lost_else, lost_here}
 use Rattle.script_events.specs.Losing.{told_of, events_of, AreLost}
 use Rattle.script_events.specs.Calling.{EndsAs, AppliesAt, Ends}
 use Rattle.script_events.specs.Servers.{caches_of, turn_of, moment_of, named_of, lost_of}
@@ -96,17 +95,6 @@ are_spills : (server : ℕ) (keys : List (List ℕ)) → AreLosses (spills_of se
 are_spills server [] = tt
 are_spills server (key ∷ keys) = (refl, are_spills server keys)
 
-spilled_else : (server : ℕ) (keys : List (List ℕ)) (h : ℕ → List ℕ → Option Item) (s : ℕ) (k : List ℕ) → nat_eq server s ≡ false → after_losses (spills_of server keys) h s k ≡ h s k
-spilled_else server [] h s k other = refl
-spilled_else server (key ∷ keys) h s k other =
-    ap (λ b. cond b (cond (bytes_eq key k) None (after_losses (spills_of server keys) h s k)) (after_losses (spills_of server keys) h s k)) other ∙ spilled_else server keys h s k other
-
-spilled_here : (server : ℕ) (keys : List (List ℕ)) (h : ℕ → List ℕ → Option Item) (k : List ℕ) → after_losses (spills_of server keys) h server k ≡ without keys (h server) k
-spilled_here server [] h k = refl
-spilled_here server (key ∷ keys) h k =
-    ap (λ b. cond b (cond (bytes_eq key k) None (after_losses (spills_of server keys) h server k)) (after_losses (spills_of server keys) h server k)) (same server)
-    ∙ ap (λ o. cond (bytes_eq key k) None o) (spilled_here server keys h k)
-
 -- ---- the cache at a place
 
 held_got : (caches : List Contents) (s : ℕ) (x : Contents) → slice_get caches s ≡ Some x → (k : List ℕ) → held_at caches s k ≡ holds x k
@@ -155,10 +143,10 @@ module _ (number stamp : ℕ) (origin : Origin) (old : ScriptServers) (server : 
     keys = cache.lost_by (nat_abs (moment_of old)) stamp ask a.cache
 
     met_here : (k : List ℕ) → met keys server k ≡ without keys (holds a.cache) k
-    met_here k = met_is keys server k ∙ spilled_here server keys (held_at mid) k ∙ without_same keys (held_at mid server) (holds a.cache) (λ q. held_got mid server a.cache a.is_there q) k
+    met_here k = met_is keys server k ∙ lost_here server keys (held_at mid) k ∙ without_same keys (held_at mid server) (holds a.cache) (λ q. held_got mid server a.cache a.is_there q) k
 
     met_else : (s : ℕ) (k : List ℕ) → nat_eq server s ≡ false → met keys s k ≡ held_at mid s k
-    met_else s k other = met_is keys s k ∙ spilled_else server keys (held_at mid) s k other
+    met_else s k other = met_is keys s k ∙ lost_else server keys (held_at mid) s k other
 
     held_now : (s : ℕ) (k : List ℕ) → held_at (caches_of new) s k ≡ cond (nat_eq server s) (cond (bytes_eq ask.key k) (after_call ask stamp answer 0 (met keys s k)) (met keys s k)) (met keys s k)
     held_now s k =

@@ -4,7 +4,7 @@ use Rattle.std.specs.Ordering.{nat_cmp}
 use Rattle.std.specs.BTreeMap.{BTreeMap, get}
 use Rattle.std.specs.declared.alloc.Global.{Global}
 use Rattle.mc_types.specs.Items.{Item}
-use Rattle.fresh_runs.specs.Run.{Event, Loses, Restarts}
+use Rattle.fresh_runs.specs.Run.{Event, Turns, Restarts}
 use Rattle.cache_server.specs.Contents.{Contents, losing, restarted}
 use Rattle.cache_server.specs.Held as cache
 use Rattle.script_events.specs.declared.servers.event.Loss.{Loss}
@@ -12,7 +12,7 @@ use Rattle.script_events.specs.declared.servers.event.Loss.TheVariants as losses
 
 -- a loss, as an event of a run
 abbrev pub loss_of : Loss → Event
-loss_of (losses.Item server key) = Loses server key
+loss_of (losses.Item server key) = Turns server key None
 loss_of (losses.Restart server) = Restarts server
 
 -- the server of a loss
@@ -28,13 +28,13 @@ held_at (c ∷ caches) (suc s) k = held_at caches s k
 
 -- what a loss leaves of the cache of its server
 abbrev pub plain_for : Event → Contents → Contents
-plain_for (Loses server key) c = losing c key
+plain_for (Turns server key turned) c = losing c key
 plain_for (Restarts server) c = restarted c
 plain_for _ c = c
 
 -- the server of a loss
 abbrev pub place_of : Event → ℕ
-place_of (Loses server key) = server
+place_of (Turns server key turned) = server
 place_of (Restarts server) = server
 place_of _ = 0
 

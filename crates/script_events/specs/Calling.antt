@@ -3,7 +3,7 @@ use Rattle.std.specs.Prelude.{◌≡◌, ℕ, ℤ, nat_abs, List, ◌⊎◌, Opt
 use Rattle.mc_types.specs.declared.ask.Ask.{Ask}
 use Rattle.mc_types.specs.declared.answer.Answer.{Answer}
 use Rattle.mc_types.specs.declared.call.Outcome.TheVariants.{Answered, Failed}
-use Rattle.fresh_runs.specs.Run.{End, Read, Unread, Never, outcome_of}
+use Rattle.fresh_runs.specs.Calls.{End, Read, Unread, Never, outcome_of}
 use Rattle.fresh_runs.specs.Protocol.{silence}
 use Rattle.fresh_runs.specs.ScriptLog.{Manner, Cut}
 use Rattle.fresh_runs.specs.ScriptLog as script

@@ -3,11 +3,10 @@ use Rattle.std.specs.Prelude.{◌≡◌, ℕ, ◌+◌, ℤ, nat_abs, List, [], �
 use Rattle.mc_types.specs.declared.ask.Ask.{Ask}
 use Rattle.mc_types.specs.declared.call.Origin.{Origin}
 use Rattle.mc_types.specs.Items.{Item}
-use Rattle.fresh_runs.specs.Run.{End, Read, Unread, Never}
-use Rattle.fresh_runs.specs.Fleet.{StampIn}
+use Rattle.fresh_runs.specs.Calls.{End, Read, Unread, Never}
+use Rattle.fresh_runs.specs.Fleet.{StampIn, Fleet, MakesCall, after_losses}
 use Rattle.fresh_runs.specs.Single.{FitsOutcome}
-use Rattle.fresh_runs.specs.Sharing.{Event, Turns}
-use Rattle.fresh_runs.specs.SharingFleet.{Fleet, MakesCall, after_losses}
+use Rattle.fresh_runs.specs.Run.{Event, Turns}
 use Rattle.cache_server.specs.Contents.{Contents}
 use Rattle.cache_server.specs.Held.{lost_by}
 use Rattle.script_events.specs.Caches.{loss_of, held_at, lost_in}

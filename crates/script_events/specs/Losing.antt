@@ -1,8 +1,8 @@
 -- What losses leave of the caches of servers, exactly. Source: mcgate's own.
 use Rattle.std.specs.Prelude.{◌≡◌, ℕ, List, [], ◌∷◌, ◌++◌, map}
 use Rattle.fresh_runs.specs.Log as log
-use Rattle.fresh_runs.specs.Sharing.{Event}
-use Rattle.fresh_runs.specs.SharingFleet.{after_losses}
+use Rattle.fresh_runs.specs.Run.{Event}
+use Rattle.fresh_runs.specs.Fleet.{after_losses}
 use Rattle.fresh_runs.specs.ScriptLog.{lost_by}
 use Rattle.cache_server.specs.Contents.{Contents}
 use Rattle.script_events.specs.Caches.{loss_of, held_at, lost_in}

@@ -6,7 +6,7 @@ use Rattle.mc_types.specs.Items.{Item}
 use Rattle.fresh_runs.specs.Log.{Shown}
 use Rattle.fresh_runs.specs.Overlap.{Entry, run_of}
 use Rattle.fresh_runs.specs.OverlapStream.{stream_of}
-use Rattle.fresh_runs.specs.Sharing.{Event as Past, calls_in, commands_in}
+use Rattle.fresh_runs.specs.Run.{Event as Past, calls_in, commands_in}
 use Rattle.fresh_runs.proofs.OverlapRuns.{runs}
 use Rattle.script_events.specs.Limits.{last_turn}
 use Rattle.script_events.specs.declared.servers.event.FleetFault.{FleetFault}

@@ -5,13 +5,13 @@ use Rattle.mc_types.specs.declared.answer.Answer.{Answer}
 use Rattle.mc_types.specs.Items.{Item}
 use Rattle.fresh_runs.specs.Cover.{IsCovered}
 use Rattle.fresh_runs.specs.Overlap.{Entry, run_of}
-use Rattle.fresh_runs.specs.Run.{Call}
-use Rattle.fresh_runs.specs.Sharing.{AreAlone, LosesOnly, IsFreshByNumber}
-use Rattle.fresh_runs.specs.SharingStale.{stale_in}
+use Rattle.fresh_runs.specs.Calls.{Call}
+use Rattle.fresh_runs.specs.Run.{AreAlone, LosesOnly, IsFreshByNumber}
+use Rattle.fresh_runs.specs.Stale.{stale_in}
 use Rattle.fresh_runs.specs.Single.{server_words}
 use Rattle.fresh_runs.proofs.Covered.{single_covered}
-use Rattle.fresh_runs.proofs.SharingFresh.{fresh_by_number}
-use Rattle.fresh_runs.proofs.SharingStale.{counts_stale}
+use Rattle.fresh_runs.proofs.Fresh.{fresh_by_number}
+use Rattle.fresh_runs.proofs.Stale.{counts_stale}
 use Rattle.route_tree.specs.At.{tree_at}
 use Rattle.route_tree.specs.Direct.{is_direct, server_at, DirectIsOneServer}
 use Rattle.route_tree.specs.Plan.{Plan}

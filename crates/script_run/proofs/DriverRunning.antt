@@ -4,10 +4,9 @@ use Rattle.std.proofs.lemmas.List.{map-append}
 use Rattle.std.specs.Prelude.{OnOk, ℤ}
 use Rattle.mc_types.specs.declared.ask.Ask.{Ask}
 use Rattle.mc_types.specs.Items.{Item}
-use Rattle.fresh_runs.specs.Overlap.{Entry}
+use Rattle.fresh_runs.specs.Overlap.{Entry, Ticket as LogTicket, given_of, out_of, run_of, ticket_in}
 use Rattle.fresh_runs.specs.OverlapStream.{stream_of}
-use Rattle.fresh_runs.specs.Overlap.{Ticket as LogTicket, given_of, out_of, run_of, ticket_in}
-use Rattle.fresh_runs.specs.Run.{End, Read, Unread, Never, outcome_of}
+use Rattle.fresh_runs.specs.Calls.{End, Read, Unread, Never, outcome_of}
 use Rattle.fresh_runs.specs.Single.{FitsOutcome}
 use Rattle.mc_types.specs.declared.call.Origin.{Origin}
 use Rattle.core_commands.specs.declared.ticket.Ticket.{Ticket}

@@ -4,11 +4,11 @@ use Rattle.std.proofs.lemmas.Bool.{ltb-true, ltb-false}
 use Rattle.mc_types.specs.Items.{Item}
 use Rattle.fresh_runs.specs.Overlap.{Entry, run_of, Follows}
 use Rattle.fresh_runs.specs.OverlapState.{LeadsTo}
-use Rattle.fresh_runs.specs.Sharing.{AreAlone, calls_so_far, IsFreshByNumber}
-use Rattle.fresh_runs.specs.SharingStale.{stale_in}
+use Rattle.fresh_runs.specs.Run.{AreAlone, calls_so_far, IsFreshByNumber}
+use Rattle.fresh_runs.specs.Stale.{stale_in}
 use Rattle.fresh_runs.proofs.OverlapRuns.{runs}
-use Rattle.fresh_runs.proofs.SharingFresh.{fresh_by_number}
-use Rattle.fresh_runs.proofs.SharingStale.{counts_stale}
+use Rattle.fresh_runs.proofs.Fresh.{fresh_by_number}
+use Rattle.fresh_runs.proofs.Stale.{counts_stale}
 use Rattle.script_events.specs.Found.{AreFound}
 use Rattle.script_events.specs.Caches.{held_at}
 use Rattle.route_tree.specs.At.{tree_at}

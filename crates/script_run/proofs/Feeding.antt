@@ -1,6 +1,6 @@
 -- A piece of a client's bytes is the next entry of the log.
 use Rattle.std.proofs.Common.{Bool, List, [], ◌∷◌, ◌++◌, refl, sym, ap, ◌∙◌, subst, arith}
-use Rattle.fresh_runs.specs.Sharing.{calls_so_far}
+use Rattle.fresh_runs.specs.Run.{calls_so_far}
 use Rattle.fresh_runs.specs.Overlap.{Entry, Feeds, run_of}
 use Rattle.fresh_runs.specs.OverlapState.{LeadsTo}
 use Rattle.script_events.specs.Found.{AreFound}

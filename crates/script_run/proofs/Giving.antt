@@ -1,7 +1,7 @@
 -- Output that a client is given goes on with the log: it was all that there was for it, and nothing else is done.
 use Rattle.std.proofs.Common.{cond, List, [], ◌∷◌, ◌++◌, refl, sym, ap, ◌∙◌, subst, arith}
 use Rattle.std.proofs.lemmas.Bool.{eq-eqb}
-use Rattle.fresh_runs.specs.Sharing.{calls_so_far}
+use Rattle.fresh_runs.specs.Run.{calls_so_far}
 use Rattle.fresh_runs.specs.Overlap.{Entry, Gives, run_of, given_of}
 use Rattle.fresh_runs.specs.OverlapState.{LeadsTo}
 use Rattle.script_events.specs.Found.{AreFound}

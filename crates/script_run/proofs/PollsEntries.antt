@@ -4,7 +4,7 @@ use Rattle.std.specs.Prelude.{map as each}
 use Rattle.mc_types.specs.declared.ask.Ask.{Ask}
 use Rattle.mc_types.specs.declared.answer.Answer.{Answer}
 use Rattle.mc_types.specs.Items.{Item}
-use Rattle.fresh_runs.specs.Sharing.{calls_so_far, commands_in}
+use Rattle.fresh_runs.specs.Run.{calls_so_far, commands_in}
 use Rattle.fresh_runs.specs.Overlap.{Slot, Entry, Ends, Shows, Passes, run_of, Follows}
 use Rattle.fresh_runs.specs.OverlapState.{LeadsTo}
 use Rattle.script_events.specs.Found.{AreFound}

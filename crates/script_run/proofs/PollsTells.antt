@@ -9,15 +9,14 @@ use Rattle.mc_types.specs.declared.answer.Answer.{Answer}
 use Rattle.mc_types.specs.Acknowledged.{Acknowledges, says_gone}
 use Rattle.mc_types.specs.Items.{Item}
 use Rattle.mc_types.specs.Shows.{shows}
-use Rattle.fresh_runs.specs.Run.{Call}
+use Rattle.fresh_runs.specs.Calls.{Call}
 use Rattle.fresh_runs.specs.Cover.{IsAnswerOf}
 use Rattle.fresh_runs.specs.Log.{Part}
-use Rattle.fresh_runs.specs.Stale.{is_delete_op, stale_since}
-use Rattle.fresh_runs.specs.Sharing.{Event, LosesOnly, under_way, calls_so_far, item_at, IsNewNumber, commands_in}
-use Rattle.fresh_runs.specs.SharingStale.{is_acknowledged, last_gone, shown_item, tally_of}
+use Rattle.fresh_runs.specs.Stale.{is_delete_op, stale_since, is_acknowledged, last_gone, shown_item, tally_of}
+use Rattle.fresh_runs.specs.Run.{Event, LosesOnly, under_way, calls_so_far, item_at, IsNewNumber, commands_in}
 use Rattle.fresh_runs.specs.Overlap.{Slot, Owner, Entry, Starts, Sends, Ends, Shows, Ticket as LogTicket, run_of, owner_of, out_of, given_of, is_dropped, Follows}
 use Rattle.fresh_runs.specs.OverlapStream.{stream_of}
-use Rattle.fresh_runs.proofs.Sharing.{new_calls}
+use Rattle.fresh_runs.proofs.Runs.{new_calls}
 use Rattle.fresh_runs.proofs.OverlapSteps.{owner_way}
 use Rattle.script_events.specs.Found.{AreFound}
 use Rattle.script_events.proofs.Found.{shown_found}

@@ -6,10 +6,9 @@ use Rattle.mc_types.specs.declared.call.Origin.{Origin}
 use Rattle.mc_types.specs.declared.call.Origin.TheVariants.{Client as OfClient}
 use Rattle.mc_types.specs.declared.call.Outcome.{Outcome}
 use Rattle.mc_types.specs.Items.{Item}
-use Rattle.fresh_runs.specs.Run.{Call, End, outcome_of}
-use Rattle.fresh_runs.specs.Fleet.{StampIn}
-use Rattle.fresh_runs.specs.Sharing.{Event, calls_so_far}
-use Rattle.fresh_runs.specs.SharingFleet.{Fleet}
+use Rattle.fresh_runs.specs.Calls.{Call, End, outcome_of}
+use Rattle.fresh_runs.specs.Fleet.{StampIn, Fleet}
+use Rattle.fresh_runs.specs.Run.{Event, calls_so_far}
 use Rattle.fresh_runs.specs.Overlap.{Entry, Happens, Frees, Ticket as LogTicket, without, run_of, out_of, given_of}
 use Rattle.fresh_runs.specs.OverlapState.{OverlapState, LeadsTo, found_after}
 use Rattle.fresh_runs.specs.OverlapStream.{stream_of}

@@ -7,9 +7,9 @@ use Rattle.mc_types.specs.declared.call.Origin.{Origin}
 use Rattle.mc_types.specs.declared.call.Origin.TheVariants.{Client, CopyOf}
 use Rattle.mc_types.specs.declared.call.Outcome.TheVariants.{Failed}
 use Rattle.mc_types.specs.Items.{Item}
-use Rattle.fresh_runs.specs.Run.{Call}
+use Rattle.fresh_runs.specs.Calls.{Call}
 use Rattle.fresh_runs.specs.Fleet.{StampIn}
-use Rattle.fresh_runs.specs.Sharing.{calls_so_far}
+use Rattle.fresh_runs.specs.Run.{calls_so_far}
 use Rattle.fresh_runs.specs.Overlap.{Entry, run_of}
 use Rattle.fresh_runs.specs.OverlapState.{LeadsTo}
 use Rattle.script_events.specs.Found.{stamp_given, AreFound, IsFound}

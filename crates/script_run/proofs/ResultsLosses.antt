@@ -3,10 +3,10 @@ use Rattle.std.proofs.Common.{◌≡◌, ℕ, ◌<◌, List, [], ◌∷◌, ◌+
 use Rattle.mc_types.specs.declared.ask.Ask.{Ask}
 use Rattle.mc_types.specs.declared.call.Origin.{Origin}
 use Rattle.mc_types.specs.Items.{Item}
-use Rattle.fresh_runs.specs.Run.{End}
-use Rattle.fresh_runs.specs.Sharing.{Event, Begins, Calls, Replies, Breaks, Turns, Restarts, LosesOnly, calls_so_far, commands_in}
-use Rattle.fresh_runs.specs.SharingFleet.{after_losses, AreLosses}
-use Rattle.fresh_runs.specs.SharingStale.{tally_of, last_gone}
+use Rattle.fresh_runs.specs.Calls.{End}
+use Rattle.fresh_runs.specs.Run.{Event, Begins, Calls, Replies, Breaks, Turns, Restarts, LosesOnly, calls_so_far, commands_in}
+use Rattle.fresh_runs.specs.Fleet.{after_losses, AreLosses}
+use Rattle.fresh_runs.specs.Stale.{tally_of, last_gone}
 use Rattle.fresh_runs.specs.ScriptLog.{lost_by}
 use Rattle.fresh_runs.specs.Overlap.{Entry, Happens, run_of, given_of, is_dropped, owner_of, out_of}
 use Rattle.fresh_runs.specs.OverlapState.{LeadsTo, Leads, IsLike, MayHappenNow, after}

@@ -1,7 +1,7 @@
 -- The tree by which each command of a script runs that loads configurations.
 use Rattle.std.proofs.Common.{◌≡◌, ℕ, zero, suc, ◌-◌, ◌<◌, ◌≤◌, Bool, true, false, cond, List, [], ◌∷◌, nat_lt, slice_get, Option, Some, None, refl, sym, ap, ◌∙◌, subst, arith}
 use Rattle.std.proofs.lemmas.Bool.{ltb-true, lt-ltb}
-use Rattle.fresh_runs.specs.Sharing.{AreAlone}
+use Rattle.fresh_runs.specs.Run.{AreAlone}
 use Rattle.route_tree.specs.Plan.{Plan}
 use Rattle.route_tree.specs.Route.{Route}
 use Rattle.core_proxy.specs.Claims.{bars_by}

@@ -4,7 +4,7 @@ use Rattle.std.proofs.Common.{◌≡◌, ℕ, zero, suc, ◌+◌, ◌<◌, ◌�
 use Rattle.std.proofs.lemmas.List.{take-append-drop, map-append, nil_from_length}
 use Rattle.std.proofs.lemmas.Bool.{eqb-true, ne_eqb}
 use Rattle.mc_types.specs.Items.{Item}
-use Rattle.fresh_runs.specs.Log.{Shown}
+use Rattle.fresh_runs.specs.Log.{Shown, Loss as Lost}
 use Rattle.fresh_runs.specs.Overlap.{Entry, Feeds, given_of, output_of, run_of}
 use Rattle.fresh_runs.specs.OverlapStream.{stream_of}
 use Rattle.core_proxy.specs.CoreState.{dialect}
@@ -15,9 +15,7 @@ use Rattle.script_events.specs.declared.servers.event.Loss.{Loss}
 use Rattle.script_events.specs.declared.servers.event.Loss.TheVariants.{Item as LostItem, Restart}
 use Rattle.script_events.specs.Losing.{told_of}
 use Rattle.fresh_runs.specs.ScriptLog.{lost_by}
-use Rattle.fresh_runs.specs.Sharing.{Event as Past}
-use Rattle.fresh_runs.specs.Log.{Loss as Lost}
-use Rattle.fresh_runs.specs.Fleet.{after_event}
+use Rattle.fresh_runs.specs.Run.{Event as Past, after_event}
 use Rattle.script_events.specs.declared.script.Output.{Output}
 use Rattle.script_events.specs.Scripted.{Scripted, Manner, Piece, Add, Result, Fail, Hold, At, Now, Moment, loss_of, shown_by}
 use Rattle.script_events.specs.Servers.{caches_of, turn_of, moment_of, named_of, lost_of}

@@ -1,9 +1,9 @@
 -- The servers' story of a run, result by result; and the calls that it tells of.
 use Rattle.std.proofs.Common.{◌≡◌, ℕ, ◌+◌, List, [], ◌∷◌, ◌++◌, map, refl, sym, ap, ◌∙◌, subst, append_assoc}
 use Rattle.mc_types.specs.declared.call.Outcome.{Outcome}
-use Rattle.fresh_runs.specs.Run.{outcome_of}
-use Rattle.fresh_runs.specs.Sharing.{Event, Begins, Calls, Replies, Breaks, Turns, Restarts}
-use Rattle.fresh_runs.specs.SharingFleet.{AreLosses}
+use Rattle.fresh_runs.specs.Calls.{outcome_of}
+use Rattle.fresh_runs.specs.Run.{Event, Begins, Calls, Replies, Breaks, Turns, Restarts}
+use Rattle.fresh_runs.specs.Fleet.{AreLosses}
 use Rattle.fresh_runs.specs.ScriptLog.{lost_by}
 use Rattle.fresh_runs.specs.Overlap.{Entry, run_of}
 use Rattle.core_proxy.specs.CoreState.{dialect}

@@ -1,7 +1,7 @@
 -- The world of a log goes on by events and by results, and which results an event brings.
 use Rattle.std.proofs.Common.{◌≡◌, ℕ, List, [], ◌∷◌, ◌++◌, map, Option, refl, sym, ap, ◌∙◌, subst, append_assoc}
 use Rattle.mc_types.specs.Items.{Item}
-use Rattle.fresh_runs.specs.Sharing.{Event, held}
+use Rattle.fresh_runs.specs.Run.{Event, held}
 use Rattle.fresh_runs.specs.Overlap.{Entry, Ticket, run_of, out_of}
 use Rattle.route_tree.specs.Route.{Route}
 use Rattle.core_proxy.specs.CoreState.{dialect}

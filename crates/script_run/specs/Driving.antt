@@ -7,8 +7,8 @@ use Rattle.fresh_runs.specs.Overlap.{Entry, Feeds, Ticket, Follows, run_of, fron
 use Rattle.fresh_runs.specs.Protocol.{IsStuck}
 use Rattle.fresh_runs.specs.OverlapStream.{stream_of}
 use Rattle.fresh_runs.specs.OverlapLaws.{WritesAll}
-use Rattle.fresh_runs.specs.Sharing.{Run, LosesOnly, IsFreshByNumber, calls_in, commands_in}
-use Rattle.fresh_runs.specs.SharingStale.{stale_in}
+use Rattle.fresh_runs.specs.Run.{Run, LosesOnly, IsFreshByNumber, calls_in, commands_in}
+use Rattle.fresh_runs.specs.Stale.{stale_in}
 use Rattle.route_tree.specs.At.{tree_at}
 use Rattle.route_tree.specs.Direct.{is_direct}
 use Rattle.route_tree.specs.Route.{Route}

@@ -3,11 +3,10 @@ use Rattle.std.specs.Prelude.{◌≡◌, ℕ, ◌+◌, Bool, false, List, [], �
 use Rattle.mc_types.specs.declared.ask.Ask.{Ask}
 use Rattle.mc_types.specs.declared.call.Origin.{Origin}
 use Rattle.mc_types.specs.Items.{Item}
-use Rattle.fresh_runs.specs.Fleet.{after_event}
+use Rattle.fresh_runs.specs.Run.{after_event, LosesOnly, commands_in, calls_in, IsFreshByNumber}
 use Rattle.fresh_runs.specs.Overlap.{Entry, Follows, run_of, without}
 use Rattle.fresh_runs.specs.Overlap as entry
-use Rattle.fresh_runs.specs.Sharing.{LosesOnly, commands_in, calls_in, IsFreshByNumber}
-use Rattle.fresh_runs.specs.SharingStale.{stale_in}
+use Rattle.fresh_runs.specs.Stale.{stale_in}
 use Rattle.fresh_runs.specs.Cover.{IsCovered}
 use Rattle.fresh_runs.specs.ScriptLog.{lost_by}
 use Rattle.script_events.specs.Found.{stamp_at, stamp_given}

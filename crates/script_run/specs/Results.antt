@@ -3,8 +3,8 @@ use Rattle.std.specs.Prelude.{◌≡◌, ℕ, ◌+◌, List, [], ◌∷◌, ◌+
 use Rattle.mc_types.specs.declared.ask.Ask.{Ask}
 use Rattle.mc_types.specs.declared.call.Origin.{Origin}
 use Rattle.mc_types.specs.Items.{Item}
-use Rattle.fresh_runs.specs.Run.{Call, End, outcome_of}
-use Rattle.fresh_runs.specs.Sharing.{Event, Begins, Calls, Replies, Breaks, Turns, Restarts}
+use Rattle.fresh_runs.specs.Calls.{Call, End, outcome_of}
+use Rattle.fresh_runs.specs.Run.{Event, Begins, Calls, Replies, Breaks, Turns, Restarts}
 use Rattle.fresh_runs.specs.Overlap.{Entry, Ticket as LogTicket, run_of}
 use Rattle.script_events.specs.declared.servers.event.Made.{Made}
 use Rattle.script_events.specs.Losing.{events_of}

@@ -1,8 +1,8 @@
 -- Where a script that steps its calls stands in the log of overlapping commands. Source: mcgate's own.
 use Rattle.std.specs.Prelude.{◌≡◌, ℕ, ◌+◌, ◌<◌, false, List, [], ◌∷◌, ◌++◌, Option, Some, if◌then◌else◌, nat_eq, nat_lt}
 use Rattle.mc_types.specs.Items.{Item}
-use Rattle.fresh_runs.specs.Sharing.{Event, Begins, Calls, Replies, Breaks, Turns, Restarts, LosesOnly, calls_so_far}
-use Rattle.fresh_runs.specs.SharingStale.{tally_of, last_gone}
+use Rattle.fresh_runs.specs.Run.{Event, Begins, Calls, Replies, Breaks, Turns, Restarts, LosesOnly, calls_so_far}
+use Rattle.fresh_runs.specs.Stale.{tally_of, last_gone}
 use Rattle.fresh_runs.specs.Overlap.{Owner, Entry, Ticket as LogTicket, run_of, front_of, queue_of, output_of, owner_of, out_of, given_of, is_dropped}
 use Rattle.fresh_runs.specs.OverlapState.{LeadsTo}
 use Rattle.fresh_runs.specs.OverlapStream.{stream_of}

@@ -2,7 +2,7 @@
 use Rattle.std.specs.Prelude.{◌≡◌, ℕ, List, [], map}
 use Rattle.fresh_runs.specs.Log.{Shown}
 use Rattle.fresh_runs.specs.Overlap.{run_of}
-use Rattle.fresh_runs.specs.Sharing.{IsFreshByNumber}
+use Rattle.fresh_runs.specs.Run.{IsFreshByNumber}
 use Rattle.route_tree.specs.Route.{Route}
 use Rattle.script_events.specs.declared.script.Reload.{Reload}
 use Rattle.script_events.specs.declared.script.Transcript.{Transcript}

@@ -2,7 +2,7 @@
 use Rattle.std.specs.Prelude.{◌≡◌, ℕ, ◌+◌, pos, List, [], ◌∷◌, ◌++◌, map, Some, None, slice_get, if◌then◌else◌, nat_eq}
 use Rattle.fresh_runs.specs.Overlap.{Entry, run_of}
 use Rattle.fresh_runs.specs.ScriptLog.{lost_by}
-use Rattle.fresh_runs.specs.Sharing.{Event, held}
+use Rattle.fresh_runs.specs.Run.{Event, held}
 use Rattle.cache_server.specs.Contents.{Contents}
 use Rattle.script_events.specs.Caches as losing
 use Rattle.script_events.specs.Caches.{held_at}

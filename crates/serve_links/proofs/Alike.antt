@@ -5,11 +5,11 @@ use Rattle.mc_types.specs.declared.ask.Ask.{Ask}
 use Rattle.mc_types.specs.declared.answer.Answer.{Answer}
 use Rattle.mc_types.specs.declared.call.Origin.{Origin}
 use Rattle.mc_types.specs.Items.{Item}
-use Rattle.fresh_runs.specs.Run.{Call, End, outcome_of}
-use Rattle.fresh_runs.specs.Sharing.{Event, Begins, Calls, Replies, Breaks, Turns, Restarts, under_way, calls_so_far, IsNewNumber, IsFront}
+use Rattle.fresh_runs.specs.Calls.{Call, End, outcome_of}
+use Rattle.fresh_runs.specs.Run.{Event, Begins, Calls, Replies, Breaks, Turns, Restarts, under_way, calls_so_far, IsNewNumber, IsFront}
 use Rattle.fresh_runs.specs.Overlap as log
 use Rattle.fresh_runs.specs.Overlap.{Ticket, Entry, Happens, Owner, run_of, owner_of, out_of, ticket_in, without, Follows}
-use Rattle.fresh_runs.proofs.Sharing.{some_ask, no_ask, differs, second, new_calls}
+use Rattle.fresh_runs.proofs.Runs.{some_ask, no_ask, differs, second, new_calls}
 use Rattle.core_proxy.specs.CoreState.{dialect}
 use Rattle.core_accepted.specs.Late as at_servers
 use Rattle.core_accepted.specs.Late.{Moment, Lands, seen, begun}

@@ -4,8 +4,8 @@ use Rattle.std.proofs.lemmas.Bool.{eqb-true}
 use Rattle.mc_types.specs.declared.ask.Ask.{Ask}
 use Rattle.mc_types.specs.declared.call.Origin.{Origin}
 use Rattle.mc_types.specs.Items.{Item}
-use Rattle.fresh_runs.specs.Run.{End, Read, Unread, Never}
-use Rattle.fresh_runs.specs.Sharing.{Event, Begins, Calls, Replies, Breaks, Turns, Restarts, under_way}
+use Rattle.fresh_runs.specs.Calls.{End, Read, Unread, Never}
+use Rattle.fresh_runs.specs.Run.{Event, Begins, Calls, Replies, Breaks, Turns, Restarts, under_way}
 use Rattle.fresh_runs.specs.Overlap as log
 use Rattle.fresh_runs.specs.Overlap.{Ticket, Entry, Happens, run_of}
 use Rattle.fresh_runs.proofs.OverlapSteps.{owner_way}

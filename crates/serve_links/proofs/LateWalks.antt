@@ -6,13 +6,13 @@ use Rattle.mc_types.specs.declared.call.Origin.{Origin}
 use Rattle.mc_types.specs.declared.call.Origin.TheVariants.{Client}
 use Rattle.mc_types.specs.declared.call.Outcome.{Outcome}
 use Rattle.mc_types.specs.Items.{Item}
-use Rattle.fresh_runs.specs.Run.{Call}
+use Rattle.fresh_runs.specs.Calls.{Call}
 use Rattle.fresh_runs.specs.Single.{FitsOutcome}
-use Rattle.fresh_runs.specs.Sharing.{calls_so_far, under_way, IsFront}
+use Rattle.fresh_runs.specs.Run.{calls_so_far, under_way, IsFront}
 use Rattle.fresh_runs.specs.Overlap.{Ticket, Entry, Follows, run_of, out_of, ticket_in}
 use Rattle.fresh_runs.proofs.OverlapRuns.{runs}
 use Rattle.fresh_runs.proofs.OverlapSteps.{owner_way}
-use Rattle.fresh_runs.proofs.Sharing.{some_ask}
+use Rattle.fresh_runs.proofs.Runs.{some_ask}
 use Rattle.route_tree.specs.At.{tree_at}
 use Rattle.route_tree.specs.Plan.{Plan}
 use Rattle.route_tree.specs.Word.{tree_words}

@@ -5,9 +5,9 @@ use Rattle.mc_types.specs.Items.{Item}
 use Rattle.mc_types.specs.declared.call.Origin.TheVariants.{Client as OfClient}
 use Rattle.mc_types.specs.declared.call.Outcome.{Outcome}
 use Rattle.mc_types.specs.declared.answer.Answer.{Answer}
-use Rattle.fresh_runs.specs.Sharing.{Event, LosesOnly, after_event}
+use Rattle.fresh_runs.specs.Run.{Event, LosesOnly, after_event}
 use Rattle.fresh_runs.specs.Overlap.{Slot, Entry, Starts, Sends, Happens, Ends, Shows, Passes, Gives, Drops, Frees, Resets, run_of}
-use Rattle.fresh_runs.specs.Run.{outcome_of}
+use Rattle.fresh_runs.specs.Calls.{outcome_of}
 use Rattle.route_job.specs.Rest.{ask_under, origin_under}
 use Rattle.route_job.specs.Jobs.{server_in}
 use Rattle.core_proxy.specs.declared.fault.CoreFault.{CoreFault}

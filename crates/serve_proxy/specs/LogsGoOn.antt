@@ -3,9 +3,9 @@ use Rattle.std.specs.Prelude.{◌≡◌, ℕ, List, [], ◌∷◌, ◌++◌, Opt
 use Rattle.mc_types.specs.Items.{Item}
 use Rattle.mc_types.specs.declared.ask.Ask.{Ask}
 use Rattle.mc_types.specs.declared.call.Origin.{Origin}
-use Rattle.fresh_runs.specs.Run.{End, outcome_of}
+use Rattle.fresh_runs.specs.Calls.{End, outcome_of}
 use Rattle.fresh_runs.specs.Fleet.{EndsIn}
-use Rattle.fresh_runs.specs.Sharing.{Event, Calls, LosesOnly, after_event}
+use Rattle.fresh_runs.specs.Run.{Event, Calls, LosesOnly, after_event}
 use Rattle.fresh_runs.specs.Overlap as log
 use Rattle.fresh_runs.specs.Overlap.{Entry, Happens, run_of}
 use Rattle.route_json.specs.Configuration.{Configuration}

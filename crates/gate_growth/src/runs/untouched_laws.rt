@@ -4,12 +4,11 @@ ghost use Rattle.std.specs.Prelude.{ℕ, List, Option, None};
 ghost use Rattle.mc_types.specs.declared.ask.Ask.{Ask};
 ghost use Rattle.mc_types.specs.declared.answer.Answer.{Answer};
 ghost use Rattle.mc_types.specs.Items.{Item};
-ghost use Rattle.fresh_runs.specs.Run.{Call};
+ghost use Rattle.fresh_runs.specs.Calls.{Call};
 ghost use Rattle.fresh_runs.specs.Single.{server_words};
-ghost use Rattle.fresh_runs.specs.SharingLaws.{nobody_bars};
+ghost use Rattle.fresh_runs.specs.Freshness.{nobody_bars};
 ghost use Rattle.gate_growth.specs.Emptied.{EmptiedIsFresh};
-ghost use Rattle.gate_growth.specs.UntouchedAlone.{GrownRunsAreFresh};
-ghost use Rattle.gate_growth.specs.UntouchedLaws.{NothingComesOfNothing, CoveredIsNoLess, GrownIsFresh, GrownIsFreshByNumber};
+ghost use Rattle.gate_growth.specs.UntouchedLaws.{NothingComesOfNothing, CoveredIsNoLess, GrownIsFresh, GrownIsFreshByNumber, GrownRunsAreFresh};
 
 use std::marker::Brand;
 
@@ -52,7 +51,7 @@ pub fn grown_is_fresh_by_number<W: HasOpening>()
     ensures { GrownIsFreshByNumber W.words W.bars W.opening }
 {}
 
-/// The same of runs in which a key has one command at a time.
+/// So each run is fresh in which just what copies bars deletes, and by numbers each in which a key has one command at a time.
 pub fn grown_runs_are_fresh<W: HasOpening>()
     ensures { GrownRunsAreFresh W.words W.opening }
 {}

@@ -1,7 +1,7 @@
 //! Losses that are named for calls to come, and what they leave of the caches.
 
 ghost use Rattle.std.specs.Prelude.{◌≡◌, ℕ, ◌++◌, ◌∷◌, [], List, if◌then◌else◌, nat_eq, length, OnOk, OnErr};
-ghost use Rattle.fresh_runs.specs.Fleet.{after_event};
+ghost use Rattle.fresh_runs.specs.Run.{after_event};
 ghost use Rattle.script_events.specs.Caches.{loss_of, held_at, after_loss, listed};
 ghost use Rattle.script_events.specs.Losing.{AreLost};
 

@@ -2,7 +2,7 @@
 
 ghost use Rattle.std.specs.Prelude.{◌≡◌, ◌+◌, ◌<◌, ◌≤◌, ◌↔◌, ℕ, List, pos, ◌≤ℤ◌, ◌++◌, ◌∷◌, [], length, if◌then◌else◌, nat_eq, Some, Err, option_map, IfOk, IfErr, OnOk, OnErr};
 ghost use Rattle.mc_types.specs.Asks.{IsAsk, data_limit};
-ghost use Rattle.fresh_runs.specs.Fleet.{after_event};
+ghost use Rattle.fresh_runs.specs.Run.{after_event};
 ghost use Rattle.cache_server.specs.Contents.{storing, opening};
 ghost use Rattle.script_events.specs.Limits.{last_turn};
 ghost use Rattle.script_events.specs.Caches.{loss_of, held_at, changed_at, after_loss};

@@ -3,10 +3,10 @@
 ghost use Rattle.std.specs.Prelude.{ℕ, List, Option};
 ghost use Rattle.mc_types.specs.declared.ask.Ask.{Ask};
 ghost use Rattle.mc_types.specs.declared.answer.Answer.{Answer};
-ghost use Rattle.fresh_runs.specs.Run.{Call};
+ghost use Rattle.fresh_runs.specs.Calls.{Call};
 ghost use Rattle.fresh_runs.specs.Single.{server_words};
-ghost use Rattle.fresh_runs.specs.Sharing.{Event};
-ghost use Rattle.fresh_runs.specs.SharingLaws.{nobody_bars};
+ghost use Rattle.fresh_runs.specs.Run.{Event};
+ghost use Rattle.fresh_runs.specs.Freshness.{nobody_bars};
 ghost use Rattle.core_accepted.specs.Late.{WasOver};
 ghost use Rattle.core_accepted.specs.LateLaws.{LateIsFresh};
 

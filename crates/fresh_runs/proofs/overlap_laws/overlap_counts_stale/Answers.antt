@@ -1,5 +1,5 @@
-use Rattle.fresh_runs.proofs.SharingFresh.{fresh_by_number}
-use Rattle.fresh_runs.proofs.SharingStale.{counts_stale}
+use Rattle.fresh_runs.proofs.Fresh.{fresh_by_number}
+use Rattle.fresh_runs.proofs.Stale.{counts_stale}
 use Rattle.fresh_runs.proofs.OverlapRuns.{runs}
 use Rattle.fresh_runs.proofs.overlap_laws.overlap_counts_stale.Goals as goal
 

@@ -1,4 +1,4 @@
-use Rattle.fresh_runs.proofs.SharingFresh.{fresh}
+use Rattle.fresh_runs.proofs.Fresh.{fresh}
 use Rattle.fresh_runs.proofs.OverlapRuns.{runs}
 use Rattle.fresh_runs.proofs.overlap_laws.overlap_is_fresh.Goals as goal
 

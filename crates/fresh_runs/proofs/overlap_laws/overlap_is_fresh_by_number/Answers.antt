@@ -1,4 +1,4 @@
-use Rattle.fresh_runs.proofs.SharingFresh.{fresh_by_number}
+use Rattle.fresh_runs.proofs.Fresh.{fresh_by_number}
 use Rattle.fresh_runs.proofs.OverlapRuns.{runs}
 use Rattle.fresh_runs.proofs.overlap_laws.overlap_is_fresh_by_number.Goals as goal
 

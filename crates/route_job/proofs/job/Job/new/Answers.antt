@@ -1,7 +1,7 @@
 use Rattle.std.proofs.Common.{◌≡◌, ◌↔◌, ◌∙◌, List, ap, ap₂, arith, subst, sym}
 use Rattle.route_tree.specs.Tag.{key_hash}
 use Rattle.mc_types.specs.declared.call.Origin.TheVariants.{Client}
-use Rattle.fresh_runs.specs.Run.{Call}
+use Rattle.fresh_runs.specs.Calls.{Call}
 use Rattle.route_tree.specs.At.{plain_for, tree_at}
 use Rattle.route_tree.specs.Plan.{Plan, Server, count}
 use Rattle.route_tree.specs.Word.{Given, Word}

@@ -1,5 +1,0 @@
-use Rattle.std.proofs.Common.{length}
-use Rattle.fresh_runs.proofs.marks.+held.Given as goal
-
-abbrev pub decreases-held : goal.decreases-held
-decreases-held l = length l.marks.now
