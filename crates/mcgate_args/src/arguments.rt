@@ -209,6 +209,7 @@ Reads a configuration in JSON, of FILE, and prints a block for each KEY:
   key=K hash_part=H hash=N prefix=P residue=R/L
                          what of the key is hashed, its hash, and its place
     OP A ..              for each operation the servers that the tree has for it at this key
+    limits A NAME=N ..   for each of these servers the limits that its pools say, if they say some
   refused: too many places
                          there are more than 262,144
   config: ..             the first fault of what is no configuration

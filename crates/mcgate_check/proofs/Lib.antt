@@ -9,3 +9,4 @@ pub mod Statuses
 pub mod Runs
 pub mod RunLines
 pub mod Proposed
+pub mod InOrder

@@ -11,11 +11,13 @@ use Rattle.route_tree.specs.Place.{IsPlaceOf}
 use Rattle.route_tree.specs.Plan.{Plan}
 use Rattle.route_tree.specs.Route.{Route}
 use Rattle.route_json.specs.Servers.{Addresses}
+use Rattle.serde_json.specs.Data.{Data}
 use Rattle.gate_gaps.specs.Names.{op_name}
 use Rattle.gate_gaps.specs.Pools.{NamedPools}
 use Rattle.gate_gaps.specs.PoolWords.{server_text}
 use Rattle.mcgate_check.specs.Verdict.{place_fields}
 use Rattle.mcgate_check.specs.Asking.{asked}
+use Rattle.mcgate_check.specs.LimitLines.{limits_lines, servers_of}
 
 -- key=K hash_part=P hash=N
 abbrev pub key_line : List ℕ → List ℕ
@@ -39,15 +41,19 @@ op_line addresses pools op servers = op_front op ++ servers_text addresses pools
 abbrev pub op_lines : Addresses → NamedPools → Plan → List Op → List ℕ
 op_lines addresses pools plain ops = flat_map (λ op. op_line addresses pools op (asked op plain)) ops
 
--- the block of a key whose place is this
-abbrev pub block : Addresses → NamedPools → Route → Place → List ℕ → List ℕ
-block addresses pools tree place key = key_line key ++ place_fields place ++ op_lines addresses pools (tree_at tree key) all_ops
+-- the lines of a key with this plain tree: those of the operations, and of the limits that pools say for their servers
+abbrev pub plain_lines : Addresses → NamedPools → Data → Plan → List ℕ
+plain_lines addresses pools value plain = op_lines addresses pools plain all_ops ++ limits_lines addresses pools value (servers_of plain all_ops)
+
+-- the block of a key whose place is this, by a configuration of this value
+abbrev pub block : Addresses → NamedPools → Data → Route → Place → List ℕ → List ℕ
+block addresses pools value tree place key = key_line key ++ place_fields place ++ plain_lines addresses pools value (tree_at tree key)
 
 -- the block of the key, with its place, was written
-abbrev pub WritesBlock : Addresses → NamedPools → Route → List ℕ → Option (List ℕ) → Option (List ℕ) → Type 0
-WritesBlock addresses pools tree key old new = (place : Place) × IsPlaceOf tree key place × Appends old new (block addresses pools tree place key)
+abbrev pub WritesBlock : Addresses → NamedPools → Data → Route → List ℕ → Option (List ℕ) → Option (List ℕ) → Type 0
+WritesBlock addresses pools value tree key old new = (place : Place) × IsPlaceOf tree key place × Appends old new (block addresses pools value tree place key)
 
 -- a block for each key, one after the other
-abbrev pub WritesBlocks : Addresses → NamedPools → Route → List (List ℕ) → Option (List ℕ) → Option (List ℕ) → Type 0
-WritesBlocks addresses pools tree [] old new = new ≡ old
-WritesBlocks addresses pools tree (key ∷ keys) old new = (between : Option (List ℕ)) × WritesBlock addresses pools tree key old between × WritesBlocks addresses pools tree keys between new
+abbrev pub WritesBlocks : Addresses → NamedPools → Data → Route → List (List ℕ) → Option (List ℕ) → Option (List ℕ) → Type 0
+WritesBlocks addresses pools value tree [] old new = new ≡ old
+WritesBlocks addresses pools value tree (key ∷ keys) old new = (between : Option (List ℕ)) × WritesBlock addresses pools value tree key old between × WritesBlocks addresses pools value tree keys between new

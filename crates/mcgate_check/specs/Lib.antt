@@ -10,6 +10,7 @@ pub mod Explaining
 pub mod Drawing
 pub mod Reporting
 pub mod Asking
+pub mod LimitLines
 pub mod Blocks
 pub mod Finding
 pub mod Certifying

@@ -7,8 +7,10 @@ ghost use Rattle.mcgate_check.specs.Checking.{IsNoOverrun};
 ghost use Rattle.gate_gaps.specs.Pools.{pools_in};
 ghost use Rattle.mcgate_check.specs.Blocks.{WritesBlocks};
 ghost use Rattle.mcgate_check.specs.Finding.{FindsAt, FindsKeys};
+ghost use Rattle.mcgate_check.specs.LimitLines.{value_said};
 
 use crate::checking::print_fault;
+use crate::key_places::limits::value_of;
 use crate::key_places::writing::write_keys;
 use crate::status::{DONE, REFUSED, answer_of};
 use crate::{RunFault, write_refusal};
@@ -20,7 +22,7 @@ use route_json::{Config, read_config};
 use std::alloc::Global;
 use std::io::Write;
 
-// Writes where the keys live, with the pools that the text of the configuration names.
+// Writes where the keys live, with the pools that the text of the configuration names and the limits that they say.
 fn write_found<W: Write>(
     alloc: Global,
     text: &str,
@@ -30,11 +32,12 @@ fn write_found<W: Write>(
     out: &mut W,
 ) -> Result<(), RunFault>
     requires { IsTable (config.now.tree ∷ []) table.now }
-    ensures ok { OnOk result (WritesBlocks config.now.servers (pools_in config.now.servers (read text.now)) config.now.tree keys.now (W.contents out.old) (W.contents out.new)) }
+    ensures ok { OnOk result (WritesBlocks config.now.servers (pools_in config.now.servers (read text.now)) (value_said (read text.now)) config.now.tree keys.now (W.contents out.old) (W.contents out.new)) }
     ensures err { IfErr result IsNoOverrun }
 {
     let pools = read_pools(alloc, text, config.servers())?;
-    write_keys(alloc, config, &pools, table, keys, out)
+    let value = value_of(alloc, text)?;
+    write_keys(alloc, config, &pools, &value, table, keys, out)
 }
 
 // Writes where the keys live, unless the tree has too many places.

@@ -3,14 +3,16 @@
 ghost use Rattle.std.specs.Prelude.{◌≡◌, [], ◌∷◌, IfOk, IfErr, OnOk};
 ghost use Rattle.std.specs.Io.KnownBytes.{Appends};
 ghost use Rattle.mc_types.specs.Asks.{all_ops};
+ghost use Rattle.serde_json.specs.View.{view};
 ghost use Rattle.route_tree.specs.At.{tree_at};
 ghost use Rattle.mcgate_check.specs.Asking as spec;
 ghost use Rattle.gate_check.specs.Tables.{IsTable};
 ghost use Rattle.mcgate_check.specs.Checking.{IsNoOverrun};
-ghost use Rattle.mcgate_check.specs.Blocks.{key_line, named_text, servers_text, op_front, op_line, op_lines, WritesBlock, WritesBlocks};
+ghost use Rattle.mcgate_check.specs.Blocks.{key_line, named_text, servers_text, op_front, op_line, op_lines, plain_lines, WritesBlock, WritesBlocks};
 
 use crate::RunFault;
 use crate::key_places::asking::add_asked;
+use crate::key_places::limits::write_limits;
 use crate::verdict::write_place;
 use gate_check::places::PlaceTable;
 use gate_gaps::ConfigPool;
@@ -19,6 +21,7 @@ use gate_gaps::pool_words::write_server;
 use mc_types::{Key, Op, ServerId};
 use route_json::{Config, Servers};
 use route_tree::{Plain, hash_part, key_hash};
+use serde_json::Value;
 use std::alloc::{AllocError, Global};
 use std::io;
 use std::io::Write;
@@ -125,20 +128,51 @@ fn write_ops<W: Write>(
     Ok(())
 }
 
-// The lines of the operations of a key.
+// The lines of the operations of a plain tree.
 fn write_all_ops<W: Write>(
     alloc: Global,
     config: &Config,
     pools: &[ConfigPool],
+    plain: &Plain,
+    out: &mut W,
+) -> Result<(), RunFault>
+    ensures ok { OnOk result (Appends (W.contents out.old) (W.contents out.new) (op_lines config.now.servers pools.now plain.now all_ops)) }
+    ensures err { IfErr result IsNoOverrun }
+{
+    let ops = Op::all();
+    write_ops(alloc, config.servers(), pools, plain, &ops, out)
+}
+
+// The same, and those of the limits of their servers.
+fn write_plain<W: Write>(
+    alloc: Global,
+    config: &Config,
+    pools: &[ConfigPool],
+    value: &Value,
+    plain: &Plain,
+    out: &mut W,
+) -> Result<(), RunFault>
+    ensures ok { OnOk result (Appends (W.contents out.old) (W.contents out.new) (plain_lines config.now.servers pools.now (view value.now) plain.now)) }
+    ensures err { IfErr result IsNoOverrun }
+{
+    write_all_ops(alloc, config, pools, plain, out)?;
+    write_limits(alloc, config.servers(), pools, value, plain, out)
+}
+
+// The lines of a key's plain tree.
+fn write_key_plain<W: Write>(
+    alloc: Global,
+    config: &Config,
+    pools: &[ConfigPool],
+    value: &Value,
     key: &Key,
     out: &mut W,
 ) -> Result<(), RunFault>
-    ensures ok { OnOk result (Appends (W.contents out.old) (W.contents out.new) (op_lines config.now.servers pools.now (tree_at config.now.tree key.now) all_ops)) }
+    ensures ok { OnOk result (Appends (W.contents out.old) (W.contents out.new) (plain_lines config.now.servers pools.now (view value.now) (tree_at config.now.tree key.now))) }
     ensures err { IfErr result IsNoOverrun }
 {
     let plain = config.tree().at(alloc, key)?;
-    let ops = Op::all();
-    write_ops(alloc, config.servers(), pools, &plain, &ops, out)
+    write_plain(alloc, config, pools, value, &plain, out)
 }
 
 // The block of a key.
@@ -146,40 +180,43 @@ fn write_block<W: Write>(
     alloc: Global,
     config: &Config,
     pools: &[ConfigPool],
+    value: &Value,
     table: &PlaceTable,
     key: &Key,
     out: &mut W,
 ) -> Result<(), RunFault>
     requires { IsTable (config.now.tree ∷ []) table.now }
-    ensures ok { OnOk result (WritesBlock config.now.servers pools.now config.now.tree key.now (W.contents out.old) (W.contents out.new)) }
+    ensures ok { OnOk result (WritesBlock config.now.servers pools.now (view value.now) config.now.tree key.now (W.contents out.old) (W.contents out.new)) }
     ensures err { IfErr result IsNoOverrun }
 {
     let place = table.of(key);
     write_key_line(key, out)?;
     write_place(&place, out)?;
-    write_all_ops(alloc, config, pools, key, out)?;
+    write_key_plain(alloc, config, pools, value, key, out)?;
     Ok(())
 }
 
-/// Writes a block of lines for each key: the key, its hash part and hash and its place, and then for each operation the servers
-/// that the key's plain tree has for it, each with its places in the lists of the pools. The format is mcgate's own.
+/// Writes a block of lines for each key: the key, its hash part and hash and its place; then for each operation the servers that the
+/// key's plain tree has for it, each with its places in the lists of the pools; and then the limits that the pools of the
+/// configuration's value say of these servers. The format is mcgate's own.
 pub fn write_keys<W: Write>(
     alloc: Global,
     config: &Config,
     pools: &[ConfigPool],
+    value: &Value,
     table: &PlaceTable,
     keys: &[Key],
     out: &mut W,
 ) -> Result<(), RunFault>
     requires { IsTable (config.now.tree ∷ []) table.now }
-    ensures ok { OnOk result (WritesBlocks config.now.servers pools.now config.now.tree keys.now (W.contents out.old) (W.contents out.new)) }
+    ensures ok { OnOk result (WritesBlocks config.now.servers pools.now (view value.now) config.now.tree keys.now (W.contents out.old) (W.contents out.new)) }
     ensures err { IfErr result IsNoOverrun }
 {
     match keys {
         [] => Ok(()),
         [first, rest @ ..] => {
-            write_block(alloc, config, pools, table, first, out)?;
-            write_keys(alloc, config, pools, table, rest, out)
+            write_block(alloc, config, pools, value, table, first, out)?;
+            write_keys(alloc, config, pools, value, table, rest, out)
         }
     }
 }
