@@ -12,9 +12,9 @@ use crate::clock::Moment;
 use crate::connection::uses::Uses;
 use crate::connection::{Cache, Served};
 use memchr::memchr;
-use serve_clients::socket::{Conn, Got, Ready, Sent};
+use serve_wire::conn::{Conn, Got, Sent};
+use serve_wire::{Ready, Wire};
 use std::alloc::{AllocError, Global};
-use std::io::{Read, Write};
 use wire_parts::to_send::SendBuffer;
 
 // The room of one read, in bytes.
@@ -39,8 +39,8 @@ pub enum AfterTurn {
 
 /// A client: its end of the connection, and where its stream stands in what it sends.
 #[derive(Drop)]
-pub struct CacheClient<S: Drop> {
-    pub conn: Conn<S>,
+pub struct CacheClient {
+    pub conn: Conn,
     pub served: Served,
     /// The keys that it asked for.
     pub uses: Uses,
@@ -88,9 +88,9 @@ fn serve_at(
     served.serve(cache, moment.seconds, uses, out, most)
 }
 
-impl<S: Read + Write + Drop> CacheClient<S> {
+impl CacheClient {
     /// A client that has said nothing yet. It takes no memory.
-    pub fn new(alloc: Global, conn: Conn<S>) -> CacheClient<S>
+    pub fn new(alloc: Global, conn: Conn) -> CacheClient
         ensures conn { result.conn ≡ conn }
         ensures served { result.served ≡ at_front (Stands Nothing []) }
     {
@@ -105,18 +105,10 @@ impl<S: Read + Write + Drop> CacheClient<S> {
         }
     }
 
-    /// The system reported this of its socket. The answer is whether the client has to be served for it.
+    /// The wire reported this of its connection. The answer is whether the client has to be served for it.
     pub fn note(&mut self, ready: Ready) -> bool {
-        if ready.reads {
-            self.conn.readable = true;
-        }
-        if ready.closes {
-            self.conn.closing = true;
-        }
         let drains = ready.writes && !self.conn.writable;
-        if drains {
-            self.conn.writable = true;
-        }
+        self.conn.note(ready);
         ready.reads || drains
     }
 
@@ -187,7 +179,7 @@ impl<S: Read + Write + Drop> CacheClient<S> {
     }
 
     // One write, where it takes something.
-    fn send(&mut self) -> Sent
+    fn send<W: Wire>(&mut self, wire: &mut W) -> Sent
         ensures unsent { IsWithin self.old.conn.limits.unsent (bytes_of self.old.conn.unsent) → IsWithin self.old.conn.limits.unsent (bytes_of self.new.conn.unsent) }
         ensures held { self.new.conn.held.items ≡ self.old.conn.held.items }
         ensures served { self.new.served ≡ self.old.served }
@@ -196,7 +188,7 @@ impl<S: Read + Write + Drop> CacheClient<S> {
         if !self.conn.writable {
             return Sent::Nothing;
         }
-        let sent = self.conn.send_once();
+        let sent = self.conn.send_once(wire);
         self.conn.give_back(self.alloc, KEPT_ROOM);
         sent
     }
@@ -212,7 +204,7 @@ impl<S: Read + Write + Drop> CacheClient<S> {
     }
 
     // One read, where there may be something to read and nothing is left to serve. `false` where the client has to be dropped.
-    fn read(&mut self) -> bool
+    fn read<W: Wire>(&mut self, wire: &mut W) -> bool
         ensures held { (self.old.served.place ≡ Closed) ⊎ ((more : List ℕ) × (self.new.conn.held.items ≡ self.old.conn.held.items ++ more)) }
         ensures served { self.new.served ≡ self.old.served }
         ensures unsent { self.new.conn.unsent ≡ self.old.conn.unsent }
@@ -221,7 +213,7 @@ impl<S: Read + Write + Drop> CacheClient<S> {
         if !self.may_read() || self.has_left() {
             return true;
         }
-        let got = self.conn.read_once(READ_ROOM);
+        let got = self.conn.read_once(wire, READ_ROOM);
         if self.served.is_closed() {
             // What comes after the end is dropped. Left unread, it would take the last replies with it when the socket is closed.
             self.conn.held.clear();
@@ -237,7 +229,7 @@ impl<S: Read + Write + Drop> CacheClient<S> {
     }
 
     // Where it leaves no backlog: one read, and what is whole is answered, up to a backlog. `false` where the client has to be dropped.
-    fn take_in(&mut self, cache: &mut Cache, moment: Moment) -> bool
+    fn take_in<W: Wire>(&mut self, wire: &mut W, cache: &mut Cache, moment: Moment) -> bool
         ensures within { IsWithin self.old.conn.limits.unsent (bytes_of self.old.conn.unsent) → IsWithin self.old.conn.limits.unsent (bytes_of self.new.conn.unsent) }
         ensures waits { self.old.conn.limits.unsent ≤ length (bytes_of self.old.conn.unsent) → Waits self.old.conn.held.items self.old.served cache.old self.new.conn.held.items self.new.served cache.new }
         ensures limits { self.new.conn.limits ≡ self.old.conn.limits }
@@ -245,7 +237,7 @@ impl<S: Read + Write + Drop> CacheClient<S> {
         if self.conn.has_backlog() {
             return true;
         }
-        if !self.read() {
+        if !self.read(wire) {
             return false;
         }
         let served = self.serve(cache, moment);
@@ -275,13 +267,13 @@ impl<S: Read + Write + Drop> CacheClient<S> {
     /// One read, where nothing is left to serve. Whether what the client sent begins with `flush_all` then: that is used up, and `OK` is to be sent.
     ///
     /// The only error is running out of memory; then the client is to be closed.
-    pub fn take_flush(&mut self) -> Result<bool, AllocError>
+    pub fn take_flush<W: Wire>(&mut self, wire: &mut W) -> Result<bool, AllocError>
         ensures ok { IfOk result (λ taken. TakesIf taken self.old.served self.old.conn.held.items (bytes_of self.old.conn.unsent) self.new.conn.held.items (bytes_of self.new.conn.unsent)) }
         ensures unsent { OnErr result (bytes_of self.new.conn.unsent ≡ bytes_of self.old.conn.unsent) }
         ensures served { self.new.served ≡ self.old.served }
         ensures limits { self.new.conn.limits ≡ self.old.conn.limits }
     {
-        if self.conn.has_backlog() || !self.read() {
+        if self.conn.has_backlog() || !self.read(wire) {
             return Ok(false);
         }
         self.pass_flush()
@@ -316,15 +308,15 @@ impl<S: Read + Write + Drop> CacheClient<S> {
     /// passes it.
     ///
     /// Source: mcgate's own.
-    pub fn turn(&mut self, cache: &mut Cache, moment: Moment) -> AfterTurn
+    pub fn turn<W: Wire>(&mut self, wire: &mut W, cache: &mut Cache, moment: Moment) -> AfterTurn
         ensures within { IsWithin self.old.conn.limits.unsent (bytes_of self.old.conn.unsent) → IsWithin self.new.conn.limits.unsent (bytes_of self.new.conn.unsent) }
         ensures waits { self.old.conn.limits.unsent ≤ length (bytes_of self.old.conn.unsent) → Waits self.old.conn.held.items self.old.served cache.old self.new.conn.held.items self.new.served cache.new }
         ensures limits { self.new.conn.limits ≡ self.old.conn.limits }
     {
-        if !self.take_in(cache, moment) {
+        if !self.take_in(wire, cache, moment) {
             return AfterTurn::Done;
         }
-        match self.send() {
+        match self.send(wire) {
             Sent::Failed => AfterTurn::Done,
             Sent::Bytes | Sent::Nothing => self.next(),
         }

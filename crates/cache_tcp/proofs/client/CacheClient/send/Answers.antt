@@ -8,4 +8,4 @@ pub returns-clause-unsent : goal.returns-clause-unsent
 returns-clause-unsent g c = λ w.
     let most = c.args.self.now.conn.limits.unsent in
     subst (λ (l : List ℕ). IsWithin most l) (sym c.give_back.ensures.unsent)
-    (within_sent most (bytes_of c.args.self.now.conn.unsent) (bytes_of c.send_once-sent.new.self.unsent) _ _ c.send_once-sent.result c.send_once-sent.ensures.sent w)
+    (within_sent most c.args.self.now.conn.number (bytes_of c.args.self.now.conn.unsent) (bytes_of c.send_once-sent.new.self.unsent) _ _ c.send_once-sent.result c.send_once-sent.ensures.sent w)

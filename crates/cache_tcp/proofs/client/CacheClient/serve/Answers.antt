@@ -1,7 +1,7 @@
 use Rattle.std.proofs.Common.{refl, sym, ap, ◌∙◌, subst}
 use Rattle.wire_parts.specs.Sending.{bytes_of}
 use Rattle.wire_parts.specs.declared.to_send.buffer.SendBuffer.{SendBuffer}
-use Rattle.serve_clients.specs.declared.socket.conn.Limits.{Limits}
+use Rattle.serve_wire.specs.declared.conn.conn.Limits.{Limits}
 use Rattle.cache_tcp.specs.Steps.{IsWithin}
 use Rattle.cache_tcp.proofs.Exits.{on_err}
 use Rattle.cache_tcp.proofs.Runs.{serves_none, serves_still, comes_still, stops_in, stops_between}

@@ -1,6 +1,6 @@
 use Rattle.std.proofs.Common.{sym, subst}
 use Rattle.wire_parts.specs.Sending.{bytes_of}
-use Rattle.serve_clients.specs.declared.socket.conn.Limits.{Limits}
+use Rattle.serve_wire.specs.declared.conn.conn.Limits.{Limits}
 use Rattle.cache_tcp.specs.Steps.{IsWithin}
 use Rattle.cache_tcp.proofs.client.CacheClient.turn.Goals as goal
 
