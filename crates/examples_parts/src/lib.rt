@@ -14,6 +14,8 @@ mod calls;
 #[cfg(test)]
 mod clients;
 #[cfg(test)]
+mod far_ends;
+#[cfg(test)]
 mod fresh_cores;
 #[cfg(test)]
 mod held_items;
