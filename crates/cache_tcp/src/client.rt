@@ -1,6 +1,7 @@
 //! One client: what it sent is served, and what that gives is to be sent to it.
 
 ghost use Rattle.std.specs.Prelude.{◌≡◌, true, false, [], ◌<◌, ◌≤◌, ◌++◌, ◌⊎◌, ℕ, List, length, drop, IfOk, OnOk, OnErr};
+ghost use Rattle.serve_wire.specs.Agreement.{TouchesOnly};
 ghost use Rattle.wire_parts.specs.declared.skip.Skip.TheVariants.{Nothing};
 ghost use Rattle.wire_parts.specs.Sending.{bytes_of};
 ghost use Rattle.wire_parts.specs.Stream.{Stands, Closed};
@@ -120,6 +121,7 @@ impl CacheClient {
         ensures within { IsWithin self.old.conn.limits.unsent (bytes_of self.old.conn.unsent) → IsWithin self.old.conn.limits.unsent (bytes_of self.new.conn.unsent) }
         ensures held { self.new.conn.held ≡ self.old.conn.held }
         ensures limits { self.new.conn.limits ≡ self.old.conn.limits }
+        ensures number { self.new.conn.number ≡ self.old.conn.number }
     {
         let most = self.conn.limits.unsent;
         serve_at(
@@ -148,6 +150,7 @@ impl CacheClient {
         ensures shorter { OnOk result (length self.new.conn.held.items < length self.old.conn.held.items) }
         ensures unsent { self.new.conn.unsent ≡ self.old.conn.unsent }
         ensures limits { self.new.conn.limits ≡ self.old.conn.limits }
+        ensures number { self.new.conn.number ≡ self.old.conn.number }
     {
         let count = piece_len(self.conn.held.as_slice());
         self.served.feed(&self.conn.held.as_slice()[..count])?;
@@ -168,6 +171,7 @@ impl CacheClient {
         ensures err { OnErr result (StopsIn moment.seconds self.old.conn.held.items self.old.served cache.old cache.new) }
         ensures within { IsWithin self.old.conn.limits.unsent (bytes_of self.old.conn.unsent) → IsWithin self.old.conn.limits.unsent (bytes_of self.new.conn.unsent) }
         ensures limits { self.new.conn.limits ≡ self.old.conn.limits }
+        ensures number { self.new.conn.number ≡ self.old.conn.number }
     {
         loop {
             self.serve_stream(cache, moment)?;
@@ -184,6 +188,8 @@ impl CacheClient {
         ensures held { self.new.conn.held.items ≡ self.old.conn.held.items }
         ensures served { self.new.served ≡ self.old.served }
         ensures limits { self.new.conn.limits ≡ self.old.conn.limits }
+        ensures number { self.new.conn.number ≡ self.old.conn.number }
+        ensures only { TouchesOnly self.old.conn.number (W.history wire.old) (W.history wire.new) }
     {
         if !self.conn.writable {
             return Sent::Nothing;
@@ -209,6 +215,8 @@ impl CacheClient {
         ensures served { self.new.served ≡ self.old.served }
         ensures unsent { self.new.conn.unsent ≡ self.old.conn.unsent }
         ensures limits { self.new.conn.limits ≡ self.old.conn.limits }
+        ensures number { self.new.conn.number ≡ self.old.conn.number }
+        ensures only { TouchesOnly self.old.conn.number (W.history wire.old) (W.history wire.new) }
     {
         if !self.may_read() || self.has_left() {
             return true;
@@ -233,6 +241,8 @@ impl CacheClient {
         ensures within { IsWithin self.old.conn.limits.unsent (bytes_of self.old.conn.unsent) → IsWithin self.old.conn.limits.unsent (bytes_of self.new.conn.unsent) }
         ensures waits { self.old.conn.limits.unsent ≤ length (bytes_of self.old.conn.unsent) → Waits self.old.conn.held.items self.old.served cache.old self.new.conn.held.items self.new.served cache.new }
         ensures limits { self.new.conn.limits ≡ self.old.conn.limits }
+        ensures number { self.new.conn.number ≡ self.old.conn.number }
+        ensures only { TouchesOnly self.old.conn.number (W.history wire.old) (W.history wire.new) }
     {
         if self.conn.has_backlog() {
             return true;
@@ -255,6 +265,7 @@ impl CacheClient {
         ensures unsent { OnErr result (bytes_of self.new.conn.unsent ≡ bytes_of self.old.conn.unsent) }
         ensures served { self.new.served ≡ self.old.served }
         ensures limits { self.new.conn.limits ≡ self.old.conn.limits }
+        ensures number { self.new.conn.number ≡ self.old.conn.number }
     {
         if !self.served.is_between() || !begins_flush(self.conn.held.as_slice()) {
             return Ok(false);
@@ -272,6 +283,8 @@ impl CacheClient {
         ensures unsent { OnErr result (bytes_of self.new.conn.unsent ≡ bytes_of self.old.conn.unsent) }
         ensures served { self.new.served ≡ self.old.served }
         ensures limits { self.new.conn.limits ≡ self.old.conn.limits }
+        ensures number { self.new.conn.number ≡ self.old.conn.number }
+        ensures only { TouchesOnly self.old.conn.number (W.history wire.old) (W.history wire.new) }
     {
         if self.conn.has_backlog() || !self.read(wire) {
             return Ok(false);
@@ -312,6 +325,8 @@ impl CacheClient {
         ensures within { IsWithin self.old.conn.limits.unsent (bytes_of self.old.conn.unsent) → IsWithin self.new.conn.limits.unsent (bytes_of self.new.conn.unsent) }
         ensures waits { self.old.conn.limits.unsent ≤ length (bytes_of self.old.conn.unsent) → Waits self.old.conn.held.items self.old.served cache.old self.new.conn.held.items self.new.served cache.new }
         ensures limits { self.new.conn.limits ≡ self.old.conn.limits }
+        ensures number { self.new.conn.number ≡ self.old.conn.number }
+        ensures only { TouchesOnly self.old.conn.number (W.history wire.old) (W.history wire.new) }
     {
         if !self.take_in(wire, cache, moment) {
             return AfterTurn::Done;

@@ -167,6 +167,13 @@ impl<W: Wire + Drop> CacheEnd<W> {
 }
 
 impl<W: Wire> CacheEnd<W> {
+    /// The wire.
+    pub fn wire(&self) -> &W
+        ensures { result.now ≡ self.now.wire }
+    {
+        &self.wire
+    }
+
     /// How many clients it has.
     pub fn clients(&self) -> usize {
         self.clients.len()
@@ -248,10 +255,7 @@ impl<W: Wire> CacheEnd<W> {
             turn_away(self.alloc, &mut self.wire, conn);
             return;
         }
-        let mut client = CacheClient::new(
-            self.alloc,
-            Conn::new(self.alloc, conn, client_limits()),
-        );
+        let mut client = CacheClient::new(self.alloc, Conn::new(self.alloc, conn, client_limits()));
         if self.room.is_some() {
             client.uses.begin();
         }

@@ -10,6 +10,8 @@ mod answering;
 mod at_once;
 #[cfg(test)]
 mod cache_connections;
+#[cfg(test)]
+mod cache_turns;
 mod calls;
 #[cfg(test)]
 mod clients;

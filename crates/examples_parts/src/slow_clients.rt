@@ -190,7 +190,9 @@ impl Server {
     }
 
     fn turn(&mut self, client: &mut Client) -> AfterTurn {
-        client.end.turn(&mut self.wire, &mut self.cache, Moment { seconds: 0 })
+        client
+            .end
+            .turn(&mut self.wire, &mut self.cache, Moment { seconds: 0 })
     }
 
     fn run(&mut self, client: &mut Client) -> AfterTurn {
@@ -212,12 +214,7 @@ impl Server {
     }
 
     // The client takes as many bytes as these, so often: how often it took these.
-    fn taken_often(
-        &mut self,
-        client: &mut Client,
-        part: &[u8],
-        times: u32,
-    ) -> Result<u32, Fail> {
+    fn taken_often(&mut self, client: &mut Client, part: &[u8], times: u32) -> Result<u32, Fail> {
         let mut count: u32 = 0;
         for _ in 0..times {
             self.let_take(client, part.len())?;

@@ -21,11 +21,7 @@ fn bytes_of(memory_mb: Option<u32>) -> Option<usize> {
 }
 
 // Turns the server, as often as is asked.
-fn turn_cache<R: Clock>(
-    rt: &R,
-    end: &mut CacheEnd<Sockets>,
-    turns: Option<u32>,
-) -> io::Result<()> {
+fn turn_cache<R: Clock>(rt: &R, end: &mut CacheEnd<Sockets>, turns: Option<u32>) -> io::Result<()> {
     for _ in 0..turns.map_or(u64::MAX, u64::from) {
         end.turn(rt)?;
     }

@@ -122,7 +122,12 @@ struct LoadRun<'a> {
 }
 
 // A connection of this client is begun: its number.
-fn connect<N: Net>(net: &N, wire: &mut Sockets, address: &str, id: usize) -> Result<usize, LoadStop> {
+fn connect<N: Net>(
+    net: &N,
+    wire: &mut Sockets,
+    address: &str,
+    id: usize,
+) -> Result<usize, LoadStop> {
     match wire.connect(net, id, address.as_bytes()) {
         Connected::Begun(number) => Ok(number),
         Connected::NoAddress | Connected::Failed => Err(LoadStop::Failed),

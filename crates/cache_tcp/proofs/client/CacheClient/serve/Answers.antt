@@ -10,7 +10,7 @@ use Rattle.cache_tcp.proofs.client.CacheClient.serve.Goals as goal
 pub loop-self-init : goal.loop-self-init
 loop-self-init g c =
     let s = c.args.self.now in
-    record { serves = serves_none c.args.moment.seconds s.conn.held.items (bytes_of s.conn.unsent) s.served c.args.cache.now; within = λ w. w; limits = refl }
+    record { serves = serves_none c.args.moment.seconds s.conn.held.items (bytes_of s.conn.unsent) s.served c.args.cache.now; within = λ w. w; limits = refl; number = refl }
 
 pub returns-in_err-serve_stream-clause-err : goal.returns-in_err-serve_stream-clause-err
 returns-in_err-serve_stream-clause-err g c =
@@ -45,6 +45,7 @@ loop-self-preserved g c =
           (subst (λ (l : Limits). IsWithin l.unsent (bytes_of b.conn.unsent)) limits
           (c.serve_stream.ensures.within (subst (λ (l : Limits). IsWithin l.unsent (bytes_of a.conn.unsent)) (sym limits) (c.loop-self.invariant.within w))));
       limits = c.feed_piece.ensures.limits ∙ c.serve_stream.ensures.limits ∙ limits;
+      number = c.feed_piece.ensures.number ∙ c.serve_stream.ensures.number ∙ c.loop-self.invariant.number;
     }
 
 pub returns-in_err-feed_piece-clause-err : goal.returns-in_err-feed_piece-clause-err

@@ -9,6 +9,7 @@ invariant-loop-self g l = record {
   serves : ServesHeld l.moment.seconds l.fn.self.conn.held.items (bytes_of l.fn.self.conn.unsent) l.fn.self.served l.fn.cache l.self.conn.held.items (bytes_of l.self.conn.unsent) l.self.served l.cache;
   within : IsWithin l.fn.self.conn.limits.unsent (bytes_of l.fn.self.conn.unsent) → IsWithin l.fn.self.conn.limits.unsent (bytes_of l.self.conn.unsent);
   limits : l.self.conn.limits ≡ l.fn.self.conn.limits;
+  number : l.self.conn.number ≡ l.fn.self.conn.number;
 }
 
 abbrev pub decreases-loop-self : goal.decreases-loop-self
