@@ -301,12 +301,13 @@ impl CacheClient {
         }
     }
 
-    fn next(&self) -> AfterTurn {
-        let sent = self.conn.unsent.is_empty();
-        if sent && self.is_over() {
+    // What becomes of it after this write.
+    fn next(&self, sent: Sent) -> AfterTurn {
+        let is_sent = self.conn.unsent.is_empty();
+        if sent == Sent::Failed || (is_sent && self.is_over()) {
             return AfterTurn::Done;
         }
-        if !sent && self.conn.writable {
+        if !is_sent && self.conn.writable {
             return AfterTurn::More;
         }
         if !self.conn.has_backlog() && (self.may_read() || self.has_left()) {
@@ -331,9 +332,7 @@ impl CacheClient {
         if !self.take_in(wire, cache, moment) {
             return AfterTurn::Done;
         }
-        match self.send(wire) {
-            Sent::Failed => AfterTurn::Done,
-            Sent::Bytes | Sent::Nothing => self.next(),
-        }
+        let sent = self.send(wire);
+        self.next(sent)
     }
 }
