@@ -1,11 +1,12 @@
 -- What is served message by message, and what is to be sent then.
-use Rattle.std.proofs.Common.{◌≡◌, ℕ, ℤ, ◌+◌, ◌-◌, ◌<◌, ◌≤◌, Bool, true, false, List, [], ◌∷◌, ◌++◌, length, take, drop, Option, inl, inr, refl, sym, ap, ◌∙◌, subst, arith, append_assoc, append-nil, min}
+use Rattle.std.proofs.Common.{◌≡◌, ℕ, ℤ, ◌+◌, ◌-◌, ◌<◌, ◌≤◌, Bool, true, false, List, [], ◌∷◌, ◌++◌, length, take, drop, inl, inr, refl, sym, ap, ◌∙◌, subst, arith, append_assoc, append-nil, min}
 use Rattle.std.proofs.lemmas.Bool.{cases_lt}
 use Rattle.std.proofs.lemmas.List.{take-append-drop, drop-append-le, length-drop}
 use Rattle.std.proofs.Math.Seq.{drop-append-add}
-use Rattle.serve_clients.specs.declared.socket.conn.Sent.{Sent}
-use Rattle.serve_clients.specs.declared.socket.conn.Sent.TheVariants.{Bytes, Nothing, Failed}
-use Rattle.serve_clients.specs.Ends.{Sends}
+use Rattle.serve_wire.specs.declared.conn.conn.Sent.{Sent}
+use Rattle.serve_wire.specs.declared.conn.conn.Sent.TheVariants.{Bytes, Nothing, Failed}
+use Rattle.serve_wire.specs.Events.{Event}
+use Rattle.serve_wire.specs.Ends.{Sends}
 use Rattle.mc_types.specs.declared.ask.Ask.{Ask}
 use Rattle.wire_parts.specs.Stream.{Place}
 use Rattle.wire_stream.specs.TextProtocol.{Said, LongLine, ReadsNext, asks_in, passed_text}
@@ -161,7 +162,7 @@ pub above_len : (n len most max : ℕ) → len ≡ min n max → most ≤ len �
 above_len n len most max is le = grind (arith, is, le)
 
 -- or where one write took some
-pub within_sent : (most : ℕ) (u v : List ℕ) (taken taken' : Option (List ℕ)) (sent : Sent) → Sends u taken sent v taken' → IsWithin most u → IsWithin most v
-within_sent most u v taken taken' Bytes s w = subst (λ (l : List ℕ). IsWithin most l) (sym s.unsent_is) (within_drop most s.count u w)
-within_sent most u v taken taken' Nothing s w = subst (λ (l : List ℕ). IsWithin most l) (sym s.0) w
-within_sent most u v taken taken' Failed s w = subst (λ (l : List ℕ). IsWithin most l) (sym s.0) w
+pub within_sent : (most conn : ℕ) (u v : List ℕ) (h h' : List Event) (sent : Sent) → Sends conn u sent v h h' → IsWithin most u → IsWithin most v
+within_sent most conn u v h h' Bytes s w = subst (λ (l : List ℕ). IsWithin most l) (sym s.unsent_is) (within_drop most s.count u w)
+within_sent most conn u v h h' Nothing s w = subst (λ (l : List ℕ). IsWithin most l) (sym s.0) w
+within_sent most conn u v h h' Failed s w = subst (λ (l : List ℕ). IsWithin most l) (sym s.0) w

@@ -8,3 +8,4 @@ pub mod Exits
 pub mod Oldest
 pub mod Determined
 pub mod ServedAlike
+pub mod Touching

@@ -1,6 +1,7 @@
 //! One client: what it sent is served, and what that gives is to be sent to it.
 
 ghost use Rattle.std.specs.Prelude.{◌≡◌, true, false, [], ◌<◌, ◌≤◌, ◌++◌, ◌⊎◌, ℕ, List, length, drop, IfOk, OnOk, OnErr};
+ghost use Rattle.serve_wire.specs.Agreement.{TouchesOnly};
 ghost use Rattle.wire_parts.specs.declared.skip.Skip.TheVariants.{Nothing};
 ghost use Rattle.wire_parts.specs.Sending.{bytes_of};
 ghost use Rattle.wire_parts.specs.Stream.{Stands, Closed};
@@ -12,9 +13,9 @@ use crate::clock::Moment;
 use crate::connection::uses::Uses;
 use crate::connection::{Cache, Served};
 use memchr::memchr;
-use serve_clients::socket::{Conn, Got, Ready, Sent};
+use serve_wire::conn::{Conn, Got, Sent};
+use serve_wire::{Ready, Wire};
 use std::alloc::{AllocError, Global};
-use std::io::{Read, Write};
 use wire_parts::to_send::SendBuffer;
 
 // The room of one read, in bytes.
@@ -39,8 +40,8 @@ pub enum AfterTurn {
 
 /// A client: its end of the connection, and where its stream stands in what it sends.
 #[derive(Drop)]
-pub struct CacheClient<S: Drop> {
-    pub conn: Conn<S>,
+pub struct CacheClient {
+    pub conn: Conn,
     pub served: Served,
     /// The keys that it asked for.
     pub uses: Uses,
@@ -88,9 +89,9 @@ fn serve_at(
     served.serve(cache, moment.seconds, uses, out, most)
 }
 
-impl<S: Read + Write + Drop> CacheClient<S> {
+impl CacheClient {
     /// A client that has said nothing yet. It takes no memory.
-    pub fn new(alloc: Global, conn: Conn<S>) -> CacheClient<S>
+    pub fn new(alloc: Global, conn: Conn) -> CacheClient
         ensures conn { result.conn ≡ conn }
         ensures served { result.served ≡ at_front (Stands Nothing []) }
     {
@@ -105,18 +106,10 @@ impl<S: Read + Write + Drop> CacheClient<S> {
         }
     }
 
-    /// The system reported this of its socket. The answer is whether the client has to be served for it.
+    /// The wire reported this of its connection. The answer is whether the client has to be served for it.
     pub fn note(&mut self, ready: Ready) -> bool {
-        if ready.reads {
-            self.conn.readable = true;
-        }
-        if ready.closes {
-            self.conn.closing = true;
-        }
         let drains = ready.writes && !self.conn.writable;
-        if drains {
-            self.conn.writable = true;
-        }
+        self.conn.note(ready);
         ready.reads || drains
     }
 
@@ -128,6 +121,7 @@ impl<S: Read + Write + Drop> CacheClient<S> {
         ensures within { IsWithin self.old.conn.limits.unsent (bytes_of self.old.conn.unsent) → IsWithin self.old.conn.limits.unsent (bytes_of self.new.conn.unsent) }
         ensures held { self.new.conn.held ≡ self.old.conn.held }
         ensures limits { self.new.conn.limits ≡ self.old.conn.limits }
+        ensures number { self.new.conn.number ≡ self.old.conn.number }
     {
         let most = self.conn.limits.unsent;
         serve_at(
@@ -156,6 +150,7 @@ impl<S: Read + Write + Drop> CacheClient<S> {
         ensures shorter { OnOk result (length self.new.conn.held.items < length self.old.conn.held.items) }
         ensures unsent { self.new.conn.unsent ≡ self.old.conn.unsent }
         ensures limits { self.new.conn.limits ≡ self.old.conn.limits }
+        ensures number { self.new.conn.number ≡ self.old.conn.number }
     {
         let count = piece_len(self.conn.held.as_slice());
         self.served.feed(&self.conn.held.as_slice()[..count])?;
@@ -176,6 +171,7 @@ impl<S: Read + Write + Drop> CacheClient<S> {
         ensures err { OnErr result (StopsIn moment.seconds self.old.conn.held.items self.old.served cache.old cache.new) }
         ensures within { IsWithin self.old.conn.limits.unsent (bytes_of self.old.conn.unsent) → IsWithin self.old.conn.limits.unsent (bytes_of self.new.conn.unsent) }
         ensures limits { self.new.conn.limits ≡ self.old.conn.limits }
+        ensures number { self.new.conn.number ≡ self.old.conn.number }
     {
         loop {
             self.serve_stream(cache, moment)?;
@@ -187,16 +183,18 @@ impl<S: Read + Write + Drop> CacheClient<S> {
     }
 
     // One write, where it takes something.
-    fn send(&mut self) -> Sent
+    fn send<W: Wire>(&mut self, wire: &mut W) -> Sent
         ensures unsent { IsWithin self.old.conn.limits.unsent (bytes_of self.old.conn.unsent) → IsWithin self.old.conn.limits.unsent (bytes_of self.new.conn.unsent) }
         ensures held { self.new.conn.held.items ≡ self.old.conn.held.items }
         ensures served { self.new.served ≡ self.old.served }
         ensures limits { self.new.conn.limits ≡ self.old.conn.limits }
+        ensures number { self.new.conn.number ≡ self.old.conn.number }
+        ensures only { TouchesOnly self.old.conn.number (W.history wire.old) (W.history wire.new) }
     {
         if !self.conn.writable {
             return Sent::Nothing;
         }
-        let sent = self.conn.send_once();
+        let sent = self.conn.send_once(wire);
         self.conn.give_back(self.alloc, KEPT_ROOM);
         sent
     }
@@ -212,16 +210,18 @@ impl<S: Read + Write + Drop> CacheClient<S> {
     }
 
     // One read, where there may be something to read and nothing is left to serve. `false` where the client has to be dropped.
-    fn read(&mut self) -> bool
+    fn read<W: Wire>(&mut self, wire: &mut W) -> bool
         ensures held { (self.old.served.place ≡ Closed) ⊎ ((more : List ℕ) × (self.new.conn.held.items ≡ self.old.conn.held.items ++ more)) }
         ensures served { self.new.served ≡ self.old.served }
         ensures unsent { self.new.conn.unsent ≡ self.old.conn.unsent }
         ensures limits { self.new.conn.limits ≡ self.old.conn.limits }
+        ensures number { self.new.conn.number ≡ self.old.conn.number }
+        ensures only { TouchesOnly self.old.conn.number (W.history wire.old) (W.history wire.new) }
     {
         if !self.may_read() || self.has_left() {
             return true;
         }
-        let got = self.conn.read_once(READ_ROOM);
+        let got = self.conn.read_once(wire, READ_ROOM);
         if self.served.is_closed() {
             // What comes after the end is dropped. Left unread, it would take the last replies with it when the socket is closed.
             self.conn.held.clear();
@@ -237,15 +237,17 @@ impl<S: Read + Write + Drop> CacheClient<S> {
     }
 
     // Where it leaves no backlog: one read, and what is whole is answered, up to a backlog. `false` where the client has to be dropped.
-    fn take_in(&mut self, cache: &mut Cache, moment: Moment) -> bool
+    fn take_in<W: Wire>(&mut self, wire: &mut W, cache: &mut Cache, moment: Moment) -> bool
         ensures within { IsWithin self.old.conn.limits.unsent (bytes_of self.old.conn.unsent) → IsWithin self.old.conn.limits.unsent (bytes_of self.new.conn.unsent) }
         ensures waits { self.old.conn.limits.unsent ≤ length (bytes_of self.old.conn.unsent) → Waits self.old.conn.held.items self.old.served cache.old self.new.conn.held.items self.new.served cache.new }
         ensures limits { self.new.conn.limits ≡ self.old.conn.limits }
+        ensures number { self.new.conn.number ≡ self.old.conn.number }
+        ensures only { TouchesOnly self.old.conn.number (W.history wire.old) (W.history wire.new) }
     {
         if self.conn.has_backlog() {
             return true;
         }
-        if !self.read() {
+        if !self.read(wire) {
             return false;
         }
         let served = self.serve(cache, moment);
@@ -263,6 +265,7 @@ impl<S: Read + Write + Drop> CacheClient<S> {
         ensures unsent { OnErr result (bytes_of self.new.conn.unsent ≡ bytes_of self.old.conn.unsent) }
         ensures served { self.new.served ≡ self.old.served }
         ensures limits { self.new.conn.limits ≡ self.old.conn.limits }
+        ensures number { self.new.conn.number ≡ self.old.conn.number }
     {
         if !self.served.is_between() || !begins_flush(self.conn.held.as_slice()) {
             return Ok(false);
@@ -275,13 +278,15 @@ impl<S: Read + Write + Drop> CacheClient<S> {
     /// One read, where nothing is left to serve. Whether what the client sent begins with `flush_all` then: that is used up, and `OK` is to be sent.
     ///
     /// The only error is running out of memory; then the client is to be closed.
-    pub fn take_flush(&mut self) -> Result<bool, AllocError>
+    pub fn take_flush<W: Wire>(&mut self, wire: &mut W) -> Result<bool, AllocError>
         ensures ok { IfOk result (λ taken. TakesIf taken self.old.served self.old.conn.held.items (bytes_of self.old.conn.unsent) self.new.conn.held.items (bytes_of self.new.conn.unsent)) }
         ensures unsent { OnErr result (bytes_of self.new.conn.unsent ≡ bytes_of self.old.conn.unsent) }
         ensures served { self.new.served ≡ self.old.served }
         ensures limits { self.new.conn.limits ≡ self.old.conn.limits }
+        ensures number { self.new.conn.number ≡ self.old.conn.number }
+        ensures only { TouchesOnly self.old.conn.number (W.history wire.old) (W.history wire.new) }
     {
-        if self.conn.has_backlog() || !self.read() {
+        if self.conn.has_backlog() || !self.read(wire) {
             return Ok(false);
         }
         self.pass_flush()
@@ -296,12 +301,13 @@ impl<S: Read + Write + Drop> CacheClient<S> {
         }
     }
 
-    fn next(&self) -> AfterTurn {
-        let sent = self.conn.unsent.is_empty();
-        if sent && self.is_over() {
+    // What becomes of it after this write.
+    fn next(&self, sent: Sent) -> AfterTurn {
+        let is_sent = self.conn.unsent.is_empty();
+        if sent == Sent::Failed || (is_sent && self.is_over()) {
             return AfterTurn::Done;
         }
-        if !sent && self.conn.writable {
+        if !is_sent && self.conn.writable {
             return AfterTurn::More;
         }
         if !self.conn.has_backlog() && (self.may_read() || self.has_left()) {
@@ -316,17 +322,17 @@ impl<S: Read + Write + Drop> CacheClient<S> {
     /// passes it.
     ///
     /// Source: mcgate's own.
-    pub fn turn(&mut self, cache: &mut Cache, moment: Moment) -> AfterTurn
+    pub fn turn<W: Wire>(&mut self, wire: &mut W, cache: &mut Cache, moment: Moment) -> AfterTurn
         ensures within { IsWithin self.old.conn.limits.unsent (bytes_of self.old.conn.unsent) → IsWithin self.new.conn.limits.unsent (bytes_of self.new.conn.unsent) }
         ensures waits { self.old.conn.limits.unsent ≤ length (bytes_of self.old.conn.unsent) → Waits self.old.conn.held.items self.old.served cache.old self.new.conn.held.items self.new.served cache.new }
         ensures limits { self.new.conn.limits ≡ self.old.conn.limits }
+        ensures number { self.new.conn.number ≡ self.old.conn.number }
+        ensures only { TouchesOnly self.old.conn.number (W.history wire.old) (W.history wire.new) }
     {
-        if !self.take_in(cache, moment) {
+        if !self.take_in(wire, cache, moment) {
             return AfterTurn::Done;
         }
-        match self.send() {
-            Sent::Failed => AfterTurn::Done,
-            Sent::Bytes | Sent::Nothing => self.next(),
-        }
+        let sent = self.send(wire);
+        self.next(sent)
     }
 }

@@ -1,34 +1,29 @@
-//! The server's sockets: who is ready, in turns.
+//! The server's clients over a wire: who is ready, in turns.
+
+ghost use Rattle.std.specs.Prelude.{◌≡◌, None};
+ghost use Rattle.serve_wire.specs.Events.{role};
 
 use crate::client::{AfterTurn, CacheClient};
 use crate::clock::{Moment, SetClock};
 use crate::connection::Cache;
 use crate::room::Room;
 use crate::settings::{Settings, client_limits};
-use mio::{Events, Poll, Token};
-use serve_clients::socket::{Conn, Ready, watch};
+use serve_wire::conn::{Conn, turn_away};
+use serve_wire::sockets::Sockets;
+use serve_wire::{Accepted, Report, Wire};
 use slab::Slab;
 use std::alloc::{AllocError, Global};
-use std::io::{ErrorKind, Write};
-use std::net::{Net, OpenListener, OpenStream, SocketAddr, TcpListener};
-use std::os::fd::AsRawFd;
+use std::io::ErrorKind;
+use std::net::{Net, SocketAddr, ToSocketAddrs};
 use std::rt::Clock;
 use std::time::Duration;
 use std::{io, mem};
-
-// What the reports of the listening socket are called; clients have smaller numbers.
-const LISTENER: usize = usize::MAX;
-
-// The most reports that one wait takes.
-const EVENTS: usize = 256;
 
 // The most clients that one turn accepts.
 const ACCEPTS: usize = 64;
 
 // How long accepting pauses after it has failed, in milliseconds.
 const ACCEPT_PAUSE: u64 = 100;
-
-const TOO_MANY: &[u8] = b"SERVER_ERROR too many clients\r\n";
 
 // Whether clients may wait to be accepted.
 #[derive(Clone, Copy, PartialEq, Eq)]
@@ -41,15 +36,13 @@ enum Accepting {
     Idle,
 }
 
-/// A cache server that listens.
+/// A cache server over a wire.
 #[derive(Drop)]
-pub struct CacheEnd<R: Net> {
+pub struct CacheEnd<W: Wire> {
     alloc: Global,
-    listener: R::Listener,
-    poll: Poll,
-    events: Events,
+    wire: W,
     accepting: Accepting,
-    clients: Slab<CacheClient<R::Stream>>,
+    clients: Slab<CacheClient>,
     most_clients: usize,
     flushes: bool,
     // The clients for which something is to be done in the next turn, each once.
@@ -62,23 +55,23 @@ pub struct CacheEnd<R: Net> {
     room: Option<Room>,
 }
 
-fn make_ready<S: OpenStream>(stream: &S) -> io::Result<()> {
-    stream.set_nonblocking(true)?;
-    stream.set_nodelay(true)
-}
-
-// A client above the limit is told so, if it can be without waiting.
-fn turn_away<S: OpenStream + Write + Drop>(mut stream: S) {
-    if stream.set_nonblocking(true).is_ok() {
-        let _ = stream.write(TOO_MANY);
+// A wire that listens at the first place that an address names where it can.
+fn listening<R: Net + Clock + AllocGlobal>(rt: &R, address: &str) -> io::Result<Sockets> {
+    let mut refused = io::Error::from(ErrorKind::AddrNotAvailable);
+    for socket in address.to_socket_addrs(rt)? {
+        match Sockets::listen(rt, socket) {
+            Ok(wire) => return Ok(wire),
+            Err(error) => refused = error,
+        }
     }
+    Err(refused)
 }
 
 // What the client asked for in its turn is looked up.
-fn look_at_uses<S: Drop>(
+fn look_at_uses(
     room: &mut Room,
     cache: &mut Cache,
-    client: &mut CacheClient<S>,
+    client: &mut CacheClient,
     moment: Moment,
 ) -> Result<(), AllocError> {
     let Some(keys) = client.uses.take() else {
@@ -99,10 +92,10 @@ fn lose_all(room: &mut Option<Room>, cache: &mut Cache) {
 }
 
 // What the client's turn changed is counted, where so many bytes were to be sent to it before, and items are lost where all takes too much.
-fn count<S: Drop>(
+fn count(
     room: &mut Room,
     cache: &mut Cache,
-    client: &mut CacheClient<S>,
+    client: &mut CacheClient,
     before: usize,
     moment: Moment,
 ) {
@@ -113,32 +106,50 @@ fn count<S: Drop>(
     room.fit(cache);
 }
 
-impl<R: Net + Clock + AllocGlobal> CacheEnd<R> {
+impl CacheEnd<Sockets> {
     /// An empty server that listens on an address, `HOST:PORT`; with port 0 the system picks one.
     ///
     /// The errors are the system's, among them those of an address that is none or is taken, and running out of memory.
-    pub fn listen(rt: &R, address: &str, settings: Settings) -> io::Result<CacheEnd<R>> {
+    pub fn listen<R: Net + Clock + AllocGlobal>(
+        rt: &R,
+        address: &str,
+        settings: Settings,
+    ) -> io::Result<CacheEnd<Sockets>> {
         Self::listen_within(rt, address, settings, None)
     }
 
-    /// The same, where items and what is to be sent to clients take so many bytes at most, and what one turn of a client adds. Items are
-    /// lost first, the least recently used before others. Where half of all is to be sent, the client is closed to which most is.
-    pub fn listen_within(
+    /// The same, where items and what is to be sent to clients take so many bytes at most, as [`over`](CacheEnd::over) says.
+    pub fn listen_within<R: Net + Clock + AllocGlobal>(
         rt: &R,
         address: &str,
         settings: Settings,
         memory: Option<usize>,
-    ) -> io::Result<CacheEnd<R>> {
+    ) -> io::Result<CacheEnd<Sockets>> {
+        CacheEnd::over(rt, listening(rt, address)?, settings, memory)
+    }
+
+    /// The address that it listens on.
+    pub fn address(&self) -> io::Result<SocketAddr> {
+        self.wire.local_addr()
+    }
+}
+
+impl<W: Wire + Drop> CacheEnd<W> {
+    /// An empty server of those who are accepted on this wire. Where `memory` is given, items and what is to be sent to clients take so many bytes at
+    /// most, and what one turn of a client adds. Items are lost first, the least recently used before others. Where half of all is to be sent, the
+    /// client is closed to which most is.
+    ///
+    /// The errors are the clock's, and running out of memory.
+    pub fn over<R: Clock + AllocGlobal>(
+        rt: &R,
+        wire: W,
+        settings: Settings,
+        memory: Option<usize>,
+    ) -> io::Result<CacheEnd<W>> {
         let alloc = rt.alloc();
-        let listener = TcpListener::bind(rt, address)?;
-        listener.set_nonblocking(true)?;
-        let poll = Poll::new(rt)?;
-        watch(poll.registry(), listener.as_raw_fd(), LISTENER)?;
         Ok(CacheEnd {
             alloc,
-            listener,
-            poll,
-            events: Events::with_capacity(alloc, EVENTS)?,
+            wire,
             accepting: Accepting::Now,
             clients: Slab::new(alloc),
             most_clients: settings.clients,
@@ -153,10 +164,14 @@ impl<R: Net + Clock + AllocGlobal> CacheEnd<R> {
             },
         })
     }
+}
 
-    /// The address that it listens on.
-    pub fn address(&self) -> io::Result<SocketAddr> {
-        self.listener.local_addr()
+impl<W: Wire> CacheEnd<W> {
+    /// The wire.
+    pub fn wire(&self) -> &W
+        ensures { result.now ≡ self.now.wire }
+    {
+        &self.wire
     }
 
     /// How many clients it has.
@@ -169,6 +184,7 @@ impl<R: Net + Clock + AllocGlobal> CacheEnd<R> {
         let Some(client) = self.clients.try_remove(id) else {
             return;
         };
+        self.wire.close(client.conn.number);
         if let Some(room) = &mut self.room {
             room.change_unsent(client.conn.unsent.len(), 0);
         }
@@ -201,79 +217,71 @@ impl<R: Net + Clock + AllocGlobal> CacheEnd<R> {
         }
     }
 
-    fn wait(&mut self, most: Option<Duration>) -> io::Result<()> {
+    // How many reports there are.
+    fn wait(&mut self, most: Option<Duration>) -> io::Result<usize> {
         let limit = self.wait_limit(most);
-        self.poll.poll(&mut self.events, limit)
+        self.wire.wait(limit)
     }
 
-    fn note(&mut self, token: usize, ready: Ready) {
-        if token == LISTENER {
-            self.accepting = Accepting::Now;
-            return;
-        }
-        let wakes = match self.clients.get_mut(token) {
-            Some(client) => client.note(ready),
-            None => false,
-        };
-        if wakes {
-            self.list(token);
+    fn note(&mut self, report: Report) {
+        match report {
+            Report::Listener => self.accepting = Accepting::Now,
+            Report::Client(id, ready) => {
+                let wakes = match self.clients.get_mut(id) {
+                    Some(client) => client.note(ready),
+                    None => false,
+                };
+                if wakes {
+                    self.list(id);
+                }
+            }
+            Report::Server(..) => {}
         }
     }
 
-    fn note_all(&mut self) -> io::Result<()> {
-        let none = Events::with_capacity(self.alloc, 0)?;
-        let events = mem::replace(&mut self.events, none);
-        for event in events.iter() {
-            let Token(token) = event.token();
-            self.note(token, Ready::of(event));
+    fn note_all(&mut self, reports: usize) {
+        for at in 0..reports {
+            if let Some(report) = self.wire.report(at) {
+                self.note(report);
+            }
         }
-        self.events = events;
-        Ok(())
     }
 
-    // A client that can't be served, since memory or the system refuses it, is closed.
-    fn admit(&mut self, stream: R::Stream) {
+    // A client that can't be served, since memory or the system refuses it, is closed. One above the limit is told so.
+    fn admit(&mut self, conn: usize)
+        requires { role conn (W.history self.old.wire) ≡ None }
+    {
         if self.clients.len() >= self.most_clients {
-            turn_away(stream);
+            turn_away(self.alloc, &mut self.wire, conn);
             return;
         }
-        if make_ready(&stream).is_err() {
-            return;
-        }
-        let socket = stream.as_raw_fd();
-        let mut client = CacheClient::new(
-            self.alloc,
-            Conn::new(self.alloc, stream, client_limits()),
-        );
+        let mut client = CacheClient::new(self.alloc, Conn::new(self.alloc, conn, client_limits()));
         if self.room.is_some() {
             client.uses.begin();
         }
         let Ok(id) = self.clients.insert(client) else {
+            self.wire.close(conn);
             return;
         };
-        if watch(self.poll.registry(), socket, id).is_err() {
-            self.remove(id);
-            return;
+        match self.wire.admit(conn, id) {
+            Ok(()) => self.list(id),
+            Err(_) => self.remove(id),
         }
-        self.list(id);
     }
 
     fn accept_some(&mut self) {
         for _ in 0..ACCEPTS {
-            match self.listener.accept() {
-                Ok((stream, _)) => self.admit(stream),
-                Err(error) => match error.kind() {
-                    // That one has gone.
-                    ErrorKind::Interrupted | ErrorKind::ConnectionAborted => {}
-                    ErrorKind::WouldBlock => {
-                        self.accepting = Accepting::Idle;
-                        return;
-                    }
-                    _ => {
-                        self.accepting = Accepting::Later;
-                        return;
-                    }
-                },
+            match self.wire.accept() {
+                Accepted::Peer(conn) => self.admit(conn),
+                Accepted::Gone => {}
+                Accepted::Nobody => {
+                    self.accepting = Accepting::Idle;
+                    return;
+                }
+                Accepted::Refused => {
+                    self.accepting = Accepting::Later;
+                    return;
+                }
             }
         }
     }
@@ -313,14 +321,14 @@ impl<R: Net + Clock + AllocGlobal> CacheEnd<R> {
         };
         client.listed = false;
         if self.flushes {
-            match client.take_flush() {
+            match client.take_flush(&mut self.wire) {
                 Ok(true) => lose_all(&mut self.room, &mut self.cache),
                 Ok(false) => {}
                 Err(_) => return AfterTurn::Done,
             }
         }
         let before = client.conn.unsent.len();
-        let after = client.turn(&mut self.cache, moment);
+        let after = client.turn(&mut self.wire, &mut self.cache, moment);
         if let Some(room) = &mut self.room {
             count(room, &mut self.cache, client, before, moment);
         }
@@ -347,9 +355,9 @@ impl<R: Net + Clock + AllocGlobal> CacheEnd<R> {
     }
 
     // One turn, which waits `most` at the longest.
-    fn take_turn(&mut self, rt: &R, most: Option<Duration>) -> io::Result<()> {
-        self.wait(most)?;
-        self.note_all()?;
+    fn take_turn<R: Clock>(&mut self, rt: &R, most: Option<Duration>) -> io::Result<()> {
+        let reports = self.wait(most)?;
+        self.note_all(reports);
         let moment = self.clock.now(rt)?;
         if self.accepting != Accepting::Idle {
             self.accept_some();
@@ -358,17 +366,17 @@ impl<R: Net + Clock + AllocGlobal> CacheEnd<R> {
         Ok(())
     }
 
-    /// One turn: waits until a socket is ready, or not at all where something is left to do, accepts clients, and serves those that
+    /// One turn: waits until a connection is ready, or not at all where something is left to do, accepts clients, and serves those that
     /// are ready. All asks of a turn are answered at one moment.
     ///
     /// A client that ends, fails, or is refused memory is closed alone, and accepting that fails is tried again after a while. The errors are
     /// the system's: of the wait and of the clock.
-    pub fn turn(&mut self, rt: &R) -> io::Result<()> {
+    pub fn turn<R: Clock>(&mut self, rt: &R) -> io::Result<()> {
         self.take_turn(rt, None)
     }
 
     /// The same, but the wait ends after so long also where nothing is ready.
-    pub fn turn_within(&mut self, rt: &R, most: Duration) -> io::Result<()> {
+    pub fn turn_within<R: Clock>(&mut self, rt: &R, most: Duration) -> io::Result<()> {
         self.take_turn(rt, Some(most))
     }
 }

@@ -1,8 +1,8 @@
 //! One memcached cache server over TCP, in one thread: many clients, both dialects, one cache.
 //!
-//! A turn of [`CacheEnd`] waits until a socket is ready, accepts clients, and for each client that is ready makes one read, answers
-//! what is whole, ask by ask and up to a backlog of 1 MiB, and makes one write. What a client is sent is proved without its socket
-//! (`client`); the turn around it is only tested, since no contract says what a socket gives or takes.
+//! A turn of [`CacheEnd`] waits until a connection of its wire (`serve_wire`) is ready, accepts clients, and for each client that is ready
+//! makes one read, answers what is whole, ask by ask and up to a backlog of 1 MiB, and makes one write. What a client is sent is proved
+//! (`client`); the turn around it is only tested.
 #![tactic(auto)]
 
 pub mod client;

@@ -2,7 +2,7 @@
 
 ghost use Rattle.std.specs.Prelude.{◌≡◌, ◌<◌};
 
-use serve_clients::socket::Limits;
+use serve_wire::conn::Limits;
 
 /// The most bytes of a client that are held and not served.
 pub(crate) const INPUT_LIMIT: usize = 2_097_152;

@@ -11,9 +11,13 @@ mod answering;
 mod at_once;
 #[cfg(test)]
 mod cache_connections;
+#[cfg(test)]
+mod cache_turns;
 mod calls;
 #[cfg(test)]
 mod clients;
+#[cfg(test)]
+mod far_ends;
 #[cfg(test)]
 mod fresh_cores;
 #[cfg(test)]

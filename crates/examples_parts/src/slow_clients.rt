@@ -1,14 +1,14 @@
-//! Tests: clients that take their replies slowly, or not at all, each over a stream in memory.
+//! Tests: clients that take their replies slowly, or not at all, over a wire in memory.
 
+use crate::far_ends::{connect, may_take, then};
 use crate::reading::{halves, key, number, same, text_of, wire};
 use cache_tcp::client::{AfterTurn, CacheClient};
 use cache_tcp::clock::Moment;
 use cache_tcp::connection::Cache;
 use mc_types::DATA_LIMIT;
-use serve_clients::socket::{Conn, Limits};
+use serve_wire::conn::{Conn, Limits};
+use serve_wire::memory::{Act, Memory};
 use std::alloc::{AllocError, Global};
-use std::io;
-use std::io::{ErrorKind, Read, Write};
 use std::test::Fail;
 
 // A name, how many bytes are a backlog, and what happens. `hold K N` holds N bytes of data under a key of one letter, which differ from those of
@@ -93,66 +93,28 @@ hold c 1048576
 0 taken => END|"
 }
 
-// What it gives, how many bytes more it takes, and what it took.
+// What serves clients: one cache, over one wire.
 #[derive(Drop)]
-struct Taker {
+struct Server {
     alloc: Global,
-    gives: Vec<u8>,
-    room: usize,
-    taken: Vec<u8>,
+    cache: Cache,
+    wire: Memory,
 }
 
-impl Read for Taker {
-    fn read(&mut self, buf: &mut [u8]) -> io::Result<usize> {
-        if self.gives.is_empty() {
-            return Err(io::Error::from(ErrorKind::WouldBlock));
-        }
-        let mut rest = self.gives.as_slice();
-        let read = rest.read(buf)?;
-        self.gives = rest.to_vec(self.alloc)?;
-        Ok(read.min(buf.len()))
-    }
+// A client, what its far end is called, and how much of what that took was looked at.
+#[derive(Drop)]
+struct Client {
+    end: CacheClient,
+    name: u32,
+    seen: usize,
 }
-
-impl Write for Taker {
-    fn write(&mut self, buf: &[u8]) -> io::Result<usize> {
-        let count = buf.len().min(self.room);
-        if count == 0 {
-            return Err(io::Error::from(ErrorKind::WouldBlock));
-        }
-        self.taken.extend_from_slice(&buf[..count])?;
-        self.room -= count;
-        Ok(count)
-    }
-
-    fn flush(&mut self) -> io::Result<()> {
-        Ok(())
-    }
-}
-
-type Client = CacheClient<Taker>;
 
 // Two clients of one cache.
 #[derive(Drop)]
 struct Clients {
-    alloc: Global,
-    cache: Cache,
+    server: Server,
     first: Client,
     second: Client,
-}
-
-fn client(alloc: Global, backlog: usize) -> Client {
-    let stream = Taker {
-        alloc,
-        gives: Vec::new(alloc),
-        room: 0,
-        taken: Vec::new(alloc),
-    };
-    let limits = Limits {
-        held: 65_536,
-        unsent: backlog,
-    };
-    CacheClient::new(alloc, Conn::new(alloc, stream, limits))
 }
 
 // The text with what stands between ( and ) written so often.
@@ -168,44 +130,12 @@ fn repeated(alloc: Global, text: &str) -> Result<String, Fail> {
     Ok(all)
 }
 
-fn give(alloc: Global, client: &mut Client, text: &str) -> Result<(), Fail> {
-    let text = repeated(alloc, text)?;
-    let bytes = wire(alloc, text.as_str())?;
-    client
-        .conn
-        .stream
-        .gives
-        .extend_from_slice(bytes.as_str().as_bytes())?;
-    client.conn.readable = true;
-    Ok(())
-}
-
-fn take(client: &mut Client, text: &str) -> Result<(), Fail> {
-    client.conn.stream.room = number(text)? as usize;
-    client.conn.writable = true;
-    Ok(())
-}
-
 fn word(after: AfterTurn) -> &'static str {
     match after {
         AfterTurn::More => "more",
         AfterTurn::Waits => "waits",
         AfterTurn::Done => "done",
     }
-}
-
-fn turn(client: &mut Client, cache: &mut Cache) -> AfterTurn {
-    client.turn(cache, Moment { seconds: 0 })
-}
-
-fn run(client: &mut Client, cache: &mut Cache) -> AfterTurn {
-    for _ in 0..1_000 {
-        let after = turn(client, cache);
-        if after != AfterTurn::More {
-            return after;
-        }
-    }
-    AfterTurn::More
 }
 
 // The data that are held under a key.
@@ -226,35 +156,6 @@ fn value_of(alloc: Global, name: &str, end: &str) -> Result<Vec<u8>, AllocError>
     Ok(text)
 }
 
-// The client takes as many bytes as these, so often: how often it took these.
-fn taken_often(client: &mut Client, cache: &mut Cache, part: &[u8], times: u32) -> u32 {
-    let mut count: u32 = 0;
-    for _ in 0..times {
-        client.conn.stream.room = part.len();
-        client.conn.writable = true;
-        run(client, cache);
-        if client.conn.stream.taken.as_slice() == part {
-            count = count.saturating_add(1);
-        }
-        client.conn.stream.taken.clear();
-    }
-    count
-}
-
-// A key and how often it is shown.
-fn often(
-    alloc: Global,
-    client: &mut Client,
-    cache: &mut Cache,
-    text: &str,
-    end: &str,
-) -> Result<String, Fail> {
-    let (name, times) = halves(text, " ");
-    let part = value_of(alloc, name, end)?;
-    let count = taken_often(client, cache, part.as_slice(), number(times)?);
-    Ok(count.to_string(alloc)?)
-}
-
 fn shown(alloc: Global, bytes: &[u8]) -> Result<String, AllocError> {
     if bytes.is_empty() {
         return "nothing".to_string(alloc);
@@ -262,38 +163,102 @@ fn shown(alloc: Global, bytes: &[u8]) -> Result<String, AllocError> {
     text_of(alloc, bytes)
 }
 
-fn taken(alloc: Global, client: &mut Client) -> Result<String, AllocError> {
-    let text = shown(alloc, client.conn.stream.taken.as_slice())?;
-    client.conn.stream.taken.clear();
-    Ok(text)
-}
-
-// What was sent to a client, or is to be.
-fn told(alloc: Global, client: &mut Client, verb: &str) -> Result<String, AllocError> {
-    match verb {
-        "unsent" => shown(alloc, client.conn.unsent.to_vec(alloc)?.as_slice()),
-        "length" => client.conn.unsent.len().to_string(alloc),
-        _ => taken(alloc, client),
+impl Server {
+    fn client(&mut self, name: u32, backlog: usize) -> Result<Client, Fail> {
+        let number = connect(self.alloc, &mut self.wire, name)?;
+        let limits = Limits {
+            held: 65_536,
+            unsent: backlog,
+        };
+        Ok(Client {
+            end: CacheClient::new(self.alloc, Conn::new(self.alloc, number, limits)),
+            name,
+            seen: 0,
+        })
     }
-}
 
-fn event(
-    alloc: Global,
-    client: &mut Client,
-    cache: &mut Cache,
-    text: &str,
-) -> Result<String, Fail> {
-    let (verb, text) = halves(text, " ");
-    match verb {
-        "gives" => give(alloc, client, text)?,
-        "takes" => take(client, text)?,
-        "turn" => return Ok(word(turn(client, cache)).to_string(alloc)?),
-        "runs" => return Ok(word(run(client, cache)).to_string(alloc)?),
-        "values" => return often(alloc, client, cache, text, "\r\n"),
-        "replies" => return often(alloc, client, cache, text, "\r\nEND\r\n"),
-        _ => return Ok(told(alloc, client, verb)?),
+    fn give(&mut self, client: &mut Client, text: &str) -> Result<(), Fail> {
+        let text = repeated(self.alloc, text)?;
+        let bytes = wire(self.alloc, text.as_str())?.into_bytes();
+        client.end.conn.readable = true;
+        then(&mut self.wire, client.name, Act::Sends(bytes))
     }
-    Ok(String::new(alloc))
+
+    fn let_take(&mut self, client: &mut Client, count: usize) -> Result<(), Fail> {
+        client.end.conn.writable = true;
+        may_take(&mut self.wire, client.name, count)
+    }
+
+    fn turn(&mut self, client: &mut Client) -> AfterTurn {
+        client
+            .end
+            .turn(&mut self.wire, &mut self.cache, Moment { seconds: 0 })
+    }
+
+    fn run(&mut self, client: &mut Client) -> AfterTurn {
+        for _ in 0..1_000 {
+            let after = self.turn(client);
+            if after != AfterTurn::More {
+                return after;
+            }
+        }
+        AfterTurn::More
+    }
+
+    // What the client took and wasn't looked at yet.
+    fn taken(&self, client: &mut Client) -> &[u8] {
+        let taken = self.wire.taken(client.name);
+        let new = taken.get(client.seen..).unwrap_or(b"".as_slice());
+        client.seen = taken.len();
+        new
+    }
+
+    // The client takes as many bytes as these, so often: how often it took these.
+    fn taken_often(&mut self, client: &mut Client, part: &[u8], times: u32) -> Result<u32, Fail> {
+        let mut count: u32 = 0;
+        for _ in 0..times {
+            self.let_take(client, part.len())?;
+            self.run(client);
+            if self.taken(client) == part {
+                count = count.saturating_add(1);
+            }
+        }
+        Ok(count)
+    }
+
+    // A key and how often it is shown.
+    fn often(&mut self, client: &mut Client, text: &str, end: &str) -> Result<String, Fail> {
+        let (name, times) = halves(text, " ");
+        let part = value_of(self.alloc, name, end)?;
+        let count = self.taken_often(client, part.as_slice(), number(times)?)?;
+        Ok(count.to_string(self.alloc)?)
+    }
+
+    // What was sent to a client, or is to be.
+    fn told(&self, client: &mut Client, verb: &str) -> Result<String, AllocError> {
+        match verb {
+            "unsent" => shown(
+                self.alloc,
+                client.end.conn.unsent.to_vec(self.alloc)?.as_slice(),
+            ),
+            "length" => client.end.conn.unsent.len().to_string(self.alloc),
+            _ => shown(self.alloc, self.taken(client)),
+        }
+    }
+
+    fn event(&mut self, client: &mut Client, text: &str) -> Result<String, Fail> {
+        let (verb, text) = halves(text, " ");
+        match verb {
+            "gives" => self.give(client, text)?,
+            "takes" => self.let_take(client, number(text)? as usize)?,
+            "turn" => return Ok(word(self.turn(client)).to_string(self.alloc)?),
+            "runs" => return Ok(word(self.run(client)).to_string(self.alloc)?),
+            "values" => return self.often(client, text, "\r\n"),
+            "replies" => return self.often(client, text, "\r\nEND\r\n"),
+            _ => return Ok(self.told(client, verb)?),
+        }
+        Ok(String::new(self.alloc))
+    }
 }
 
 fn hold(alloc: Global, cache: &mut Cache, text: &str) -> Result<(), Fail> {
@@ -306,23 +271,30 @@ fn hold(alloc: Global, cache: &mut Cache, text: &str) -> Result<(), Fail> {
 }
 
 impl Clients {
-    fn new(alloc: Global, backlog: usize) -> Result<Clients, AllocError> {
-        Ok(Clients {
+    fn new(alloc: Global, backlog: usize) -> Result<Clients, Fail> {
+        let mut server = Server {
             alloc,
             cache: Cache::new(alloc, 16)?,
-            first: client(alloc, backlog),
-            second: client(alloc, backlog),
+            wire: Memory::new(alloc),
+        };
+        let first = server.client(0, backlog)?;
+        let second = server.client(1, backlog)?;
+        Ok(Clients {
+            server,
+            first,
+            second,
         })
     }
 
     fn answer(&mut self, text: &str) -> Result<String, Fail> {
         let (who, rest) = halves(text, " ");
         match who {
-            "0" => event(self.alloc, &mut self.first, &mut self.cache, rest),
-            "1" => event(self.alloc, &mut self.second, &mut self.cache, rest),
+            "0" => self.server.event(&mut self.first, rest),
+            "1" => self.server.event(&mut self.second, rest),
             _ => {
-                hold(self.alloc, &mut self.cache, rest)?;
-                Ok(String::new(self.alloc))
+                let alloc = self.server.alloc;
+                hold(alloc, &mut self.server.cache, rest)?;
+                Ok(String::new(alloc))
             }
         }
     }

@@ -19,7 +19,7 @@ use std::test::Fail;
 use std::time::{Duration, Instant};
 use std::{io, thread};
 
-type Cache = CacheEnd<HostRuntime>;
+type Cache = CacheEnd<Sockets>;
 
 type Proxy = ProxyEnd<Sockets>;
 

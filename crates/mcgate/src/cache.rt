@@ -5,6 +5,7 @@ use mcgate_args::cache_arguments::CacheJob;
 use mcgate_args::details::Details;
 use mcgate_args::ends::Stop;
 use mcgate_check::status::DONE;
+use serve_wire::sockets::Sockets;
 use std::io;
 use std::net::Net;
 use std::rt::Clock;
@@ -20,11 +21,7 @@ fn bytes_of(memory_mb: Option<u32>) -> Option<usize> {
 }
 
 // Turns the server, as often as is asked.
-fn turn_cache<R: Net + Clock + AllocGlobal>(
-    rt: &R,
-    end: &mut CacheEnd<R>,
-    turns: Option<u32>,
-) -> io::Result<()> {
+fn turn_cache<R: Clock>(rt: &R, end: &mut CacheEnd<Sockets>, turns: Option<u32>) -> io::Result<()> {
     for _ in 0..turns.map_or(u64::MAX, u64::from) {
         end.turn(rt)?;
     }

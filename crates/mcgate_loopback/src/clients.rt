@@ -1,10 +1,11 @@
 //! The clients' ends of their connections to the proxy.
 
-use mio::net::TcpStream;
-use serve_clients::socket::{Conn, Got, Limits, Sent};
+use serve_wire::conn::{Conn, Got, Limits, Sent};
+use serve_wire::{Connected, Wire};
 use std::alloc::{AllocError, Global};
 use std::io;
-use std::net::{Net, SocketAddr};
+use std::io::ErrorKind;
+use std::net::Net;
 
 // A client takes all that it gets.
 const LIMITS: Limits = Limits {
@@ -21,19 +22,28 @@ const STEPS: usize = 64;
 /// One client's end.
 #[derive(Drop)]
 pub struct ClientEnd {
-    conn: Conn<TcpStream>,
+    conn: Conn,
     is_ended: bool,
 }
 
 impl ClientEnd {
-    /// A connection is begun. It doesn't wait for it to stand.
-    pub fn connect<N: Net>(net: &N, alloc: Global, address: SocketAddr) -> io::Result<ClientEnd> {
-        let stream = TcpStream::connect(net, address)?;
-        stream.set_nodelay(true)?;
-        Ok(ClientEnd {
-            conn: Conn::new(alloc, stream, LIMITS),
-            is_ended: false,
-        })
+    /// A connection is begun, to the address that this text was found to name. It doesn't wait for it to stand.
+    pub fn connect<W: Wire, N: Net>(
+        net: &N,
+        alloc: Global,
+        wire: &mut W,
+        place: usize,
+        text: &[u8],
+    ) -> io::Result<ClientEnd> {
+        match wire.connect(net, place, text) {
+            Connected::Begun(number) => Ok(ClientEnd {
+                conn: Conn::new(alloc, number, LIMITS),
+                is_ended: false,
+            }),
+            Connected::NoAddress | Connected::Failed => Err(io::Error::from(
+                ErrorKind::ConnectionRefused,
+            )),
+        }
     }
 
     /// Whether its connection has ended: it can send no more, and nothing comes.
@@ -55,11 +65,11 @@ impl ClientEnd {
     }
 
     /// Sends what the connection takes now. The answer is how many bytes that were.
-    pub fn send(&mut self) -> usize {
+    pub fn send<W: Wire>(&mut self, wire: &mut W) -> usize {
         let before = self.conn.unsent.len();
         self.conn.writable = true;
         for _ in 0..STEPS {
-            match self.conn.send_once() {
+            match self.conn.send_once(wire) {
                 Sent::Bytes => {}
                 Sent::Nothing => break,
                 Sent::Failed => {
@@ -72,13 +82,13 @@ impl ClientEnd {
     }
 
     /// Reads what came. The answer is how many bytes that were.
-    pub fn read(&mut self) -> Result<usize, AllocError> {
+    pub fn read<W: Wire>(&mut self, wire: &mut W) -> Result<usize, AllocError> {
         let before = self.conn.held.len();
         for _ in 0..STEPS {
             if self.is_ended {
                 break;
             }
-            match self.conn.read_once(READ_ROOM)? {
+            match self.conn.read_once(wire, READ_ROOM)? {
                 Got::Bytes => {}
                 Got::Nothing | Got::Full => break,
                 Got::Ended | Got::Failed => self.is_ended = true,

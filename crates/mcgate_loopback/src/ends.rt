@@ -38,7 +38,8 @@ pub struct Counts {
 pub struct Ends {
     alloc: Global,
     proxy: ProxyEnd<Sockets>,
-    address: SocketAddr,
+    // The wire of the servers and the clients, none of which is waited for.
+    wire: Sockets,
     servers: ServerEnds,
     clients: Vec<Option<ClientEnd>>,
     // How many bytes all clients together have sent.
@@ -64,6 +65,18 @@ fn listen<R: Net + Clock + AllocGlobal>(rt: &R, servers: &Servers) -> io::Result
             wire.resolve(rt, text.as_bytes(), text.as_bytes())?;
         }
     }
+    Ok(wire)
+}
+
+// By this name the far wire knows the proxy.
+const PROXY: &[u8] = b"proxy";
+
+// A wire for the servers and the clients, which has looked up the proxy.
+fn far_wire<R: Net + Clock + AllocGlobal>(rt: &R, proxy: SocketAddr) -> io::Result<Sockets> {
+    let alloc = rt.alloc();
+    let mut wire = Sockets::listen_by(rt, Vec::new(alloc))?;
+    let address = format!(in alloc; "{proxy}")?;
+    wire.resolve(rt, PROXY, address.as_bytes())?;
     Ok(wire)
 }
 
@@ -167,21 +180,22 @@ impl Ends {
         if flushes_new {
             empty_new(&mut proxy, first, addresses.len());
         }
-        Ends::of(alloc, proxy, servers, most)
+        let wire = far_wire(rt, proxy.wire().local_addr()?)?;
+        Ends::of(alloc, proxy, wire, servers, most)
     }
 
     fn of(
         alloc: Global,
         proxy: ProxyEnd<Sockets>,
+        wire: Sockets,
         servers: ServerEnds,
         most: u32,
     ) -> io::Result<Ends> {
-        let address = proxy.wire().local_addr()?;
         let clients = no_clients(alloc)?;
         Ok(Ends {
             alloc,
             proxy,
-            address,
+            wire,
             servers,
             clients,
             sent: 0,
@@ -291,7 +305,7 @@ impl Ends {
 
     // The call that is out at the server has its result, and all that can be done without another is done.
     fn make_call<R: Net + Clock>(&mut self, rt: &R, server: usize) -> io::Result<()> {
-        if self.servers.make_call(server)? {
+        if self.servers.make_call(&mut self.wire, server)? {
             self.proxy.drop_link(server);
         }
         self.turn_until_still(rt, None)
@@ -317,7 +331,8 @@ impl Ends {
     // The client is connected.
     fn connect<N: Net>(&mut self, net: &N, place: usize) -> io::Result<()> {
         if let Some(client) = self.clients.get_mut(place) {
-            *client = Some(ClientEnd::connect(net, self.alloc, self.address)?);
+            let end = ClientEnd::connect(net, self.alloc, &mut self.wire, place, PROXY)?;
+            *client = Some(end);
         }
         Ok(())
     }
@@ -402,15 +417,15 @@ impl Ends {
             self.turn_client(place)?;
         }
         self.proxy.turn_within(rt, Duration::from_millis(WAIT_MS))?;
-        Ok(self.servers.turn()?)
+        Ok(self.servers.turn(&mut self.wire)?)
     }
 
     fn turn_client(&mut self, place: usize) -> Result<(), AllocError> {
-        let Some(client) = self.client(place) else {
+        let Some(Some(client)) = self.clients.get_mut(place) else {
             return Ok(());
         };
-        let sent = client.send();
-        let received = client.read()?;
+        let sent = client.send(&mut self.wire);
+        let received = client.read(&mut self.wire)?;
         self.sent = add(self.sent, sent);
         self.received = add(self.received, received);
         Ok(())

@@ -7,12 +7,14 @@ use cache_tcp::client::CacheClient;
 use cache_tcp::clock::Moment;
 use cache_tcp::connection::Cache;
 use mc_types::{DATA_LIMIT, Key, ServerId};
-use mio::net::{TcpListener, TcpStream};
+use mio::net::TcpListener;
 use route_json::addresses::Servers;
 use route_json::addresses::servers::MAX_SERVERS;
 use script_events::servers::losing::lose_all;
 use script_events::servers::{CAPACITY, Loss, Manner};
-use serve_clients::socket::{Conn, Got, Limits, Sent};
+use serve_wire::conn::{Conn, Got, Limits, Sent};
+use serve_wire::sockets::{Listener, Sockets};
+use serve_wire::{Accepted, Wire};
 use std::alloc::{AllocError, Global};
 use std::io;
 use std::io::ErrorKind;
@@ -31,8 +33,8 @@ const WRITES: usize = 64;
 // One server's end: where it listens, and the proxy's connection to it, over which one ask comes after the answer to the last.
 #[derive(Drop)]
 struct ServerEnd {
-    listener: TcpListener,
-    link: Option<CacheClient<TcpStream>>,
+    listener: Listener,
+    link: Option<CacheClient>,
     // The call has failed whose answer is to be sent: it comes late, before that to the next ask over this connection.
     is_late: bool,
     // The connection is closed as soon as what is to be sent was sent.
@@ -70,7 +72,7 @@ fn is_whole(bytes: &[u8]) -> bool {
 impl ServerEnd {
     fn listen<N: Net>(net: &N, address: SocketAddr) -> io::Result<ServerEnd> {
         Ok(ServerEnd {
-            listener: TcpListener::bind(net, address)?,
+            listener: Listener::Tcp(TcpListener::bind(net, address)?),
             link: None,
             is_late: false,
             is_last: false,
@@ -78,34 +80,35 @@ impl ServerEnd {
     }
 
     // The connection is closed.
-    fn close(&mut self) {
-        self.link = None;
+    fn close(&mut self, wire: &mut Sockets) {
+        if let Some(link) = self.link.take() {
+            wire.close(link.conn.number);
+        }
         self.is_late = false;
         self.is_last = false;
     }
 
     // A connection that waits is taken where there is none.
-    fn accept(&mut self, alloc: Global) {
+    fn accept(&mut self, alloc: Global, wire: &mut Sockets) {
         if self.link.is_some() {
             return;
         }
-        if let Ok((stream, _)) = self.listener.accept() {
-            let _ = stream.set_nodelay(true);
-            self.link = Some(CacheClient::new(alloc, Conn::new(alloc, stream, LIMITS)));
+        if let Accepted::Peer(number) = wire.accept_by(&self.listener) {
+            self.link = Some(CacheClient::new(alloc, Conn::new(alloc, number, LIMITS)));
         }
     }
 
     // One read. The answer is how many bytes came.
-    fn read(&mut self) -> Result<usize, AllocError> {
+    fn read(&mut self, wire: &mut Sockets) -> Result<usize, AllocError> {
         let Some(link) = self.link.as_mut() else {
             return Ok(0);
         };
         let before = link.conn.held.len();
-        match link.conn.read_once(READ_ROOM)? {
+        match link.conn.read_once(wire, READ_ROOM)? {
             Got::Bytes => Ok(link.conn.held.len().saturating_sub(before)),
             Got::Nothing | Got::Full => Ok(0),
             Got::Ended | Got::Failed => {
-                self.close();
+                self.close(wire);
                 Ok(0)
             }
         }
@@ -133,13 +136,14 @@ impl ServerEnd {
     // The call that came is made: it is answered, or it fails so. Whether it has failed already, before its answer or without one.
     fn make_call(
         &mut self,
+        wire: &mut Sockets,
         failing: Option<Manner>,
         cache: &mut Cache,
         moment: Moment,
     ) -> Result<bool, AllocError> {
         self.is_late = false;
         if failing == Some(Manner::Before) {
-            self.close();
+            self.close(wire);
             return Ok(true);
         }
         let Some(link) = self.link.as_mut() else {
@@ -155,7 +159,7 @@ impl ServerEnd {
     }
 
     // Sends what the connection takes now. The answer is how many bytes that were.
-    fn send(&mut self) -> usize {
+    fn send(&mut self, wire: &mut Sockets) -> usize {
         let Some(link) = self.link.as_mut() else {
             return 0;
         };
@@ -165,7 +169,7 @@ impl ServerEnd {
         let before = link.conn.unsent.len();
         link.conn.writable = true;
         for _ in 0..WRITES {
-            match link.conn.send_once() {
+            match link.conn.send_once(wire) {
                 Sent::Bytes => {}
                 Sent::Nothing | Sent::Failed => break,
             }
@@ -174,13 +178,13 @@ impl ServerEnd {
     }
 
     // The connection is closed where nothing more is to come over it.
-    fn close_last(&mut self) {
+    fn close_last(&mut self, wire: &mut Sockets) {
         let is_sent = match &self.link {
             Some(link) => link.conn.unsent.is_empty(),
             None => true,
         };
         if self.is_last && is_sent {
-            self.close();
+            self.close(wire);
         }
     }
 }
@@ -329,23 +333,23 @@ impl ServerEnds {
     }
 
     /// The call that this one was asked is made. Whether it has failed already, so that the proxy's connection is to be dropped.
-    pub fn make_call(&mut self, at: usize) -> Result<bool, AllocError> {
+    pub fn make_call(&mut self, wire: &mut Sockets, at: usize) -> Result<bool, AllocError> {
         let failing = self.calls.begin(&mut self.caches);
         match (self.ends.get_mut(at), self.caches.get_mut(at)) {
-            (Some(end), Some(cache)) => end.make_call(failing, cache, self.moment),
+            (Some(end), Some(cache)) => end.make_call(wire, failing, cache, self.moment),
             _ => Ok(false),
         }
     }
 
     /// One turn: what came is read, and what is to be sent is sent.
-    pub fn turn(&mut self) -> Result<(), AllocError> {
+    pub fn turn(&mut self, wire: &mut Sockets) -> Result<(), AllocError> {
         for at in 0..self.ends.len() {
-            let read = self.read(at)?;
+            let read = self.read(wire, at)?;
             self.note_moved(read);
             self.flush(at)?;
-            let sent = self.send(at);
+            let sent = self.send(wire, at);
             self.note_moved(sent);
-            self.close_last(at);
+            self.close_last(wire, at);
         }
         Ok(())
     }
@@ -354,12 +358,12 @@ impl ServerEnds {
         self.moved = self.moved.saturating_add(count as u64);
     }
 
-    fn read(&mut self, at: usize) -> Result<usize, AllocError> {
+    fn read(&mut self, wire: &mut Sockets, at: usize) -> Result<usize, AllocError> {
         let Some(end) = self.ends.get_mut(at) else {
             return Ok(0);
         };
-        end.accept(self.alloc);
-        end.read()
+        end.accept(self.alloc, wire);
+        end.read(wire)
     }
 
     fn flush(&mut self, at: usize) -> Result<(), AllocError> {
@@ -369,16 +373,16 @@ impl ServerEnds {
         }
     }
 
-    fn send(&mut self, at: usize) -> usize {
+    fn send(&mut self, wire: &mut Sockets, at: usize) -> usize {
         match self.ends.get_mut(at) {
-            Some(end) => end.send(),
+            Some(end) => end.send(wire),
             None => 0,
         }
     }
 
-    fn close_last(&mut self, at: usize) {
+    fn close_last(&mut self, wire: &mut Sockets, at: usize) {
         if let Some(end) = self.ends.get_mut(at) {
-            end.close_last();
+            end.close_last(wire);
         }
     }
 }

@@ -49,7 +49,7 @@ pub enum Answer {
 
 /// Writes commands and reads answers whose values have one size.
 #[derive(Drop)]
-pub struct Wire {
+pub struct Codec {
     size: usize,
     // What stands in a value after its number.
     filling: Vec<u8>,
@@ -75,12 +75,12 @@ fn put_key(out: &mut BytesMut, key: u64) -> Result<(), AllocError> {
     put_digits(out, key)
 }
 
-impl Wire {
+impl Codec {
     /// For values of so many bytes, 16 or more.
-    pub fn new(alloc: Global, size: usize) -> Result<Wire, AllocError> {
+    pub fn new(alloc: Global, size: usize) -> Result<Codec, AllocError> {
         let mut filling = Vec::new(alloc);
         filling.resize(size.saturating_sub(DIGITS), b'x')?;
-        Ok(Wire {
+        Ok(Codec {
             size,
             filling,
             head: BytesMut::new(alloc),

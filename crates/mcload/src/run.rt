@@ -1,18 +1,17 @@
-//! The clients' sockets, in turns: who is ready is read and answered commands are counted, and then each sends new ones.
+//! The clients' connections, in turns: who is ready is read and answered commands are counted, and then each sends new ones.
 
 use crate::LoadStop;
 use crate::arguments::LoadSettings;
-use crate::commands::{Answer, Wire};
+use crate::commands::{Answer, Codec};
 use crate::plan::Plan;
 use crate::tally::{Asked, LoadTally};
-use mio::net::TcpStream;
-use mio::{Events, Poll, Token};
-use serve_clients::socket::{Conn, Got, Limits, Ready, Sent, watch};
+use serve_wire::conn::{Conn, Got, Limits, Sent};
+use serve_wire::sockets::Sockets;
+use serve_wire::{Connected, Report, Wire};
 use std::alloc::Global;
 use std::collections::VecDeque;
 use std::io;
-use std::net::{Net, SocketAddr, ToSocketAddrs};
-use std::os::fd::AsRawFd;
+use std::net::Net;
 use std::rt::Clock;
 use std::time::{Duration, Instant};
 
@@ -34,7 +33,7 @@ const LAST: u64 = 5_000_000_000;
 /// A client.
 #[derive(Drop)]
 struct Peer {
-    conn: Conn<TcpStream>,
+    conn: Conn,
     // Its commands under way, the oldest first.
     asked: VecDeque<Asked>,
     // When it connects anew, in nanoseconds since the start, if its connection was lost.
@@ -42,8 +41,8 @@ struct Peer {
 }
 
 impl Peer {
-    fn new(alloc: Global, stream: TcpStream) -> Peer {
-        let mut conn = Conn::new(alloc, stream, LIMITS);
+    fn new(alloc: Global, number: usize) -> Peer {
+        let mut conn = Conn::new(alloc, number, LIMITS);
         conn.readable = false;
         conn.writable = false;
         Peer {
@@ -53,17 +52,9 @@ impl Peer {
         }
     }
 
-    fn note(&mut self, told: Ready) {
-        if self.again.is_some() {
-            return;
-        }
-        self.conn.readable = self.conn.readable || told.reads;
-        self.conn.writable = self.conn.writable || told.writes;
-        self.conn.closing = self.conn.closing || told.closes;
-    }
-
     // Its connection was lost: nothing is done on it, until it connects anew at this time.
-    fn lose(&mut self, again: u64) {
+    fn lose(&mut self, wire: &mut Sockets, again: u64) {
+        wire.close(self.conn.number);
         self.conn.readable = false;
         self.conn.writable = false;
         self.again = Some(again);
@@ -88,23 +79,23 @@ impl Peer {
     }
 
     // One read. Whether the connection stands.
-    fn read(&mut self) -> Result<bool, LoadStop> {
+    fn read(&mut self, wire: &mut Sockets) -> Result<bool, LoadStop> {
         if !self.conn.readable {
             return Ok(true);
         }
-        match self.conn.read_once(READ_ROOM)? {
+        match self.conn.read_once(wire, READ_ROOM)? {
             Got::Bytes | Got::Nothing => Ok(true),
             Got::Full | Got::Ended | Got::Failed => Ok(false),
         }
     }
 
     // Whether the connection stands.
-    fn send(&mut self) -> bool {
+    fn send(&mut self, wire: &mut Sockets) -> bool {
         for _ in 0..STEPS {
             if !self.conn.writable {
                 return true;
             }
-            match self.conn.send_once() {
+            match self.conn.send_once(wire) {
                 Sent::Bytes => {}
                 Sent::Nothing => return true,
                 Sent::Failed => return false,
@@ -118,12 +109,9 @@ impl Peer {
 #[derive(Drop)]
 struct LoadRun<'a> {
     settings: LoadSettings<'a>,
-    address: SocketAddr,
-    poll: Poll,
-    events: Events,
-    none: Events,
+    wire: Sockets,
     peers: Vec<Peer>,
-    wire: Wire,
+    codec: Codec,
     plan: Plan,
     tally: LoadTally,
     start: Instant,
@@ -133,33 +121,28 @@ struct LoadRun<'a> {
     has_work: bool,
 }
 
+// A connection of this client is begun: its number.
 fn connect<N: Net>(
     net: &N,
-    poll: &Poll,
-    address: SocketAddr,
-    token: usize,
-) -> io::Result<TcpStream> {
-    let stream = TcpStream::connect(net, address)?;
-    stream.set_nodelay(true)?;
-    watch(poll.registry(), stream.as_raw_fd(), token)?;
-    Ok(stream)
-}
-
-// The first address that a text names.
-fn address_of<N: Net>(net: &N, text: &str) -> Result<SocketAddr, LoadStop> {
-    text.to_socket_addrs(net)?.next().ok_or(LoadStop::Failed)
+    wire: &mut Sockets,
+    address: &str,
+    id: usize,
+) -> Result<usize, LoadStop> {
+    match wire.connect(net, id, address.as_bytes()) {
+        Connected::Begun(number) => Ok(number),
+        Connected::NoAddress | Connected::Failed => Err(LoadStop::Failed),
+    }
 }
 
 fn connect_all<R: Net + AllocGlobal>(
     rt: &R,
-    poll: &Poll,
-    address: SocketAddr,
-    clients: u64,
+    wire: &mut Sockets,
+    settings: LoadSettings<'_>,
 ) -> Result<Vec<Peer>, LoadStop> {
     let mut peers = Vec::new(rt.alloc());
-    for token in 0..clients as usize {
-        let stream = connect(rt, poll, address, token)?;
-        if peers.push(Peer::new(rt.alloc(), stream)).is_err() {
+    for id in 0..settings.clients as usize {
+        let number = connect(rt, wire, settings.address, id)?;
+        if peers.push(Peer::new(rt.alloc(), number)).is_err() {
             return Err(LoadStop::Failed);
         }
     }
@@ -172,17 +155,15 @@ impl<'a> LoadRun<'a> {
         settings: LoadSettings<'a>,
     ) -> Result<LoadRun<'a>, LoadStop> {
         let alloc = rt.alloc();
-        let address = address_of(rt, settings.address)?;
-        let poll = Poll::new(rt)?;
-        let peers = connect_all(rt, &poll, address, settings.clients)?;
+        let mut wire = Sockets::listen_by(rt, Vec::new(alloc))?;
+        let address = settings.address.as_bytes();
+        wire.resolve(rt, address, address)?;
+        let peers = connect_all(rt, &mut wire, settings)?;
         Ok(LoadRun {
             settings,
-            address,
-            poll,
-            events: Events::with_capacity(alloc, 1_024)?,
-            none: Events::with_capacity(alloc, 0)?,
+            wire,
             peers,
-            wire: Wire::new(alloc, settings.size)?,
+            codec: Codec::new(alloc, settings.size)?,
             plan: Plan::new(settings),
             tally: LoadTally::new(alloc, settings)?,
             start: Instant::now(rt)?,
@@ -198,15 +179,14 @@ impl<'a> LoadRun<'a> {
         Ok(())
     }
 
-    fn note_events(&mut self) {
-        std::mem::swap(&mut self.events, &mut self.none);
-        for event in self.none.iter() {
-            let Token(token) = event.token();
-            if let Some(peer) = self.peers.get_mut(token) {
-                peer.note(Ready::of(event));
+    fn note_all(&mut self, reports: usize) {
+        for at in 0..reports {
+            if let Some(Report::Server(id, ready)) = self.wire.report(at) {
+                if let Some(peer) = self.peers.get_mut(id) {
+                    peer.conn.note(ready);
+                }
             }
         }
-        std::mem::swap(&mut self.events, &mut self.none);
     }
 
     // The answers of a client that are whole are counted.
@@ -218,7 +198,7 @@ impl<'a> LoadRun<'a> {
             let Some(asked) = peer.asked.front().copied() else {
                 break;
             };
-            let Some((answer, len)) = self.wire.read(peer.conn.held.as_slice(), asked.command)?
+            let Some((answer, len)) = self.codec.read(peer.conn.held.as_slice(), asked.command)?
             else {
                 return Ok(());
             };
@@ -258,7 +238,7 @@ impl<'a> LoadRun<'a> {
         }
         let command = self.plan.next();
         let asked = self.tally.begin(command, self.now);
-        self.wire.write(&mut peer.conn.unsent.text, command)?;
+        self.codec.write(&mut peer.conn.unsent.text, command)?;
         if peer.asked.push_back(asked).is_err() {
             return Err(LoadStop::Failed);
         }
@@ -272,7 +252,8 @@ impl<'a> LoadRun<'a> {
         let Some(peer) = self.peers.get_mut(id) else {
             return Ok(());
         };
-        peer.lose(self.now.saturating_add(again_ms.saturating_mul(1_000_000)));
+        let again = self.now.saturating_add(again_ms.saturating_mul(1_000_000));
+        peer.lose(&mut self.wire, again);
         for _ in 0..peer.asked.len() {
             if let Some(asked) = peer.asked.pop_front() {
                 self.tally.end(asked, Answer::Error, self.now)?;
@@ -289,8 +270,8 @@ impl<'a> LoadRun<'a> {
         if !peer.is_due(self.now) {
             return Ok(());
         }
-        match connect(rt, &self.poll, self.address, id) {
-            Ok(stream) => *peer = Peer::new(rt.alloc(), stream),
+        match connect(rt, &mut self.wire, self.settings.address, id) {
+            Ok(number) => *peer = Peer::new(rt.alloc(), number),
             Err(_) => return self.lose(id),
         }
         Ok(())
@@ -304,7 +285,7 @@ impl<'a> LoadRun<'a> {
             if !peer.conn.readable {
                 break;
             }
-            if !peer.read()? {
+            if !peer.read(&mut self.wire)? {
                 return self.lose(id);
             }
             self.look_at_clock(rt)?;
@@ -317,7 +298,7 @@ impl<'a> LoadRun<'a> {
         let Some(peer) = self.peers.get_mut(id) else {
             return Ok(());
         };
-        if !peer.send() {
+        if !peer.send(&mut self.wire) {
             return self.lose(id);
         }
         self.has_work = self.has_work || peer.has_work();
@@ -326,9 +307,8 @@ impl<'a> LoadRun<'a> {
 
     fn turn<R: Net + Clock + AllocGlobal>(&mut self, rt: &R) -> Result<(), LoadStop> {
         let limit = if self.has_work { 0 } else { 100 };
-        self.poll
-            .poll(&mut self.events, Some(Duration::from_millis(limit)))?;
-        self.note_events();
+        let reports = self.wire.wait(Some(Duration::from_millis(limit)))?;
+        self.note_all(reports);
         self.look_at_clock(rt)?;
         self.has_work = false;
         for id in 0..self.peers.len() {

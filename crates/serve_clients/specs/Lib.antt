@@ -1,5 +1,4 @@
 pub mod Agrees
-pub mod Ends
 pub mod Holdings
 pub mod Lending
 pub mod Marks

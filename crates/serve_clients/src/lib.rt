@@ -6,11 +6,9 @@
 //! ```
 //!
 //! An end knows its connection by its number on the wire (`serve_wire`). `serve_proxy` turns all of them, in one
-//! thread. A client that takes none of its replies isn't read while 1 MiB waits for it. `socket` is an end over a
-//! stream of its own, for programs that have no wire.
+//! thread. A client that takes none of its replies isn't read while 1 MiB waits for it.
 #![tactic(auto)]
 
 mod clients;
-pub mod socket;
 
 pub use clients::{Client, Clients, SHARE};

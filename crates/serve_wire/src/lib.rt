@@ -1,4 +1,5 @@
-//! The outside of a proxy as a trait: what is accepted, begun, read, written, ended and closed, as one history.
+//! The outside of a program as a trait: what is accepted, begun, read, written, ended and closed, as one history. The proxy stands on it,
+//! and cache servers, `loopback`'s far ends and `mcload`'s clients.
 //!
 //! [`Wire`] is what an end is generic over. Its ghost member `history` lists all that has happened, newest first, and each call's contract
 //! is one equation: what the call adds to it. What a connection delivered and took, whose it is and to which address it was begun are

@@ -177,6 +177,15 @@ fn next_peer(hosts: &mut Vec<Host>, text: &[u8]) -> Result<Peer, Fault> {
     }
 }
 
+fn peer_of(lines: &mut Vec<Line>, name: u32) -> Option<&mut Peer> {
+    for line in lines.iter_mut() {
+        if line.peer.name == name {
+            return Some(&mut line.peer);
+        }
+    }
+    None
+}
+
 // The bytes of these pieces.
 fn joined(alloc: Global, parts: &[IoSlice<'_>]) -> Result<Vec<u8>, AllocError>
     ensures { IfOk result (λ bytes. bytes.items ≡ io_slices_bytes parts.now) }
@@ -239,6 +248,11 @@ impl Memory {
             Some(host) => Ok(host.peers.push_back(peer)?),
             None => Ok(()),
         }
+    }
+
+    /// The far end of this name, once its connection was made: what it does may be changed at any time.
+    pub fn peer_mut(&mut self, name: u32) -> Option<&mut Peer> {
+        peer_of(&mut self.lines, name)
     }
 
     /// All that was sent to the far end of this name.

@@ -19,6 +19,8 @@ pub enum Act {
     Until(u64),
     /// It does nothing until it was told that no more is sent to it.
     AwaitsEnd,
+    /// The next read or write is interrupted.
+    Interrupts,
     /// It sends no more.
     Ends,
     /// The connection fails.
@@ -92,7 +94,7 @@ impl Peer {
             Some(Act::Until(time)) => *time <= now,
             Some(Act::AwaitsEnd) => self.is_shut,
             Some(Act::Sends(bytes)) => bytes.len() <= self.came,
-            Some(Act::Ends) | Some(Act::Fails) | None => false,
+            Some(Act::Interrupts) | Some(Act::Ends) | Some(Act::Fails) | None => false,
         }
     }
 
@@ -114,6 +116,20 @@ impl Peer {
 
     fn has_ended(&self) -> bool {
         matches!(self.acts.front(), Some(Act::Ends))
+    }
+
+    fn interrupts(&self) -> bool {
+        matches!(self.acts.front(), Some(Act::Interrupts))
+    }
+
+    // Whether a call is interrupted, which that act does once.
+    fn take_interrupt(&mut self) -> bool {
+        let interrupts = self.interrupts();
+        if interrupts {
+            let _ = self.acts.pop_front();
+            self.is_read_told = false;
+        }
+        interrupts
     }
 
     // What came and wasn't read.
@@ -144,7 +160,8 @@ impl Peer {
         self.go_on(now);
         self.went = 0;
         let closes = self.has_failed() || self.has_ended();
-        let reads = !self.is_read_told && (closes || !self.coming().is_empty());
+        let gives = closes || self.interrupts() || !self.coming().is_empty();
+        let reads = !self.is_read_told && gives;
         let fails = reads && self.has_failed();
         let writes = fails || (!self.is_write_told && self.takes_now() > 0);
         self.is_read_told = self.is_read_told || reads;
@@ -166,6 +183,9 @@ impl Peer {
         ensures { Adds result into.old.items into.new.items into.old.spare into.new.spare }
     {
         self.go_on(now);
+        if self.take_interrupt() {
+            return ReadOutcome::Interrupted;
+        }
         if self.has_failed() {
             return ReadOutcome::Failed;
         }
@@ -199,6 +219,9 @@ impl Peer {
         ensures { Fits result bytes.now }
     {
         self.go_on(now);
+        if self.take_interrupt() {
+            return WriteOutcome::Interrupted;
+        }
         if self.has_failed() {
             return WriteOutcome::Failed;
         }

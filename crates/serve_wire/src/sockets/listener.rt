@@ -27,7 +27,8 @@ fn accept_unix(listener: &UnixListener) -> io::Result<TcpStream> {
 }
 
 impl Listener {
-    fn accept(&self) -> io::Result<TcpStream> {
+    // The next peer that waits to be accepted here.
+    pub(crate) fn accept(&self) -> io::Result<TcpStream> {
         match self {
             Listener::Tcp(listener) => accept_tcp(listener),
             Listener::Unix(listener) => accept_unix(listener),

@@ -1,6 +1,7 @@
 //! The wire that a program has.
 
 ghost use Rattle.std.specs.Prelude.{◌≡◌, ◌≤◌, ◌<◌, ◌+◌, ◌*◌, ℕ, [], false, IfSome, IfOk, OnSome};
+ghost use Rattle.serve_wire.specs.Calls.{Accepts};
 ghost use Rattle.serve_wire.specs.Events.{IsNew, is_open, time};
 
 use crate::sockets::listener::{Listener, accept_at};
@@ -338,6 +339,48 @@ impl Sockets {
     pub fn was_woken(&self) -> bool {
         self.is_woken
     }
+
+    /// The next peer that waits at a listener that isn't among those of this wire. Nothing is reported of such a listener.
+    pub fn accept_by(&mut self, listener: &Listener) -> Accepted
+        ensures { Accepts result self.old.log.events self.new.log.events }
+    {
+        self.take_in(listener.accept())
+    }
+
+    // What was accepted has a number, and is nobody's yet.
+    fn take_in(&mut self, accepted: io::Result<TcpStream>) -> Accepted
+        ensures { Accepts result self.old.log.events self.new.log.events }
+    {
+        let stream = match accepted {
+            Ok(stream) => stream,
+            Err(error) => {
+                return match error.kind() {
+                    ErrorKind::Interrupted | ErrorKind::ConnectionAborted => Accepted::Gone,
+                    ErrorKind::WouldBlock => Accepted::Nobody,
+                    _ => Accepted::Refused,
+                };
+            }
+        };
+        let Some(number) = next_number(&self.open, self.count) else {
+            return Accepted::Gone;
+        };
+        let owner = Owner::Nobody;
+        if self
+            .open
+            .insert(Open {
+                number,
+                owner,
+                stream,
+                is_local: true,
+            })
+            .is_err()
+        {
+            return Accepted::Gone;
+        }
+        self.count += 1;
+        self.log.note(&[ACCEPTS, number as u64, 0], &[]);
+        Accepted::Peer(number)
+    }
 }
 
 impl Wire for Sockets {
@@ -372,35 +415,8 @@ impl Wire for Sockets {
     }
 
     fn accept(&mut self) -> Accepted {
-        let stream = match accept_at(self.listeners.as_slice()) {
-            Ok(stream) => stream,
-            Err(error) => {
-                return match error.kind() {
-                    ErrorKind::Interrupted | ErrorKind::ConnectionAborted => Accepted::Gone,
-                    ErrorKind::WouldBlock => Accepted::Nobody,
-                    _ => Accepted::Refused,
-                };
-            }
-        };
-        let Some(number) = next_number(&self.open, self.count) else {
-            return Accepted::Gone;
-        };
-        let owner = Owner::Nobody;
-        if self
-            .open
-            .insert(Open {
-                number,
-                owner,
-                stream,
-                is_local: true,
-            })
-            .is_err()
-        {
-            return Accepted::Gone;
-        }
-        self.count += 1;
-        self.log.note(&[ACCEPTS, number as u64, 0], &[]);
-        Accepted::Peer(number)
+        let accepted = accept_at(self.listeners.as_slice());
+        self.take_in(accepted)
     }
 
     fn admit(&mut self, conn: usize, client: usize) -> io::Result<()> {

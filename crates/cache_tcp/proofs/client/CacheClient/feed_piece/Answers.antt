@@ -5,7 +5,7 @@ use Rattle.cache_tcp.proofs.Runs.{comes_at}
 use Rattle.cache_tcp.proofs.client.CacheClient.feed_piece.Goals as goal
 
 pub returns-clause-ok : goal.returns-clause-ok
-returns-clause-ok g c =
+returns-clause-ok c =
     let held = c.args.self.now.conn.held.items in
     let count = c.piece_len-count.result in
     let from = c.args.self.now.served in

@@ -1,22 +1,20 @@
-//! An end over a stream in memory, which gives and takes a few bytes at a time.
+//! An end over a wire in memory, whose far end gives and takes a few bytes at a time.
 
-ghost use Rattle.std.specs.Prelude.{◌≡◌, ◌≤◌};
-ghost use Rattle.std.specs.Io.{ReadsAtMost, WritesAtMost};
-ghost use Rattle.std.specs.Io.KnownBytes.{ReadConsumes, WriteAppends, Keeps};
-
+use crate::far_ends::{connect, may_take, then};
 use examples_tables::playing::{Stage, cut, first_line, plain, play_lines, shown, yes_or_no};
 use mc_types::Body;
-use serve_clients::socket::{Conn, Got, Limits, Sent};
+use serve_wire::conn::{Conn, Got, Limits, Sent};
+use serve_wire::memory::{Act, Memory};
 use std::alloc::{AllocError, Global};
-use std::io;
-use std::io::{ErrorKind, Read, Write};
 use std::test::Fail;
 
-// What streams give is held up to 8 bytes, and 4 that are unsent are a backlog. The first line of an example says what its stream gives,
-// and its turns: how many bytes it gives or takes when it is next called, or how that fails. Without a turn it isn't ready.
+// Up to 8 bytes are held, and 4 that are unsent are a backlog. The far end `gives` bytes, each time for a read of its own, and `takes` so many
+// more.
 fn texts() -> &'static str {
     r"A read that is interrupted is made again, and nothing is read where too much is held.
-get abcdef in turns 3 interrupted 5
+gives get
+interrupts
+gives  abcd
 read => bytes
 held => get
 readable => no
@@ -32,7 +30,9 @@ read => nothing
 readable => no
 
 What was cut from what is held is held again, and what comes goes after it.
-getabcdef in turns 4 3 3
+gives geta
+gives bcd
+gives ef
 read => bytes
 again 2
 held => ta
@@ -48,43 +48,48 @@ read => bytes
 held => ef
 
 The end is read behind the last bytes.
-q in turns 9 9 reset
+gives q
+ends
 closing
 read => bytes
 readable => yes
 read => ended
 held => q
-read => failed
 
 Short writes send what is unsent in its order.
-nothing in turns 2 interrupted waits 9
 send => nothing
 write END\r\n
 backlog => yes
+takes 2
 send => bytes
 backlog => no
--- This one was interrupted.
+-- This one is interrupted.
+interrupts
 send => nothing
 writable => yes
 send => nothing
 writable => no
+takes 9
 send => bytes
 unsent => nothing
 taken => END\r\n
 
 Data that are shared go between the texts round them, and each write goes on where the one before it ended.
-nothing in turns 8 9 2 9 9
 write VALUE a 0 3\r\n
 share abc
 write \r\nEND\r\n
 unsent => VALUE a 0 3\r\nabc\r\nEND\r\n
+takes 8
 send => bytes
 unsent => 0 3\r\nabc\r\nEND\r\n
+takes 9
 send => bytes
 unsent => abc\r\nEND\r\n
+takes 2
 send => bytes
 unsent => c\r\nEND\r\n
 backlog => yes
+takes 9
 send => bytes
 unsent => \r\nEND\r\n
 send => bytes
@@ -92,94 +97,38 @@ unsent => nothing
 backlog => no
 taken => VALUE a 0 3\r\nabc\r\nEND\r\n
 
-A stream that takes nothing has failed.
-nothing in turns 0
+A connection that fails has.
+gives q
+fails
+read => bytes
+read => failed
 write END\r\n
 send => failed
 unsent => END\r\n
-
-A stream that fails has.
-nothing in turns broken
-write END\r\n
-send => failed
-unsent => END\r\n"
+held => q"
 }
 
-// Gives bytes of a text and takes bytes, by its turns.
+// An end, and the wire of which it is.
 #[derive(Drop)]
-struct Script<'a> {
-    text: &'a [u8],
-    turns: &'a str,
-    taken: Vec<u8>,
-}
-
-fn kind_of(word: &str) -> ErrorKind {
-    match word {
-        "interrupted" => ErrorKind::Interrupted,
-        "reset" => ErrorKind::ConnectionReset,
-        "broken" => ErrorKind::BrokenPipe,
-        _ => ErrorKind::WouldBlock,
-    }
-}
-
-impl<'a> Script<'a> {
-    fn next_turn(&mut self) -> io::Result<usize> {
-        let (word, rest) = cut(self.turns);
-        self.turns = rest;
-        match word.parse::<usize>() {
-            Ok(count) => Ok(count),
-            Err(_) => Err(io::Error::from(kind_of(word))),
-        }
-    }
-}
-
-impl<'a> Read for Script<'a> {
-    fn read(&mut self, buf: &mut [u8]) -> io::Result<usize> {
-        let count = self.next_turn()?;
-        let mut text = self.text;
-        let room = buf.len().min(count);
-        let read = text.read(&mut buf[..room])?;
-        self.text = text;
-        Ok(read.min(buf.len()))
-    }
-}
-
-impl<'a> Write for Script<'a> {
-    fn write(&mut self, buf: &[u8]) -> io::Result<usize> {
-        let count = self.next_turn()?.min(buf.len());
-        self.taken.extend_from_slice(&buf[..count])?;
-        Ok(count)
-    }
-
-    fn flush(&mut self) -> io::Result<()> {
-        Ok(())
-    }
-}
-
-// An end.
-#[derive(Drop)]
-struct StreamEnd<'a> {
+struct End {
     alloc: Global,
-    conn: Conn<Script<'a>>,
+    wire: Memory,
+    conn: Conn,
 }
 
 const LIMITS: Limits = Limits { held: 8, unsent: 4 };
 
-fn make_end(alloc: Global, text: &str) -> StreamEnd<'_> {
-    let (text, turns) = text.split_once(" in turns ").unwrap_or((text, ""));
-    let stream = Script {
-        text: if text == "nothing" {
-            b"".as_slice()
-        } else {
-            text.as_bytes()
-        },
-        turns,
-        taken: Vec::new(alloc),
-    };
-    StreamEnd {
+// What the far end is called.
+const FAR: u32 = 1;
+
+fn make_end(alloc: Global) -> Result<End, Fail> {
+    let mut wire = Memory::new(alloc);
+    let number = connect(alloc, &mut wire, FAR)?;
+    Ok(End {
         alloc,
-        conn: Conn::new(alloc, stream, LIMITS),
-    }
+        wire,
+        conn: Conn::new(alloc, number, LIMITS),
+    })
 }
 
 fn got_word(got: Got) -> &'static str {
@@ -200,7 +149,7 @@ fn sent_word(sent: Sent) -> &'static str {
     }
 }
 
-impl StreamEnd<'_> {
+impl End {
     fn share(&mut self, text: &str) -> Result<(), AllocError> {
         let text = plain(self.alloc, text)?;
         let body = Body::from_slice(self.alloc, text.as_bytes())?;
@@ -217,15 +166,31 @@ impl StreamEnd<'_> {
         self.conn.hold_again(rest, 4)
     }
 
-    // Events that give nothing.
+    // The far end gives these bytes.
+    fn give(&mut self, text: &str) -> Result<(), Fail> {
+        let bytes = text.as_bytes().to_vec(self.alloc)?;
+        then(&mut self.wire, FAR, Act::Sends(bytes))
+    }
+
+    // What the far end does gives nothing.
+    fn act(&mut self, verb: &str, text: &str) -> Result<&'static str, Fail> {
+        match verb {
+            "gives" => self.give(text)?,
+            "takes" => may_take(&mut self.wire, FAR, text.parse::<usize>()?)?,
+            "interrupts" => then(&mut self.wire, FAR, Act::Interrupts)?,
+            "ends" => then(&mut self.wire, FAR, Act::Ends)?,
+            "fails" => then(&mut self.wire, FAR, Act::Fails)?,
+            _ => return Err("no such event")?,
+        }
+        Ok("")
+    }
+
+    // Nor do these.
     fn set(&mut self, verb: &str, text: &str) -> Result<&'static str, Fail> {
         match verb {
             "wake" => self.conn.readable = true,
             "closing" => self.conn.closing = true,
-            "use" => self
-                .conn
-                .held
-                .advance(text.parse::<usize>()?.min(self.conn.held.len())),
+            "use" => self.conn.use_up(text.parse::<usize>()?),
             "again" => self.hold_again(text.parse::<usize>()?)?,
             "write" => self
                 .conn
@@ -233,7 +198,7 @@ impl StreamEnd<'_> {
                 .text
                 .extend_from_slice(plain(self.alloc, text)?.as_bytes())?,
             "share" => self.share(text)?,
-            _ => return Err("no such event")?,
+            _ => return self.act(verb, text),
         }
         Ok("")
     }
@@ -241,8 +206,8 @@ impl StreamEnd<'_> {
     // Those that give a word.
     fn word(&mut self, verb: &str, text: &str) -> Result<&'static str, Fail> {
         match verb {
-            "read" => Ok(got_word(self.conn.read_once(4)?)),
-            "send" => Ok(sent_word(self.conn.send_once())),
+            "read" => Ok(got_word(self.conn.read_once(&mut self.wire, 4)?)),
+            "send" => Ok(sent_word(self.conn.send_once(&mut self.wire))),
             "readable" => Ok(yes_or_no(self.conn.readable)),
             "writable" => Ok(yes_or_no(self.conn.writable)),
             "backlog" => Ok(yes_or_no(self.conn.has_backlog())),
@@ -251,7 +216,7 @@ impl StreamEnd<'_> {
     }
 }
 
-impl Stage for StreamEnd<'_> {
+impl Stage for End {
     fn answer(&mut self, event: &str, _want: &str) -> Result<String, Fail> {
         let (verb, text) = cut(event);
         match verb {
@@ -260,22 +225,17 @@ impl Stage for StreamEnd<'_> {
                 let bytes = self.conn.unsent.to_vec(self.alloc)?;
                 shown(self.alloc, bytes.as_slice())
             }
-            "taken" => shown(self.alloc, self.conn.stream.taken.as_slice()),
+            "taken" => shown(self.alloc, self.wire.taken(FAR)),
             _ => Ok(self.word(verb, text)?.to_string(self.alloc)?),
         }
     }
 }
 
-fn play(alloc: Global, name: &str, lines: &str) -> Result<(), Fail> {
-    let (first, rest) = first_line(lines);
-    play_lines(&mut make_end(alloc, first), name, rest)
-}
-
 #[test]
-fn streams_in_memory(rt: HostRuntime) -> Result<(), Fail> {
+fn an_end_in_memory(rt: HostRuntime) -> Result<(), Fail> {
     for example in texts().split("\n\n") {
         let (name, lines) = first_line(example);
-        play(rt.alloc(), name, lines)?;
+        play_lines(&mut make_end(rt.alloc())?, name, lines)?;
     }
     Ok(())
 }
