@@ -19,7 +19,7 @@ pub struct Freshness {
 
 /// A command that began.
 #[derive(Clone, Copy)]
-pub struct Begun {
+pub struct BegunCommand {
     at: u64,
     // When the last delete of its key began that had been acknowledged then.
     deleted: u64,
@@ -56,8 +56,8 @@ impl Freshness {
     }
 
     /// A command on this key begins.
-    pub fn begin(&mut self, key: u64) -> Begun {
-        Begun {
+    pub fn begin(&mut self, key: u64) -> BegunCommand {
+        BegunCommand {
             at: self.tick(),
             deleted: self.deleted.get(key as usize).copied().unwrap_or(0),
         }
@@ -77,7 +77,7 @@ impl Freshness {
     }
 
     /// A delete of this key was acknowledged.
-    pub fn has_deleted(&mut self, key: u64, begun: Begun) {
+    pub fn has_deleted(&mut self, key: u64, begun: BegunCommand) {
         self.tick();
         if let Some(deleted) = self.deleted.get_mut(key as usize) {
             *deleted = begun.at.max(*deleted);
@@ -85,7 +85,7 @@ impl Freshness {
     }
 
     /// A get showed this value.
-    pub fn has_shown(&mut self, value: u64, begun: Begun) {
+    pub fn has_shown(&mut self, value: u64, begun: BegunCommand) {
         self.tick();
         if let Some(Some(stored)) = self.stored.get(self.place_of(value)) {
             if *stored < begun.deleted {

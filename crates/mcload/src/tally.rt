@@ -3,7 +3,7 @@
 use crate::LoadStop;
 use crate::arguments::{LoadJob, LoadSettings};
 use crate::commands::{Answer, LoadCommand, LoadKind};
-use crate::freshness::{Begun, Freshness};
+use crate::freshness::{BegunCommand, Freshness};
 use crate::latency::Latencies;
 use std::alloc::{AllocError, Global};
 
@@ -11,7 +11,7 @@ use std::alloc::{AllocError, Global};
 #[derive(Clone, Copy)]
 pub struct Asked {
     pub command: LoadCommand,
-    begun: Begun,
+    begun: BegunCommand,
     // When it began, in nanoseconds.
     since: u64,
 }
