@@ -561,6 +561,8 @@ refusal of check f: not UTF-8 =>
 listening by InvalidInput: a => mcgate: cannot listen on a: no port: expected HOST:PORT⏎
 listening by AddrInUse: a:1 => mcgate: cannot listen on a:1: address in use⏎
 listening by OutOfMemory: a:1 => 
+listening at a path by AddrInUse: /a => mcgate: cannot listen on /a: address in use⏎
+listening at a path by OutOfMemory: /a => 
 end of replay: pool 1⏎ => 0 -⏎done 0 commands 0 calls 0 stale⏎
 end of replay: pool 0⏎ => 2 -⏎script: bad line 1⏎
 end of replay: too large => 2 -⏎input: too large⏎
@@ -659,6 +661,13 @@ fn kind_named(word: &str) -> ErrorKind {
 fn told_of_address(alloc: Global, kind: ErrorKind, address: &str) -> Result<String, AllocError> {
     let mut details = Details::new(alloc);
     details.add_listen(alloc, address, &io::Error::from(kind));
+    joined(alloc, &details)
+}
+
+// The same of a path.
+fn told_of_path(alloc: Global, kind: ErrorKind, path: &str) -> Result<String, AllocError> {
+    let mut details = Details::new(alloc);
+    details.add_path(alloc, path, &io::Error::from(kind));
     joined(alloc, &details)
 }
 
@@ -762,6 +771,7 @@ fn told_of(alloc: Global, question: &str, text: &str) -> Result<String, AllocErr
     if let Some((what, name)) = question.split_once(" by ") {
         return match what {
             "stop" => end_words(alloc, end_of(Err(stop_named(name))), b""),
+            "listening at a path" => told_of_path(alloc, kind_named(name), text),
             _ => told_of_address(alloc, kind_named(name), text),
         };
     }

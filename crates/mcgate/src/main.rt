@@ -384,7 +384,7 @@ fn control_job<R: Files + Net + Clock + AllocGlobal>(
     match Controlling::listen(rt, path) {
         Ok(controlling) => Ok(Some(controlling)),
         Err(error) => {
-            details.add_listen(rt.alloc(), path, &error);
+            details.add_path(rt.alloc(), path, &error);
             Err(Stop::from(error))
         }
     }

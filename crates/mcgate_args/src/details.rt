@@ -59,14 +59,17 @@ fn failure_line(alloc: Global, name: &str, failure: &InputFailure) -> Result<Str
     }
 }
 
+// Why nothing can listen at a place, as the system says it.
+fn place_line(alloc: Global, place: &str, error: &io::Error) -> Result<String, AllocError> {
+    let cause = cause_of(alloc, error)?;
+    format!(in alloc; "mcgate: cannot listen on {place}: {cause}")
+}
+
 // Why nothing can listen on an address.
 fn listen_line(alloc: Global, address: &str, error: &io::Error) -> Result<String, AllocError> {
     match address_trouble(address) {
         Some(trouble) => format!(in alloc; "mcgate: cannot listen on {address}: {trouble}"),
-        None => {
-            let cause = cause_of(alloc, error)?;
-            format!(in alloc; "mcgate: cannot listen on {address}: {cause}")
-        }
+        None => place_line(alloc, address, error),
     }
 }
 
@@ -164,6 +167,13 @@ impl Details {
     pub fn add_listen(&mut self, alloc: Global, address: &str, error: &io::Error) {
         if !is_memory(error) {
             self.add(listen_line(alloc, address, error));
+        }
+    }
+
+    /// Why nothing can listen at a path.
+    pub fn add_path(&mut self, alloc: Global, path: &str, error: &io::Error) {
+        if !is_memory(error) {
+            self.add(place_line(alloc, path, error));
         }
     }
 
