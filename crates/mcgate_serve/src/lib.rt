@@ -2,6 +2,7 @@
 //! meanwhile, and the histories that are remembered of them.
 #![tactic(auto)]
 
+mod bad_texts;
 pub mod controlling;
 mod draining;
 mod emptying;
