@@ -548,7 +548,9 @@ fn files_that_give_no_input(rt: HostRuntime) -> Result<(), Fail> {
 fn table() -> &'static str {
     r#"told of check: too large => mcgate: f has more than 16777216 bytes⏎
 told of replay: not UTF-8 => mcgate: f isn't UTF-8⏎
-told of replay own: pool 1⏎hold 0 a 1⏎ => mcgate: f: by --opened own and --new-servers empty the server of that line can't have held the key⏎
+told of replay own: pool 1⏎hold 0 a 1⏎ => mcgate: f: by --opened the server of that line can't have held the key⏎
+told of replay empty: pool 1⏎hold 0 a 1⏎ => mcgate: f: by --new-servers the server of that line can't have held the key⏎
+told of replay own empty: pool 1⏎hold 0 a 1⏎ => mcgate: f: by --opened and --new-servers the server of that line can't have held the key⏎
 told of replay: no memory => 
 told of check: {,} => mcgate: f:1:2: expected a name in double quotes or }, found ,⏎
 told of replay: {]⏎ => mcgate: f:1:2: expected a name in double quotes or }, found ]⏎
@@ -591,20 +593,20 @@ stop by a writer:  => 3 device: failed⏎
 stop by calls:  => 3 calls: more than 18446744073709551615⏎"#
 }
 
+fn replay_begun(opened: Beginning, added: Beginning) -> Task {
+    Task::Replay {
+        judging: Judging::Begun(Beginnings { opened, added }, USUAL_GENERATIONS),
+    }
+}
+
 fn task_named(word: &str) -> Task {
     match word {
         "replay" => Task::Replay {
             judging: Judging::Asked(USUAL_GENERATIONS),
         },
-        "replay own" => Task::Replay {
-            judging: Judging::Begun(
-                Beginnings {
-                    opened: Beginning::Own,
-                    added: Beginning::Any,
-                },
-                USUAL_GENERATIONS,
-            ),
-        },
+        "replay own" => replay_begun(Beginning::Own, Beginning::Any),
+        "replay empty" => replay_begun(Beginning::Any, Beginning::Own),
+        "replay own empty" => replay_begun(Beginning::Own, Beginning::Own),
         "explain" => Task::Check {
             form: Form::Explained,
         },
