@@ -20,6 +20,7 @@ use mcgate_args::serve_arguments::ServeJob;
 use mcgate_check::checking::{print_fault, print_refused};
 use mcgate_check::status::DONE;
 use mcgate_serve::controlling::Controlling;
+use mcgate_serve::folders::look_for_socket;
 use mcgate_serve::lines::Lines;
 use mcgate_serve::serving::{Serving, resolve, tell_if_unknown};
 use mcgate_serve::started::Started;
@@ -395,16 +396,43 @@ fn look_up_own<R: Net + AllocGlobal>(
     }
 }
 
+// Whether it could listen at a path of this name, as far as that is known without a socket there. If not, a line of detail says why.
+fn look_at_path<R: Files + AllocGlobal>(
+    rt: &R,
+    name: &str,
+    path: &str,
+    details: &mut Details,
+) -> Result<(), Stop> {
+    match look_for_socket(rt, path) {
+        Ok(()) => Ok(()),
+        Err(error) => {
+            details.add_path(rt.alloc(), name, &error);
+            Err(Stop::from(error))
+        }
+    }
+}
+
+// The same of a place.
+fn look_at_place<R: Files + Net + AllocGlobal>(
+    rt: &R,
+    text: &str,
+    details: &mut Details,
+) -> Result<(), Stop> {
+    match place_of(text) {
+        ListenPlace::Address(address) => look_up_own(rt, address, details),
+        ListenPlace::Path(path) => look_at_path(rt, text, path, details),
+        ListenPlace::Input => Ok(()),
+    }
+}
+
 // The same of each of these places.
-fn look_up_places<R: Net + AllocGlobal>(
+fn look_up_places<R: Files + Net + AllocGlobal>(
     rt: &R,
     places: &str,
     details: &mut Details,
 ) -> Result<(), Stop> {
     for text in places.split(',') {
-        if let ListenPlace::Address(address) = place_of(text) {
-            look_up_own(rt, address, details)?;
-        }
+        look_at_place(rt, text, details)?;
     }
     Ok(())
 }
@@ -417,8 +445,8 @@ fn unknown_line(alloc: Global, unknown: usize, servers: usize) -> Result<String,
 /// Serves nothing: looks up where a configuration would be served, and its servers. The answer is status 0 where all are known, of which a line
 /// on standard error tells.
 ///
-/// [`Stop::Device`] comes where an address isn't known, of which a line tells, and [`Stop::Memory`] where memory was refused.
-pub fn look_up_only<R: Net + AllocGlobal + Eprint>(
+/// [`Stop::Device`] comes where an address isn't known, or no socket can stand at a path, of which a line tells, and [`Stop::Memory`] where memory was refused.
+pub fn look_up_only<R: Files + Net + AllocGlobal + Eprint>(
     rt: &R,
     job: ServeJob<'_>,
     servable: &Servable,
@@ -432,6 +460,9 @@ pub fn look_up_only<R: Net + AllocGlobal + Eprint>(
     look_up_places(rt, job.listen, details)?;
     if let Some(metrics) = job.metrics {
         look_up_own(rt, metrics, details)?;
+    }
+    if let Some(control) = job.control {
+        look_at_path(rt, control, control, details)?;
     }
     if unknown > 0 {
         details.add(unknown_line(rt.alloc(), unknown, servers.len()));

@@ -6,6 +6,7 @@ mod bad_texts;
 pub mod controlling;
 mod draining;
 mod emptying;
+pub mod folders;
 pub mod histories;
 mod input_end;
 mod limits;

@@ -4,6 +4,7 @@ ghost use Rattle.std.specs.Prelude.{◌≡◌, ℕ, List, Some, IfOk};
 ghost use Rattle.gate_history.specs.Standing.{StandsInHistory};
 ghost use Rattle.mcgate_serve.specs.Remembers.{MayStand};
 
+use crate::folders::folder_of;
 use crate::lines::Lines;
 use crate::special::is_special;
 use gate_growth::ledger::Beginning;
@@ -33,15 +34,6 @@ pub enum Remembering {
     Refused,
     /// Where a history is kept, its last line says the text. This is the text of the file without that line, if it was written now.
     Stands(Option<String>),
-}
-
-// The folder of a file.
-fn folder_of(path: &str) -> &str {
-    match path.rsplit_once('/') {
-        None => ".",
-        Some(("", _)) => "/",
-        Some((folder, _)) => folder,
-    }
 }
 
 // A new file of this name has the text, and the disk too.
