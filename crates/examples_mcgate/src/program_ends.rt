@@ -548,7 +548,9 @@ fn files_that_give_no_input(rt: HostRuntime) -> Result<(), Fail> {
 fn table() -> &'static str {
     r#"told of check: too large => mcgate: f has more than 16777216 bytes⏎
 told of replay: not UTF-8 => mcgate: f isn't UTF-8⏎
-told of replay own: pool 1⏎hold 0 a 1⏎ => mcgate: f: by --opened own and --new-servers empty the server of that line can't have held the key⏎
+told of replay own: pool 1⏎hold 0 a 1⏎ => mcgate: f: by --opened the server of that line can't have held the key⏎
+told of replay empty: pool 1⏎hold 0 a 1⏎ => mcgate: f: by --new-servers the server of that line can't have held the key⏎
+told of replay own empty: pool 1⏎hold 0 a 1⏎ => mcgate: f: by --opened and --new-servers the server of that line can't have held the key⏎
 told of replay: no memory => 
 told of check: {,} => mcgate: f:1:2: expected a name in double quotes or }, found ,⏎
 told of replay: {]⏎ => mcgate: f:1:2: expected a name in double quotes or }, found ]⏎
@@ -561,6 +563,8 @@ refusal of check f: not UTF-8 =>
 listening by InvalidInput: a => mcgate: cannot listen on a: no port: expected HOST:PORT⏎
 listening by AddrInUse: a:1 => mcgate: cannot listen on a:1: address in use⏎
 listening by OutOfMemory: a:1 => 
+listening at a path by AddrInUse: /a => mcgate: cannot listen on /a: address in use⏎
+listening at a path by OutOfMemory: /a => 
 end of replay: pool 1⏎ => 0 -⏎done 0 commands 0 calls 0 stale⏎
 end of replay: pool 0⏎ => 2 -⏎script: bad line 1⏎
 end of replay: too large => 2 -⏎input: too large⏎
@@ -589,20 +593,20 @@ stop by a writer:  => 3 device: failed⏎
 stop by calls:  => 3 calls: more than 18446744073709551615⏎"#
 }
 
+fn replay_begun(opened: Beginning, added: Beginning) -> Task {
+    Task::Replay {
+        judging: Judging::Begun(Beginnings { opened, added }, USUAL_GENERATIONS),
+    }
+}
+
 fn task_named(word: &str) -> Task {
     match word {
         "replay" => Task::Replay {
             judging: Judging::Asked(USUAL_GENERATIONS),
         },
-        "replay own" => Task::Replay {
-            judging: Judging::Begun(
-                Beginnings {
-                    opened: Beginning::Own,
-                    added: Beginning::Any,
-                },
-                USUAL_GENERATIONS,
-            ),
-        },
+        "replay own" => replay_begun(Beginning::Own, Beginning::Any),
+        "replay empty" => replay_begun(Beginning::Any, Beginning::Own),
+        "replay own empty" => replay_begun(Beginning::Own, Beginning::Own),
         "explain" => Task::Check {
             form: Form::Explained,
         },
@@ -659,6 +663,13 @@ fn kind_named(word: &str) -> ErrorKind {
 fn told_of_address(alloc: Global, kind: ErrorKind, address: &str) -> Result<String, AllocError> {
     let mut details = Details::new(alloc);
     details.add_listen(alloc, address, &io::Error::from(kind));
+    joined(alloc, &details)
+}
+
+// The same of a path.
+fn told_of_path(alloc: Global, kind: ErrorKind, path: &str) -> Result<String, AllocError> {
+    let mut details = Details::new(alloc);
+    details.add_path(alloc, path, &io::Error::from(kind));
     joined(alloc, &details)
 }
 
@@ -762,6 +773,7 @@ fn told_of(alloc: Global, question: &str, text: &str) -> Result<String, AllocErr
     if let Some((what, name)) = question.split_once(" by ") {
         return match what {
             "stop" => end_words(alloc, end_of(Err(stop_named(name))), b""),
+            "listening at a path" => told_of_path(alloc, kind_named(name), text),
             _ => told_of_address(alloc, kind_named(name), text),
         };
     }

@@ -139,7 +139,7 @@ impl WordFault<'_> {
         match self.command {
             Some(command) => command.usage(),
             None => {
-                "mcgate COMMAND, one of check, replay, where, serve, cache, loopback, history and plan; mcgate help COMMAND tells of each"
+                "mcgate COMMAND, one of check, certify, replay, where, serve, tell, history, slots, plan, cache, loopback and help; mcgate help COMMAND tells of each"
             }
         }
     }

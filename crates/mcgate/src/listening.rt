@@ -1,10 +1,12 @@
 //! Where a proxy listens: at hosts and ports, at paths of the machine, and on a socket that it was given.
 
 use crate::shared_port::{let_wait, listen_beside};
+use mcgate_args::details::Details;
 use mcgate_args::serve_arguments::ServeJob;
 use mcgate_serve::serving::resolve;
 use mio::net::TcpListener;
 use serve_wire::sockets::Listener;
+use std::alloc::{AllocError, Global};
 use std::io;
 use std::net::Net;
 use std::os::fd::{AsFd, OwnedFd};
@@ -75,14 +77,74 @@ fn listener_at<R: Files + Net + Given>(
     }
 }
 
-/// It listens at each of the places that a job names, which have a comma between two.
-pub fn listeners_at<R: Files + Net + Given + AllocGlobal>(
+// The same. Where it can't, a line of detail says why.
+fn listener_noting<R: Files + Net + Given + AllocGlobal>(
     rt: &R,
+    text: &str,
     job: &ServeJob<'_>,
-) -> io::Result<Vec<Listener>> {
-    let mut listeners = Vec::new(rt.alloc());
-    for text in job.listen.split(',') {
-        listeners.push(listener_at(rt, text, job)?)?;
+    details: &mut Details,
+) -> io::Result<Listener> {
+    match listener_at(rt, text, job) {
+        Ok(listener) => Ok(listener),
+        Err(error) => {
+            details.add_listen(rt.alloc(), text, &error);
+            Err(error)
+        }
     }
-    Ok(listeners)
+}
+
+// Adds where it listens, as the text says, or at a host and a port as the system does, which may have picked the port.
+fn add_place(places: &mut String, text: &str, listener: &Listener) -> Result<(), AllocError> {
+    if !places.is_empty() {
+        places.push_str(",")?;
+    }
+    match listener.local_addr() {
+        Ok(address) => write!(places, "{address}"),
+        Err(_) => places.push_str(text),
+    }
+}
+
+/// What listens, and where.
+#[derive(Drop)]
+pub struct Listening {
+    pub listeners: Vec<Listener>,
+    /// The places, with a comma between two. At a host and a port each has the port at which it listens.
+    pub places: String,
+}
+
+impl Listening {
+    // Nothing listens yet.
+    fn new(alloc: Global) -> Listening {
+        Listening {
+            listeners: Vec::new(alloc),
+            places: String::new(alloc),
+        }
+    }
+
+    // It listens at this place, too.
+    fn add<R: Files + Net + Given + AllocGlobal>(
+        &mut self,
+        rt: &R,
+        text: &str,
+        job: &ServeJob<'_>,
+        details: &mut Details,
+    ) -> io::Result<()> {
+        let listener = listener_noting(rt, text, job, details)?;
+        add_place(&mut self.places, text, &listener)?;
+        Ok(self.listeners.push(listener)?)
+    }
+
+    /// It listens at each of the places that a job names, which have a comma between two. Where it can't at one of them, a line of
+    /// detail says at which, and why.
+    pub fn at<R: Files + Net + Given + AllocGlobal>(
+        rt: &R,
+        job: &ServeJob<'_>,
+        details: &mut Details,
+    ) -> io::Result<Listening> {
+        let mut listening = Listening::new(rt.alloc());
+        for text in job.listen.split(',') {
+            listening.add(rt, text, job, details)?;
+        }
+        Ok(listening)
+    }
 }

@@ -17,7 +17,7 @@ use cache::serve_cache;
 use certified::judge_text_by;
 use descriptors::within_descriptors;
 use fault_words::script::BadLine;
-use listening::Given;
+use listening::{Given, Listening};
 use mc_types::Key;
 use mcgate_args::arguments::{Job, Task, read_arguments};
 use mcgate_args::bad_lines::{bad_line_of_events, bad_line_of_task};
@@ -44,7 +44,7 @@ use mcgate_serve::starting::{begin, refused_after};
 use mcgate_serve::watching::Watching;
 use over_tcp::run_over_tcp;
 use route_json::Config;
-use serve::{Judged, Servable, judge_text, look_up_only, serve_in, serve_to_end};
+use serve::{Judged, Servable, judge_text, look_up_only, serve_in, serve_to_end, tell_unknown_of};
 use serve_proxy::Beginnings;
 use slots::run_slots;
 use std::alloc::{AllocError, Global};
@@ -384,13 +384,90 @@ fn control_job<R: Files + Net + Clock + AllocGlobal>(
     match Controlling::listen(rt, path) {
         Ok(controlling) => Ok(Some(controlling)),
         Err(error) => {
-            details.add_listen(rt.alloc(), path, &error);
+            details.add_path(rt.alloc(), path, &error);
             Err(Stop::from(error))
         }
     }
 }
 
-/// Serves a configuration. Where it can't listen there, a line of detail says why.
+/// Listens where a job says for clients. Where it can't, lines tell which servers name no host, and one of detail says why it can't.
+fn listen_job<R: Files + AllocGlobal + Net + Eprint + Given>(
+    rt: &R,
+    job: &ServeJob<'_>,
+    servable: &Servable,
+    lines: &mut Lines,
+    details: &mut Details,
+) -> Result<Listening, Stop> {
+    match Listening::at(rt, job, details) {
+        Ok(listening) => Ok(listening),
+        Err(error) => {
+            tell_unknown_of(rt, lines, servable)?;
+            Err(Stop::from(error))
+        }
+    }
+}
+
+/// All that listens.
+#[derive(Drop)]
+struct Opened {
+    listening: Listening,
+    watching: Option<Watching>,
+    controlling: Option<Controlling>,
+}
+
+/// Listens where a job says, for clients last. Where it can't, lines of detail say why.
+fn open_job<R: Files + AllocGlobal + Net + Clock + Eprint + Given>(
+    rt: &R,
+    job: &ServeJob<'_>,
+    servable: &Servable,
+    lines: &mut Lines,
+    details: &mut Details,
+) -> Result<Opened, Stop> {
+    let watching = watch_job(rt, job, details)?;
+    let controlling = control_job(rt, job, details)?;
+    let listening = listen_job(rt, job, servable, lines, details)?;
+    Ok(Opened {
+        listening,
+        watching,
+        controlling,
+    })
+}
+
+/// Serves a configuration by what listens.
+fn serve_opened<R: Files + Input + AllocGlobal + Net + Clock + Print + Eprint>(
+    rt: &R,
+    job: ServeJob<'_>,
+    opened: Opened,
+    servable: Servable,
+    started: Started,
+    lines: Lines,
+) -> Result<u8, Stop> {
+    let Opened {
+        listening,
+        watching,
+        controlling,
+    } = opened;
+    let Listening { listeners, places } = listening;
+    let job = ServeJob {
+        listen: places.as_str(),
+        ..job
+    };
+    match serve_to_end(
+        rt,
+        &job,
+        listeners,
+        servable,
+        started,
+        lines,
+        watching,
+        controlling,
+    ) {
+        Ok((_serving, ended)) => ended,
+        Err(error) => Err(Stop::from(error)),
+    }
+}
+
+/// Serves a configuration. Where it can't listen, lines of detail say why.
 fn serve_job<R: Files + Input + AllocGlobal + Net + Clock + Print + Eprint + Given>(
     rt: &R,
     job: ServeJob<'_>,
@@ -399,14 +476,10 @@ fn serve_job<R: Files + Input + AllocGlobal + Net + Clock + Print + Eprint + Giv
     lines: Lines,
     details: &mut Details,
 ) -> Result<u8, Stop> {
-    let watching = watch_job(rt, &job, details)?;
-    let controlling = control_job(rt, &job, details)?;
-    match serve_to_end(rt, &job, servable, started, lines, watching, controlling) {
-        Ok((_serving, ended)) => ended,
-        Err(error) => {
-            details.add_listen(rt.alloc(), job.listen, &error);
-            Err(Stop::from(error))
-        }
+    let mut lines = lines;
+    match open_job(rt, &job, &servable, &mut lines, details) {
+        Ok(opened) => serve_opened(rt, job, opened, servable, started, lines),
+        Err(stop) => Err(stop),
     }
 }
 

@@ -10,7 +10,7 @@ ghost use Rattle.mcgate_serve.specs.LooksUp.{AreLookedUp};
 ghost use Rattle.mcgate_serve.specs.Serves.{proxy_of};
 ghost use Rattle.mcgate.specs.Served.{HasTree, ServesIn, IsUsedFirst, Begins, HasServers, BeginsServing, HasServed, StaysFresh, history_of};
 
-use crate::listening::{Given, ListenPlace, listeners_at, place_of};
+use crate::listening::{ListenPlace, place_of};
 use crate::sharing::sharing_for;
 use gate_check::{Accepted, judge};
 use mcgate_args::details::Details;
@@ -20,6 +20,7 @@ use mcgate_args::serve_arguments::ServeJob;
 use mcgate_check::checking::{print_fault, print_refused};
 use mcgate_check::status::DONE;
 use mcgate_serve::controlling::Controlling;
+use mcgate_serve::folders::look_for_socket;
 use mcgate_serve::lines::Lines;
 use mcgate_serve::serving::{Serving, resolve, tell_if_unknown};
 use mcgate_serve::started::Started;
@@ -28,7 +29,7 @@ use route_json::addresses::{Servers, address_in};
 use route_json::{Config, read_config};
 use serve_proxy::{Beginnings, ProxyEnd, Settings, text_at};
 use serve_wire::Wire;
-use serve_wire::sockets::Sockets;
+use serve_wire::sockets::{Listener, Sockets};
 use std::alloc::{AllocError, Global};
 use std::io;
 use std::io::Write;
@@ -180,14 +181,15 @@ fn end_over(
     }
 }
 
-// A wire that listens there.
-fn open_wire<R: Files + Net + Clock + AllocGlobal + Given>(
+// A wire that listens by these.
+fn open_wire<R: Net + Clock + AllocGlobal>(
     rt: &R,
     job: &ServeJob<'_>,
+    listeners: Vec<Listener>,
 ) -> io::Result<Sockets>
     ensures { IfOk result (λ wire. history_of wire ≡ []) }
 {
-    let mut wire = Sockets::listen_by(rt, listeners_at(rt, job)?)?;
+    let mut wire = Sockets::listen_by(rt, listeners)?;
     wire.end_those_gone(job.keepalive_s);
     Ok(wire)
 }
@@ -265,17 +267,18 @@ fn tell_unknown<R: Net + Eprint>(
     Ok(unknown)
 }
 
-// A wire that listens there, and has looked up these servers. Which of them name no host is told before why it can't listen.
-fn listen<R: Files + Net + Clock + AllocGlobal + Eprint + Given>(
+// A wire that listens by these, and has looked up these servers. Which of them name no host is told before why it can't listen.
+fn listen<R: Net + Clock + AllocGlobal + Eprint>(
     rt: &R,
     lines: &mut Lines,
     job: &ServeJob<'_>,
+    listeners: Vec<Listener>,
     servers: &Servers,
 ) -> io::Result<Sockets>
     ensures none { IfOk result (λ wire. HasNoConns (history_of wire)) }
     ensures looked { IfOk result (λ wire. AreLookedUp 0 servers.now (history_of wire)) }
 {
-    match open_wire(rt, job) {
+    match open_wire(rt, job, listeners) {
         Ok(mut wire) => {
             look_up(rt, lines, &mut wire, servers)?;
             Ok(wire)
@@ -287,11 +290,12 @@ fn listen<R: Files + Net + Clock + AllocGlobal + Eprint + Given>(
     }
 }
 
-// The end that serves it where the job says, with these servers.
-fn open<R: Files + Net + Clock + AllocGlobal + Eprint + Given>(
+// The end that serves it by these listeners, with these servers.
+fn open<R: Net + Clock + AllocGlobal + Eprint>(
     rt: &R,
     lines: &mut Lines,
     job: &ServeJob<'_>,
+    listeners: Vec<Listener>,
     servable: Servable,
     servers: &Servers,
 ) -> io::Result<Proxy>
@@ -299,13 +303,14 @@ fn open<R: Files + Net + Clock + AllocGlobal + Eprint + Given>(
     ensures ends { IfOk result (λ end. Agrees [] (proxy_of history_of end)) }
     ensures texts { IfOk result (λ end. texts_of end.sockets.links.all.items ≡ servers.now) }
 {
-    let wire = listen(rt, lines, job, servers)?;
+    let wire = listen(rt, lines, job, listeners, servers)?;
     Ok(end_over(rt.alloc(), wire, servable, servers, job.begun, job.settings)?)
 }
 
-fn start<R: Files + Net + Clock + AllocGlobal + Eprint + Given>(
+fn start<R: Net + Clock + AllocGlobal + Eprint>(
     rt: &R,
     job: &ServeJob<'_>,
+    listeners: Vec<Listener>,
     servable: Servable,
     started: Started,
     lines: Lines,
@@ -318,7 +323,7 @@ fn start<R: Files + Net + Clock + AllocGlobal + Eprint + Given>(
     let servers = servable.servers(rt.alloc())?;
     let in_use = servable.used_first(rt.alloc(), job.fleet)?;
     let mut lines = lines;
-    let end = open(rt, &mut lines, job, servable, &servers)?;
+    let end = open(rt, &mut lines, job, listeners, servable, &servers)?;
     Serving::new(
         rt,
         end,
@@ -331,15 +336,16 @@ fn start<R: Files + Net + Clock + AllocGlobal + Eprint + Given>(
     )
 }
 
-/// Serves a configuration, which starts so, and tells it; who asks for numbers gets them, and who tells it things is answered, where it
-/// listens for them. What it was in the end comes with the exit status after the turns that were asked, or once it has drained, or with why
+/// Serves a configuration to those who come to these listeners, which starts so, and tells it; who asks for numbers gets them, and who
+/// tells it things is answered, where it listens for them. What it was in the end comes with the exit status after the turns that were asked, or once it has drained, or with why
 /// it ended before.
 ///
 /// [`Stop::Device`] comes where the system's wait or clock fails, and [`Stop::Memory`] where memory was refused for a configuration that is
-/// read while it runs. An error comes where it can't listen there, or memory was refused for the proxy itself.
-pub fn serve_to_end<R: Files + Input + Net + Clock + AllocGlobal + Print + Eprint + Given>(
+/// read while it runs. An error comes where the system doesn't watch the listeners, or memory was refused for the proxy itself.
+pub fn serve_to_end<R: Files + Input + Net + Clock + AllocGlobal + Print + Eprint>(
     rt: &R,
     job: &ServeJob<'_>,
+    listeners: Vec<Listener>,
     servable: Servable,
     started: Started,
     lines: Lines,
@@ -349,10 +355,30 @@ pub fn serve_to_end<R: Files + Input + Net + Clock + AllocGlobal + Print + Eprin
     ensures served { IfOk result (λ ended. HasServed servable job.now.begun job.now.settings ended.0.end) }
     ensures fresh { IfOk result (λ ended. StaysFresh servable job.now.begun ended.0.end.core.value) }
 {
-    let mut serving = start(rt, job, servable, started, lines, watching, controlling)?;
+    let mut serving = start(
+        rt,
+        job,
+        listeners,
+        servable,
+        started,
+        lines,
+        watching,
+        controlling,
+    )?;
     let ended = serving.tell_and_run(rt, job);
     serving.logs_are_fresh();
     Ok((serving, ended))
+}
+
+/// Which servers of a configuration name no host is told, where it can't be served.
+pub fn tell_unknown_of<R: Net + AllocGlobal + Eprint>(
+    rt: &R,
+    lines: &mut Lines,
+    servable: &Servable,
+) -> io::Result<()> {
+    let servers = servable.servers(rt.alloc())?;
+    tell_unknown(rt, lines, &servers)?;
+    Ok(())
 }
 
 // Looks up where it would listen. Where no such address is known, a line of detail says why.
@@ -370,16 +396,43 @@ fn look_up_own<R: Net + AllocGlobal>(
     }
 }
 
+// Whether it could listen at a path of this name, as far as that is known without a socket there. If not, a line of detail says why.
+fn look_at_path<R: Files + AllocGlobal>(
+    rt: &R,
+    name: &str,
+    path: &str,
+    details: &mut Details,
+) -> Result<(), Stop> {
+    match look_for_socket(rt, path) {
+        Ok(()) => Ok(()),
+        Err(error) => {
+            details.add_path(rt.alloc(), name, &error);
+            Err(Stop::from(error))
+        }
+    }
+}
+
+// The same of a place.
+fn look_at_place<R: Files + Net + AllocGlobal>(
+    rt: &R,
+    text: &str,
+    details: &mut Details,
+) -> Result<(), Stop> {
+    match place_of(text) {
+        ListenPlace::Address(address) => look_up_own(rt, address, details),
+        ListenPlace::Path(path) => look_at_path(rt, text, path, details),
+        ListenPlace::Input => Ok(()),
+    }
+}
+
 // The same of each of these places.
-fn look_up_places<R: Net + AllocGlobal>(
+fn look_up_places<R: Files + Net + AllocGlobal>(
     rt: &R,
     places: &str,
     details: &mut Details,
 ) -> Result<(), Stop> {
     for text in places.split(',') {
-        if let ListenPlace::Address(address) = place_of(text) {
-            look_up_own(rt, address, details)?;
-        }
+        look_at_place(rt, text, details)?;
     }
     Ok(())
 }
@@ -392,8 +445,8 @@ fn unknown_line(alloc: Global, unknown: usize, servers: usize) -> Result<String,
 /// Serves nothing: looks up where a configuration would be served, and its servers. The answer is status 0 where all are known, of which a line
 /// on standard error tells.
 ///
-/// [`Stop::Device`] comes where an address isn't known, of which a line tells, and [`Stop::Memory`] where memory was refused.
-pub fn look_up_only<R: Net + AllocGlobal + Eprint>(
+/// [`Stop::Device`] comes where an address isn't known, or no socket can stand at a path, of which a line tells, and [`Stop::Memory`] where memory was refused.
+pub fn look_up_only<R: Files + Net + AllocGlobal + Eprint>(
     rt: &R,
     job: ServeJob<'_>,
     servable: &Servable,
@@ -407,6 +460,9 @@ pub fn look_up_only<R: Net + AllocGlobal + Eprint>(
     look_up_places(rt, job.listen, details)?;
     if let Some(metrics) = job.metrics {
         look_up_own(rt, metrics, details)?;
+    }
+    if let Some(control) = job.control {
+        look_at_path(rt, control, control, details)?;
     }
     if unknown > 0 {
         details.add(unknown_line(rt.alloc(), unknown, servers.len()));

@@ -4,6 +4,7 @@ use crate::arguments::{ArgumentsFault, Task};
 use crate::input::InputFailure;
 use crate::input_text::{INPUT_LIMIT, InputFault};
 use crate::refusal_details::{Origin, lines_of_refusal};
+use core_accepted::{Beginning, Beginnings};
 use fault_inputs::{lines_of_bad_line, lines_of_configuration, lines_of_script, lines_of_warnings};
 use fault_words::script::BadLine;
 use fault_words::{WordFault, address_trouble, fault_in_words, key_fault_in_words};
@@ -59,14 +60,17 @@ fn failure_line(alloc: Global, name: &str, failure: &InputFailure) -> Result<Str
     }
 }
 
+// Why nothing can listen at a place, as the system says it.
+fn place_line(alloc: Global, place: &str, error: &io::Error) -> Result<String, AllocError> {
+    let cause = cause_of(alloc, error)?;
+    format!(in alloc; "mcgate: cannot listen on {place}: {cause}")
+}
+
 // Why nothing can listen on an address.
 fn listen_line(alloc: Global, address: &str, error: &io::Error) -> Result<String, AllocError> {
     match address_trouble(address) {
         Some(trouble) => format!(in alloc; "mcgate: cannot listen on {address}: {trouble}"),
-        None => {
-            let cause = cause_of(alloc, error)?;
-            format!(in alloc; "mcgate: cannot listen on {address}: {cause}")
-        }
+        None => place_line(alloc, address, error),
     }
 }
 
@@ -113,11 +117,19 @@ fn is_script(alloc: Global, text: &str) -> bool {
     read_script(alloc, text).is_ok()
 }
 
-// What is said of the bad line of a script of which each line can be read, and each event can be.
-fn excluded_line(alloc: Global, name: &str) -> Result<String, AllocError> {
-    format!(in alloc;
-        "mcgate: {name}: by --opened own and --new-servers empty the server of that line can't have held the key"
-    )
+// The flags that say that servers began so.
+fn flags_of(begun: Beginnings) -> &'static str {
+    match (begun.opened, begun.added) {
+        (_, Beginning::Any) => "--opened",
+        (Beginning::Any, Beginning::Own) => "--new-servers",
+        (Beginning::Own, Beginning::Own) => "--opened and --new-servers",
+    }
+}
+
+// What is said of the bad line of a script of which each line can be read, and each event can be, where servers began so.
+fn excluded_line(alloc: Global, name: &str, begun: Beginnings) -> Result<String, AllocError> {
+    let flags = flags_of(begun);
+    format!(in alloc; "mcgate: {name}: by {flags} the server of that line can't have held the key")
 }
 
 impl Details {
@@ -164,6 +176,13 @@ impl Details {
     pub fn add_listen(&mut self, alloc: Global, address: &str, error: &io::Error) {
         if !is_memory(error) {
             self.add(listen_line(alloc, address, error));
+        }
+    }
+
+    /// Why nothing can listen at a path.
+    pub fn add_path(&mut self, alloc: Global, path: &str, error: &io::Error) {
+        if !is_memory(error) {
+            self.add(place_line(alloc, path, error));
         }
     }
 
@@ -298,8 +317,8 @@ impl Details {
         bad: Option<BadLine<'_>>,
     ) {
         match (judging, bad) {
-            (Judging::Begun(_, _), None) if is_script(alloc, text) => {
-                self.add(excluded_line(alloc, name));
+            (Judging::Begun(begun, _), None) if is_script(alloc, text) => {
+                self.add(excluded_line(alloc, name, begun));
             }
             (_, bad) => self.add_all(lines_of_input(alloc, name, text, bad)),
         }
@@ -320,7 +339,7 @@ impl Details {
                 self.add_all(lines_of_bad_line(alloc, name, text.as_str(), bad));
             }
             (Ok(_), None) => match judging {
-                Judging::Begun(_, _) => self.add(excluded_line(alloc, name)),
+                Judging::Begun(begun, _) => self.add(excluded_line(alloc, name, begun)),
                 Judging::Any | Judging::Asked(_) => {}
             },
         }

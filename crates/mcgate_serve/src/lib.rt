@@ -2,9 +2,11 @@
 //! meanwhile, and the histories that are remembered of them.
 #![tactic(auto)]
 
+mod bad_texts;
 pub mod controlling;
 mod draining;
 mod emptying;
+pub mod folders;
 pub mod histories;
 mod input_end;
 mod limits;

@@ -4,16 +4,18 @@ ghost use Rattle.std.specs.Prelude.{◌≡◌, ℕ, List, Some, IfOk};
 ghost use Rattle.gate_history.specs.Standing.{StandsInHistory};
 ghost use Rattle.mcgate_serve.specs.Remembers.{MayStand};
 
+use crate::folders::folder_of;
 use crate::lines::Lines;
+use crate::special::is_special;
 use gate_growth::ledger::Beginning;
 use gate_history::HistoryFile;
 use mcgate_args::ends::Stop;
 use mcgate_args::histories::print_kept_after;
-use mcgate_args::input_text::INPUT_LIMIT;
+use mcgate_args::input_text::{INPUT_LIMIT, read_input_noting};
 use std::alloc::{AllocError, Global};
 use std::fs::{File, OpenFile, rename};
 use std::io;
-use std::io::{ErrorKind, Write};
+use std::io::{ErrorKind, Read, Write};
 use std::rt::Files;
 
 /// A history, and the file in which it stands: it was read from there, or written there and synced.
@@ -32,15 +34,6 @@ pub enum Remembering {
     Refused,
     /// Where a history is kept, its last line says the text. This is the text of the file without that line, if it was written now.
     Stands(Option<String>),
-}
-
-// The folder of a file.
-fn folder_of(path: &str) -> &str {
-    match path.rsplit_once('/') {
-        None => ".",
-        Some(("", _)) => "/",
-        Some((folder, _)) => folder,
-    }
 }
 
 // A new file of this name has the text, and the disk too.
@@ -67,6 +60,40 @@ pub fn put<R: Files + AllocGlobal>(rt: &R, path: &str, text: &str) -> io::Result
     sync_folder(rt, folder_of(path))
 }
 
+// Whether a reader has another text than this.
+fn has_other_text<R: Read + Drop>(alloc: Global, reader: R, text: &str) -> io::Result<bool> {
+    let mut failure = None;
+    let found = read_input_noting(alloc, reader, &mut failure);
+    if let Some(error) = failure {
+        return Err(error);
+    }
+    match found {
+        Ok(found) => Ok(found.as_str() != text),
+        Err(_) => Ok(true),
+    }
+}
+
+// Whether a file has another text than this, which was written there last, or is none any more. One that has vanished hasn't.
+fn is_of_another<R: Files + AllocGlobal>(rt: &R, path: &str, text: &str) -> io::Result<bool> {
+    if is_special(rt, path) {
+        return Ok(true);
+    }
+    match File::open(rt, path) {
+        Ok(file) => has_other_text(rt.alloc(), file, text),
+        Err(error) if error.kind() == ErrorKind::NotFound => Ok(false),
+        Err(error) => Err(error),
+    }
+}
+
+// The same as `put`, over this text, which the file had last: whether it has it still. If another process has written it, it stays.
+fn put_over<R: Files + AllocGlobal>(rt: &R, path: &str, old: &str, text: &str) -> io::Result<bool> {
+    if is_of_another(rt, path, old)? {
+        return Ok(false);
+    }
+    put(rt, path, text)?;
+    Ok(true)
+}
+
 /// What is said of a file that can't be written.
 pub fn unwritten_line(alloc: Global, path: &str, error: &io::Error) -> Result<String, AllocError> {
     format!(in alloc; "mcgate: cannot write {path}: {error}")
@@ -82,6 +109,14 @@ fn tell_unwritten<R: AllocGlobal + Eprint>(
     if let Ok(line) = unwritten_line(rt.alloc(), path, error) {
         lines.warn(rt, line.as_str());
     }
+}
+
+// Says of a history that another process has written it.
+fn tell_other<R: Eprint>(rt: &R, lines: &mut Lines, path: &str) {
+    let line = format_args!(
+        "mcgate: {path}: another process has written it: each mcgate has a history of its own"
+    );
+    lines.warn(rt, line);
 }
 
 impl Kept {
@@ -118,7 +153,29 @@ impl Kept {
         }
     }
 
-    // Writes the file, to which a line was added. Where it can't be written the history is what it was.
+    // Writes the file, which had this text. Whether it did; if not, why is told.
+    fn writes<R: Files + AllocGlobal + Eprint>(
+        &self,
+        rt: &R,
+        lines: &mut Lines,
+        old: &str,
+    ) -> bool {
+        let path = self.path.as_str();
+        match put_over(rt, path, old, self.file.text()) {
+            Ok(true) => true,
+            Ok(false) => {
+                tell_other(rt, lines, path);
+                false
+            }
+            Err(error) => {
+                tell_unwritten(rt, lines, path, &error);
+                false
+            }
+        }
+    }
+
+    // Writes the file, to which a line was added. Where it can't be written, or another process has written it since, the history is what
+    // it was.
     fn write_line<R: Files + AllocGlobal + Eprint, W: Write>(
         &mut self,
         rt: &R,
@@ -128,15 +185,12 @@ impl Kept {
     ) -> Result<Remembering, Stop>
         ensures { (text : List ℕ) → StandsInHistory self.old.file.text text → IfOk result (λ r. MayStand r (Some self.new) text) }
     {
-        match put(rt, self.path.as_str(), self.file.text()) {
-            Ok(()) => Ok(Remembering::Stands(Some(old))),
-            Err(error) => {
-                tell_unwritten(rt, lines, self.path.as_str(), &error);
-                self.go_back(rt.alloc(), old)?;
-                writeln!(out, "reload refused: history not written")?;
-                Ok(Remembering::Refused)
-            }
+        if self.writes(rt, lines, old.as_str()) {
+            return Ok(Remembering::Stands(Some(old)));
         }
+        self.go_back(rt.alloc(), old)?;
+        writeln!(out, "reload refused: history not written")?;
+        Ok(Remembering::Refused)
     }
 
     // The text's configuration is the next generation, and stands in the file, if it may be; else why not is printed.

@@ -18,6 +18,7 @@ ghost use Rattle.mcgate_serve.specs.LooksUp.{AreLookedUp};
 ghost use Rattle.mcgate_serve.specs.Emptied.{IsDueAt, EmptiesOnly, FlushesAt};
 ghost use Rattle.mcgate_serve.specs.Names.{follows};
 
+use crate::bad_texts::say_why;
 use crate::controlling::Controlling;
 use crate::draining::Draining;
 use crate::emptying::Emptying;
@@ -1097,7 +1098,7 @@ impl<W: Listens> Serving<W> {
         self.turns = 0;
         self.since = Instant::now(rt)?;
         match regular_text(rt, job.file) {
-            Ok(text) => self.take_text(rt, job.any, text),
+            Ok(text) => self.take_text(rt, job, text),
             Err(InputFault::NoMemory) => Err(Stop::Memory),
             Err(_) => Ok(()),
         }
@@ -1132,7 +1133,7 @@ impl<W: Listens> Serving<W> {
     fn take_text<R: Files + Net + AllocGlobal + Print + Eprint>(
         &mut self,
         rt: &R,
-        any: bool,
+        job: &ServeJob<'_>,
         text: String,
     ) -> Result<(), Stop>
         ensures core { MayLoadText self.old.in_use self.old.servers (string_bytes text) self.old.end.core.value self.new.end.core.value }
@@ -1144,7 +1145,7 @@ impl<W: Listens> Serving<W> {
             return Ok(());
         }
         let mut said = Vec::new(rt.alloc());
-        self.load_new(rt, any, text, &mut said)?;
+        self.load_new(rt, job, text, &mut said)?;
         Ok(())
     }
 
@@ -1154,7 +1155,7 @@ impl<W: Listens> Serving<W> {
     fn load_new<R: Files + Net + AllocGlobal + Print + Eprint>(
         &mut self,
         rt: &R,
-        any: bool,
+        job: &ServeJob<'_>,
         text: String,
         said: &mut Vec<u8>,
     ) -> Result<bool, Stop>
@@ -1163,20 +1164,28 @@ impl<W: Listens> Serving<W> {
         ensures remembered { StandsIfLoaded self.old.end.core.value self.new.end.core.value self.new.memory (string_bytes text) }
         ensures in_use { IfOk result (λ _. LoadsText self.old.in_use self.new.in_use self.old.servers (string_bytes text) self.old.end.core.value self.new.end.core.value) }
     {
-        let is_used = self.judge_text(rt, any, text.as_str(), said)?;
-        self.note_said(rt, text, is_used, said.as_slice());
+        let is_used = self.judge_text(rt, job.any, text.as_str(), said)?;
+        self.note_said(rt, job.file, text, is_used, said.as_slice());
         Ok(is_used)
     }
 
-    // The same, and what was said of it is printed.
-    fn note_said<R: Print + Eprint>(&mut self, rt: &R, text: String, is_used: bool, said: &[u8])
+    // What was said of a text is printed, and where it is no configuration, why. The file has it.
+    fn note_said<R: AllocGlobal + Print + Eprint>(
+        &mut self,
+        rt: &R,
+        file: &str,
+        text: String,
+        is_used: bool,
+        said: &[u8],
+    )
         ensures ends { self.new.end ≡ self.old.end }
         ensures memory { self.new.memory ≡ self.old.memory }
         ensures in_use { self.new.in_use ≡ self.old.in_use }
     {
-        self.note_text(text, is_used);
         self.lines.print(rt, said);
         self.tell_verdict(rt, is_used, said);
+        say_why(rt, &mut self.lines, file, text.as_str(), said);
+        self.note_text(text, is_used);
     }
 
     // It drains once standard input has ended, where that is asked, and who tells it things is answered.
@@ -1421,7 +1430,7 @@ impl<W: Listens> Serving<W> {
         self.turns = 0;
         self.since = Instant::now(rt)?;
         match regular_text(rt, job.file) {
-            Ok(text) => self.reload_text(rt, job.any, place, text),
+            Ok(text) => self.reload_text(rt, job, place, text),
             Err(InputFault::NoMemory) => Err(Stop::Memory),
             Err(_) => {
                 self.answer(
@@ -1438,14 +1447,14 @@ impl<W: Listens> Serving<W> {
     fn reload_text<R: Files + Net + AllocGlobal + Print + Eprint>(
         &mut self,
         rt: &R,
-        any: bool,
+        job: &ServeJob<'_>,
         place: usize,
         text: String,
     ) -> Result<(), Stop>
         ensures ends { Serves W.history self.old.end self.new.end }
     {
         let mut said = Vec::new(rt.alloc());
-        let is_used = self.load_new(rt, any, text, &mut said)?;
+        let is_used = self.load_new(rt, job, text, &mut said)?;
         let verdict = if is_used {
             Ruling::Done
         } else {

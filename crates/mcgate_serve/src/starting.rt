@@ -5,6 +5,7 @@ ghost use Rattle.gate_history.specs.Standing.{StandsInHistory};
 ghost use Rattle.mcgate_serve.specs.InFleet.{Keeps, LastStandBeside};
 
 use crate::emptying::Emptying;
+use crate::folders::look_for_file;
 use crate::histories::file_at;
 use crate::lines::Lines;
 use crate::remembering::{Kept, unwritten_line};
@@ -184,6 +185,7 @@ pub fn begin<R: Files + Input + AllocGlobal + Eprint, W: Write>(
 }
 
 /// The same where nothing is to be served, and nothing is written: the exit status of what was printed, if the text may not be served.
+/// [`Stop::Device`] comes also where the history's folder isn't there, of which a line tells.
 pub fn refused_after<R: Files + Input + AllocGlobal + Eprint, W: Write>(
     rt: &R,
     job: &ServeJob<'_>,
@@ -195,6 +197,10 @@ pub fn refused_after<R: Files + Input + AllocGlobal + Eprint, W: Write>(
     let Some(path) = job.history else {
         return Ok(None);
     };
+    if let Err(error) = look_for_file(rt, path) {
+        details.add(unwritten_line(rt.alloc(), path, &error));
+        return Err(Stop::from(error));
+    }
     let Some(file) = file_at(rt, path, lines, out, details)? else {
         return Ok(Some(BAD_INPUT));
     };

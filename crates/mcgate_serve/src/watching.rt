@@ -293,7 +293,7 @@ fn state_of(link: &Link) -> &'static str {
         "late"
     } else if link.is_connected {
         "up"
-    } else if link.tally.stood == 0 {
+    } else if link.tally.stood == 0 && failures_of(link) == 0 {
         "unused"
     } else {
         "down"
