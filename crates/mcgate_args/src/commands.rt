@@ -67,6 +67,7 @@ fn with_words<'a>(
     Ok(parser)
 }
 
+// All commands.
 const COMMANDS: [Command; 12] = [
     Command::Check,
     Command::Certify,
@@ -95,6 +96,7 @@ fn parser_of<'a>(alloc: Global, command: Command) -> Result<clap::Command<'a>, A
     with_words(alloc, parser, words_of(command))
 }
 
+// Drops a parser.
 fn drop_parser(_parser: clap::Command<'_>) {}
 
 // A parser that knows this command too.
