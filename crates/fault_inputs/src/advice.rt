@@ -28,6 +28,18 @@ fn push_escaped(words: &mut String, text: &str) -> Result<(), AllocError> {
     write!(words, "{}", Escaped(text.as_bytes()))
 }
 
+// A name of the file's in the escapes, between these words.
+fn push_between(
+    words: &mut String,
+    front: &str,
+    name: &str,
+    behind: &str,
+) -> Result<(), AllocError> {
+    words.push_str(front)?;
+    push_escaped(words, name)?;
+    words.push_str(behind)
+}
+
 // A name on the way, as JSON pointers write it: `~` is `~0`, and `/` is `~1`.
 fn push_name(words: &mut String, name: &str) -> Result<(), AllocError> {
     for byte in name.as_bytes() {
@@ -65,14 +77,31 @@ fn push_list(words: &mut String, names: &[&str]) -> Result<(), AllocError> {
     Ok(())
 }
 
+// Which fields an object of this kind has.
+fn push_fields(words: &mut String, holder: Holder) -> Result<(), AllocError> {
+    write!(words, "{} has ", name_of(holder))?;
+    push_list(words, fields_of(holder))
+}
+
+// `no KIND NAME; KINDs are NAMES`
+fn push_unknown(
+    words: &mut String,
+    kind: &str,
+    name: &str,
+    names: &[&str],
+) -> Result<(), AllocError> {
+    write!(words, "no {kind} ")?;
+    push_between(words, "", name, "; ")?;
+    write!(words, "{kind}s are ")?;
+    push_list(words, names)
+}
+
 // `; did you mean NAME?`, if a name is near.
 fn push_meant(words: &mut String, meant: Option<&str>) -> Result<(), AllocError> {
-    if let Some(name) = meant {
-        words.push_str("; did you mean ")?;
-        push_escaped(words, name)?;
-        words.push_str("?")?;
+    match meant {
+        Some(name) => push_between(words, "; did you mean ", name, "?"),
+        None => Ok(()),
     }
-    Ok(())
 }
 
 // The names of the pools, of which the last ones may be left out.
@@ -102,6 +131,21 @@ fn nearest_pool<'a>(
     nearest(alloc, name, names.as_slice())
 }
 
+// Which pools there are where none has this name, and the one that was likely meant.
+fn push_known_pools(
+    alloc: Global,
+    words: &mut String,
+    name: &str,
+    pools: &Map<String, Value>,
+) -> Result<(), AllocError> {
+    if pools.is_empty() {
+        return words.push_str(": there are no pools");
+    }
+    words.push_str("; pools are ")?;
+    push_pools(words, pools)?;
+    push_meant(words, nearest_pool(alloc, name, pools)?)
+}
+
 impl About<'_, '_> {
     fn has_pool(&self, name: &str) -> bool {
         match self.pools {
@@ -117,10 +161,8 @@ impl About<'_, '_> {
         holder: Holder,
         name: &str,
     ) -> Result<(), AllocError> {
-        words.push_str("no field ")?;
-        push_escaped(words, name)?;
-        write!(words, " here: {} has ", name_of(holder))?;
-        push_list(words, fields_of(holder))?;
+        push_between(words, "no field ", name, " here: ")?;
+        push_fields(words, holder)?;
         push_meant(words, nearest(alloc, name, fields_of(holder))?)
     }
 
@@ -130,18 +172,12 @@ impl About<'_, '_> {
         holder: Holder,
         name: &str,
     ) -> Result<(), AllocError> {
-        write!(
-            words,
-            "the field {name} is missing: {} has ",
-            name_of(holder)
-        )?;
-        push_list(words, fields_of(holder))
+        write!(words, "the field {name} is missing: ")?;
+        push_fields(words, holder)
     }
 
     fn push_no_server(&self, words: &mut String, text: &str) -> Result<(), AllocError> {
-        words.push_str("\"")?;
-        push_escaped(words, text)?;
-        words.push_str("\" is no address: ")?;
+        push_between(words, "\"", text, "\" is no address: ")?;
         match address_trouble(text) {
             Some(AddressTrouble::NoBrackets(_)) | None => words.push_str(
                 "expected HOST:PORT or HOST:PORT:WEIGHT, a port in 1..=65535 and a weight in 1..=16",
@@ -156,17 +192,11 @@ impl About<'_, '_> {
         words: &mut String,
         name: &str,
     ) -> Result<(), AllocError> {
-        words.push_str("no pool ")?;
-        push_escaped(words, name)?;
-        let Some(pools) = self.pools else {
-            return Ok(());
-        };
-        if pools.is_empty() {
-            return words.push_str(": there are no pools");
+        push_between(words, "no pool ", name, "")?;
+        match self.pools {
+            Some(pools) => push_known_pools(alloc, words, name, pools),
+            None => Ok(()),
         }
-        words.push_str("; pools are ")?;
-        push_pools(words, pools)?;
-        push_meant(words, nearest_pool(alloc, name, pools)?)
     }
 
     // What a text was likely meant to be, where a route's short text is wanted.
@@ -177,20 +207,11 @@ impl About<'_, '_> {
         text: &str,
     ) -> Result<(), AllocError> {
         if self.has_pool(text) {
-            words.push_str("; did you mean \"PoolRoute|")?;
-            push_escaped(words, text)?;
-            return words.push_str("\"?");
+            return push_short(words, "PoolRoute|", text);
         }
         let (front, rest) = text.split_once('|').unwrap_or((text, ""));
-        let rest = rest_after("Pool|", rest).unwrap_or(rest);
         match nearest(alloc, front, ROUTES.as_slice())? {
-            Some("PoolRoute") => push_short(words, "PoolRoute|", rest),
-            Some("AllSyncRoute") => push_short(words, "AllSyncRoute|Pool|", rest),
-            Some("FailoverRoute") => push_short(words, "FailoverRoute|Pool|", rest),
-            Some("MissFailoverRoute") => push_short(words, "MissFailoverRoute|Pool|", rest),
-            Some("NullRoute") => push_short(words, "NullRoute", ""),
-            Some("ErrorRoute") => push_short(words, "ErrorRoute", ""),
-            Some(name) => write!(words, "; a {name} is an object with type and its fields"),
+            Some(route) => push_short_of(words, route, rest_after("Pool|", rest).unwrap_or(rest)),
             None => words.push_str(
                 "; short texts are \"PoolRoute|NAME\", \"AllSyncRoute|Pool|NAME\" and the like, \"NullRoute\" and \"ErrorRoute\"",
             ),
@@ -203,8 +224,7 @@ impl About<'_, '_> {
         words: &mut String,
         text: &str,
     ) -> Result<(), AllocError> {
-        words.push_str("no route ")?;
-        push_escaped(words, text)?;
+        push_between(words, "no route ", text, "")?;
         self.push_short_meant(alloc, words, text)
     }
 
@@ -214,10 +234,7 @@ impl About<'_, '_> {
         words: &mut String,
         name: &str,
     ) -> Result<(), AllocError> {
-        words.push_str("no route ")?;
-        push_escaped(words, name)?;
-        words.push_str("; routes are ")?;
-        push_list(words, ROUTES.as_slice())?;
+        push_unknown(words, "route", name, ROUTES.as_slice())?;
         let (front, _) = name.split_once('|').unwrap_or((name, ""));
         push_meant(words, nearest(alloc, front, ROUTES.as_slice())?)
     }
@@ -228,10 +245,7 @@ impl About<'_, '_> {
         words: &mut String,
         name: &str,
     ) -> Result<(), AllocError> {
-        words.push_str("no operation ")?;
-        push_escaped(words, name)?;
-        words.push_str("; operations are ")?;
-        push_list(words, OPERATIONS.as_slice())?;
+        push_unknown(words, "operation", name, OPERATIONS.as_slice())?;
         push_meant(words, nearest(alloc, name, OPERATIONS.as_slice())?)
     }
 
@@ -280,6 +294,27 @@ impl About<'_, '_> {
         }
     }
 
+    // `mcgate: FILE:LINE:COLUMN: `
+    fn push_place(&self, words: &mut String) -> Result<(), AllocError> {
+        write!(words, "mcgate: {}:", self.file)?;
+        if let Some(place) = self.place {
+            write!(words, "{place}:")?;
+        }
+        words.push_str(" ")
+    }
+
+    fn push_line(
+        &self,
+        alloc: Global,
+        words: &mut String,
+        way: &[PathStep<'_>],
+        trouble: Trouble<'_>,
+    ) -> Result<(), AllocError> {
+        self.push_place(words)?;
+        push_way(words, way)?;
+        self.push_trouble(alloc, words, trouble)
+    }
+
     /// The line of a trouble: `mcgate: FILE:LINE:COLUMN: WAY: WORDS`. The only error is running out of memory.
     pub fn line(
         &self,
@@ -288,13 +323,7 @@ impl About<'_, '_> {
         trouble: Trouble<'_>,
     ) -> Result<String, AllocError> {
         let mut words = String::new(alloc);
-        write!(words, "mcgate: {}:", self.file)?;
-        if let Some(place) = self.place {
-            write!(words, "{place}:")?;
-        }
-        words.push_str(" ")?;
-        push_way(&mut words, way)?;
-        self.push_trouble(alloc, &mut words, trouble)?;
+        self.push_line(alloc, &mut words, way, trouble)?;
         Ok(words)
     }
 }
@@ -302,7 +331,27 @@ impl About<'_, '_> {
 // `; did you mean "FRONTNAME"?`
 fn push_short(words: &mut String, front: &str, name: &str) -> Result<(), AllocError> {
     words.push_str("; did you mean \"")?;
-    words.push_str(front)?;
-    push_escaped(words, name)?;
-    words.push_str("\"?")
+    push_between(words, front, name, "\"?")
+}
+
+// How the short text of a route of this type begins, if it has one: the name of a pool follows, or nothing.
+fn short_front(route: &str) -> Option<&'static str> {
+    match route {
+        "PoolRoute" => Some("PoolRoute|"),
+        "AllSyncRoute" => Some("AllSyncRoute|Pool|"),
+        "FailoverRoute" => Some("FailoverRoute|Pool|"),
+        "MissFailoverRoute" => Some("MissFailoverRoute|Pool|"),
+        "NullRoute" => Some("NullRoute"),
+        "ErrorRoute" => Some("ErrorRoute"),
+        _ => None,
+    }
+}
+
+// What the short text of a route of this type was likely meant to be, with this pool where it names one.
+fn push_short_of(words: &mut String, route: &str, pool: &str) -> Result<(), AllocError> {
+    match short_front(route) {
+        Some(front) if front.ends_with("|") => push_short(words, front, pool),
+        Some(front) => push_short(words, front, ""),
+        None => write!(words, "; a {route} is an object with type and its fields"),
+    }
 }

@@ -2,7 +2,7 @@
 
 use crate::advice::About;
 use crate::place::{Source, TextPlace};
-use crate::scan::{Slip, place_of, scan_text};
+use crate::scan::{Slip, Twice, place_of, scan_text};
 use crate::slip::SlipIn;
 use crate::trouble::{PathStep, Stop, Trouble};
 use crate::walk::Walk;
@@ -155,32 +155,76 @@ pub fn lines_of_configuration(
     Ok(lines)
 }
 
+fn unused_line(alloc: Global, source: Source<'_>, name: &str) -> Result<String, AllocError> {
+    format!(in alloc;
+        "mcgate: {}: warning: no route uses the pool {}",
+        source.file,
+        Escaped(name.as_bytes())
+    )
+}
+
+// The pools that no route names, after a walk through the whole configuration.
+fn push_unused_after(
+    alloc: Global,
+    source: Source<'_>,
+    walk: &Walk<'_>,
+    lines: &mut Vec<String>,
+) -> Result<(), AllocError> {
+    let Some(pools) = walk.pools() else {
+        return Ok(());
+    };
+    for (name, _) in pools.iter() {
+        if lines.len() < MOST_UNUSED && !walk.used.contains_key(name.as_str()) {
+            lines.push(unused_line(alloc, source, name.as_str())?)?;
+        }
+    }
+    Ok(())
+}
+
+fn push_unused_in(
+    alloc: Global,
+    source: Source<'_>,
+    value: &Value,
+    lines: &mut Vec<String>,
+) -> Result<(), AllocError> {
+    let mut walk = Walk::new(alloc);
+    match walk.whole(value) {
+        Ok(()) => push_unused_after(alloc, source, &walk, lines),
+        Err(Stop::NoMemory) => Err(AllocError),
+        Err(Stop::Trouble(_)) => Ok(()),
+    }
+}
+
 // The pools that no route names.
 fn push_unused(
     alloc: Global,
     source: Source<'_>,
     lines: &mut Vec<String>,
 ) -> Result<(), AllocError> {
-    let Some(value) = value_of(alloc, source.text)? else {
-        return Ok(());
-    };
-    let mut walk = Walk::new(alloc);
-    match walk.whole(&value) {
-        Err(Stop::NoMemory) => return Err(AllocError),
-        Err(Stop::Trouble(_)) => return Ok(()),
-        Ok(()) => {}
+    match value_of(alloc, source.text)? {
+        Some(value) => push_unused_in(alloc, source, &value, lines),
+        None => Ok(()),
     }
-    let Some(pools) = walk.pools() else {
-        return Ok(());
-    };
-    for (name, _) in pools.iter() {
-        if lines.len() < MOST_UNUSED && !walk.used.contains_key(name.as_str()) {
-            lines.push(format!(in alloc;
-                "mcgate: {}: warning: no route uses the pool {}",
-                source.file,
-                Escaped(name.as_str().as_bytes())
-            )?)?;
-        }
+}
+
+fn twice_line(alloc: Global, source: Source<'_>, twice: &Twice<'_>) -> Result<String, AllocError> {
+    format!(in alloc;
+        "mcgate: {}:{}: warning: \"{}\" stands twice in this object, and the later one counts",
+        source.file,
+        source.place(twice.at),
+        Escaped(twice.name.as_bytes())
+    )
+}
+
+// The names that stand twice in an object.
+fn push_twice(
+    alloc: Global,
+    source: Source<'_>,
+    lines: &mut Vec<String>,
+) -> Result<(), AllocError> {
+    let scanned = scan_text(alloc, source.text)?;
+    for twice in scanned.twice.as_slice() {
+        lines.push(twice_line(alloc, source, twice)?)?;
     }
     Ok(())
 }
@@ -190,14 +234,7 @@ fn push_unused(
 pub fn lines_of_warnings(alloc: Global, file: &str, text: &str) -> Result<Vec<String>, AllocError> {
     let source = Source::whole(file, text);
     let mut lines = Vec::new(alloc);
-    let scanned = scan_text(alloc, text)?;
-    for twice in scanned.twice.as_slice() {
-        lines.push(format!(in alloc;
-            "mcgate: {file}:{}: warning: \"{}\" stands twice in this object, and the later one counts",
-            source.place(twice.at),
-            Escaped(twice.name.as_bytes())
-        )?)?;
-    }
+    push_twice(alloc, source, &mut lines)?;
     push_unused(alloc, source, &mut lines)?;
     Ok(lines)
 }

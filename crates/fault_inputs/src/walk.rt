@@ -181,6 +181,10 @@ impl<'a> Walk<'a> {
         self.only(Holder::Config, value)?;
         let pools = field(Holder::Config, "pools", value)?;
         let root = field(Holder::Config, "route", value)?;
+        self.pools_and_route(pools, root)
+    }
+
+    fn pools_and_route(&mut self, pools: &'a Value, root: &'a Value) -> Result<(), Stop<'a>> {
         self.enter(PathStep::Name("pools"))?;
         self.all_pools(pools)?;
         self.leave();
@@ -209,9 +213,7 @@ impl<'a> Walk<'a> {
         }
         self.only(Holder::Pool, value)?;
         let servers = field(Holder::Pool, "servers", value)?;
-        self.enter(PathStep::Name("servers"))?;
         self.servers(name, servers)?;
-        self.leave();
         if let Some(slots) = value.get("slots") {
             self.table(servers, slots)?;
         }
@@ -269,6 +271,7 @@ impl<'a> Walk<'a> {
     }
 
     fn servers(&mut self, name: &'a str, value: &'a Value) -> Result<(), Stop<'a>> {
+        self.enter(PathStep::Name("servers"))?;
         let Value::Array(items) = value else {
             return fail(Trouble::Wanted("a list of addresses, HOST:PORT"));
         };
@@ -278,13 +281,19 @@ impl<'a> Walk<'a> {
         if items.len() > POOL_LIMIT as usize {
             return fail(Trouble::TooManyServers(name, items.len()));
         }
+        self.each_server(items)?;
+        if has_too_many_slots(items) {
+            return fail(Trouble::TooManySlots(name));
+        }
+        self.leave();
+        Ok(())
+    }
+
+    fn each_server(&mut self, items: &'a [Value]) -> Result<(), Stop<'a>> {
         for (number, item) in items.iter().enumerate() {
             self.enter(PathStep::Number(number))?;
             self.server(item)?;
             self.leave();
-        }
-        if has_too_many_slots(items) {
-            return fail(Trouble::TooManySlots(name));
         }
         Ok(())
     }
@@ -388,16 +397,22 @@ impl<'a> Walk<'a> {
             return without(holder, name, part, below);
         };
         self.enter(PathStep::Name(name))?;
-        match part {
-            Part::Kind => {}
-            Part::Pool => self.pool_name(found)?,
-            Part::Children => self.children_of(found, below)?,
-            Part::Route | Part::Rest => self.route(found, below)?,
-            Part::Exptime => exptime(found)?,
-            Part::Operations | Part::Prefixes => self.policies(part, found, below)?,
-        }
+        self.found(part, found, below)?;
         self.leave();
         Ok(())
+    }
+
+    // What was found under a field of a route.
+    #[cycle(walk)]
+    fn found(&mut self, part: Part, value: &'a Value, below: u32) -> Result<(), Stop<'a>> {
+        match part {
+            Part::Kind => Ok(()),
+            Part::Pool => self.pool_name(value),
+            Part::Children => self.children_of(value, below),
+            Part::Route | Part::Rest => self.route(value, below),
+            Part::Exptime => exptime(value),
+            Part::Operations | Part::Prefixes => self.policies(part, value, below),
+        }
     }
 
     fn pool_name(&mut self, value: &'a Value) -> Result<(), Stop<'a>> {

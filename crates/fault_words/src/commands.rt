@@ -100,26 +100,54 @@ const CACHE_FLAGS: [&str; 6] = [
 /// The flags that may stand before any command.
 pub const TOP_FLAGS: [&str; 2] = ["help", "version"];
 
+const PLAIN_FLAGS: [&str; 12] = [
+    "help",
+    "version",
+    "any",
+    "check",
+    "explain",
+    "dot",
+    "fleet",
+    "log-json",
+    "drain-on-eof",
+    "stores-wait",
+    "reuse-port",
+    "flush-all",
+];
+
+const FILE_FLAGS: [&str; 6] = [
+    "config",
+    "certificate",
+    "with",
+    "history",
+    "after",
+    "control",
+];
+
+const ADDRESS_FLAGS: [&str; 4] = ["listen", "metrics", "add", "remove"];
+
+const WORD_FLAGS: [&str; 5] = [
+    "server-dialect",
+    "opened",
+    "new-servers",
+    "unix-mode",
+    "log-level",
+];
+
 /// What follows the flag of this name.
 pub fn takes_of(flag: &str) -> Takes {
-    match flag {
-        "help"
-        | "version"
-        | "any"
-        | "check"
-        | "explain"
-        | "dot"
-        | "fleet"
-        | "log-json"
-        | "drain-on-eof"
-        | "stores-wait"
-        | "reuse-port"
-        | "flush-all" => { Takes::Nothing }
-        "config" | "certificate" | "with" | "history" | "after" | "control" => Takes::File,
-        "listen" | "metrics" | "add" | "remove" => Takes::Address,
-        "pool" => Takes::Pool,
-        "server-dialect" | "opened" | "new-servers" | "unix-mode" | "log-level" => { Takes::Word }
-        _ => Takes::Count,
+    if PLAIN_FLAGS.as_slice().contains(&flag) {
+        Takes::Nothing
+    } else if FILE_FLAGS.as_slice().contains(&flag) {
+        Takes::File
+    } else if ADDRESS_FLAGS.as_slice().contains(&flag) {
+        Takes::Address
+    } else if WORD_FLAGS.as_slice().contains(&flag) {
+        Takes::Word
+    } else if flag == "pool" {
+        Takes::Pool
+    } else {
+        Takes::Count
     }
 }
 
@@ -251,6 +279,28 @@ impl Command {
             Command::Where => &["config"],
             Command::Serve => &["config", "listen"],
             Command::Cache => &["listen", "capacity"],
+            _ => &[],
+        }
+    }
+
+    /// The pairs of its flags that don't go together.
+    pub fn apart(self) -> &'static [[&'static str; 2]] {
+        match self {
+            Command::Check => &[
+                ["explain", "dot"],
+                ["fleet", "explain"],
+                ["fleet", "dot"],
+                ["fleet", "history"],
+                ["dot", "history"],
+            ],
+            Command::Serve => &[
+                ["fleet", "any"],
+                ["fleet", "opened"],
+                ["fleet", "new-servers"],
+                ["any", "history"],
+                ["any", "certificate"],
+            ],
+            Command::Slots => &[["add", "remove"]],
             _ => &[],
         }
     }

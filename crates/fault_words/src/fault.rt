@@ -56,6 +56,12 @@ pub struct WordFault<'a> {
 // The levels of lines.
 const LEVELS: &str = "error, warn, info or debug";
 
+// What is said behind a word that no proxy is told.
+const NOT_TOLD: &str = " is none of drain, reload, status, servers, log LEVEL and where KEY";
+
+// What is said behind a word that is no level.
+const NO_LEVEL: &str = ": expected error, warn, info or debug";
+
 // Which word it has to be.
 fn wanted_word(flag: &str) -> &'static str {
     match flag {
@@ -87,48 +93,84 @@ fn key_words(fault: KeyFault) -> &'static str {
     }
 }
 
+// A word that was given, in the escapes, and what is said before and behind it.
+fn write_word<W: fmt::Write>(
+    f: &mut fmt::Formatter<W>,
+    front: &str,
+    word: &str,
+    behind: &str,
+) -> fmt::Result {
+    f.write_str(front)?;
+    Escaped(word.as_bytes()).fmt(f)?;
+    f.write_str(behind)
+}
+
+// A flag, and what is said behind it.
+fn write_flag<W: fmt::Write>(f: &mut fmt::Formatter<W>, flag: &str, behind: &str) -> fmt::Result {
+    write!(f, "--{flag}{behind}")
+}
+
+fn write_two_flags<W: fmt::Write>(
+    f: &mut fmt::Formatter<W>,
+    flag: &str,
+    between: &str,
+    other: &str,
+) -> fmt::Result {
+    write_flag(f, flag, between)?;
+    write_flag(f, other, "")
+}
+
+// That a flag wants a value.
+fn write_no_value<W: fmt::Write>(f: &mut fmt::Formatter<W>, flag: &str) -> fmt::Result {
+    write_flag(f, flag, " wants ")?;
+    write!(f, "{} after it", wanted(flag))
+}
+
+fn write_bad_value<W: fmt::Write>(
+    f: &mut fmt::Formatter<W>,
+    flag: &str,
+    text: &str,
+) -> fmt::Result {
+    write_flag(f, flag, " ")?;
+    write_word(f, "", text, ": expected ")?;
+    f.write_str(wanted(flag))
+}
+
+fn write_missing<W: fmt::Write>(f: &mut fmt::Formatter<W>, flag: &str) -> fmt::Result {
+    write_flag(f, flag, " ")?;
+    write!(f, "{} is missing", takes_of(flag).value())
+}
+
+fn write_no_key<W: fmt::Write>(
+    f: &mut fmt::Formatter<W>,
+    word: &str,
+    fault: KeyFault,
+) -> fmt::Result {
+    write_word(f, "\"", word, "\" is no key: ")?;
+    f.write_str(key_words(fault))
+}
+
 impl Display for Cause<'_> {
     fn fmt<W: fmt::Write>(&self, f: &mut fmt::Formatter<W>) -> fmt::Result {
         match self {
-            Cause::NoCommand(word) => { write!(f, "unknown command {}", Escaped(word.as_bytes())) }
-            Cause::NoFlag(word) => write!(f, "unknown flag {}", Escaped(word.as_bytes())),
-            Cause::TooEarly(word) => {
-                write!(f, "{} stands after a command", Escaped(word.as_bytes()))
-            }
-            Cause::NoValue(flag) => { write!(f, "--{flag} wants {} after it", wanted(flag)) }
-            Cause::OwnValue(flag) => write!(f, "--{flag} takes no value"),
-            Cause::Twice(flag) => write!(f, "--{flag} stands there twice"),
-            Cause::BadValue(flag, text) => {
-                write!(
-                    f,
-                    "--{flag} {}: expected {}",
-                    Escaped(text.as_bytes()),
-                    wanted(flag)
-                )
-            }
-            Cause::Extra(word) => write!(f, "one word too many: {}", Escaped(word.as_bytes())),
-            Cause::Missing(flag) => { write!(f, "--{flag} {} is missing", takes_of(flag).value()) }
+            Cause::NoCommand(word) => write_word(f, "unknown command ", word, ""),
+            Cause::NoFlag(word) => write_word(f, "unknown flag ", word, ""),
+            Cause::TooEarly(word) => write_word(f, "", word, " stands after a command"),
+            Cause::NoValue(flag) => write_no_value(f, flag),
+            Cause::OwnValue(flag) => write_flag(f, flag, " takes no value"),
+            Cause::Twice(flag) => write_flag(f, flag, " stands there twice"),
+            Cause::BadValue(flag, text) => write_bad_value(f, flag, text),
+            Cause::Extra(word) => write_word(f, "one word too many: ", word, ""),
+            Cause::Missing(flag) => write_missing(f, flag),
             Cause::NoWord(word) => write!(f, "a {word} is missing"),
-            Cause::Apart(flag, other) => write!(f, "--{flag} and --{other} don't go together"),
-            Cause::Beside(flag, other) => write!(f, "--{flag} stands only beside --{other}"),
-            Cause::NoKey(word, fault) => {
-                write!(
-                    f,
-                    "\"{}\" is no key: {}",
-                    Escaped(word.as_bytes()),
-                    key_words(*fault)
-                )
+            Cause::Apart(flag, other) => {
+                write_two_flags(f, flag, " and ", other)?;
+                f.write_str(" don't go together")
             }
-            Cause::NotTold(word) => {
-                write!(
-                    f,
-                    "{} is none of drain, reload, status, servers, log LEVEL and where KEY",
-                    Escaped(word.as_bytes())
-                )
-            }
-            Cause::NoLevel(text) => {
-                write!(f, "log {}: expected {LEVELS}", Escaped(text.as_bytes()))
-            }
+            Cause::Beside(flag, other) => write_two_flags(f, flag, " stands only beside ", other),
+            Cause::NoKey(word, fault) => write_no_key(f, word, *fault),
+            Cause::NotTold(word) => write_word(f, "", word, NOT_TOLD),
+            Cause::NoLevel(text) => write_word(f, "log ", text, NO_LEVEL),
         }
     }
 }

@@ -24,6 +24,14 @@ fn is_value(flag: &str, text: &str) -> bool {
     }
 }
 
+// The name of a flag and the value that stands in the same word, if one does.
+fn name_and_value(text: &str) -> (&str, Option<&str>) {
+    match text.split_once('=') {
+        Some((name, value)) => (name, Some(value)),
+        None => (text, None),
+    }
+}
+
 // Whether a word can be no value after a flag, as it begins like one itself.
 fn is_like_flag(word: &str) -> bool {
     word.len() > 1 && word.starts_with("-")
@@ -96,15 +104,22 @@ impl Reader {
             return Ok(Some(Cause::Twice(flag)));
         }
         self.given.push(flag)?;
-        Ok(match (takes_of(flag), own) {
-            (Takes::Nothing, None) => None,
-            (Takes::Nothing, Some(_)) => Some(Cause::OwnValue(flag)),
-            (_, Some(text)) => self.value(flag, text),
-            (_, None) => {
-                self.waiting = Some(flag);
+        Ok(self.after_flag(flag, own))
+    }
+
+    // A flag was given, with this value in its own word.
+    fn after_flag<'a>(&mut self, flag: &'static str, own: Option<&'a str>) -> Option<Cause<'a>> {
+        let is_alone = takes_of(flag) == Takes::Nothing;
+        match own {
+            Some(_) if is_alone => Some(Cause::OwnValue(flag)),
+            Some(text) => self.value(flag, text),
+            None => {
+                if !is_alone {
+                    self.waiting = Some(flag);
+                }
                 None
             }
-        })
+        }
     }
 
     // A word that is no flag.
@@ -119,29 +134,41 @@ impl Reader {
         None
     }
 
+    // A word that begins like a flag.
+    fn dashed<'a>(&mut self, word: &'a str) -> Result<Option<Cause<'a>>, AllocError> {
+        match word.strip_prefix("--") {
+            Some(rest) => {
+                let (name, own) = name_and_value(rest);
+                self.flag(word, name, own)
+            }
+            None if word == "-h" => self.flag(word, "help", None),
+            None => Ok(Some(Cause::NoFlag(word))),
+        }
+    }
+
     // The next word; what is wrong with it, if something is.
     fn take<'a>(&mut self, word: &'a str) -> Result<Option<Cause<'a>>, AllocError> {
         if let Some(flag) = self.waiting {
             return Ok(self.next_value(flag, word));
         }
-        if self.ended || word == "-" {
+        if self.ended || !is_like_flag(word) {
             return Ok(self.plain(word));
         }
         if word == "--" {
             self.ended = true;
             return Ok(None);
         }
-        if word == "-h" {
-            return self.flag(word, "help", None);
+        self.dashed(word)
+    }
+
+    // All words; what is wrong with the first that is wrong, or with the whole.
+    fn take_all<'a>(&mut self, words: &'a [String]) -> Result<Option<Cause<'a>>, AllocError> {
+        for word in words {
+            if let Some(cause) = self.take(word.as_str())? {
+                return Ok(Some(cause));
+            }
         }
-        match word.strip_prefix("--") {
-            Some(rest) => match rest.split_once('=') {
-                Some((name, value)) => self.flag(word, name, Some(value)),
-                None => self.flag(word, rest, None),
-            },
-            None if is_like_flag(word) => Ok(Some(Cause::NoFlag(word))),
-            None => Ok(self.plain(word)),
-        }
+        Ok(self.end())
     }
 
     fn has(&self, name: &'static str) -> bool {
@@ -156,41 +183,20 @@ impl Reader {
             .find(|flag| !self.has(flag))
     }
 
-    // Whether the first flag stands there with the second.
-    fn apart<'a>(&self, flag: &'static str, other: &'static str) -> Option<Cause<'a>> {
-        if self.has(flag) && self.has(other) {
-            Some(Cause::Apart(flag, other))
-        } else {
-            None
-        }
-    }
-
-    // What is wrong with the forms that are asked for.
-    fn forms<'a>(&self) -> Option<Cause<'a>> {
+    // What is wrong with the flags that stand there together.
+    fn together<'a>(&self) -> Option<Cause<'a>> {
         for flag in ["with", "reuse-port"] {
             if self.has(flag) && !self.has("fleet") {
                 return Some(Cause::Beside(flag, "fleet"));
             }
         }
-        self.apart("explain", "dot")
-            .or(self.fleet())
-            .or(self.apart("dot", "history"))
-            .or(self.apart("add", "remove"))
-            .or(self.apart("any", "history"))
-            .or(self.apart("any", "certificate"))
-    }
-
-    // What is wrong with what stands beside the flag of a fleet.
-    fn fleet<'a>(&self) -> Option<Cause<'a>> {
-        if self.command == Command::Serve {
-            return self
-                .apart("fleet", "any")
-                .or(self.apart("fleet", "opened"))
-                .or(self.apart("fleet", "new-servers"));
+        for pair in self.command.apart() {
+            let [flag, other] = *pair;
+            if self.has(flag) && self.has(other) {
+                return Some(Cause::Apart(flag, other));
+            }
         }
-        self.apart("fleet", "explain")
-            .or(self.apart("fleet", "dot"))
-            .or(self.apart("fleet", "history"))
+        None
     }
 
     // What is wrong once there are no more words.
@@ -198,7 +204,7 @@ impl Reader {
         if let Some(flag) = self.waiting {
             return Some(Cause::NoValue(flag));
         }
-        if let Some(cause) = self.forms() {
+        if let Some(cause) = self.together() {
             return Some(cause);
         }
         if let Some(flag) = self.missing() {
@@ -211,19 +217,32 @@ impl Reader {
     }
 }
 
+// What is wrong with a word that is to be a key.
+fn cause_in_key(word: &str) -> Option<Cause<'_>> {
+    match Key::read(word.as_bytes()) {
+        Ok(_) => None,
+        Err(fault) => Some(Cause::NoKey(word, fault)),
+    }
+}
+
+// What is wrong with a word that is to be a level of lines.
+fn cause_in_level(word: &str) -> Option<Cause<'_>> {
+    if words_after("log-level").contains(&word) {
+        None
+    } else {
+        Some(Cause::NoLevel(word))
+    }
+}
+
 // What is wrong with a word that a proxy is told, and what stands after it.
 fn cause_in_told<'a>(word: &'a str, more: Option<&'a str>) -> Option<Cause<'a>> {
     match (word, more) {
-        ("log", Some(level)) if words_after("log-level").contains(&level) => None,
-        ("log", Some(level)) => Some(Cause::NoLevel(level)),
+        ("log", Some(level)) => cause_in_level(level),
         ("log", None) => Some(Cause::NoWord("LEVEL")),
-        ("where", Some(key)) => match Key::read(key.as_bytes()) {
-            Ok(_) => None,
-            Err(fault) => Some(Cause::NoKey(key, fault)),
-        },
+        ("where", Some(key)) => cause_in_key(key),
         ("where", None) => Some(Cause::NoWord("KEY")),
-        (word, _) if !TOLD.as_slice().contains(&word) => Some(Cause::NotTold(word)),
-        (_, more) => more.map(Cause::Extra),
+        _ if TOLD.as_slice().contains(&word) => more.map(Cause::Extra),
+        _ => Some(Cause::NotTold(word)),
     }
 }
 
@@ -243,12 +262,7 @@ fn cause_after<'a>(
     words: &'a [String],
 ) -> Result<Option<Cause<'a>>, AllocError> {
     let mut reader = Reader::new(alloc, command);
-    for word in words {
-        if let Some(cause) = reader.take(word.as_str())? {
-            return Ok(Some(cause));
-        }
-    }
-    match reader.end() {
+    match reader.take_all(words)? {
         None if command == Command::Tell => Ok(cause_after_tell(words)),
         cause => Ok(cause),
     }
@@ -260,11 +274,7 @@ fn meant_flag(
     flags: &'static [&'static str],
     word: &str,
 ) -> Result<Option<&'static str>, AllocError> {
-    let name = word.trim_start_matches('-');
-    let name = match name.split_once('=') {
-        Some((name, _)) => name,
-        None => name,
-    };
+    let (name, _) = name_and_value(word.trim_start_matches('-'));
     nearest(alloc, name, flags)
 }
 
@@ -319,36 +329,46 @@ fn is_top_flag(word: &str) -> bool {
     word == "-h" || word == "--help" || word == "--version"
 }
 
+// The words behind the program's name and the flags that may stand before a command.
+fn after_top_flags(words: &[String]) -> &[String] {
+    let mut left = words.get(1..).unwrap_or(&[]);
+    for _ in 0..left.len() {
+        match left {
+            [word, rest @ ..] if is_top_flag(word.as_str()) => left = rest,
+            _ => break,
+        }
+    }
+    left
+}
+
+// The first fault of the words after a command.
+fn fault_after<'a>(
+    alloc: Global,
+    command: Command,
+    words: &'a [String],
+) -> Result<Option<WordFault<'a>>, AllocError> {
+    let Some(cause) = cause_after(alloc, command, words)? else {
+        return Ok(None);
+    };
+    Ok(Some(WordFault {
+        command: Some(command),
+        cause,
+        meant: meant_after(alloc, command, cause)?,
+    }))
+}
+
 /// The first fault of the program's words, its name first. `None` where they have none that this crate knows. The only error is running
 /// out of memory.
 pub fn fault_in_words<'a>(
     alloc: Global,
     words: &'a [String],
 ) -> Result<Option<WordFault<'a>>, AllocError> {
-    let mut words = match words {
-        [] => return Ok(None),
-        [_, rest @ ..] => rest,
+    let [word, rest @ ..] = after_top_flags(words) else {
+        return Ok(None);
     };
-    for _ in 0..words.len() {
-        match words {
-            [word, rest @ ..] if is_top_flag(word.as_str()) => words = rest,
-            _ => break,
-        }
-    }
-    let (word, rest) = match words {
-        [] => return Ok(None),
-        [word, rest @ ..] => (word.as_str(), rest),
-    };
-    let Some(command) = Command::of(word) else {
-        return Ok(Some(fault_at_top(alloc, word)?));
-    };
-    match cause_after(alloc, command, rest)? {
-        None => Ok(None),
-        Some(cause) => Ok(Some(WordFault {
-            command: Some(command),
-            cause,
-            meant: meant_after(alloc, command, cause)?,
-        })),
+    match Command::of(word.as_str()) {
+        Some(command) => fault_after(alloc, command, rest),
+        None => Ok(Some(fault_at_top(alloc, word.as_str())?)),
     }
 }
 
@@ -359,10 +379,10 @@ pub fn key_fault_in_words<'a>(words: &'a [String]) -> Option<WordFault<'a>> {
         let word = word.as_str();
         if is_value || (is_like_flag(word)) {
             is_value = word == "--config";
-        } else if let Err(fault) = Key::read(word.as_bytes()) {
+        } else if let Some(cause) = cause_in_key(word) {
             return Some(WordFault {
                 command: Some(Command::Where),
-                cause: Cause::NoKey(word, fault),
+                cause,
                 meant: None,
             });
         }

@@ -33,21 +33,23 @@ fn push_led(
     push_quoted(alloc, text.as_str(), out)
 }
 
-// What stands before the name of a pool in such a text; nothing where it names none.
+// What stands before the name of a pool in a text that names one.
+const LEADS: [&str; 5] = [
+    "PoolRoute|",
+    "AllSyncRoute|Pool|",
+    "FailoverRoute|Pool|",
+    "MissFailoverRoute|Pool|",
+    "Pool|",
+];
+
+// What stands before the name of a pool in this text; nothing where it names none.
 fn lead_of(text: &str) -> &'static str {
-    if rest_after("PoolRoute|", text).is_some() {
-        "PoolRoute|"
-    } else if rest_after("AllSyncRoute|Pool|", text).is_some() {
-        "AllSyncRoute|Pool|"
-    } else if rest_after("FailoverRoute|Pool|", text).is_some() {
-        "FailoverRoute|Pool|"
-    } else if rest_after("MissFailoverRoute|Pool|", text).is_some() {
-        "MissFailoverRoute|Pool|"
-    } else if rest_after("Pool|", text).is_some() {
-        "Pool|"
-    } else {
-        ""
+    for lead in LEADS {
+        if rest_after(lead, text).is_some() {
+            return lead;
+        }
     }
+    ""
 }
 
 // Appends a text of a route, with this before the name of its pool, as JSON.

@@ -5,23 +5,25 @@ ghost use Rattle.clap.specs.Values.{kind_of};
 ghost use Rattle.mcgate_args.specs.Stops.{arguments_fault_at};
 
 use crate::beginning_arguments::{begun_of, judging_of};
-use crate::cache_arguments::{CACHE_HELP, CacheJob, cache_command, cache_job};
-use crate::certify_arguments::{CERTIFY_HELP, certify_command, certify_job};
-use crate::fleets::arguments::{FleetJob, fleet_job, is_of_fleet, with_fleet};
-use crate::history_arguments::{HISTORY_HELP, history_command, history_job};
-use crate::loopback_arguments::{LOOPBACK_HELP, loopback_command, loopback_job};
-use crate::plan_arguments::{PLAN_HELP, PlanJob, plan_command, plan_job};
-use crate::serve_arguments::{SERVE_HELP, ServeJob, serve_command, serve_job};
-use crate::slots::arguments::{SLOTS_HELP, SlotsJob, slots_command, slots_job};
-use crate::tell_arguments::{TELL_HELP, TellJob, tell_command, tell_job};
+use crate::cache_arguments::{CACHE_HELP, CacheJob, cache_job};
+use crate::certify_arguments::{CERTIFY_HELP, certify_job};
+use crate::commands::program;
+use crate::fleets::arguments::{FleetJob, fleet_job, is_of_fleet};
+use crate::history_arguments::{HISTORY_HELP, history_job};
+use crate::loopback_arguments::{LOOPBACK_HELP, loopback_job};
+use crate::plan_arguments::{PLAN_HELP, PlanJob, plan_job};
+use crate::serve_arguments::{SERVE_HELP, ServeJob, serve_job};
+use crate::slots::arguments::{SLOTS_HELP, SlotsJob, slots_job};
+use crate::tell_arguments::{TELL_HELP, TellJob, tell_job};
 use clap::error::ErrorKind;
-use clap::{Arg, ArgAction, ArgMatches, Command, Error};
+use clap::{ArgMatches, Error};
 use core_accepted::Beginnings;
+use fault_words::commands::Command;
 use mc_types::{Key, KeyFault};
 use mcgate_check::Form;
 use mcgate_replay::Judging;
 use mcgate_replay::judging::USUAL_GENERATIONS;
-use std::alloc::{AllocError, Global};
+use std::alloc::Global;
 use text_words::number::u32_number;
 
 /// What is done with an input.
@@ -216,24 +218,6 @@ Reads a configuration in JSON, of FILE, and prints a block for each KEY:
 Exit status: 0 done, 1 too many places or a KEY that is none, 2 bad arguments or no configuration, 3 memory or a device failed.
 ";
 
-// The flag that asks for help on a command.
-pub fn help_flag<'a>(alloc: Global) -> Arg<'a> {
-    Arg::new(alloc, "help")
-        .long("help")
-        .short('h')
-        .action(ArgAction::SetTrue)
-}
-
-/// A flag without a value.
-pub fn switch<'a>(alloc: Global, name: &'static str) -> Arg<'a> {
-    Arg::new(alloc, name).long(name).action(ArgAction::SetTrue)
-}
-
-/// A flag with a value.
-pub fn option<'a>(alloc: Global, name: &'static str) -> Arg<'a> {
-    Arg::new(alloc, name).long(name).action(ArgAction::Set)
-}
-
 /// The number after a flag, if the flag stands there: of 1 to 20 digits, in 1..=4294967295.
 pub fn count_of(given: &ArgMatches<'_>, name: &str) -> Result<Option<u32>, ArgumentsFault> {
     match given.get_str(name) {
@@ -250,82 +234,21 @@ pub fn most_of(given: &ArgMatches<'_>) -> Result<u32, ArgumentsFault> {
     Ok(count_of(given, "generations")?.unwrap_or(USUAL_GENERATIONS))
 }
 
-fn check_command<'a>(alloc: Global) -> Result<Command<'a>, AllocError> {
-    let explain = Arg::new(alloc, "explain")
-        .long("explain")
-        .action(ArgAction::SetTrue);
-    let dot = Arg::new(alloc, "dot")
-        .long("dot")
-        .action(ArgAction::SetTrue);
-    let command = Command::new(alloc, "check")
-        .disable_help_flag(true)
-        .arg(help_flag(alloc))?
-        .arg(explain)?
-        .arg(dot)?
-        .arg(option(alloc, "history"))?
-        .arg(option(alloc, "opened"))?
-        .arg(option(alloc, "new-servers"))?
-        .arg(Arg::new(alloc, "FILE"))?;
-    with_fleet(alloc, command)
-}
-
-fn replay_command<'a>(alloc: Global) -> Result<Command<'a>, AllocError> {
-    let config = Arg::new(alloc, "config")
-        .long("config")
-        .action(ArgAction::Set);
-    Command::new(alloc, "replay")
-        .disable_help_flag(true)
-        .arg(help_flag(alloc))?
-        .arg(switch(alloc, "any"))?
-        .arg(option(alloc, "opened"))?
-        .arg(option(alloc, "new-servers"))?
-        .arg(option(alloc, "generations"))?
-        .arg(config)?
-        .arg(Arg::new(alloc, "SCRIPT"))
-}
-
-fn where_command<'a>(alloc: Global) -> Result<Command<'a>, AllocError> {
-    let config = Arg::new(alloc, "config")
-        .long("config")
-        .action(ArgAction::Set);
-    let keys = Arg::new(alloc, "KEY")
-        .num_args(1..)
-        .action(ArgAction::Append);
-    Command::new(alloc, "where")
-        .disable_help_flag(true)
-        .arg(help_flag(alloc))?
-        .arg(config)?
-        .arg(keys)
-}
-
-fn help_command<'a>(alloc: Global) -> Result<Command<'a>, AllocError> {
-    Command::new(alloc, "help")
-        .disable_help_flag(true)
-        .arg(help_flag(alloc))?
-        .arg(Arg::new(alloc, "COMMAND"))
-}
-
-fn command<'a>(alloc: Global) -> Result<Command<'a>, AllocError> {
-    let version = Arg::new(alloc, "version")
-        .long("version")
-        .action(ArgAction::SetTrue);
-    Command::new(alloc, "mcgate")
-        .disable_help_flag(true)
-        .disable_help_subcommand(true)
-        .arg(help_flag(alloc))?
-        .arg(version)?
-        .subcommand(check_command(alloc)?)?
-        .subcommand(certify_command(alloc)?)?
-        .subcommand(replay_command(alloc)?)?
-        .subcommand(where_command(alloc)?)?
-        .subcommand(cache_command(alloc)?)?
-        .subcommand(loopback_command(alloc)?)?
-        .subcommand(history_command(alloc)?)?
-        .subcommand(slots_command(alloc)?)?
-        .subcommand(plan_command(alloc)?)?
-        .subcommand(tell_command(alloc)?)?
-        .subcommand(help_command(alloc)?)?
-        .subcommand(serve_command(alloc)?)
+/// The texts after a flag that may stand there more than once.
+pub fn texts_of<'a>(
+    alloc: Global,
+    given: &ArgMatches<'a>,
+    name: &str,
+) -> Result<Vec<&'a str>, ArgumentsFault> {
+    let mut texts = Vec::new(alloc);
+    if let Some(found) = given.get_strs(name) {
+        for text in found {
+            if texts.push(*text).is_err() {
+                return Err(ArgumentsFault::NoMemory);
+            }
+        }
+    }
+    Ok(texts)
 }
 
 // The form of a verdict by its two flags, of which at most one may be given.
@@ -338,27 +261,26 @@ fn form_of(explain: bool, dot: bool) -> Result<Form, ArgumentsFault> {
     }
 }
 
-// What the arguments after `check` ask for.
-fn check_job<'a>(alloc: Global, given: &ArgMatches<'a>) -> Result<Job<'a>, ArgumentsFault> {
-    if given.get_flag("help") {
-        return Ok(Job::Print(CHECK_HELP));
+// What the arguments after `check` ask for, where a fleet's flags stand there.
+fn fleet_check<'a>(alloc: Global, given: &ArgMatches<'a>) -> Result<Job<'a>, ArgumentsFault> {
+    if given.get_str("history").is_some() {
+        return Err(ArgumentsFault::Refused);
     }
-    if is_of_fleet(given) {
-        if given.get_str("history").is_some() {
-            return Err(ArgumentsFault::Refused);
-        }
-        return Ok(Job::CheckFleet(fleet_job(alloc, given)?));
-    }
+    Ok(Job::CheckFleet(fleet_job(alloc, given)?))
+}
+
+// What they ask for where none does.
+fn tree_check<'a>(given: &ArgMatches<'a>) -> Result<Job<'a>, ArgumentsFault> {
     let form = form_of(given.get_flag("explain"), given.get_flag("dot"))?;
-    let file = given.get_str("FILE");
     let begun = begun_of(given)?;
-    match (given.get_str("history"), form) {
-        (None, form) => Ok(Job::Run {
+    let file = given.get_str("FILE");
+    match given.get_str("history") {
+        None => Ok(Job::Run {
             task: Task::Check { form },
             file,
         }),
-        (Some(_), Form::Picture) => Err(ArgumentsFault::Refused),
-        (Some(history), form) => Ok(Job::CheckAfter {
+        Some(_) if matches!(form, Form::Picture) => Err(ArgumentsFault::Refused),
+        Some(history) => Ok(Job::CheckAfter {
             history,
             begun,
             form,
@@ -367,11 +289,17 @@ fn check_job<'a>(alloc: Global, given: &ArgMatches<'a>) -> Result<Job<'a>, Argum
     }
 }
 
+// What the arguments after `check` ask for.
+fn check_job<'a>(alloc: Global, given: &ArgMatches<'a>) -> Result<Job<'a>, ArgumentsFault> {
+    if is_of_fleet(given) {
+        fleet_check(alloc, given)
+    } else {
+        tree_check(given)
+    }
+}
+
 // What the arguments after `replay` ask for.
 fn replay_job<'a>(given: &ArgMatches<'a>) -> Result<Job<'a>, ArgumentsFault> {
-    if given.get_flag("help") {
-        return Ok(Job::Print(REPLAY_HELP));
-    }
     let judging = judging_of(given)?;
     let file = given.get_str("SCRIPT");
     match given.get_str("config") {
@@ -405,9 +333,6 @@ fn keys_of(alloc: Global, texts: &[&str]) -> Result<Vec<Key>, ArgumentsFault> {
 
 // What the arguments after `where` ask for.
 fn where_job<'a>(alloc: Global, given: &ArgMatches<'a>) -> Result<Job<'a>, ArgumentsFault> {
-    if given.get_flag("help") {
-        return Ok(Job::Print(WHERE_HELP));
-    }
     let (Some(file), Some(texts)) = (given.get_str("config"), given.get_strs("KEY")) else {
         return Err(ArgumentsFault::Refused);
     };
@@ -415,22 +340,21 @@ fn where_job<'a>(alloc: Global, given: &ArgMatches<'a>) -> Result<Job<'a>, Argum
     Ok(Job::Where { file, keys })
 }
 
-// To print the help of the command of this name.
-fn help_on<'a>(name: &str) -> Result<Job<'a>, ArgumentsFault> {
-    match name {
-        "check" => Ok(Job::Print(CHECK_HELP)),
-        "certify" => Ok(Job::Print(CERTIFY_HELP)),
-        "replay" => Ok(Job::Print(REPLAY_HELP)),
-        "where" => Ok(Job::Print(WHERE_HELP)),
-        "cache" => Ok(Job::Print(CACHE_HELP)),
-        "loopback" => Ok(Job::Print(LOOPBACK_HELP)),
-        "serve" => Ok(Job::Print(SERVE_HELP)),
-        "history" => Ok(Job::Print(HISTORY_HELP)),
-        "slots" => Ok(Job::Print(SLOTS_HELP)),
-        "plan" => Ok(Job::Print(PLAN_HELP)),
-        "tell" => Ok(Job::Print(TELL_HELP)),
-        "help" => Ok(Job::Print(HELP)),
-        _ => Err(ArgumentsFault::Refused),
+// What is told of a command.
+fn help_of(command: Command) -> &'static str {
+    match command {
+        Command::Check => CHECK_HELP,
+        Command::Certify => CERTIFY_HELP,
+        Command::Replay => REPLAY_HELP,
+        Command::Where => WHERE_HELP,
+        Command::Cache => CACHE_HELP,
+        Command::Loopback => LOOPBACK_HELP,
+        Command::Serve => SERVE_HELP,
+        Command::History => HISTORY_HELP,
+        Command::Slots => SLOTS_HELP,
+        Command::Plan => PLAN_HELP,
+        Command::Tell => TELL_HELP,
+        Command::Help => HELP,
     }
 }
 
@@ -438,7 +362,45 @@ fn help_on<'a>(name: &str) -> Result<Job<'a>, ArgumentsFault> {
 fn help_job<'a>(given: &ArgMatches<'a>) -> Result<Job<'a>, ArgumentsFault> {
     match given.get_str("COMMAND") {
         None => Ok(Job::Print(HELP)),
-        Some(name) => help_on(name),
+        Some(name) => match Command::of(name) {
+            Some(command) => Ok(Job::Print(help_of(command))),
+            None => Err(ArgumentsFault::Refused),
+        },
+    }
+}
+
+// What the arguments after a command ask for.
+fn job_of<'a>(
+    alloc: Global,
+    command: Command,
+    given: &ArgMatches<'a>,
+) -> Result<Job<'a>, ArgumentsFault> {
+    match command {
+        Command::Help => help_job(given),
+        _ if given.get_flag("help") => Ok(Job::Print(help_of(command))),
+        Command::Check => check_job(alloc, given),
+        Command::Certify => Ok(certify_job(given)),
+        Command::Replay => replay_job(given),
+        Command::Where => where_job(alloc, given),
+        Command::Serve => serve_job(given),
+        Command::Cache => cache_job(given),
+        Command::Loopback => loopback_job(given),
+        Command::History => history_job(given),
+        Command::Slots => slots_job(alloc, given),
+        Command::Plan => plan_job(given),
+        Command::Tell => tell_job(given),
+    }
+}
+
+// What the arguments after the command of this name ask for.
+fn job_after<'a>(
+    alloc: Global,
+    name: &str,
+    given: &ArgMatches<'a>,
+) -> Result<Job<'a>, ArgumentsFault> {
+    match Command::of(name) {
+        Some(command) => job_of(alloc, command, given),
+        None => Err(ArgumentsFault::Refused),
     }
 }
 
@@ -470,23 +432,12 @@ pub fn read_arguments<'a>(
     alloc: Global,
     arguments: &'a [String],
 ) -> Result<Job<'a>, ArgumentsFault> {
-    let Ok(command) = command(alloc) else {
+    let Ok(program) = program(alloc) else {
         return Err(ArgumentsFault::NoMemory);
     };
-    let matches = command.try_get_matches_from(arguments)?;
+    let matches = program.try_get_matches_from(arguments)?;
     match matches.subcommand() {
-        Some(("check", given)) => check_job(alloc, given),
-        Some(("certify", given)) => Ok(certify_job(given)),
-        Some(("where", given)) => where_job(alloc, given),
-        Some(("cache", given)) => cache_job(given),
-        Some(("loopback", given)) => loopback_job(given),
-        Some(("serve", given)) => serve_job(given),
-        Some(("history", given)) => history_job(given),
-        Some(("slots", given)) => slots_job(alloc, given),
-        Some(("plan", given)) => plan_job(given),
-        Some(("tell", given)) => tell_job(given),
-        Some(("help", given)) => help_job(given),
-        Some((_, given)) => replay_job(given),
+        Some((name, given)) => job_after(alloc, name, given),
         None => Ok(plain_job(&matches)),
     }
 }

@@ -1,9 +1,8 @@
 //! The arguments of `mcgate cache`, and what they ask for.
 
-use crate::arguments::{ArgumentsFault, Job, count_of, help_flag, option, switch};
+use crate::arguments::{ArgumentsFault, Job, count_of};
 use cache_tcp::Settings;
-use clap::{ArgMatches, Command};
-use std::alloc::{AllocError, Global};
+use clap::ArgMatches;
 
 /// What `mcgate cache` is to do.
 #[derive(Clone, Copy)]
@@ -31,38 +30,24 @@ C and N are 1..=4294967295. At most 1,024 clients are served at a time.
 Exit status: 0 done, 2 bad arguments, 3 memory or a device failed, also where it can't listen there.
 ";
 
-/// The command and its flags.
-pub fn cache_command<'a>(alloc: Global) -> Result<Command<'a>, AllocError> {
-    Command::new(alloc, "cache")
-        .disable_help_flag(true)
-        .arg(help_flag(alloc))?
-        .arg(option(alloc, "listen"))?
-        .arg(option(alloc, "capacity"))?
-        .arg(option(alloc, "memory-mb"))?
-        .arg(switch(alloc, "flush-all"))?
-        .arg(option(alloc, "turns"))
-}
-
 // The settings for a capacity, of one item at least.
-fn settings_of(capacity: u32) -> Result<Settings, ArgumentsFault> {
-    if capacity == 0 {
-        return Err(ArgumentsFault::Refused);
+fn settings_of(given: &ArgMatches<'_>) -> Result<Settings, ArgumentsFault> {
+    match count_of(given, "capacity")? {
+        Some(capacity) if capacity > 0 => Ok(Settings::of(capacity as usize).with_flushes(
+            given.get_flag("flush-all"),
+        )),
+        _ => Err(ArgumentsFault::Refused),
     }
-    Ok(Settings::of(capacity as usize))
 }
 
 /// What the arguments after `cache` ask for. Any that ask for nothing are [`ArgumentsFault::Refused`].
 pub fn cache_job<'a>(given: &ArgMatches<'a>) -> Result<Job<'a>, ArgumentsFault> {
-    if given.get_flag("help") {
-        return Ok(Job::Print(CACHE_HELP));
-    }
-    let (Some(listen), Some(capacity)) = (given.get_str("listen"), count_of(given, "capacity")?)
-    else {
+    let Some(listen) = given.get_str("listen") else {
         return Err(ArgumentsFault::Refused);
     };
     Ok(Job::Cache(CacheJob {
         listen,
-        settings: settings_of(capacity)?.with_flushes(given.get_flag("flush-all")),
+        settings: settings_of(given)?,
         memory_mb: count_of(given, "memory-mb")?,
         turns: count_of(given, "turns")?,
     }))

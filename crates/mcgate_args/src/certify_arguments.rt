@@ -1,8 +1,7 @@
 //! The arguments of `mcgate certify`, and what they ask for.
 
-use crate::arguments::{Job, help_flag};
-use clap::{Arg, ArgMatches, Command};
-use std::alloc::{AllocError, Global};
+use crate::arguments::Job;
+use clap::ArgMatches;
 
 pub const CERTIFY_HELP: &str = "usage: mcgate certify [FILE]
 
@@ -14,19 +13,8 @@ mcgate-verify FILE CERTIFICATE tests it: a program of its own, which proposes no
 Exit status: 0 printed, 1 refused, 2 no configuration, 3 memory or a device failed.
 ";
 
-/// The command and its flags.
-pub fn certify_command<'a>(alloc: Global) -> Result<Command<'a>, AllocError> {
-    Command::new(alloc, "certify")
-        .disable_help_flag(true)
-        .arg(help_flag(alloc))?
-        .arg(Arg::new(alloc, "FILE"))
-}
-
 /// What the arguments after `certify` ask for.
 pub fn certify_job<'a>(given: &ArgMatches<'a>) -> Job<'a> {
-    if given.get_flag("help") {
-        return Job::Print(CERTIFY_HELP);
-    }
     Job::Certify {
         file: given.get_str("FILE"),
     }

@@ -34,6 +34,23 @@ fn write_place<W: Write>(place: &Place, out: &mut W) -> io::Result<()> {
 }
 
 // Which server, in which pools, since when, at how many places, and which is the first.
+fn write_concern<W: Write>(
+    config: &Config,
+    pools: &[ConfigPool],
+    concern: &Concern,
+    place: &Place,
+    out: &mut W,
+) -> io::Result<()> {
+    write!(out, "- server ")?;
+    write_server(config.servers(), pools, concern.server, out)?;
+    write!(
+        out,
+        ": generation={} places={}",
+        concern.generation, concern.places
+    )?;
+    write_place(place, out)
+}
+
 fn server_line(
     alloc: Global,
     config: &Config,
@@ -42,14 +59,7 @@ fn server_line(
     place: &Place,
 ) -> io::Result<String> {
     let mut line = Vec::new(alloc);
-    write!(line, "- server ")?;
-    write_server(config.servers(), pools, concern.server, &mut line)?;
-    write!(
-        line,
-        ": generation={} places={}",
-        concern.generation, concern.places
-    )?;
-    write_place(place, &mut line)?;
+    write_concern(config, pools, concern, place, &mut line)?;
     Ok(String::from_utf8_lossy(alloc, line.as_slice())?)
 }
 
@@ -86,6 +96,32 @@ fn count_of(concerns: &Concerns) -> usize {
         .count()
 }
 
+// What to do, line by line.
+fn push_advice(alloc: Global, lines: &mut Vec<String>) -> Result<(), AllocError> {
+    for line in advice().lines() {
+        lines.push(String::from_str(alloc, line)?)?;
+    }
+    Ok(())
+}
+
+// The first of the servers, and how many more there are.
+fn push_servers(
+    alloc: Global,
+    config: &Config,
+    pools: &[ConfigPool],
+    concerns: &Concerns,
+    count: usize,
+    lines: &mut Vec<String>,
+) -> io::Result<()> {
+    for line in server_lines(alloc, config, pools, concerns)? {
+        lines.push(line)?;
+    }
+    if count > NAMED {
+        lines.push(format!(in alloc; "- and {} more", count - NAMED)?)?;
+    }
+    Ok(())
+}
+
 // How many servers there are, the first of them, and what to do.
 fn all_lines(
     alloc: Global,
@@ -96,15 +132,8 @@ fn all_lines(
     let count = count_of(concerns);
     let mut lines = Vec::new(alloc);
     lines.push(count_line(alloc, count, config.servers().len())?)?;
-    for line in server_lines(alloc, config, pools, concerns)? {
-        lines.push(line)?;
-    }
-    if count > NAMED {
-        lines.push(format!(in alloc; "- and {} more", count - NAMED)?)?;
-    }
-    for line in advice().lines() {
-        lines.push(String::from_str(alloc, line)?)?;
-    }
+    push_servers(alloc, config, pools, concerns, count, &mut lines)?;
+    push_advice(alloc, &mut lines)?;
     Ok(lines)
 }
 

@@ -23,6 +23,24 @@ fn fault_line(alloc: Global, name: &str, advice: &str) -> Result<String, AllocEr
     format!(in alloc; "mcgate: {name}: {advice}")
 }
 
+// Prints why a text of this name is no history, unless memory was refused.
+fn print_history_fault<W: Write>(
+    alloc: Global,
+    name: &str,
+    fault: &HistoryFault,
+    out: &mut W,
+    details: &mut Details,
+) -> Result<(), Stop> {
+    if matches!(fault, HistoryFault::NoMemory) {
+        return Err(Stop::Memory);
+    }
+    write_fault(fault, out)?;
+    if let Some(advice) = advice_on(fault) {
+        details.add(fault_line(alloc, name, advice));
+    }
+    Ok(())
+}
+
 // The history of a text, or prints its fault.
 fn file_of<W: Write>(
     alloc: Global,
@@ -33,12 +51,8 @@ fn file_of<W: Write>(
 ) -> Result<Option<HistoryFile>, Stop> {
     match HistoryFile::read(alloc, text) {
         Ok(file) => Ok(Some(file)),
-        Err(HistoryFault::NoMemory) => Err(Stop::Memory),
         Err(fault) => {
-            write_fault(&fault, out)?;
-            if let Some(advice) = advice_on(&fault) {
-                details.add(fault_line(alloc, name, advice));
-            }
+            print_history_fault(alloc, name, &fault, out, details)?;
             Ok(None)
         }
     }
@@ -179,20 +193,34 @@ pub fn check_after<W: Write>(
     let mut file = file;
     match file.take_text(alloc, text, began) {
         Ok(old) => {
-            let word = if old.is_some() {
-                "accepted"
-            } else {
-                "unchanged"
-            };
-            writeln!(out, "history {word} generation={}", file.count())?;
+            write_next(&file, old.is_some(), out)?;
             Ok(DONE)
         }
-        Err(fault) => {
-            let status = print_no_next(alloc, name, &fault, out, details)?;
-            explain_no_next(alloc, name, &file, text, began, &fault, form, out, details)?;
-            Ok(status)
-        }
+        Err(fault) => refuse_next(alloc, name, &file, text, began, &fault, form, out, details),
     }
+}
+
+// Prints which generation of a file a text is, and whether it is a new one.
+fn write_next<W: Write>(file: &HistoryFile, is_new: bool, out: &mut W) -> io::Result<()> {
+    let word = if is_new { "accepted" } else { "unchanged" };
+    writeln!(out, "history {word} generation={}", file.count())
+}
+
+// Prints why a text may not follow the history of this name, and tells more of it. The answer is the exit status.
+fn refuse_next<W: Write>(
+    alloc: Global,
+    name: &str,
+    file: &HistoryFile,
+    text: &str,
+    began: Beginning,
+    fault: &NextFault,
+    form: Form,
+    out: &mut W,
+    details: &mut Details,
+) -> Result<u8, Stop> {
+    let status = print_no_next(alloc, name, fault, out, details)?;
+    explain_no_next(alloc, name, file, text, began, fault, form, out, details)?;
+    Ok(status)
 }
 
 // Prints in words why a text isn't served after a history, or says it on standard error.

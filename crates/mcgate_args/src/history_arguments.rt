@@ -1,8 +1,7 @@
 //! The arguments of `mcgate history` and of `mcgate check --history`, and what they ask for.
 
-use crate::arguments::{ArgumentsFault, Job, help_flag};
-use clap::{Arg, ArgMatches, Command};
-use std::alloc::{AllocError, Global};
+use crate::arguments::{ArgumentsFault, Job};
+use clap::ArgMatches;
 
 pub const HISTORY_HELP: &str = "usage: mcgate history FILE
 
@@ -17,19 +16,8 @@ and what that means for the next configuration.
 Exit status: 0 done, 2 no history, 3 memory or a device failed.
 ";
 
-/// The command and its flags.
-pub fn history_command<'a>(alloc: Global) -> Result<Command<'a>, AllocError> {
-    Command::new(alloc, "history")
-        .disable_help_flag(true)
-        .arg(help_flag(alloc))?
-        .arg(Arg::new(alloc, "FILE"))
-}
-
 /// What the arguments after `history` ask for.
 pub fn history_job<'a>(given: &ArgMatches<'a>) -> Result<Job<'a>, ArgumentsFault> {
-    if given.get_flag("help") {
-        return Ok(Job::Print(HISTORY_HELP));
-    }
     match given.get_str("FILE") {
         Some(file) => Ok(Job::History { file }),
         None => Err(ArgumentsFault::Refused),

@@ -7,6 +7,7 @@ pub mod beginning_arguments;
 pub mod cache_arguments;
 pub mod certify_arguments;
 pub mod certifying;
+pub mod commands;
 pub mod concern_lines;
 pub mod details;
 pub mod ends;

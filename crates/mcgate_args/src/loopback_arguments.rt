@@ -1,8 +1,7 @@
 //! The arguments of `mcgate loopback`, and what they ask for.
 
-use crate::arguments::{ArgumentsFault, Job, help_flag, most_of, option, switch};
-use clap::{Arg, ArgMatches, Command};
-use std::alloc::{AllocError, Global};
+use crate::arguments::{ArgumentsFault, Job, most_of};
+use clap::ArgMatches;
 
 pub const LOOPBACK_HELP: &str = "usage: mcgate loopback [--flush-all] [--generations N] [SCRIPT]
 
@@ -19,21 +18,8 @@ A tree that the gate refuses isn't run, and its refused: line is printed.
 Exit status: 0 done, 1 refused by the gate, 2 bad script, 3 memory, a device or a socket failed.
 ";
 
-/// The command and its flags.
-pub fn loopback_command<'a>(alloc: Global) -> Result<Command<'a>, AllocError> {
-    Command::new(alloc, "loopback")
-        .disable_help_flag(true)
-        .arg(help_flag(alloc))?
-        .arg(switch(alloc, "flush-all"))?
-        .arg(option(alloc, "generations"))?
-        .arg(Arg::new(alloc, "SCRIPT"))
-}
-
 /// What the arguments after `loopback` ask for.
 pub fn loopback_job<'a>(given: &ArgMatches<'a>) -> Result<Job<'a>, ArgumentsFault> {
-    if given.get_flag("help") {
-        return Ok(Job::Print(LOOPBACK_HELP));
-    }
     Ok(Job::Loopback {
         file: given.get_str("SCRIPT"),
         flushes_new: given.get_flag("flush-all"),

@@ -1,10 +1,9 @@
 //! The arguments of `mcgate plan`, and what they ask for.
 
-use crate::arguments::{ArgumentsFault, Job, help_flag, option};
+use crate::arguments::{ArgumentsFault, Job};
 use crate::beginning_arguments::begun_of;
-use clap::{Arg, ArgMatches, Command};
+use clap::ArgMatches;
 use core_accepted::Beginnings;
-use std::alloc::{AllocError, Global};
 
 /// A change from one configuration to another.
 #[derive(Clone, Copy)]
@@ -32,22 +31,8 @@ Where NEW is refused at once, the steps begin anew, with emptied servers: no ste
 Exit status: 0 accepted, 1 refused, 2 no configuration, 3 memory or a device failed.
 ";
 
-/// The command and its flags.
-pub fn plan_command<'a>(alloc: Global) -> Result<Command<'a>, AllocError> {
-    Command::new(alloc, "plan")
-        .disable_help_flag(true)
-        .arg(help_flag(alloc))?
-        .arg(option(alloc, "opened"))?
-        .arg(option(alloc, "new-servers"))?
-        .arg(Arg::new(alloc, "OLD"))?
-        .arg(Arg::new(alloc, "NEW"))
-}
-
 /// What the arguments after `plan` ask for.
 pub fn plan_job<'a>(given: &ArgMatches<'a>) -> Result<Job<'a>, ArgumentsFault> {
-    if given.get_flag("help") {
-        return Ok(Job::Print(PLAN_HELP));
-    }
     let (Some(old), Some(new)) = (given.get_str("OLD"), given.get_str("NEW")) else {
         return Err(ArgumentsFault::Refused);
     };

@@ -36,6 +36,21 @@ impl Display for Origin<'_> {
 }
 
 // Which server the gap leaves, by what it is read, and which deletes leave it.
+fn write_left<W: Write>(
+    name: &str,
+    config: &Config,
+    pools: &[ConfigPool],
+    gap: &Gap,
+    out: &mut W,
+) -> io::Result<()> {
+    write!(out, "mcgate: {name}: server {} is ", gap.server.number())?;
+    write_server(config.servers(), pools, gap.server, out)?;
+    let read = op_name(gap.op);
+    write!(out, ": {read} can show or copy what it holds, and ")?;
+    let delete = delete_name(gap.deleting);
+    write!(out, "{delete} can be acknowledged without clearing it")
+}
+
 fn server_line(
     alloc: Global,
     name: &str,
@@ -44,14 +59,7 @@ fn server_line(
     gap: &Gap,
 ) -> io::Result<String> {
     let mut line = Vec::new(alloc);
-    write!(line, "mcgate: {name}: server {} is ", gap.server.number())?;
-    write_server(config.servers(), pools, gap.server, &mut line)?;
-    write!(
-        line,
-        ": {} can show or copy what it holds, and {} can be acknowledged without clearing it",
-        op_name(gap.op),
-        delete_name(gap.deleting)
-    )?;
+    write_left(name, config, pools, gap, &mut line)?;
     Ok(String::from_utf8_lossy(alloc, line.as_slice())?)
 }
 
@@ -74,6 +82,15 @@ fn changes_of(
     Ok(String::from_utf8_lossy(alloc, changes.as_slice())?)
 }
 
+// The same without the marks of comments, each with a semicolon behind it.
+fn push_changes(line: &mut String, changes: &str) -> Result<(), AllocError> {
+    for change in changes.lines().take(2) {
+        line.push_str(change.strip_prefix("# ").unwrap_or(change))?;
+        line.push_str("; ")?;
+    }
+    Ok(())
+}
+
 // The same as one line, and which command tells more.
 fn change_line(
     alloc: Global,
@@ -82,10 +99,7 @@ fn change_line(
     changes: &str,
 ) -> Result<String, AllocError> {
     let mut line = format!(in alloc; "mcgate: {name}: ")?;
-    for change in changes.lines().take(2) {
-        line.push_str(change.strip_prefix("# ").unwrap_or(change))?;
-        line.push_str("; ")?;
-    }
+    push_changes(&mut line, changes)?;
     write!(line, "{origin} says more")?;
     Ok(line)
 }

@@ -1,12 +1,11 @@
 //! The arguments of `mcgate serve`, and what they ask for.
 
-use crate::arguments::{ArgumentsFault, Job, count_of, help_flag, option, switch};
+use crate::arguments::{ArgumentsFault, Job, count_of};
 use crate::beginning_arguments::{begun_of, flushes_new};
 use crate::log_arguments::{Log, log_of};
-use clap::{ArgMatches, Command};
+use clap::ArgMatches;
 use core_accepted::Beginnings;
 use serve_links::{ServerDialect, Settings};
-use std::alloc::{AllocError, Global};
 
 /// What `mcgate serve` is to do.
 #[derive(Clone, Copy)]
@@ -138,49 +137,6 @@ A text of FILE that is new is judged against each configuration that was loaded,
 Exit status: 0 done, 1 refused by the gate, 2 bad arguments or no configuration, 3 memory or a device failed, also where it can't listen there.
 ";
 
-/// The command and its flags.
-pub fn serve_command<'a>(alloc: Global) -> Result<Command<'a>, AllocError> {
-    Command::new(alloc, "serve")
-        .disable_help_flag(true)
-        .arg(help_flag(alloc))?
-        .arg(option(alloc, "config"))?
-        .arg(option(alloc, "listen"))?
-        .arg(option(alloc, "unix-mode"))?
-        .arg(option(alloc, "tcp-backlog"))?
-        .arg(switch(alloc, "reuse-port"))?
-        .arg(option(alloc, "clients"))?
-        .arg(option(alloc, "client-window"))?
-        .arg(option(alloc, "link-window"))?
-        .arg(option(alloc, "call-ms"))?
-        .arg(option(alloc, "connect-ms"))?
-        .arg(option(alloc, "fail-limit"))?
-        .arg(option(alloc, "retry-ms"))?
-        .arg(switch(alloc, "stores-wait"))?
-        .arg(option(alloc, "give-up-ms"))?
-        .arg(option(alloc, "keepalive-s"))?
-        .arg(option(alloc, "resolve-s"))?
-        .arg(option(alloc, "polls"))?
-        .arg(option(alloc, "stall-ms"))?
-        .arg(option(alloc, "memory-mb"))?
-        .arg(option(alloc, "metrics"))?
-        .arg(option(alloc, "control"))?
-        .arg(option(alloc, "drain-ms"))?
-        .arg(switch(alloc, "drain-on-eof"))?
-        .arg(option(alloc, "log-level"))?
-        .arg(switch(alloc, "log-json"))?
-        .arg(option(alloc, "server-dialect"))?
-        .arg(option(alloc, "opened"))?
-        .arg(option(alloc, "new-servers"))?
-        .arg(option(alloc, "reload-every"))?
-        .arg(option(alloc, "reload-ms"))?
-        .arg(option(alloc, "turns"))?
-        .arg(option(alloc, "history"))?
-        .arg(switch(alloc, "any"))?
-        .arg(switch(alloc, "fleet"))?
-        .arg(option(alloc, "certificate"))?
-        .arg(switch(alloc, "check"))
-}
-
 // The number after a flag, or the usual one.
 fn size_of(given: &ArgMatches<'_>, name: &str, usual: usize) -> Result<usize, ArgumentsFault> {
     Ok(count_of(given, name)?.map_or(usual, |count| count as usize))
@@ -217,23 +173,36 @@ fn mode_of(given: &ArgMatches<'_>) -> Result<u32, ArgumentsFault> {
     }
 }
 
-fn settings_of(given: &ArgMatches<'_>) -> Result<Settings, ArgumentsFault> {
-    let usual = Settings::usual();
+// The settings with what the flags say of clients, and of how many calls may be out.
+fn with_sizes(given: &ArgMatches<'_>, usual: Settings) -> Result<Settings, ArgumentsFault> {
     Ok(Settings {
         clients: size_of(given, "clients", usual.clients)?,
         client_window: size_of(given, "client-window", usual.client_window)?,
-        link_window: usual.link_window,
         places: size_of(given, "link-window", usual.places)?,
-        sharing: usual.sharing,
+        ..usual
+    })
+}
+
+// The settings with what the flags say of times.
+fn with_times(given: &ArgMatches<'_>, usual: Settings) -> Result<Settings, ArgumentsFault> {
+    Ok(Settings {
         call_ms: millis_of(given, "call-ms", usual.call_ms)?,
         connect_ms: millis_of(given, "connect-ms", usual.connect_ms)?,
-        fail_limit: count_of(given, "fail-limit")?.unwrap_or(usual.fail_limit),
         retry_ms: millis_of(given, "retry-ms", usual.retry_ms)?,
-        stores_wait: given.get_flag("stores-wait"),
         give_up_ms: count_of(given, "give-up-ms")?.map(u64::from),
+        ..usual
+    })
+}
+
+fn settings_of(given: &ArgMatches<'_>) -> Result<Settings, ArgumentsFault> {
+    let usual = with_times(given, with_sizes(given, Settings::usual())?)?;
+    Ok(Settings {
+        fail_limit: count_of(given, "fail-limit")?.unwrap_or(usual.fail_limit),
+        stores_wait: given.get_flag("stores-wait"),
         polls: count_of(given, "polls")?,
         server_dialect: dialect_of(given, usual.server_dialect)?,
         flushes_new: flushes_new(given),
+        ..usual
     })
 }
 
@@ -275,42 +244,115 @@ fn drains_on_eof(given: &ArgMatches<'_>, listen: &str) -> Result<bool, Arguments
     Ok(drains)
 }
 
-/// What the arguments after `serve` ask for.
-pub fn serve_job<'a>(given: &ArgMatches<'a>) -> Result<Job<'a>, ArgumentsFault> {
-    if given.get_flag("help") {
-        return Ok(Job::Print(SERVE_HELP));
-    }
-    let (Some(file), Some(listen)) = (given.get_str("config"), given.get_str("listen")) else {
-        return Err(ArgumentsFault::Refused);
-    };
+// How it listens.
+#[derive(Clone, Copy)]
+struct Listening {
+    unix_mode: u32,
+    tcp_backlog: u32,
+    reuse_port: bool,
+    drain_on_eof: bool,
+}
+
+fn listening_of(given: &ArgMatches<'_>, listen: &str) -> Result<Listening, ArgumentsFault> {
+    Ok(Listening {
+        unix_mode: mode_of(given)?,
+        tcp_backlog: count_of(given, "tcp-backlog")?.unwrap_or(TCP_BACKLOG),
+        reuse_port: shares_port(given)?,
+        drain_on_eof: drains_on_eof(given, listen)?,
+    })
+}
+
+// After which times it gives something up, or does it again.
+#[derive(Clone, Copy)]
+struct Times {
+    drain_ms: u64,
+    stall_ms: u64,
+    keepalive_s: u32,
+    resolve_s: u32,
+}
+
+fn times_of(given: &ArgMatches<'_>) -> Result<Times, ArgumentsFault> {
+    Ok(Times {
+        drain_ms: millis_of(given, "drain-ms", DRAIN_MS)?,
+        stall_ms: millis_of(given, "stall-ms", STALL_MS)?,
+        keepalive_s: count_of(given, "keepalive-s")?.unwrap_or(KEEPALIVE_S),
+        resolve_s: count_of(given, "resolve-s")?.unwrap_or(RESOLVE_S),
+    })
+}
+
+// When the file is read again, and when it ends.
+#[derive(Clone, Copy)]
+struct Turns {
+    reload_every: Option<u32>,
+    reload_ms: Option<u32>,
+    turns: Option<u32>,
+}
+
+fn turns_of(given: &ArgMatches<'_>) -> Result<Turns, ArgumentsFault> {
+    Ok(Turns {
+        reload_every: count_of(given, "reload-every")?,
+        reload_ms: count_of(given, "reload-ms")?,
+        turns: count_of(given, "turns")?,
+    })
+}
+
+// How its trees are judged.
+#[derive(Clone, Copy)]
+struct Judged<'a> {
+    begun: Beginnings,
+    any: bool,
+    fleet: bool,
+    certificate: Option<&'a str>,
+    history: Option<&'a str>,
+}
+
+fn judged_of<'a>(given: &ArgMatches<'a>) -> Result<Judged<'a>, ArgumentsFault> {
     let (any, certificate) = (given.get_flag("any"), given.get_str("certificate"));
     if any && certificate.is_some() {
         return Err(ArgumentsFault::Refused);
     }
-    Ok(Job::Serve(ServeJob {
-        file,
-        listen,
-        unix_mode: mode_of(given)?,
-        tcp_backlog: count_of(given, "tcp-backlog")?.unwrap_or(TCP_BACKLOG),
-        reuse_port: shares_port(given)?,
-        metrics: given.get_str("metrics"),
-        control: given.get_str("control"),
-        log: log_of(given)?,
-        drain_ms: millis_of(given, "drain-ms", DRAIN_MS)?,
-        drain_on_eof: drains_on_eof(given, listen)?,
-        settings: settings_of(given)?,
-        keepalive_s: count_of(given, "keepalive-s")?.unwrap_or(KEEPALIVE_S),
-        resolve_s: count_of(given, "resolve-s")?.unwrap_or(RESOLVE_S),
+    Ok(Judged {
         begun: begun_of(given)?,
         any,
         fleet: fleet_of(given)?,
         certificate,
         history: history_of(given)?,
+    })
+}
+
+/// What the arguments after `serve` ask for.
+pub fn serve_job<'a>(given: &ArgMatches<'a>) -> Result<Job<'a>, ArgumentsFault> {
+    let (Some(file), Some(listen)) = (given.get_str("config"), given.get_str("listen")) else {
+        return Err(ArgumentsFault::Refused);
+    };
+    let listening = listening_of(given, listen)?;
+    let times = times_of(given)?;
+    let turns = turns_of(given)?;
+    let judged = judged_of(given)?;
+    Ok(Job::Serve(ServeJob {
+        file,
+        listen,
+        unix_mode: listening.unix_mode,
+        tcp_backlog: listening.tcp_backlog,
+        reuse_port: listening.reuse_port,
+        metrics: given.get_str("metrics"),
+        control: given.get_str("control"),
+        log: log_of(given)?,
+        drain_ms: times.drain_ms,
+        drain_on_eof: listening.drain_on_eof,
+        settings: settings_of(given)?,
+        keepalive_s: times.keepalive_s,
+        resolve_s: times.resolve_s,
+        begun: judged.begun,
+        any: judged.any,
+        fleet: judged.fleet,
+        certificate: judged.certificate,
+        history: judged.history,
         check: given.get_flag("check"),
-        stall_ms: millis_of(given, "stall-ms", STALL_MS)?,
+        stall_ms: times.stall_ms,
         memory: size_of(given, "memory-mb", MEMORY_MB)?.saturating_mul(MIB),
-        reload_every: count_of(given, "reload-every")?,
-        reload_ms: count_of(given, "reload-ms")?,
-        turns: count_of(given, "turns")?,
+        reload_every: turns.reload_every,
+        reload_ms: turns.reload_ms,
+        turns: turns.turns,
     }))
 }

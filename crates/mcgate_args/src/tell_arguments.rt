@@ -1,10 +1,9 @@
 //! The arguments of `mcgate tell`, and what they ask for.
 
-use crate::arguments::{ArgumentsFault, Job, help_flag};
+use crate::arguments::{ArgumentsFault, Job};
 use crate::log_arguments::level_of;
-use clap::{Arg, ArgMatches, Command};
+use clap::ArgMatches;
 use mc_types::Key;
-use std::alloc::{AllocError, Global};
 
 /// What `mcgate tell` is to do.
 #[derive(Clone, Copy)]
@@ -28,16 +27,6 @@ Tells the mcgate serve that runs with --control PATH, and prints what it answers
 Exit status: 0 done, 1 refused, or clients were left when it drained, 2 bad arguments, 3 memory or a device failed, also where nobody answers.
 ";
 
-/// The command and its arguments.
-pub fn tell_command<'a>(alloc: Global) -> Result<Command<'a>, AllocError> {
-    Command::new(alloc, "tell")
-        .disable_help_flag(true)
-        .arg(help_flag(alloc))?
-        .arg(Arg::new(alloc, "PATH"))?
-        .arg(Arg::new(alloc, "WORD"))?
-        .arg(Arg::new(alloc, "MORE"))
-}
-
 // Whether a proxy can be told this word, with what stands after it: a key after `where`, and a level after `log`.
 fn fits(word: &str, more: Option<&str>) -> bool {
     match (word, more) {
@@ -50,9 +39,6 @@ fn fits(word: &str, more: Option<&str>) -> bool {
 
 /// What the arguments after `tell` ask for.
 pub fn tell_job<'a>(given: &ArgMatches<'a>) -> Result<Job<'a>, ArgumentsFault> {
-    if given.get_flag("help") {
-        return Ok(Job::Print(TELL_HELP));
-    }
     let (Some(path), Some(word)) = (given.get_str("PATH"), given.get_str("WORD")) else {
         return Err(ArgumentsFault::Refused);
     };

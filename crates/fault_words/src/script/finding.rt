@@ -1,11 +1,11 @@
 //! The first bad line of a script, and what is wrong with it.
 
-ghost use Rattle.std.specs.Prelude.{◌≡◌, ◌+◌, ◌<◌, ◌^◌, IfOk, IfSome, length, map, option_map};
+ghost use Rattle.std.specs.Prelude.{◌≡◌, ◌+◌, ◌<◌, ◌^◌, IfOk, IfSome, Ok, length, map, option_map};
 ghost use Rattle.script_events.specs.LinesAfter.{lines_after};
 ghost use Rattle.script_events.specs.Scripted.{scripted_of};
-ghost use Rattle.script_events.specs.Told.{either, bad_event_line};
+ghost use Rattle.script_events.specs.Told.{either, bad_event_line, bad_line, servers_said, told_from};
 ghost use Rattle.script_events.specs.Lines.{lines_of};
-ghost use Rattle.fault_words.specs.Finding.{IsWrongLine, IsWrong, FindsIn};
+ghost use Rattle.fault_words.specs.Finding.{IsWrongLine, IsWrong, FindsIn, bytes_said};
 ghost use Rattle.fault_words.specs.Lines.{line_numbered};
 ghost use Rattle.fault_words.specs.Misfits.{bytes_before_bad};
 
@@ -60,16 +60,19 @@ fn wrong_line(
     }
 }
 
-// The place of a bad line: its number, and how many bytes the pieces have before the first event that can't be.
+// The place of a bad line: its number, how many servers are known there, and how many bytes the pieces have before the first event that
+// can't be.
 #[derive(Clone, Copy)]
 struct LinePlace {
     number: usize,
+    servers: u32,
     before: usize,
 }
 
 // The first bad line of what was read, over so many servers.
 fn bad_place(servers: u32, reading: Reading) -> Option<LinePlace>
     ensures number { option_map (λ place. place.number) result ≡ either (bad_event_line servers (map scripted_of reading.events.items) reading.lines.items) reading.unreadable }
+    ensures servers { IfSome result (λ place. place.servers ≡ servers) }
     ensures before { IfSome result (λ place. place.before ≡ bytes_before_bad servers (map scripted_of reading.events.items)) }
 {
     let Reading {
@@ -85,9 +88,30 @@ fn bad_place(servers: u32, reading: Reading) -> Option<LinePlace>
         None => unreadable,
     };
     match number {
-        Some(number) => Some(LinePlace { number, before }),
+        Some(number) => Some(LinePlace {
+            number,
+            servers,
+            before,
+        }),
         None => None,
     }
+}
+
+// The place of the first bad line over a configuration, after so many other lines.
+fn bad_place_after(
+    alloc: Global,
+    config: Config,
+    above: usize,
+    further: Option<&str>,
+) -> Result<Option<LinePlace>, AllocError>
+    requires { above + length (lines_after further) < 2 ^ 64 }
+    ensures number { IfOk result (λ found. bad_line (Ok (told_from (above + 1) config (lines_after further.entry))) ≡ option_map (λ place. place.number) found) }
+    ensures servers { IfOk result (λ found. IfSome found (λ place. place.servers ≡ servers_said (told_from (above + 1) config (lines_after further.entry)))) }
+    ensures before { IfOk result (λ found. IfSome found (λ place. place.before ≡ bytes_said (told_from (above + 1) config (lines_after further.entry)))) }
+{
+    let reading = read_further(alloc, config.servers(), above, further)?;
+    let servers = servers_known(config.servers(), &reading.reloads).len() as u32;
+    Ok(bad_place(servers, reading))
 }
 
 // The first bad line over a configuration, after so many other lines, and what is wrong with it.
@@ -100,14 +124,13 @@ fn bad_line_after<'a>(
     requires { above + length (lines_after further) < 2 ^ 64 }
     ensures { IfOk result (IsWrong (above + 1) (lines_after further.entry) config) }
 {
-    let reading = read_further(alloc, config.servers(), above, further)?;
-    let servers = servers_known(config.servers(), &reading.reloads).len() as u32;
-    let Some(place) = bad_place(servers, reading) else {
+    let found = bad_place_after(alloc, config, above, further)?;
+    let Some(place) = found else {
         return Ok(None);
     };
     let number = place.number;
     let line = line_numbered(above, further, number);
-    let wrong = wrong_line(alloc, servers, place.before, line.as_bytes())?;
+    let wrong = wrong_line(alloc, place.servers, place.before, line.as_bytes())?;
     Ok(Some(BadLine { number, wrong }))
 }
 

@@ -1,8 +1,8 @@
 //! The arguments of `mcgate slots`, and what they ask for.
 
-use crate::arguments::{ArgumentsFault, Job, help_flag, option};
-use clap::{Arg, ArgAction, ArgMatches, Command};
-use std::alloc::{AllocError, Global};
+use crate::arguments::{ArgumentsFault, Job, texts_of};
+use clap::ArgMatches;
+use std::alloc::Global;
 
 pub const SLOTS_HELP: &str =
     "usage: mcgate slots [--add ADDR | --remove ADDR] [--pool NAME] [--after FILE ..] [FILE]
@@ -40,21 +40,6 @@ pub struct SlotsJob<'a> {
     pub file: Option<&'a str>,
 }
 
-/// The command and its flags.
-pub fn slots_command<'a>(alloc: Global) -> Result<Command<'a>, AllocError> {
-    let after = Arg::new(alloc, "after")
-        .long("after")
-        .action(ArgAction::Append);
-    Command::new(alloc, "slots")
-        .disable_help_flag(true)
-        .arg(help_flag(alloc))?
-        .arg(option(alloc, "add"))?
-        .arg(option(alloc, "remove"))?
-        .arg(option(alloc, "pool"))?
-        .arg(after)?
-        .arg(Arg::new(alloc, "FILE"))
-}
-
 fn change_of<'a>(given: &ArgMatches<'a>) -> Result<SlotsChange<'a>, ArgumentsFault> {
     match (given.get_str("add"), given.get_str("remove")) {
         (None, None) => Ok(SlotsChange::Keep),
@@ -64,27 +49,12 @@ fn change_of<'a>(given: &ArgMatches<'a>) -> Result<SlotsChange<'a>, ArgumentsFau
     }
 }
 
-fn files_after<'a>(alloc: Global, given: &ArgMatches<'a>) -> Result<Vec<&'a str>, ArgumentsFault> {
-    let mut files = Vec::new(alloc);
-    if let Some(names) = given.get_strs("after") {
-        for name in names {
-            if files.push(*name).is_err() {
-                return Err(ArgumentsFault::NoMemory);
-            }
-        }
-    }
-    Ok(files)
-}
-
 /// What the arguments after `slots` ask for.
 pub fn slots_job<'a>(alloc: Global, given: &ArgMatches<'a>) -> Result<Job<'a>, ArgumentsFault> {
-    if given.get_flag("help") {
-        return Ok(Job::Print(SLOTS_HELP));
-    }
     Ok(Job::Slots(SlotsJob {
         change: change_of(given)?,
         pool: given.get_str("pool"),
-        after: files_after(alloc, given)?,
+        after: texts_of(alloc, given, "after")?,
         file: given.get_str("FILE"),
     }))
 }

@@ -1,9 +1,9 @@
 //! The text of a configuration whose pool has another table of slots.
 
-use crate::slots::arguments::SlotsJob;
+use crate::slots::arguments::{SlotsChange, SlotsJob};
 use crate::slots::choosing::{Table, chosen, servers_after, slots_before, table_after};
 use crate::slots::fault::SlotsFault;
-use gate_gaps::read_pools;
+use gate_gaps::{ConfigPool, read_pools};
 use mc_types::ServerId;
 use route_json::limits::LIMIT_FIELDS;
 use route_json::{ConfigFault, Servers, read_config};
@@ -104,24 +104,63 @@ fn servers_of(alloc: Global, text: &str) -> Result<Servers, ConfigFault> {
     Ok(config.servers().copy(alloc)?)
 }
 
+// These servers and those of earlier configurations.
+fn with_earlier<'a>(
+    alloc: Global,
+    servers: Servers,
+    earlier: &[String],
+) -> Result<Servers, SlotsFault<'a>> {
+    let mut servers = servers;
+    for (number, text) in earlier.iter().enumerate() {
+        servers = match servers_after(alloc, servers, text.as_str()) {
+            Ok(next) => next,
+            Err(fault) => return Err(SlotsFault::Earlier(number, fault)),
+        };
+    }
+    Ok(servers)
+}
+
 // The servers of a configuration and of the earlier ones.
 fn all_servers<'a>(
     alloc: Global,
     text: &str,
     earlier: &[String],
 ) -> Result<Servers, SlotsFault<'a>> {
-    let mut servers = match servers_of(alloc, text) {
-        Ok(servers) => servers,
-        Err(fault) => return Err(SlotsFault::Config(fault)),
-    };
-    for (number, text) in earlier.iter().enumerate() {
-        let next = match servers_after(alloc, servers.copy(alloc)?, text.as_str()) {
-            Ok(next) => next,
-            Err(fault) => return Err(SlotsFault::Earlier(number, fault)),
-        };
-        servers = next;
+    match servers_of(alloc, text) {
+        Ok(servers) => with_earlier(alloc, servers, earlier),
+        Err(fault) => Err(SlotsFault::Config(fault)),
     }
-    Ok(servers)
+}
+
+// Gives a pool of a configuration's JSON the table that a change makes of it, after these slots of earlier ones.
+fn put_table<'a>(
+    alloc: Global,
+    servers: &mut Servers,
+    pool: &ConfigPool,
+    change: SlotsChange<'a>,
+    before: &[Vec<ServerId>],
+    value: &mut Value,
+) -> Result<(), SlotsFault<'a>> {
+    let has_table = has_table(value, pool.name());
+    let table = table_after(alloc, servers, pool, has_table, change, before)?;
+    let told = pool_value(alloc, servers, &table, pool_named(value, pool.name()))?;
+    put_pool(value, pool.name(), told);
+    Ok(())
+}
+
+// The text of a configuration whose pool has the table that a job asks for, after these slots of earlier ones.
+fn text_after<'a>(
+    alloc: Global,
+    job: &SlotsJob<'a>,
+    text: &str,
+    servers: &mut Servers,
+    before: &[Vec<ServerId>],
+) -> Result<String, SlotsFault<'a>> {
+    let pools = read_pools(alloc, text, servers)?;
+    let pool = chosen(&pools, job.pool)?;
+    let mut value = value_of(alloc, text)?;
+    put_table(alloc, servers, pool, job.change, before, &mut value)?;
+    Ok(value.to_string(alloc)?)
 }
 
 /// The text of a configuration whose pool has the table that a job asks for, after those of earlier texts.
@@ -133,12 +172,5 @@ pub fn rewritten_text<'a>(
 ) -> Result<String, SlotsFault<'a>> {
     let mut servers = all_servers(alloc, text, earlier)?;
     let before = slots_before(alloc, &servers, earlier)?;
-    let pools = read_pools(alloc, text, &servers)?;
-    let pool = chosen(&pools, job.pool)?;
-    let mut value = value_of(alloc, text)?;
-    let has_table = has_table(&value, pool.name());
-    let table = table_after(alloc, &mut servers, pool, has_table, job.change, &before)?;
-    let told = pool_value(alloc, &servers, &table, pool_named(&value, pool.name()))?;
-    put_pool(&mut value, pool.name(), told);
-    Ok(value.to_string(alloc)?)
+    text_after(alloc, job, text, &mut servers, &before)
 }

@@ -1,0 +1,125 @@
+//! The program's commands with their flags, as the parser of its arguments is told of them.
+
+use clap::{Arg, ArgAction};
+use fault_words::commands::{Command, TOP_FLAGS, Takes, is_repeated, takes_of};
+use std::alloc::{AllocError, Global};
+
+// The flag of this name.
+fn flag<'a>(alloc: Global, name: &'static str) -> Arg<'a> {
+    let flag = Arg::new(alloc, name).long(name);
+    if name == "help" {
+        flag.short('h').action(ArgAction::SetTrue)
+    } else if takes_of(name) == Takes::Nothing {
+        flag.action(ArgAction::SetTrue)
+    } else if is_repeated(name) {
+        flag.action(ArgAction::Append)
+    } else {
+        flag.action(ArgAction::Set)
+    }
+}
+
+// The word of this name, which is no flag; of keys there may be several.
+fn word<'a>(alloc: Global, name: &'static str) -> Arg<'a> {
+    let word = Arg::new(alloc, name);
+    if name == "KEY" {
+        word.num_args(1..).action(ArgAction::Append)
+    } else {
+        word
+    }
+}
+
+// The names of the words that follow a command and are no flags.
+fn words_of(command: Command) -> &'static [&'static str] {
+    match command {
+        Command::Check | Command::Certify | Command::History | Command::Slots => &["FILE"],
+        Command::Replay | Command::Loopback => &["SCRIPT"],
+        Command::Where => &["KEY"],
+        Command::Plan => &["OLD", "NEW"],
+        Command::Tell => &["PATH", "WORD", "MORE"],
+        Command::Help => &["COMMAND"],
+        Command::Serve | Command::Cache => &[],
+    }
+}
+
+// A parser that knows these flags too.
+fn with_flags<'a>(
+    alloc: Global,
+    parser: clap::Command<'a>,
+    names: &[&'static str],
+) -> Result<clap::Command<'a>, AllocError> {
+    let mut parser = parser;
+    for name in names {
+        parser = parser.arg(flag(alloc, name))?;
+    }
+    Ok(parser)
+}
+
+// A parser that knows these words too.
+fn with_words<'a>(
+    alloc: Global,
+    parser: clap::Command<'a>,
+    names: &[&'static str],
+) -> Result<clap::Command<'a>, AllocError> {
+    let mut parser = parser;
+    for name in names {
+        parser = parser.arg(word(alloc, name))?;
+    }
+    Ok(parser)
+}
+
+// All commands.
+const COMMANDS: [Command; 12] = [
+    Command::Check,
+    Command::Certify,
+    Command::Replay,
+    Command::Where,
+    Command::Serve,
+    Command::Cache,
+    Command::Loopback,
+    Command::History,
+    Command::Slots,
+    Command::Plan,
+    Command::Tell,
+    Command::Help,
+];
+
+// A parser that knows no flags and words so far.
+fn bare_parser<'a>(alloc: Global, name: &'static str) -> clap::Command<'a> {
+    clap::Command::new(alloc, name)
+        .disable_help_flag(true)
+        .disable_help_subcommand(true)
+}
+
+// The parser of what follows a command.
+fn parser_of<'a>(alloc: Global, command: Command) -> Result<clap::Command<'a>, AllocError> {
+    let parser = with_flags(alloc, bare_parser(alloc, command.name()), command.flags())?;
+    with_words(alloc, parser, words_of(command))
+}
+
+// Drops a parser.
+fn drop_parser(_parser: clap::Command<'_>) {}
+
+// A parser that knows this command too.
+fn with_command<'a>(
+    alloc: Global,
+    parser: clap::Command<'a>,
+    command: Command,
+) -> Result<clap::Command<'a>, AllocError> {
+    match parser_of(alloc, command) {
+        Ok(known) => parser.subcommand(known),
+        Err(refused) => {
+            drop_parser(parser);
+            Err(refused)
+        }
+    }
+}
+
+/// The parser of the program's arguments. The only error is running out of memory.
+pub fn program<'a>(alloc: Global) -> Result<clap::Command<'a>, AllocError> {
+    let parser = bare_parser(alloc, "mcgate");
+    let mut parser = with_flags(alloc, parser, TOP_FLAGS.as_slice())?;
+    for command in COMMANDS {
+        parser = with_command(alloc, parser, command)?;
+    }
+    Ok(parser)
+}
