@@ -298,7 +298,7 @@ fn turns_of(given: &ArgMatches<'_>) -> Result<Turns, ArgumentsFault> {
 
 // How its trees are judged.
 #[derive(Clone, Copy)]
-struct Judged<'a> {
+struct Judgement<'a> {
     begun: Beginnings,
     any: bool,
     fleet: bool,
@@ -306,12 +306,12 @@ struct Judged<'a> {
     history: Option<&'a str>,
 }
 
-fn judged_of<'a>(given: &ArgMatches<'a>) -> Result<Judged<'a>, ArgumentsFault> {
+fn judgement_of<'a>(given: &ArgMatches<'a>) -> Result<Judgement<'a>, ArgumentsFault> {
     let (any, certificate) = (given.get_flag("any"), given.get_str("certificate"));
     if any && certificate.is_some() {
         return Err(ArgumentsFault::Refused);
     }
-    Ok(Judged {
+    Ok(Judgement {
         begun: begun_of(given)?,
         any,
         fleet: fleet_of(given)?,
@@ -328,7 +328,7 @@ pub fn serve_job<'a>(given: &ArgMatches<'a>) -> Result<Job<'a>, ArgumentsFault> 
     let listening = listening_of(given, listen)?;
     let times = times_of(given)?;
     let turns = turns_of(given)?;
-    let judged = judged_of(given)?;
+    let judged = judgement_of(given)?;
     Ok(Job::Serve(ServeJob {
         file,
         listen,
