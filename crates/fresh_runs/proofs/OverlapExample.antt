@@ -24,7 +24,7 @@ bytewise =
       fed = λ place more. place ++ more;
       Reads = λ place b rest. place ≡ b ∷ rest;
       asks_of = λ b. if nat_eq b 103 then get_of b ∷ [] else [];
-      passed = λ b. 69 ∷ [];
+      passed = λ version b. 69 ∷ [];
       shown = λ b index reply. 77 ∷ [];
       ends = λ b index reply. true;
     }
@@ -89,5 +89,5 @@ may = (
   ),
 )
 
-pub shown : output_of entries 1 ≡ 77 ∷ []
+pub shown : output_of [] entries 1 ≡ 77 ∷ []
 shown = refl

@@ -123,8 +123,8 @@ module _ {P : Protocol} where
     hold_other log c client number part reply from xs differs own h.1,
   )
 
-  module _ (words : Words) (Bars : ℕ → Ask → ℕ → Ask → Type 0) (opening : ℕ → List ℕ → Option Item) where
-    pub rises : (log : List (Entry P)) → Follows words Bars opening log → (c : ℕ) → Rises (commands_in (run_of log) + 1) (queue_of log c)
+  module _ (words : Words) (Bars : ℕ → Ask → ℕ → Ask → Type 0) (opening : ℕ → List ℕ → Option Item) (version : List ℕ) where
+    pub rises : (log : List (Entry P)) → Follows words Bars opening version log → (c : ℕ) → Rises (commands_in (run_of log) + 1) (queue_of log c)
     rises [] f c = tt
     rises (Feeds d b ∷ log) f c = rises log f.1 c
     rises (Starts client number part ∷ log) f c =
@@ -176,7 +176,7 @@ module _ {P : Protocol} where
     behind_hold log c (x ∷ xs) h = h.1
 
     -- of a client that isn't dropped
-    pub keys_held : (log : List (Entry P)) → Follows words Bars opening log → (c : ℕ) → is_dropped log c ≡ false → AllHold log c (queue_of log c)
+    pub keys_held : (log : List (Entry P)) → Follows words Bars opening version log → (c : ℕ) → is_dropped log c ≡ false → AllHold log c (queue_of log c)
     keys_held [] f c served = tt
     keys_held (Feeds d b ∷ log) f c served = hold_on log (Feeds d b ∷ log) c (queue_of log c) (λ slot e. e) (keys_held log f.1 c served)
     keys_held (Starts client number part ∷ log) f c served =
@@ -185,7 +185,7 @@ module _ {P : Protocol} where
         let me : Owner = record { client = client; ask = part.ask } in
         let on : AllHold log' c queue = hold_on log log' c queue
         (λ slot e. (elim (nat_eq number slot.number) as (λ b. nat_eq number slot.number ≡ b → cond b (Some me) (owner_of log slot.number) ≡ Some (record { client = c; ask = slot.ask })) [
-          | true ↦ λ same. (let lt = way_below number (run_of log) slot.number slot.ask f.0.0.0 (owner_way words Bars opening log f.1 slot.number (record { client = c; ask = slot.ask }) e) in let is = eqb-true number slot.number same in absurd (omega (arith, lt, is)))
+          | true ↦ λ same. (let lt = way_below number (run_of log) slot.number slot.ask f.0.0.0 (owner_way words Bars opening version log f.1 slot.number (record { client = c; ask = slot.ask }) e) in let is = eqb-true number slot.number same in absurd (omega (arith, lt, is)))
           | false ↦ λ _. e
         ]) refl)
         (keys_held log f.1 c served) in
@@ -235,11 +235,11 @@ module _ {P : Protocol} where
     hold_at log c (x ∷ xs) zero slot h at none = subst (λ s. s.reply ≡ None → Holds log c s) (some_slot x slot at) h.0 none
     hold_at log c (x ∷ xs) (suc i) slot h at none = hold_at log c xs i slot h.1 at none
 
-    pub slot_holds : (log : List (Entry P)) → Follows words Bars opening log → (c : ℕ) → is_dropped log c ≡ false → (i : ℕ) (slot : Slot P) → slice_get (queue_of log c) i ≡ Some slot → slot.reply ≡ None → owner_of log slot.number ≡ Some (record { client = c; ask = slot.ask })
+    pub slot_holds : (log : List (Entry P)) → Follows words Bars opening version log → (c : ℕ) → is_dropped log c ≡ false → (i : ℕ) (slot : Slot P) → slice_get (queue_of log c) i ≡ Some slot → slot.reply ≡ None → owner_of log slot.number ≡ Some (record { client = c; ask = slot.ask })
     slot_holds log f c served i slot at none = hold_at log c (queue_of log c) i slot (keys_held log f c served) at none
 
     -- a client has one command on a key under way at a time
-    pub one_own : (log : List (Entry P)) → Follows words Bars opening log → (a b : ℕ) (x y : Owner) → owner_of log a ≡ Some x → owner_of log b ≡ Some y → x.client ≡ y.client → x.ask.key ≡ y.ask.key → a ≡ b
+    pub one_own : (log : List (Entry P)) → Follows words Bars opening version log → (a b : ℕ) (x y : Owner) → owner_of log a ≡ Some x → owner_of log b ≡ Some y → x.client ≡ y.client → x.ask.key ≡ y.ask.key → a ≡ b
     one_own [] f a b x y ea eb whose same = none_owner x ea
     one_own (Feeds c bs ∷ log) f a b x y ea eb whose same = one_own log f.1 a b x y ea eb whose same
     one_own (Starts c m part ∷ log) f a b x y ea eb whose same =

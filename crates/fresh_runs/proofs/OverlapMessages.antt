@@ -98,8 +98,8 @@ module _ (P : Protocol) (reader : IsReader P) (last : EndsWithLast P) where
         | false ↦ refl
       ])
 
-  module _ (words : Words) (Bars : ℕ → Ask → ℕ → Ask → Type 0) (opening : ℕ → List ℕ → Option Item) where
-    pub named : (log : List (Entry P)) → Follows words Bars opening log → (c : ℕ) → messages_of log c ≡ names (done_of log c) ++ over_in (queue_of log c)
+  module _ (words : Words) (Bars : ℕ → Ask → ℕ → Ask → Type 0) (opening : ℕ → List ℕ → Option Item) (version : List ℕ) where
+    pub named : (log : List (Entry P)) → Follows words Bars opening version log → (c : ℕ) → messages_of log c ≡ names (done_of log c) ++ over_in (queue_of log c)
     named [] f c = refl
     named (Feeds client bytes ∷ log) f c = named log f.1 c
     named (Starts client number part ∷ log) f c =
@@ -114,7 +114,7 @@ module _ (P : Protocol) (reader : IsReader P) (last : EndsWithLast P) where
     named (Ends client number part reply from ∷ log) f c =
         let ds = names (done_of log c) in
         let queue = queue_of log c in
-        let w = writes P reader words Bars opening last log f.1 c in
+        let w = writes P reader words Bars opening version last log f.1 c in
         (elim (nat_eq client c) as (λ b. nat_eq client c ≡ b → cond b (messages_of log c ++ ended_by part reply) (messages_of log c) ≡ ds ++ over_in (cond b (answered_in number reply queue) queue)) [
           | true ↦ λ same. ap (λ l. l ++ ended_by part reply) (named log f.1 c) ∙ append_assoc ds (over_in queue) (ended_by part reply) ∙ ap (λ l. ds ++ l) (sym (over_ended queue (replies_of log c) w.rest (front_of log c) number part reply w.chain (subst (λ d. slot_in (queue_of log d) number ≡ Some (slot_of number part)) (eqb-true client c same) f.0.2)))
           | false ↦ λ _. named log f.1 c
@@ -149,7 +149,7 @@ module _ (P : Protocol) (reader : IsReader P) (last : EndsWithLast P) where
         ]
 
     -- where nothing is left to do, all of them were done
-    pub all_named : (log : List (Entry P)) → Follows words Bars opening log → IsSettled log → (c : ℕ) → messages_of log c ≡ names (done_of log c)
+    pub all_named : (log : List (Entry P)) → Follows words Bars opening version log → IsSettled version log → (c : ℕ) → messages_of log c ≡ names (done_of log c)
     all_named log f settled c = named log f c ∙ ap (λ q. names (done_of log c) ++ over_in q) (settled.shown c) ∙ append-nil (names (done_of log c))
 
     at_rest : (replies : List Answer) (rest : List ℕ) (queue : List (Slot P)) (front : Front P) → Chain P reader replies rest queue front → (replies ≡ [] → rest ≡ []) × ((replies ≡ [] → ⊥) → (message : P.Message) × (rest ≡ written_from P message 0 replies) × NoneEnds P message 0 replies)
@@ -158,16 +158,16 @@ module _ (P : Protocol) (reader : IsReader P) (last : EndsWithLast P) where
     at_rest [] rest (x ∷ xs) front h = (λ _. h.0.begun.0, λ some. absurd (some refl))
     at_rest (r ∷ rs) rest (x ∷ xs) front h = (λ none. absurd (no_reply r rs none), λ _. (x.message, h.0.begun.0, h.0.begun.1))
 
-    pub so_far : (log : List (Entry P)) → Follows words Bars opening log → (c : ℕ) → WritesSoFar P words Bars opening log c
+    pub so_far : (log : List (Entry P)) → Follows words Bars opening version log → (c : ℕ) → WritesSoFar P words Bars opening version log c
     so_far log f c =
-        let w = writes P reader words Bars opening last log f c in
+        let w = writes P reader words Bars opening version last log f c in
         record { rest = w.rest; output = w.output_is; whole = w.whole; begun = at_rest (replies_of log c) w.rest (queue_of log c) (front_of log c) w.chain; messages = named log f c }
 
-    pub all_written : (log : List (Entry P)) → Follows words Bars opening log → IsSettled log → (c : ℕ) → WritesAll P words Bars opening log c
+    pub all_written : (log : List (Entry P)) → Follows words Bars opening version log → IsSettled version log → (c : ℕ) → WritesAll P words Bars opening version log c
     all_written log f settled c =
         record {
-          splits = (streams P words Bars opening reader log f c, settled.stuck c);
-          given = outputs P reader words Bars opening last log f settled c;
-          whole = wholes P reader words Bars opening last log f c;
+          splits = (streams P words Bars opening reader version log f c, settled.stuck c);
+          given = outputs P reader words Bars opening version last log f settled c;
+          whole = wholes P reader words Bars opening version last log f c;
           messages = all_named log f settled c;
         }

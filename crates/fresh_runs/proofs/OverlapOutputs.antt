@@ -49,10 +49,10 @@ module _ (P : Protocol) (reader : IsReader P) where
       ap (λ l. P.shown m i x ++ l) (written_more m (i + 1) rs r ∙ ap (λ n. written_from P m (i + 1) rs ++ P.shown m n r) at)
       ∙ sym (append_assoc (P.shown m i x) (written_from P m (i + 1) rs) (P.shown m (i + length (x ∷ rs)) r))
 
-  all_more : (ds : List (Done P)) (d : Done P) → written_all P (ds ++ d ∷ []) ≡ written_all P ds ++ written P d.message d.replies
-  all_more [] d = append-nil (written P d.message d.replies)
-  all_more (x ∷ ds) d =
-      ap (λ l. written P x.message x.replies ++ l) (all_more ds d) ∙ sym (append_assoc (written P x.message x.replies) (written_all P ds) (written P d.message d.replies))
+  all_more : (version : List ℕ) (ds : List (Done P)) (d : Done P) → written_all P version (ds ++ d ∷ []) ≡ written_all P version ds ++ written P version d.message d.replies
+  all_more version [] d = append-nil (written P version d.message d.replies)
+  all_more version (x ∷ ds) d =
+      ap (λ l. written P version x.message x.replies ++ l) (all_more version ds d) ∙ sym (append_assoc (written P version x.message x.replies) (written_all P version ds) (written P version d.message d.replies))
 
   whole_more : (ds : List (Done P)) (d : Done P) → AreWhole P ds → IsWhole P d.message d.replies → AreWhole P (ds ++ d ∷ [])
   whole_more [] d all one = (one, tt)
@@ -71,9 +71,9 @@ module _ (P : Protocol) (reader : IsReader P) where
   whole_by m [] r h = h
   whole_by m (x ∷ rs) r h = h
 
-  written_is : (m : P.Message) (rs : List Answer) (r : Answer) → written P m (rs ++ r ∷ []) ≡ written_from P m 0 (rs ++ r ∷ [])
-  written_is m [] r = refl
-  written_is m (x ∷ rs) r = refl
+  written_is : (version : List ℕ) (m : P.Message) (rs : List Answer) (r : Answer) → written P version m (rs ++ r ∷ []) ≡ written_from P m 0 (rs ++ r ∷ [])
+  written_is version m [] r = refl
+  written_is version m (x ∷ rs) r = refl
 
   -- this is what was shown of the message, by these replies, which didn't end it
   abbrev IsBegun : P.Message → List Answer → List ℕ → Type 0
@@ -220,9 +220,9 @@ module _ (P : Protocol) (reader : IsReader P) where
         )
       ]) is
 
-  pub record Written (queue : List (Slot P)) (front : Front P) (replies : List Answer) (done : List (Done P)) (output : List ℕ) : Type 0 where
+  pub record Written (version : List ℕ) (queue : List (Slot P)) (front : Front P) (replies : List Answer) (done : List (Done P)) (output : List ℕ) : Type 0 where
     pub rest : List ℕ
-    pub output_is : output ≡ written_all P done ++ rest
+    pub output_is : output ≡ written_all P version done ++ rest
     pub chain : Chain replies rest queue front
     pub whole : AreWhole P done
 
@@ -234,21 +234,21 @@ module _ (P : Protocol) (reader : IsReader P) where
         | false ↦ λ _ c. c
       ]) refl (subst (λ o. Behind (is_last_slot slot) o (Chain [] [] slots front) (λ r. Pick (P.ends slot.message slot.index r) (Chain [] [] slots front) (Chain (replies ++ r ∷ []) (rest ++ P.shown slot.message slot.index r) slots front)) (Awaits slot slots front)) has h.1)
 
-  shown_written : EndsWithLast P → (slot : Slot P) (slots : List (Slot P)) (front : Front P) (rs : List Answer) (ds : List (Done P)) (out : List ℕ) (reply : Answer) → slot.reply ≡ Some reply → Written (slot ∷ slots) front rs ds out → Written slots front (replies_after rs slot reply) (done_after ds rs slot reply) (out ++ P.shown slot.message slot.index reply)
-  shown_written last slot slots front rs ds out reply has w =
+  shown_written : EndsWithLast P → (version : List ℕ) (slot : Slot P) (slots : List (Slot P)) (front : Front P) (rs : List Answer) (ds : List (Done P)) (out : List ℕ) (reply : Answer) → slot.reply ≡ Some reply → Written version (slot ∷ slots) front rs ds out → Written version slots front (replies_after rs slot reply) (done_after ds rs slot reply) (out ++ P.shown slot.message slot.index reply)
+  shown_written last version slot slots front rs ds out reply has w =
       let all = rs ++ reply ∷ [] in
       let m = slot.message in
       let fits = w.chain.0 in
       let d : Done P = record { message = m; replies = all } in
       let at : slot.index ≡ 0 + length rs = let e = fits.index in omega (arith, e) in
       let behind : w.rest ++ P.shown m slot.index reply ≡ written_from P m 0 all = ap₂ (λ l i. l ++ P.shown m i reply) fits.begun.0 at ∙ sym (written_more m 0 rs reply) in
-      let out_is : out ++ P.shown m slot.index reply ≡ written_all P ds ++ (w.rest ++ P.shown m slot.index reply) =
-      ap (λ l. l ++ P.shown m slot.index reply) w.output_is ∙ append_assoc (written_all P ds) w.rest (P.shown m slot.index reply) in
-      (elim (P.ends m slot.index reply) as (λ b. P.ends m slot.index reply ≡ b → Pick b (Chain [] [] slots front) (Chain all (w.rest ++ P.shown m slot.index reply) slots front) → Written slots front (cond b [] all) (cond b (ds ++ d ∷ []) ds) (out ++ P.shown m slot.index reply)) [
+      let out_is : out ++ P.shown m slot.index reply ≡ written_all P version ds ++ (w.rest ++ P.shown m slot.index reply) =
+      ap (λ l. l ++ P.shown m slot.index reply) w.output_is ∙ append_assoc (written_all P version ds) w.rest (P.shown m slot.index reply) in
+      (elim (P.ends m slot.index reply) as (λ b. P.ends m slot.index reply ≡ b → Pick b (Chain [] [] slots front) (Chain all (w.rest ++ P.shown m slot.index reply) slots front) → Written version slots front (cond b [] all) (cond b (ds ++ d ∷ []) ds) (out ++ P.shown m slot.index reply)) [
         | true ↦ λ ends c.
             record {
               rest = [];
-              output_is = out_is ∙ ap (λ l. written_all P ds ++ l) (behind ∙ sym (written_is m rs reply)) ∙ sym (all_more ds d) ∙ sym (append-nil (written_all P (ds ++ d ∷ [])));
+              output_is = out_is ∙ ap (λ l. written_all P version ds ++ l) (behind ∙ sym (written_is version m rs reply)) ∙ sym (all_more version ds d) ∙ sym (append-nil (written_all P version (ds ++ d ∷ [])));
               chain = c;
               whole = whole_more ds d w.whole (whole_by m rs reply (last_more m 0 rs reply fits.begun.1 (subst (λ i. P.ends m i reply ≡ true) at ends)));
             }
@@ -261,32 +261,32 @@ module _ (P : Protocol) (reader : IsReader P) where
   none_begun place next message (r ∷ rs) rest h reads asks =
       absurd (h.3 (ap P.asks_of (reader.one_message place h.0 message h.1 next h.2 reads).0 ∙ asks))
 
-  passed_written : (queue : List (Slot P)) (front : Front P) (rs : List Answer) (ds : List (Done P)) (out : List ℕ) (message : P.Message) (next : P.Place) → queue ≡ [] → Written queue front rs ds out → P.Reads front.place message next → P.asks_of message ≡ [] → Written queue (record { place = next; index = 0; waits = false }) rs (ds ++ record { message = message; replies = [] } ∷ []) (out ++ P.passed message)
-  passed_written queue front rs ds out message next empty w reads asks =
+  passed_written : (version : List ℕ) (queue : List (Slot P)) (front : Front P) (rs : List Answer) (ds : List (Done P)) (out : List ℕ) (message : P.Message) (next : P.Place) → queue ≡ [] → Written version queue front rs ds out → P.Reads front.place message next → P.asks_of message ≡ [] → Written version queue (record { place = next; index = 0; waits = false }) rs (ds ++ record { message = message; replies = [] } ∷ []) (out ++ P.passed version message)
+  passed_written version queue front rs ds out message next empty w reads asks =
       let rests : Rests rs w.rest front = subst (λ q. Chain rs w.rest q front) empty w.chain in
       let none = none_begun front.place next message rs w.rest rests.at reads asks in
-      let out_is : out ≡ written_all P ds = w.output_is ∙ ap (λ l. written_all P ds ++ l) none.1 ∙ append-nil (written_all P ds) in
+      let out_is : out ≡ written_all P version ds = w.output_is ∙ ap (λ l. written_all P version ds ++ l) none.1 ∙ append-nil (written_all P version ds) in
       let point : Front P = record { place = next; index = 0; waits = false } in
       let fresh : Rests [] [] point = record { ready = refl; index = refl; at = refl } in
       record {
         rest = [];
-        output_is = ap (λ l. l ++ P.passed message) out_is ∙ sym (all_more ds (record { message = message; replies = [] })) ∙ sym (append-nil (written_all P (ds ++ record { message = message; replies = [] } ∷ [])));
+        output_is = ap (λ l. l ++ P.passed version message) out_is ∙ sym (all_more version ds (record { message = message; replies = [] })) ∙ sym (append-nil (written_all P version (ds ++ record { message = message; replies = [] } ∷ [])));
         chain = subst (λ q. Chain rs [] q point) (sym empty) (subst (λ l. Rests l [] point) (sym none.0) fresh);
         whole = whole_more ds (record { message = message; replies = [] }) w.whole asks;
       }
 
-  nothing_written : Written [] start_front [] [] []
-  nothing_written = record { rest = []; output_is = refl; chain = record { ready = refl; index = refl; at = refl }; whole = tt }
+  nothing_written : (version : List ℕ) → Written version [] start_front [] [] []
+  nothing_written version = record { rest = []; output_is = refl; chain = record { ready = refl; index = refl; at = refl }; whole = tt }
 
-  module _ (words : Words) (Bars : ℕ → Ask → ℕ → Ask → Type 0) (opening : ℕ → List ℕ → Option Item) (last : EndsWithLast P) where
+  module _ (words : Words) (Bars : ℕ → Ask → ℕ → Ask → Type 0) (opening : ℕ → List ℕ → Option Item) (version : List ℕ) (last : EndsWithLast P) where
     abbrev IsWritten : List (Entry P) → ℕ → Type 0
-    IsWritten log c = Written (queue_of log c) (front_of log c) (replies_of log c) (done_of log c) (output_of log c)
+    IsWritten log c = Written version (queue_of log c) (front_of log c) (replies_of log c) (done_of log c) (output_of version log c)
 
-    pub writes : (log : List (Entry P)) → Follows words Bars opening log → (c : ℕ) → IsWritten log c
-    writes [] f c = nothing_written
+    pub writes : (log : List (Entry P)) → Follows words Bars opening version log → (c : ℕ) → IsWritten log c
+    writes [] f c = nothing_written version
     writes (Feeds client bytes ∷ log) f c =
         let w = writes log f.1 c in
-        elim (nat_eq client c) as (λ b. Written (queue_of log c) (cond b (fed_front (front_of log c) bytes) (front_of log c)) (replies_of log c) (done_of log c) (output_of log c)) [
+        elim (nat_eq client c) as (λ b. Written version (queue_of log c) (cond b (fed_front (front_of log c) bytes) (front_of log c)) (replies_of log c) (done_of log c) (output_of version log c)) [
           | true ↦ record { rest = w.rest; output_is = w.output_is; chain = chain_fed (queue_of log c) (replies_of log c) w.rest (front_of log c) bytes w.chain; whole = w.whole }
           | false ↦ w
         ]
@@ -294,7 +294,7 @@ module _ (P : Protocol) (reader : IsReader P) where
         let w = writes log f.1 c in
         let queue = queue_of log c in
         let front = front_of log c in
-        (elim (nat_eq client c) as (λ b. nat_eq client c ≡ b → Written (cond b (queue ++ slot_of number part ∷ []) queue) (cond b (after_start front part) front) (replies_of log c) (done_of log c) (output_of log c)) [
+        (elim (nat_eq client c) as (λ b. nat_eq client c ≡ b → Written version (cond b (queue ++ slot_of number part ∷ []) queue) (cond b (after_start front part) front) (replies_of log c) (done_of log c) (output_of version log c)) [
           | true ↦ λ same. record { rest = w.rest; output_is = w.output_is; chain = chain_start queue (replies_of log c) w.rest front number part w.chain (subst (λ d. IsNext (front_of log d) part) (eqb-true client c same) f.0.1); whole = w.whole }
           | false ↦ λ _. w
         ]) refl
@@ -304,7 +304,7 @@ module _ (P : Protocol) (reader : IsReader P) where
         let w = writes log f.1 c in
         let queue = queue_of log c in
         let front = front_of log c in
-        (elim (nat_eq client c) as (λ b. nat_eq client c ≡ b → Written (cond b (answered_in number reply queue) queue) (cond b (after_end front part reply) front) (replies_of log c) (done_of log c) (output_of log c)) [
+        (elim (nat_eq client c) as (λ b. nat_eq client c ≡ b → Written version (cond b (answered_in number reply queue) queue) (cond b (after_end front part reply) front) (replies_of log c) (done_of log c) (output_of version log c)) [
           | true ↦ λ same. record { rest = w.rest; output_is = w.output_is; chain = chain_end queue (replies_of log c) w.rest front number part reply w.chain (subst (λ d. slot_in (queue_of log d) number ≡ Some (slot_of number part)) (eqb-true client c same) f.0.2) (subst (λ d. is_last part ≡ false → P.Reads (front_of log d).place part.message part.next) (eqb-true client c same) f.0.3); whole = w.whole }
           | false ↦ λ _. w
         ]) refl
@@ -314,11 +314,11 @@ module _ (P : Protocol) (reader : IsReader P) where
         let front = front_of log c in
         let rs = replies_of log c in
         let ds = done_of log c in
-        let out = output_of log c in
-        (elim (nat_eq client c) as (λ b. nat_eq client c ≡ b → Written (cond b (behind_head queue) queue) front (cond b (replies_after rs slot reply) rs) (cond b (done_after ds rs slot reply) ds) (cond b (out ++ P.shown slot.message slot.index reply) out)) [
+        let out = output_of version log c in
+        (elim (nat_eq client c) as (λ b. nat_eq client c ≡ b → Written version (cond b (behind_head queue) queue) front (cond b (replies_after rs slot reply) rs) (cond b (done_after ds rs slot reply) ds) (cond b (out ++ P.shown slot.message slot.index reply) out)) [
           | true ↦ λ same.
               let is : queue ≡ slot ∷ f.0.0.0 = ap (queue_of log) (sym (eqb-true client c same)) ∙ f.0.0.1 in
-              subst (λ q. Written q front (replies_after rs slot reply) (done_after ds rs slot reply) (out ++ P.shown slot.message slot.index reply)) (sym (ap behind_head is)) (shown_written last slot f.0.0.0 front rs ds out reply f.0.1 (subst (λ q. Written q front rs ds out) is w))
+              subst (λ q. Written version q front (replies_after rs slot reply) (done_after ds rs slot reply) (out ++ P.shown slot.message slot.index reply)) (sym (ap behind_head is)) (shown_written last version slot f.0.0.0 front rs ds out reply f.0.1 (subst (λ q. Written version q front rs ds out) is w))
           | false ↦ λ _. w
         ]) refl
     writes (Passes client message next ∷ log) f c =
@@ -327,17 +327,17 @@ module _ (P : Protocol) (reader : IsReader P) where
         let front = front_of log c in
         let rs = replies_of log c in
         let ds = done_of log c in
-        let out = output_of log c in
-        (elim (nat_eq client c) as (λ b. nat_eq client c ≡ b → Written queue (cond {A = Front P} b (record { place = next; index = 0; waits = false }) front) rs (cond b (ds ++ record { message = message; replies = [] } ∷ []) ds) (cond b (out ++ P.passed message) out)) [
-          | true ↦ λ same. passed_written queue front rs ds out message next (ap (queue_of log) (sym (eqb-true client c same)) ∙ f.0.2) w (subst (λ d. P.Reads (front_of log d).place message next) (eqb-true client c same) f.0.0) f.0.1
+        let out = output_of version log c in
+        (elim (nat_eq client c) as (λ b. nat_eq client c ≡ b → Written version queue (cond {A = Front P} b (record { place = next; index = 0; waits = false }) front) rs (cond b (ds ++ record { message = message; replies = [] } ∷ []) ds) (cond b (out ++ P.passed version message) out)) [
+          | true ↦ λ same. passed_written version queue front rs ds out message next (ap (queue_of log) (sym (eqb-true client c same)) ∙ f.0.2) w (subst (λ d. P.Reads (front_of log d).place message next) (eqb-true client c same) f.0.0) f.0.1
           | false ↦ λ _. w
         ]) refl
     writes (Gives client bytes ∷ log) f c = writes log f.1 c
     writes (Drops client ∷ log) f c = writes log f.1 c
     writes (Frees number ∷ log) f c = writes log f.1 c
     writes (Resets client ∷ log) f c =
-        elim (nat_eq client c) as (λ b. Written (cond b [] (queue_of log c)) (cond b start_front (front_of log c)) (cond b [] (replies_of log c)) (cond b [] (done_of log c)) (cond b [] (output_of log c))) [
-          | true ↦ nothing_written
+        elim (nat_eq client c) as (λ b. Written version (cond b [] (queue_of log c)) (cond b start_front (front_of log c)) (cond b [] (replies_of log c)) (cond b [] (done_of log c)) (cond b [] (output_of version log c))) [
+          | true ↦ nothing_written version
           | false ↦ writes log f.1 c
         ]
 
@@ -345,11 +345,11 @@ module _ (P : Protocol) (reader : IsReader P) where
     nothing_begun place [] rest stuck h = h
     nothing_begun place (r ∷ rs) rest stuck h = absurd (stuck h.0 h.1 h.2)
 
-    pub outputs : (log : List (Entry P)) → Follows words Bars opening log → IsSettled log → (c : ℕ) → given_of log c ≡ written_all P (done_of log c)
+    pub outputs : (log : List (Entry P)) → Follows words Bars opening version log → IsSettled version log → (c : ℕ) → given_of log c ≡ written_all P version (done_of log c)
     outputs log f settled c =
         let w = writes log f c in
         let rests : Rests (replies_of log c) w.rest (front_of log c) = subst (λ q. Chain (replies_of log c) w.rest q (front_of log c)) (settled.shown c) w.chain in
-        settled.given c ∙ w.output_is ∙ ap (λ l. written_all P (done_of log c) ++ l) (nothing_begun (front_of log c).place (replies_of log c) w.rest (settled.stuck c) rests.at) ∙ append-nil (written_all P (done_of log c))
+        settled.given c ∙ w.output_is ∙ ap (λ l. written_all P version (done_of log c) ++ l) (nothing_begun (front_of log c).place (replies_of log c) w.rest (settled.stuck c) rests.at) ∙ append-nil (written_all P version (done_of log c))
 
-    pub wholes : (log : List (Entry P)) → Follows words Bars opening log → (c : ℕ) → AreWhole P (done_of log c)
+    pub wholes : (log : List (Entry P)) → Follows words Bars opening version log → (c : ℕ) → AreWhole P (done_of log c)
     wholes log f c = (writes log f c).whole

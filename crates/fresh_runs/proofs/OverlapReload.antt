@@ -21,8 +21,8 @@ kept_apart below Bars NewBars kept past number ask new lt apart other client way
     let low = way_below below past other client new way in
     ((λ bars. two.0 (kept number other ask client lt low bars)), (λ bars. two.1 (kept other number client ask low lt bars)))
 
-module _ {P : Protocol} (words new : Words) (Bars NewBars : ℕ → Ask → ℕ → Ask → Type 0) (opening : ℕ → List ℕ → Option Item) (below : ℕ) (kept : AreKept below words new) (kept_bars : AreKeptBars below Bars NewBars) where
-  pub follows_kept : (log : List (Entry P)) → IsNewNumber below (run_of log) → Follows words Bars opening log → Follows new NewBars opening log
+module _ {P : Protocol} (words new : Words) (Bars NewBars : ℕ → Ask → ℕ → Ask → Type 0) (opening : ℕ → List ℕ → Option Item) (version : List ℕ) (below : ℕ) (kept : AreKept below words new) (kept_bars : AreKeptBars below Bars NewBars) where
+  pub follows_kept : (log : List (Entry P)) → IsNewNumber below (run_of log) → Follows words Bars opening version log → Follows new NewBars opening version log
   follows_kept [] n f = tt
   follows_kept (Feeds c b ∷ log) n f = (f.0, follows_kept log n f.1)
   follows_kept (Starts c m part ∷ log) n f = (((f.0.0.0, kept_apart below Bars NewBars kept_bars (run_of log) m part.ask n.1 n.0 f.0.0.1), f.0.1, f.0.2, f.0.3, f.0.4), follows_kept log n.1 f.1)
@@ -46,7 +46,7 @@ module _ {P : Protocol} (words : Words) (Bars : ℕ → Ask → ℕ → Ask → 
   pub reloads : (new : Words) (NewBars : ℕ → Ask → ℕ → Ask → Type 0) (log : List (Entry P)) (now : OverlapState P) → LeadsTo words Bars opening log now → AreKept (now.number + 1) words new → AreKeptBars (now.number + 1) Bars NewBars → LeadsTo new NewBars opening log now
   reloads new NewBars log now h kept kept_bars =
       record {
-        follows = follows_kept words new Bars NewBars opening (now.number + 1) kept kept_bars log h.new h.follows;
+        follows = follows_kept words new Bars NewBars opening now.version (now.number + 1) kept kept_bars log h.new h.follows;
         front = h.front;
         queue = h.queue;
         output = h.output;
@@ -55,7 +55,7 @@ module _ {P : Protocol} (words : Words) (Bars : ℕ → Ask → ℕ → Ask → 
         count = h.count;
         owner = h.owner;
         to_come = λ n x e calls reply from may.
-            kept n x.ask _ reply from (way_below (now.number + 1) (run_of log) n x.ask h.new (owner_way words Bars opening log h.follows n x (sym (h.owner n) ∙ e))) (h.to_come n x e calls reply from may);
+            kept n x.ask _ reply from (way_below (now.number + 1) (run_of log) n x.ask h.new (owner_way words Bars opening now.version log h.follows n x (sym (h.owner n) ∙ e))) (h.to_come n x e calls reply from may);
         out = h.out;
         holds = h.holds;
         counted = h.counted;

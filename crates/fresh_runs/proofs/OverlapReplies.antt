@@ -88,11 +88,11 @@ module _ (P : Protocol) where
   told_by event past queue shown replies begun t =
       record { told = told_later event past queue t.told; replies_are = replies_later event past shown replies t.replies_are; order = t.order }
 
-  module _ (words : Words) (Bars : ℕ → Ask → ℕ → Ask → Type 0) (opening : ℕ → List ℕ → Option Item) where
+  module _ (words : Words) (Bars : ℕ → Ask → ℕ → Ask → Type 0) (opening : ℕ → List ℕ → Option Item) (version : List ℕ) where
     abbrev IsTold : List (Entry P) → ℕ → Type 0
     IsTold log c = Told (run_of log) (queue_of log c) (shown_slots log c) (all_replies (done_of log c) ++ replies_of log c) (begun_by log c)
 
-    pub tells : (log : List (Entry P)) → Follows words Bars opening log → (c : ℕ) → IsTold log c
+    pub tells : (log : List (Entry P)) → Follows words Bars opening version log → (c : ℕ) → IsTold log c
     tells [] f c = record { told = tt; replies_are = tt; order = refl }
     tells (Feeds client bytes ∷ log) f c = tells log f.1 c
     tells (Starts client number part ∷ log) f c =

@@ -11,8 +11,8 @@ use Rattle.fresh_runs.specs.Log.{Part}
 use Rattle.fresh_runs.specs.Overlap.{Front, Entry, Feeds, Starts, Sends, Happens, Ends, Shows, Passes, Gives, Drops, Frees, Resets, is_last, start_front, fed_front, after_start, after_end, run_of, front_of, Follows}
 use Rattle.fresh_runs.specs.OverlapStream.{started_by, ended_by, stream_of, messages_of}
 
-module _ (P : Protocol) (words : Words) (Bars : ℕ → Ask → ℕ → Ask → Type 0) (opening : ℕ → List ℕ → Option Item) where
-  pub runs : (log : List (Entry P)) → Follows words Bars opening log → Run words Bars opening (run_of log)
+module _ (P : Protocol) (words : Words) (Bars : ℕ → Ask → ℕ → Ask → Type 0) (opening : ℕ → List ℕ → Option Item) (version : List ℕ) where
+  pub runs : (log : List (Entry P)) → Follows words Bars opening version log → Run words Bars opening (run_of log)
   runs [] f = tt
   runs (Feeds c b ∷ log) f = runs log f.1
   runs (Starts c n part ∷ log) f = (f.0.0, runs log f.1)
@@ -63,8 +63,8 @@ module _ (P : Protocol) where
             ]
       ]) refl
 
-  module _ (words : Words) (Bars : ℕ → Ask → ℕ → Ask → Type 0) (opening : ℕ → List ℕ → Option Item) (reader : IsReader P) where
-    pub streams : (log : List (Entry P)) → Follows words Bars opening log → (c : ℕ) → Goes P (P.fed P.start (stream_of log c)) (messages_of log c) (front_of log c).place
+  module _ (words : Words) (Bars : ℕ → Ask → ℕ → Ask → Type 0) (opening : ℕ → List ℕ → Option Item) (reader : IsReader P) (version : List ℕ) where
+    pub streams : (log : List (Entry P)) → Follows words Bars opening version log → (c : ℕ) → Goes P (P.fed P.start (stream_of log c)) (messages_of log c) (front_of log c).place
     streams [] f c = reader.fed_nothing
     streams (Feeds client bytes ∷ log) f c =
         let stream = stream_of log c in

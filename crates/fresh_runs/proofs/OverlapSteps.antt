@@ -81,42 +81,42 @@ module _ (opening : ℕ → List ℕ → Option Item) where
 
 module _ {P : Protocol} (words : Words) (Bars : ℕ → Ask → ℕ → Ask → Type 0) (opening : ℕ → List ℕ → Option Item) where
   -- the log and its run know the same commands under way
-  pub same_way : (log : List (Entry P)) → Follows words Bars opening log → (n : ℕ) → under_way (run_of log) n ≡ asked (owner_of log n)
-  same_way [] f n = refl
-  same_way (Feeds c b ∷ log) f n = same_way log f.1 n
-  same_way (Starts c m part ∷ log) f n =
-      elim (nat_eq m n) as (λ b. cond b (Some part.ask) (under_way (run_of log) n) ≡ asked (cond b (Some (record { client = c; ask = part.ask })) (owner_of log n))) [ true ↦ refl | false ↦ same_way log f.1 n ]
-  same_way (Sends m s a o ∷ log) f n = same_way log f.1 n
-  same_way (Happens (Calls m s a o end) ∷ log) f n = same_way log f.1 n
-  same_way (Happens (Turns s key turned) ∷ log) f n = same_way log f.1 n
-  same_way (Happens (Restarts s) ∷ log) f n = same_way log f.1 n
-  same_way (Happens (Begins m a) ∷ log) f n = absurd f.0
-  same_way (Happens (Replies m key r x) ∷ log) f n = absurd f.0
-  same_way (Happens (Breaks m) ∷ log) f n = absurd f.0
-  same_way (Ends c m part r x ∷ log) f n =
-      elim (nat_eq m n) as (λ b. cond b None (under_way (run_of log) n) ≡ asked (cond b None (owner_of log n))) [ true ↦ refl | false ↦ same_way log f.1 n ]
-  same_way (Shows c slot r ∷ log) f n = same_way log f.1 n
-  same_way (Passes c m next ∷ log) f n = same_way log f.1 n
-  same_way (Gives c b ∷ log) f n = same_way log f.1 n
-  same_way (Drops c ∷ log) f n = same_way log f.1 n
-  same_way (Frees m ∷ log) f n =
-      elim (nat_eq m n) as (λ b. cond b None (under_way (run_of log) n) ≡ asked (cond b None (owner_of log n))) [ true ↦ refl | false ↦ same_way log f.1 n ]
-  same_way (Resets c ∷ log) f n = same_way log f.1 n
+  pub same_way : (version : List ℕ) (log : List (Entry P)) → Follows words Bars opening version log → (n : ℕ) → under_way (run_of log) n ≡ asked (owner_of log n)
+  same_way version [] f n = refl
+  same_way version (Feeds c b ∷ log) f n = same_way version log f.1 n
+  same_way version (Starts c m part ∷ log) f n =
+      elim (nat_eq m n) as (λ b. cond b (Some part.ask) (under_way (run_of log) n) ≡ asked (cond b (Some (record { client = c; ask = part.ask })) (owner_of log n))) [ true ↦ refl | false ↦ same_way version log f.1 n ]
+  same_way version (Sends m s a o ∷ log) f n = same_way version log f.1 n
+  same_way version (Happens (Calls m s a o end) ∷ log) f n = same_way version log f.1 n
+  same_way version (Happens (Turns s key turned) ∷ log) f n = same_way version log f.1 n
+  same_way version (Happens (Restarts s) ∷ log) f n = same_way version log f.1 n
+  same_way version (Happens (Begins m a) ∷ log) f n = absurd f.0
+  same_way version (Happens (Replies m key r x) ∷ log) f n = absurd f.0
+  same_way version (Happens (Breaks m) ∷ log) f n = absurd f.0
+  same_way version (Ends c m part r x ∷ log) f n =
+      elim (nat_eq m n) as (λ b. cond b None (under_way (run_of log) n) ≡ asked (cond b None (owner_of log n))) [ true ↦ refl | false ↦ same_way version log f.1 n ]
+  same_way version (Shows c slot r ∷ log) f n = same_way version log f.1 n
+  same_way version (Passes c m next ∷ log) f n = same_way version log f.1 n
+  same_way version (Gives c b ∷ log) f n = same_way version log f.1 n
+  same_way version (Drops c ∷ log) f n = same_way version log f.1 n
+  same_way version (Frees m ∷ log) f n =
+      elim (nat_eq m n) as (λ b. cond b None (under_way (run_of log) n) ≡ asked (cond b None (owner_of log n))) [ true ↦ refl | false ↦ same_way version log f.1 n ]
+  same_way version (Resets c ∷ log) f n = same_way version log f.1 n
 
-  pub owner_way : (log : List (Entry P)) → Follows words Bars opening log → (n : ℕ) (o : Owner) → owner_of log n ≡ Some o → under_way (run_of log) n ≡ Some o.ask
-  owner_way log f n o e = same_way log f n ∙ ap asked e
+  pub owner_way : (version : List ℕ) (log : List (Entry P)) → Follows words Bars opening version log → (n : ℕ) (o : Owner) → owner_of log n ≡ Some o → under_way (run_of log) n ≡ Some o.ask
+  owner_way version log f n o e = same_way version log f n ∙ ap asked e
 
-  pub way_owner : (log : List (Entry P)) → Follows words Bars opening log → (n : ℕ) (a : Ask) → under_way (run_of log) n ≡ Some a → (o : Owner) × (owner_of log n ≡ Some o) × (o.ask ≡ a)
-  way_owner log f n a e = asked_some (owner_of log n) a (sym (same_way log f n) ∙ e)
+  pub way_owner : (version : List ℕ) (log : List (Entry P)) → Follows words Bars opening version log → (n : ℕ) (a : Ask) → under_way (run_of log) n ≡ Some a → (o : Owner) × (owner_of log n ≡ Some o) × (o.ask ≡ a)
+  way_owner version log f n a e = asked_some (owner_of log n) a (sym (same_way version log f n) ∙ e)
 
   -- less may still come
   pub like_more : (log : List (Entry P)) (old new : OverlapState P) → LeadsTo words Bars opening log old → IsLike new old → LeadsTo words Bars opening log new
   like_more log old new h l =
       record {
-        follows = h.follows;
+        follows = subst (λ v. Follows words Bars opening v log) (sym l.version) h.follows;
         front = λ c. l.front c ∙ h.front c;
         queue = λ c. l.queue c ∙ h.queue c;
-        output = λ c. ap (λ o. given_of log c ++ o) (l.output c) ∙ h.output c;
+        output = λ c. ap (λ o. given_of log c ++ o) (l.output c) ∙ h.output c ∙ ap (λ v. output_of v log c) (sym l.version);
         dropped = λ c. l.dropped c ∙ h.dropped c;
         new = subst (λ n. IsNewNumber (n + 1) (run_of log)) (sym l.number) h.new;
         count = l.number ∙ h.count;
@@ -171,7 +171,7 @@ module _ {P : Protocol} (words : Words) (Bars : ℕ → Ask → ℕ → Ask → 
       ] in
       let apart : IsApart Bars run number part.ask =
       λ other ask way same.
-      let o = way_owner log h.follows other ask way in
+      let o = way_owner old.version log h.follows other ask way in
       let two = may.2 other o.0 (h.owner other ∙ o.1) (ap (λ (a : Ask). a.key) o.2 ∙ same) in
       ((λ bars. two.0 (subst (λ a. Bars number part.ask other a) (sym o.2) bars)), (λ bars. two.1 (subst (λ a. Bars other a number part.ask) (sym o.2) bars))) in
       record {
@@ -217,7 +217,7 @@ module _ {P : Protocol} (words : Words) (Bars : ℕ → Ask → ℕ → Ask → 
       let call : Call = record { server = server; ask = ask; origin = origin; outcome = outcome_of end } in
       let own = may.owner.ask in
       let calls = calls_so_far run number in
-      let way : under_way run number ≡ Some own = owner_way log h.follows number may.owner (sym (h.owner number) ∙ may.held) in
+      let way : under_way run number ≡ Some own = owner_way old.version log h.follows number may.owner (sym (h.owner number) ∙ may.held) in
       let front : IsFront words number own (calls ++ call ∷ []) =
       (may.more, may.reply, may.from, subst (λ l. words number own l may.reply may.from) (sym (append_assoc calls (call ∷ []) may.more)) (h.to_come number may.owner may.held (call ∷ may.more) may.reply may.from may.to_come)) in
       let called_to_come : (n : ℕ) (x : Owner) → old.owner n ≡ Some x → (calls : List Call) (reply : Answer) (from : Option ℕ) → Either (nat_eq number n) (old.to_come n (call ∷ calls) reply from) (old.to_come n calls reply from) → words n x.ask (cond (nat_eq number n) (calls_so_far run n ++ call ∷ []) (calls_so_far run n) ++ calls) reply from =
@@ -294,7 +294,7 @@ module _ {P : Protocol} (words : Words) (Bars : ℕ → Ask → ℕ → Ask → 
   ends_more log old client number part reply from h may =
       let run = run_of log in
       let me : Owner = record { client = client; ask = part.ask } in
-      let way : under_way run number ≡ Some part.ask = owner_way log h.follows number me (sym (h.owner number) ∙ may.0) in
+      let way : under_way run number ≡ Some part.ask = owner_way old.version log h.follows number me (sym (h.owner number) ∙ may.0) in
       let word : words number part.ask (calls_so_far run number) reply from = subst (λ l. words number part.ask l reply from) (append-nil (calls_so_far run number)) (h.to_come number me may.0 [] reply from may.1) in
       record {
         follows = (((part.ask, way, refl, word), sym (h.owner number) ∙ may.0, ap (λ q. slot_in q number) (sym (h.queue client)) ∙ may.2, λ more. subst (λ (x : Front P). P.Reads x.place part.message part.next) (h.front client) (may.3 more), (λ s. ap (λ l. ticket_in l number) (sym (h.out s)) ∙ may.4 s), sym (h.dropped client) ∙ may.5), h.follows);
@@ -319,7 +319,7 @@ module _ {P : Protocol} (words : Words) (Bars : ℕ → Ask → ℕ → Ask → 
         follows = (((may.0.0, sym (h.queue client) ∙ may.0.1), may.1, sym (h.dropped client) ∙ may.2), h.follows);
         front = h.front;
         queue = λ c. ap (λ v. cond (nat_eq client c) (behind_head v) v) (h.queue c);
-        output = λ c. out_more (nat_eq client c) (given_of log c) (old.output c) (output_of log c) (P.shown slot.message slot.index reply) (h.output c);
+        output = λ c. out_more (nat_eq client c) (given_of log c) (old.output c) (output_of old.version log c) (P.shown slot.message slot.index reply) (h.output c);
         dropped = h.dropped;
         new = h.new;
         count = h.count;
@@ -338,7 +338,7 @@ module _ {P : Protocol} (words : Words) (Bars : ℕ → Ask → ℕ → Ask → 
         follows = ((subst (λ (x : Front P). P.Reads x.place message next) (h.front client) may.0, may.1, sym (h.queue client) ∙ may.2, sym (h.dropped client) ∙ may.3), h.follows);
         front = λ c. ap (λ v. cond {A = Front P} (nat_eq client c) (record { place = next; index = 0; waits = false }) v) (h.front c);
         queue = h.queue;
-        output = λ c. out_more (nat_eq client c) (given_of log c) (old.output c) (output_of log c) (P.passed message) (h.output c);
+        output = λ c. out_more (nat_eq client c) (given_of log c) (old.output c) (output_of old.version log c) (P.passed old.version message) (h.output c);
         dropped = h.dropped;
         new = h.new;
         count = h.count;
@@ -353,13 +353,13 @@ module _ {P : Protocol} (words : Words) (Bars : ℕ → Ask → ℕ → Ask → 
 
   pub gives_more : (log : List (Entry P)) (old : OverlapState P) (client : ℕ) (bytes : List ℕ) → LeadsTo words Bars opening log old → MayStep Bars old (Gives client bytes) → LeadsTo words Bars opening (Gives client bytes ∷ log) (after words (Gives client bytes) old)
   gives_more log old client bytes h may =
-      let all : given_of log client ++ bytes ≡ output_of log client = ap (λ l. given_of log client ++ l) may ∙ h.output client in
+      let all : given_of log client ++ bytes ≡ output_of old.version log client = ap (λ l. given_of log client ++ l) may ∙ h.output client in
       record {
         follows = (all, h.follows);
         front = h.front;
         queue = h.queue;
-        output = λ c. (elim (nat_eq client c) as (λ b. nat_eq client c ≡ b → cond b (given_of log c ++ bytes) (given_of log c) ++ cond b [] (old.output c) ≡ output_of log c) [
-          | true ↦ λ same. append-nil (given_of log c ++ bytes) ∙ subst (λ d. given_of log d ++ bytes ≡ output_of log d) (eqb-true client c same) all
+        output = λ c. (elim (nat_eq client c) as (λ b. nat_eq client c ≡ b → cond b (given_of log c ++ bytes) (given_of log c) ++ cond b [] (old.output c) ≡ output_of old.version log c) [
+          | true ↦ λ same. append-nil (given_of log c ++ bytes) ∙ subst (λ d. given_of log d ++ bytes ≡ output_of old.version log d) (eqb-true client c same) all
           | false ↦ λ _. h.output c
         ]) refl;
         dropped = h.dropped;
@@ -395,7 +395,7 @@ module _ {P : Protocol} (words : Words) (Bars : ℕ → Ask → ℕ → Ask → 
 
   pub frees_more : (log : List (Entry P)) (old : OverlapState P) (number : ℕ) → LeadsTo words Bars opening log old → MayStep Bars old (Frees number) → LeadsTo words Bars opening (Frees number ∷ log) (after words (Frees number) old)
   frees_more log old number h may =
-      let way : under_way (run_of log) number ≡ Some may.0.0.ask = owner_way log h.follows number may.0.0 (sym (h.owner number) ∙ may.0.1) in
+      let way : under_way (run_of log) number ≡ Some may.0.0.ask = owner_way old.version log h.follows number may.0.0 (sym (h.owner number) ∙ may.0.1) in
       record {
         follows = (((may.0.0.ask, way), (may.0.0, sym (h.owner number) ∙ may.0.1, sym (h.dropped may.0.0.client) ∙ may.0.2), (λ s. ap (λ l. ticket_in l number) (sym (h.out s)) ∙ may.1 s)), h.follows);
         front = h.front;
@@ -419,7 +419,7 @@ module _ {P : Protocol} (words : Words) (Bars : ℕ → Ask → ℕ → Ask → 
         follows = ((λ n x e. may n x (h.owner n ∙ e)), h.follows);
         front = λ c. ap (λ v. cond (nat_eq client c) (start_front) v) (h.front c);
         queue = λ c. ap (λ v. cond (nat_eq client c) ([]) v) (h.queue c);
-        output = λ c. elim (nat_eq client c) as (λ b. cond b [] (given_of log c) ++ cond b [] (old.output c) ≡ cond b [] (output_of log c)) [
+        output = λ c. elim (nat_eq client c) as (λ b. cond b [] (given_of log c) ++ cond b [] (old.output c) ≡ cond b [] (output_of old.version log c)) [
           | true ↦ refl
           | false ↦ h.output c
         ];

@@ -24,9 +24,9 @@ new_up n m (Replies x k r f ∷ past) le h = ((let lt = h.0 in omega (arith, lt,
 new_up n m (Turns s k turned ∷ past) le h = new_up n m past le h
 new_up n m (Restarts s ∷ past) le h = new_up n m past le h
 
-module _ {P : Protocol} (words : Words) (Bars : ℕ → Ask → ℕ → Ask → Type 0) (opening : ℕ → List ℕ → Option Item) where
+module _ {P : Protocol} (words : Words) (Bars : ℕ → Ask → ℕ → Ask → Type 0) (opening : ℕ → List ℕ → Option Item) (version : List ℕ) where
   -- numbers are counted
-  pub new_by_count : (log : List (Entry P)) → Follows words Bars opening log → IsNewNumber (commands_in (run_of log) + 1) (run_of log)
+  pub new_by_count : (log : List (Entry P)) → Follows words Bars opening version log → IsNewNumber (commands_in (run_of log) + 1) (run_of log)
   new_by_count [] f = omega arith
   new_by_count (Feeds c b ∷ log) f = new_by_count log f.1
   new_by_count (Starts c n part ∷ log) f =
@@ -47,19 +47,19 @@ module _ {P : Protocol} (words : Words) (Bars : ℕ → Ask → ℕ → Ask → 
   new_by_count (Frees n ∷ log) f = (way_below _ (run_of log) n f.0.0.0 (new_by_count log f.1) f.0.0.1, new_by_count log f.1)
   new_by_count (Resets c ∷ log) f = new_by_count log f.1
 
-  lost_follows : (losses : List Loss) (log : List (Entry P)) → Follows words Bars opening log → Follows words Bars opening (entries_by losses log)
+  lost_follows : (losses : List Loss) (log : List (Entry P)) → Follows words Bars opening version log → Follows words Bars opening version (entries_by losses log)
   lost_follows [] log f = f
   lost_follows (Lose s k ∷ losses) log f = lost_follows losses (Happens (Turns s k None) ∷ log) (tt, f)
   lost_follows (Restart s ∷ losses) log f = lost_follows losses (Happens (Restarts s) ∷ log) (tt, f)
 
-  one_lost : (loss : Loss) (log : List (Entry P)) → Follows words Bars opening log → Follows words Bars opening (Happens (lost_by loss) ∷ log)
+  one_lost : (loss : Loss) (log : List (Entry P)) → Follows words Bars opening version log → Follows words Bars opening version (Happens (lost_by loss) ∷ log)
   one_lost (Lose s k) log f = (tt, f)
   one_lost (Restart s) log f = (tt, f)
 
 lower : (count n : ℕ) → n < count + 1 → nat_lt count n ≡ false
 lower count n lt = le-ltb count n (let x = lt in omega arith)
 
-module _ {P : Protocol} {T : Type 0} (first : T) (words_of : T → Words) (Bars : ℕ → Ask → ℕ → Ask → Type 0) (opening : ℕ → List ℕ → Option Item) (depth window : ℕ) (text_of : Ask → Answer → List ℕ) (MaySpill : List (Line P T) → ℕ → List ℕ → Type 0) where
+module _ {P : Protocol} {T : Type 0} (first : T) (words_of : T → Words) (Bars : ℕ → Ask → ℕ → Ask → Type 0) (opening : ℕ → List ℕ → Option Item) (version : List ℕ) (depth window : ℕ) (text_of : Ask → Answer → List ℕ) (MaySpill : List (Line P T) → ℕ → List ℕ → Type 0) where
   abbrev words : List (Line P T) → Words
   words log = words_in first words_of log
 
@@ -69,7 +69,7 @@ module _ {P : Protocol} {T : Type 0} (first : T) (words_of : T → Words) (Bars 
       subst (λ b. words_of (cond b tree (tree_at first log n)) n ask calls reply from) (sym (lower (commands_in (run_of (core_of log))) n lt)) w
 
   -- the core's log follows
-  pub script_follows : (log : List (Line P T)) → IsScript first words_of Bars opening depth window text_of MaySpill log → Follows (words log) Bars opening (core_of log)
+  pub script_follows : (log : List (Line P T)) → IsScript first words_of Bars opening version depth window text_of MaySpill log → Follows (words log) Bars opening version (core_of log)
   script_follows [] h = tt
   script_follows (Takes (Piece c b) ∷ log) h = script_follows log h.1
   script_follows (Takes (Add c b) ∷ log) h = script_follows log h.1
@@ -77,14 +77,14 @@ module _ {P : Protocol} {T : Type 0} (first : T) (words_of : T → Words) (Bars 
   script_follows (Takes (Fail t m) ∷ log) h = script_follows log h.1
   script_follows (Takes (Hold s k b) ∷ log) h = script_follows log h.1
   script_follows (Takes (At t l) ∷ log) h = script_follows log h.1
-  script_follows (Takes (Now l) ∷ log) h = one_lost (words log) Bars opening l (core_of log) (script_follows log h.1)
+  script_follows (Takes (Now l) ∷ log) h = one_lost (words log) Bars opening version l (core_of log) (script_follows log h.1)
   script_follows (Takes (Moment m) ∷ log) h = script_follows log h.1
   script_follows (Takes (Reload t) ∷ log) h = script_follows log h.1
-  script_follows (Results n s a o e ∷ log) h = (h.0.0, lost_follows (words log) Bars opening (losses_of log (made_in log + 1)) (core_of log) (script_follows log h.1))
+  script_follows (Results n s a o e ∷ log) h = (h.0.0, lost_follows (words log) Bars opening version (losses_of log (made_in log + 1)) (core_of log) (script_follows log h.1))
   script_follows (Spills s k ∷ log) h = (tt, script_follows log h.1)
   script_follows (Loads tree ∷ log) h =
       let f = script_follows log h.1 in
-      follows_kept (words log) (words (Loads tree ∷ log)) Bars Bars opening (commands_in (run_of (core_of log)) + 1) (loads_kept tree log) (λ n other ask client low lower bars. bars) (core_of log) (new_by_count (words log) Bars opening (core_of log) f) f
+      follows_kept (words log) (words (Loads tree ∷ log)) Bars Bars opening version (commands_in (run_of (core_of log)) + 1) (loads_kept tree log) (λ n other ask client low lower bars. bars) (core_of log) (new_by_count (words log) Bars opening version (core_of log) f) f
   script_follows (Does entry ∷ log) h = (h.0.2, script_follows log h.1)
 
   lost_stream : (losses : List Loss) (log : List (Entry P)) (c : ℕ) → stream_of (entries_by losses log) c ≡ stream_of log c
@@ -109,7 +109,7 @@ module _ {P : Protocol} {T : Type 0} (first : T) (words_of : T → Words) (Bars 
   does_stream (Resets a) log c p = absurd p
 
   -- a client's stream is what was fed of what the script says
-  pub script_streams : (log : List (Line P T)) → IsScript first words_of Bars opening depth window text_of MaySpill log → (c : ℕ) → stream_of (core_of log) c ≡ fed_of log c
+  pub script_streams : (log : List (Line P T)) → IsScript first words_of Bars opening version depth window text_of MaySpill log → (c : ℕ) → stream_of (core_of log) c ≡ fed_of log c
   script_streams [] h c = refl
   script_streams (Takes (Piece d b) ∷ log) h c = script_streams log h.1 c
   script_streams (Takes (Add d b) ∷ log) h c = script_streams log h.1 c
@@ -148,7 +148,7 @@ module _ {P : Protocol} {T : Type 0} (first : T) (words_of : T → Words) (Bars 
   does_made (Resets a) log p = refl
 
   -- turns count the run's calls
-  pub script_turns : (log : List (Line P T)) → IsScript first words_of Bars opening depth window text_of MaySpill log → calls_in (run_of (core_of log)) ≡ made_in log
+  pub script_turns : (log : List (Line P T)) → IsScript first words_of Bars opening version depth window text_of MaySpill log → calls_in (run_of (core_of log)) ≡ made_in log
   script_turns [] h = refl
   script_turns (Takes (Piece d b) ∷ log) h = script_turns log h.1
   script_turns (Takes (Add d b) ∷ log) h = script_turns log h.1
@@ -187,7 +187,7 @@ module _ {P : Protocol} {T : Type 0} (first : T) (words_of : T → Words) (Bars 
   does_loses (Resets a) log p l = l
 
   -- nobody but the core writes the servers of a script
-  pub script_loses : (log : List (Line P T)) → IsScript first words_of Bars opening depth window text_of MaySpill log → LosesOnly (run_of (core_of log))
+  pub script_loses : (log : List (Line P T)) → IsScript first words_of Bars opening version depth window text_of MaySpill log → LosesOnly (run_of (core_of log))
   script_loses [] h = tt
   script_loses (Takes (Piece d b) ∷ log) h = script_loses log h.1
   script_loses (Takes (Add d b) ∷ log) h = script_loses log h.1

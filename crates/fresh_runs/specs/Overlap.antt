@@ -174,20 +174,20 @@ module _ {P : Protocol} where
   queue_of (Frees number ∷ log) c = queue_of log c
   queue_of (Resets client ∷ log) c = if nat_eq client c then [] else queue_of log c
 
-  -- its output
-  abbrev pub output_of : List (Entry P) → ℕ → List ℕ
-  output_of [] c = []
-  output_of (Feeds client bytes ∷ log) c = output_of log c
-  output_of (Starts client number part ∷ log) c = output_of log c
-  output_of (Sends number server ask origin ∷ log) c = output_of log c
-  output_of (Happens event ∷ log) c = output_of log c
-  output_of (Ends client number part reply from ∷ log) c = output_of log c
-  output_of (Shows client slot reply ∷ log) c = if nat_eq client c then output_of log c ++ P.shown slot.message slot.index reply else output_of log c
-  output_of (Passes client message next ∷ log) c = if nat_eq client c then output_of log c ++ P.passed message else output_of log c
-  output_of (Gives client bytes ∷ log) c = output_of log c
-  output_of (Drops client ∷ log) c = output_of log c
-  output_of (Frees number ∷ log) c = output_of log c
-  output_of (Resets client ∷ log) c = if nat_eq client c then [] else output_of log c
+  -- its output, where the proxy's version is this text
+  abbrev pub output_of : List ℕ → List (Entry P) → ℕ → List ℕ
+  output_of version [] c = []
+  output_of version (Feeds client bytes ∷ log) c = output_of version log c
+  output_of version (Starts client number part ∷ log) c = output_of version log c
+  output_of version (Sends number server ask origin ∷ log) c = output_of version log c
+  output_of version (Happens event ∷ log) c = output_of version log c
+  output_of version (Ends client number part reply from ∷ log) c = output_of version log c
+  output_of version (Shows client slot reply ∷ log) c = if nat_eq client c then output_of version log c ++ P.shown slot.message slot.index reply else output_of version log c
+  output_of version (Passes client message next ∷ log) c = if nat_eq client c then output_of version log c ++ P.passed version message else output_of version log c
+  output_of version (Gives client bytes ∷ log) c = output_of version log c
+  output_of version (Drops client ∷ log) c = output_of version log c
+  output_of version (Frees number ∷ log) c = output_of version log c
+  output_of version (Resets client ∷ log) c = if nat_eq client c then [] else output_of version log c
 
   -- what it was given
   abbrev pub given_of : List (Entry P) → ℕ → List ℕ
@@ -272,6 +272,7 @@ module _ {P : Protocol} where
     MayHappen log (Replies number key reply from) = ⊥
     MayHappen log (Breaks number) = ⊥
 
+  module _ (words : Words) (Bars : ℕ → Ask → ℕ → Ask → Type 0) (opening : ℕ → List ℕ → Option Item) (version : List ℕ) where
     -- the entry may come after the log
     abbrev pub MayFollow : List (Entry P) → Entry P → Type 0
     MayFollow log (Feeds client bytes) = is_dropped log client ≡ false
@@ -285,7 +286,7 @@ module _ {P : Protocol} where
     -- a command has one call out at a time
     MayFollow log (Sends number server ask origin) =
         ((owner : Owner) × (owner_of log number ≡ Some owner) × (ask.key ≡ owner.ask.key)) × IsIn log number
-    MayFollow log (Happens event) = MayHappen log event
+    MayFollow log (Happens event) = MayHappen words Bars opening log event
     -- the reply is the run's, and comes after the last call
     MayFollow log (Ends client number part reply from) =
         MayCome words Bars opening (run_of log) (Replies number part.ask.key reply from)
@@ -300,7 +301,7 @@ module _ {P : Protocol} where
     MayFollow log (Passes client message next) =
         P.Reads (front_of log client).place message next × (P.asks_of message ≡ []) × (queue_of log client ≡ []) × (is_dropped log client ≡ false)
     -- all new output
-    MayFollow log (Gives client bytes) = given_of log client ++ bytes ≡ output_of log client
+    MayFollow log (Gives client bytes) = given_of log client ++ bytes ≡ output_of version log client
     MayFollow log (Drops client) = Unit {0}
     -- a command isn't broken off while its call is out
     MayFollow log (Frees number) =
@@ -315,8 +316,8 @@ module _ {P : Protocol} where
     Follows (entry ∷ log) = MayFollow log entry × Follows log
 
   -- nothing is left to do: no whole message, no command under way, no reply not shown, no output that wasn't given
-  pub record IsSettled (log : List (Entry P)) : Type 0 where
+  pub record IsSettled (version : List ℕ) (log : List (Entry P)) : Type 0 where
     pub stuck : (c : ℕ) → IsStuck P (front_of log c).place
     pub shown : (c : ℕ) → queue_of log c ≡ []
-    pub given : (c : ℕ) → given_of log c ≡ output_of log c
+    pub given : (c : ℕ) → given_of log c ≡ output_of version log c
     pub free : (n : ℕ) → owner_of log n ≡ None

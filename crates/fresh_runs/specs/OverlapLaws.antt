@@ -20,32 +20,32 @@ AreKept below old new = (number : ℕ) (ask : Ask) (calls : List Call) (reply : 
 module _ (P : Protocol) (words : Words) (Bars : ℕ → Ask → ℕ → Ask → Type 0) (opening : ℕ → List ℕ → Option Item) where
   -- a log that follows has a run
   abbrev pub OverlapHasRun : Type 0
-  OverlapHasRun = (log : List (Entry P)) → Follows words Bars opening log → Run words Bars opening (run_of log)
+  OverlapHasRun = (version : List ℕ) (log : List (Entry P)) → Follows words Bars opening version log → Run words Bars opening (run_of log)
 
   -- the messages of a client that ask nothing more are those of all its bytes joined, in whatever pieces, and lead to where its reader stands
   abbrev pub OverlapReadsStreams : Type 0
-  OverlapReadsStreams = IsReader P → (log : List (Entry P)) → Follows words Bars opening log → (c : ℕ) → Goes P (P.fed P.start (stream_of log c)) (messages_of log c) (front_of log c).place
+  OverlapReadsStreams = IsReader P → (version : List ℕ) (log : List (Entry P)) → Follows words Bars opening version log → (c : ℕ) → Goes P (P.fed P.start (stream_of log c)) (messages_of log c) (front_of log c).place
 
   -- at any time a client's output is what its messages that were done and their replies show, and then the first replies of one more message; the done messages are the first of its messages
-  pub record WritesSoFar (log : List (Entry P)) (c : ℕ) : Type 0 where
+  pub record WritesSoFar (version : List ℕ) (log : List (Entry P)) (c : ℕ) : Type 0 where
     pub rest : List ℕ
-    pub output : output_of log c ≡ written_all P (done_of log c) ++ rest
+    pub output : output_of version log c ≡ written_all P version (done_of log c) ++ rest
     pub whole : AreWhole P (done_of log c)
     pub begun : (replies_of log c ≡ [] → rest ≡ []) × ((replies_of log c ≡ [] → ⊥) → (message : P.Message) × (rest ≡ written_from P message 0 (replies_of log c)) × NoneEnds P message 0 (replies_of log c))
     pub messages : messages_of log c ≡ map (λ (d : Done P). d.message) (done_of log c) ++ over_in (queue_of log c)
 
   abbrev pub OverlapWritesSoFar : Type 0
-  OverlapWritesSoFar = IsReader P → EndsWithLast P → (log : List (Entry P)) → Follows words Bars opening log → (c : ℕ) → WritesSoFar log c
+  OverlapWritesSoFar = IsReader P → EndsWithLast P → (version : List ℕ) (log : List (Entry P)) → Follows words Bars opening version log → (c : ℕ) → WritesSoFar version log c
 
   -- where nothing is left to do, these are all its messages, and it was given what they and the replies of their commands show, and nothing else
-  pub record WritesAll (log : List (Entry P)) (c : ℕ) : Type 0 where
+  pub record WritesAll (version : List ℕ) (log : List (Entry P)) (c : ℕ) : Type 0 where
     pub splits : Splits P (stream_of log c) (messages_of log c) (front_of log c).place
-    pub given : given_of log c ≡ written_all P (done_of log c)
+    pub given : given_of log c ≡ written_all P version (done_of log c)
     pub whole : AreWhole P (done_of log c)
     pub messages : messages_of log c ≡ map (λ (d : Done P). d.message) (done_of log c)
 
   abbrev pub OverlapWritesAll : Type 0
-  OverlapWritesAll = IsReader P → EndsWithLast P → (log : List (Entry P)) → Follows words Bars opening log → IsSettled log → (c : ℕ) → WritesAll log c
+  OverlapWritesAll = IsReader P → EndsWithLast P → (version : List ℕ) (log : List (Entry P)) → Follows words Bars opening version log → IsSettled version log → (c : ℕ) → WritesAll version log c
 
   -- the replies that a client was shown are those of its commands in the run, in the order in which it asked them
   pub record RepliesInOrder (log : List (Entry P)) (c : ℕ) : Type 0 where
@@ -53,33 +53,33 @@ module _ (P : Protocol) (words : Words) (Bars : ℕ → Ask → ℕ → Ask → 
     pub order : map (λ (s : Slot P). s.number) (shown_slots log c ++ queue_of log c) ≡ begun_by log c
 
   abbrev pub OverlapRepliesInOrder : Type 0
-  OverlapRepliesInOrder = (log : List (Entry P)) → Follows words Bars opening log → (c : ℕ) → RepliesInOrder log c
+  OverlapRepliesInOrder = (version : List ℕ) (log : List (Entry P)) → Follows words Bars opening version log → (c : ℕ) → RepliesInOrder log c
 
   -- where deletes clear what later commands take, what copies bars deletes of its key, and nobody else writes the servers, its run is fresh, however commands overlap
   abbrev pub OverlapIsFresh : Type 0
-  OverlapIsFresh = IsCovered words → CopiesBar words Bars → (log : List (Entry P)) → LosesOnly (run_of log) → Follows words Bars opening log → IsFresh opening (run_of log)
+  OverlapIsFresh = IsCovered words → CopiesBar words Bars → (version : List ℕ) (log : List (Entry P)) → LosesOnly (run_of log) → Follows words Bars opening version log → IsFresh opening (run_of log)
 
   -- where each command has its key alone too, its run is fresh by numbers: later is a greater number
   abbrev pub OverlapIsFreshByNumber : Type 0
-  OverlapIsFreshByNumber = IsCovered words → AreAlone Bars → (log : List (Entry P)) → LosesOnly (run_of log) → Follows words Bars opening log → IsFreshByNumber opening (run_of log)
+  OverlapIsFreshByNumber = IsCovered words → AreAlone Bars → (version : List ℕ) (log : List (Entry P)) → LosesOnly (run_of log) → Follows words Bars opening version log → IsFreshByNumber opening (run_of log)
 
   -- where each command has its key alone, stale replies are counted by the last acknowledged delete of a key; there are none where deletes clear what later commands take and nobody else writes the servers
   abbrev pub OverlapCountsStale : Type 0
   OverlapCountsStale =
-      AreAlone Bars → (log : List (Entry P)) → Follows words Bars opening log
+      AreAlone Bars → (version : List ℕ) (log : List (Entry P)) → Follows words Bars opening version log
       → (stale_in opening (run_of log) ≡ tally_of opening (run_of log)) × (IsCovered words → LosesOnly (run_of log) → stale_in opening (run_of log) ≡ 0)
 
   -- a command of a client that isn't dropped is under way until it has its reply: once begun it waits for no other command
   abbrev pub OverlapKeepsOn : Type 0
   OverlapKeepsOn =
-      (log : List (Entry P)) → Follows words Bars opening log → (c : ℕ) → is_dropped log c ≡ false
+      (version : List ℕ) (log : List (Entry P)) → Follows words Bars opening version log → (c : ℕ) → is_dropped log c ≡ false
       → (i : ℕ) (slot : Slot P) → slice_get (queue_of log c) i ≡ Some slot → slot.reply ≡ None
       → owner_of log slot.number ≡ Some (record { client = c; ask = slot.ask })
 
   -- a client has one command on a key under way at a time
   abbrev pub OverlapKeepsOrder : Type 0
   OverlapKeepsOrder =
-      (log : List (Entry P)) → Follows words Bars opening log → (a b : ℕ) (x y : Owner) → owner_of log a ≡ Some x → owner_of log b ≡ Some y → x.client ≡ y.client → x.ask.key ≡ y.ask.key → a ≡ b
+      (version : List ℕ) (log : List (Entry P)) → Follows words Bars opening version log → (a b : ℕ) (x y : Owner) → owner_of log a ≡ Some x → owner_of log b ≡ Some y → x.client ≡ y.client → x.ask.key ≡ y.ask.key → a ≡ b
 
 -- a protocol, words, opening items, and two moments
 pub record Course : Type 1 where
@@ -130,6 +130,7 @@ no_standing P =
       holds = λ s k. None;
       found = λ n. [];
       turn = 0;
+      version = [];
     }
 
 abbrev pub no_course : Course

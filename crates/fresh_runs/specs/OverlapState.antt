@@ -31,6 +31,8 @@ pub record OverlapState (P : Protocol) : Type 1 where
   pub holds : ℕ → List ℕ → Option Item
   pub found : ℕ → List (Option Item)
   pub turn : ℕ
+  -- the text of the proxy's version, which stays
+  pub version : List ℕ
 
 -- one of two, by a test
 abbrev pub Either : Bool → Type 0 → Type 0 → Type 0
@@ -100,7 +102,7 @@ module _ {P : Protocol} where
   after words (Passes client message next) now =
       record now {
         front = λ c. if nat_eq client c then record { place = next; index = 0; waits = false } else now.front c;
-        output = λ c. if nat_eq client c then now.output c ++ P.passed message else now.output c;
+        output = λ c. if nat_eq client c then now.output c ++ P.passed now.version message else now.output c;
       }
   after words (Gives client bytes) now = record now { output = λ c. if nat_eq client c then [] else now.output c }
   after words (Drops client) now = record now { dropped = λ c. if nat_eq client c then true else now.dropped c }
@@ -180,6 +182,7 @@ module _ {P : Protocol} where
     pub holds : (s : ℕ) (k : List ℕ) → new.holds s k ≡ old.holds s k
     pub found : (n : ℕ) (o : Owner) → new.owner n ≡ Some o → new.found n ≡ old.found n
     pub turn : new.turn ≡ old.turn
+    pub version : new.version ≡ old.version
 
   -- the entry comes, and leads there
   pub record Steps (words : Words) (Bars : ℕ → Ask → ℕ → Ask → Type 0) (old : OverlapState P) (entry : Entry P) (new : OverlapState P) : Type 0 where
@@ -202,10 +205,10 @@ module _ {P : Protocol} where
   module _ (words : Words) (Bars : ℕ → Ask → ℕ → Ask → Type 0) (opening : ℕ → List ℕ → Option Item) where
     -- this log leads there
     pub record LeadsTo (log : List (Entry P)) (now : OverlapState P) : Type 0 where
-      pub follows : Follows words Bars opening log
+      pub follows : Follows words Bars opening now.version log
       pub front : (c : ℕ) → now.front c ≡ front_of log c
       pub queue : (c : ℕ) → now.queue c ≡ queue_of log c
-      pub output : (c : ℕ) → given_of log c ++ now.output c ≡ output_of log c
+      pub output : (c : ℕ) → given_of log c ++ now.output c ≡ output_of now.version log c
       pub dropped : (c : ℕ) → now.dropped c ≡ is_dropped log c
       pub new : IsNewNumber (now.number + 1) (run_of log)
       pub count : now.number ≡ commands_in (run_of log)

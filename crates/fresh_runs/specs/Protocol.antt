@@ -17,8 +17,8 @@ pub record Protocol : Type 1 where
   pub Reads : Place → Message → Place → Type 0
   -- the asks of one key each, in order; none for a message that asks no server
   pub asks_of : Message → List Ask
-  -- what is shown for a message that asks no server
-  pub passed : Message → List ℕ
+  -- what is shown for a message that asks no server, where the proxy's version is this text
+  pub passed : List ℕ → Message → List ℕ
   -- what is shown when the command of the i-th key, counted from 0, has this reply; nothing where it is hidden
   pub shown : Message → ℕ → Answer → List ℕ
   -- whether the message is done with that reply: its last key's, or an error after which no key is asked
@@ -59,7 +59,7 @@ silence =
       fed = λ place more. place ++ more;
       Reads = λ place message next. ⊥;
       asks_of = λ message. [];
-      passed = λ message. [];
+      passed = λ version message. [];
       shown = λ message index reply. [];
       ends = λ message index reply. true;
     }

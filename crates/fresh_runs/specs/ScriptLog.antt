@@ -225,7 +225,7 @@ module _ {P : Protocol} {T : Type 0} where
       abbrev pub words_in : List (Line P T) → Words
       words_in log number = words_of (tree_at log number) number
 
-module _ {P : Protocol} {T : Type 0} (first : T) (words_of : T → Words) (Bars : ℕ → Ask → ℕ → Ask → Type 0) (opening : ℕ → List ℕ → Option Item) (depth window : ℕ) (text_of : Ask → Answer → List ℕ) (MaySpill : List (Line P T) → ℕ → List ℕ → Type 0) where
+module _ {P : Protocol} {T : Type 0} (first : T) (words_of : T → Words) (Bars : ℕ → Ask → ℕ → Ask → Type 0) (opening : ℕ → List ℕ → Option Item) (version : List ℕ) (depth window : ℕ) (text_of : Ask → Answer → List ℕ) (MaySpill : List (Line P T) → ℕ → List ℕ → Type 0) where
   -- a call ends as it was named, and is answered where it wasn't; an answer that isn't cut short is read
   abbrev pub EndsAs : Ask → Option Manner → End → Type 0
   EndsAs ask None (Read stamp answer spaces) = Unit {0}
@@ -269,7 +269,7 @@ module _ {P : Protocol} {T : Type 0} (first : T) (words_of : T → Words) (Bars 
 
   -- nothing can go on by itself any more, and each client was given its output
   abbrev pub IsQuiet : Words → List (Entry P) → Type 0
-  IsQuiet words log = IsStill words log × ((c : ℕ) → given_of log c ≡ output_of log c)
+  IsQuiet words log = IsStill words log × ((c : ℕ) → given_of log c ≡ output_of version log c)
 
   -- after `>` no call stays out
   abbrev pub IsOver : Option (Scripted T) → List (Entry P) → Type 0
@@ -290,14 +290,14 @@ module _ {P : Protocol} {T : Type 0} (first : T) (words_of : T → Words) (Bars 
   abbrev pub MayBe : List (Line P T) → Line P T → Type 0
   MayBe log (Takes event) = IsQuiet (words_in first words_of log) (core_of log) × IsOver (latest log) (core_of log) × IsMade (current log) (core_of log) × ((c : ℕ) → fed_of log c ≡ said_of log c)
   MayBe log (Results number server ask origin end) =
-      MayFollow (words_in first words_of log) Bars opening (entries_by (losses_of log (made_in log + 1)) (core_of log)) (Happens (Calls number server ask origin end))
+      MayFollow (words_in first words_of log) Bars opening version (entries_by (losses_of log (made_in log + 1)) (core_of log)) (Happens (Calls number server ask origin end))
       × EndsAs ask (named_in log (made_in log + 1)) end
       × IsAwaited (current log) (latest log) (core_of log) server
       × IsStill (words_in first words_of log) (core_of log)
       × ((rest : List Ticket) × (out_of (core_of log) server ≡ record { number = number; ask = ask; origin = origin } ∷ rest))
   MayBe log (Spills server key) = MaySpill log server key
   MayBe log (Loads tree) = current log ≡ Some (Reload tree)
-  MayBe log (Does entry) = IsPlain entry × IsSaid log entry × MayFollow (words_in first words_of log) Bars opening (core_of log) entry
+  MayBe log (Does entry) = IsPlain entry × IsSaid log entry × MayFollow (words_in first words_of log) Bars opening version (core_of log) entry
 
   abbrev pub IsScript : List (Line P T) → Type 0
   IsScript [] = Unit {0}

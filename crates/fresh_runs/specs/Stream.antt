@@ -14,15 +14,15 @@ module _ (P : Protocol) where
   written_from message i [] = []
   written_from message i (reply ∷ replies) = P.shown message i reply ++ written_from message (i + 1) replies
 
-  -- what is shown for a message and its replies
-  abbrev pub written : P.Message → List Answer → List ℕ
-  written message [] = P.passed message
-  written message (reply ∷ replies) = written_from message 0 (reply ∷ replies)
+  -- what is shown for a message and its replies, where the proxy's version is this text
+  abbrev pub written : List ℕ → P.Message → List Answer → List ℕ
+  written version message [] = P.passed version message
+  written version message (reply ∷ replies) = written_from message 0 (reply ∷ replies)
 
   -- what is shown for messages and their replies
-  abbrev pub written_all : List (Done P) → List ℕ
-  written_all [] = []
-  written_all (done ∷ more) = written done.message done.replies ++ written_all more
+  abbrev pub written_all : List ℕ → List (Done P) → List ℕ
+  written_all version [] = []
+  written_all version (done ∷ more) = written version done.message done.replies ++ written_all version more
 
   -- none of these replies ends the message
   abbrev pub NoneEnds : P.Message → ℕ → List Answer → Type 0

@@ -5,8 +5,8 @@ pub returns : goal.returns
 returns g c log script =
     let x = g.S.HasStage.stage in
     record {
-      follows = script_follows x.first x.words_of x.Bars x.opening x.depth x.window x.text_of x.MaySpill log script;
-      streams = script_streams x.first x.words_of x.Bars x.opening x.depth x.window x.text_of x.MaySpill log script;
-      turns = script_turns x.first x.words_of x.Bars x.opening x.depth x.window x.text_of x.MaySpill log script;
-      loses = script_loses x.first x.words_of x.Bars x.opening x.depth x.window x.text_of x.MaySpill log script;
+      follows = script_follows x.first x.words_of x.Bars x.opening x.version x.depth x.window x.text_of x.MaySpill log script;
+      streams = script_streams x.first x.words_of x.Bars x.opening x.version x.depth x.window x.text_of x.MaySpill log script;
+      turns = script_turns x.first x.words_of x.Bars x.opening x.version x.depth x.window x.text_of x.MaySpill log script;
+      loses = script_loses x.first x.words_of x.Bars x.opening x.version x.depth x.window x.text_of x.MaySpill log script;
     }
