@@ -22,9 +22,9 @@ use Rattle.core_client.specs.ClientState.{dialect}
 use Rattle.core_client.specs.Fronts.{PassesFront, IsAskAt, MovesOn, BeginsKey}
 
 -- a message that asks no server
-pub passes_front : (x y : Client) (passed : Passed) → x.dropped ≡ false → x.queue.items ≡ [] → PassesMessage x.stream x.output.text.items passed y.stream y.output.text.items
-    → y.output.pieces.items ≡ x.output.pieces.items → y.index ≡ 0 → y.waits ≡ false → y.queue ≡ x.queue → y.dropped ≡ x.dropped → PassesFront x passed y
-passes_front x y passed served none p pieces index waits queue dropped =
+pub passes_front : (version : List ℕ) (x y : Client) (passed : Passed) → x.dropped ≡ false → x.queue.items ≡ [] → PassesMessage version x.stream x.output.text.items passed y.stream y.output.text.items
+    → y.output.pieces.items ≡ x.output.pieces.items → y.index ≡ 0 → y.waits ≡ false → y.queue ≡ x.queue → y.dropped ≡ x.dropped → PassesFront version x passed y
+passes_front version x y passed served none p pieces index waits queue dropped =
     record {
       message = p.message;
       next = p.next;
@@ -37,7 +37,7 @@ passes_front x y passed served none p pieces index waits queue dropped =
         stream = p.place_is;
         index = index;
         waits = waits;
-        output = text_grew x.output y.output (passed_text p.message) pieces p.output_is;
+        output = text_grew x.output y.output (passed_text version p.message) pieces p.output_is;
         dropped = dropped;
       };
       told = p.told;

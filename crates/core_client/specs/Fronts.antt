@@ -25,8 +25,8 @@ pub record Stays (x y : Client) : Type 0 where
   pub output : bytes_of y.output ≡ bytes_of x.output
   pub dropped : y.dropped ≡ x.dropped
 
--- a client without commands under way passed a message that asks no server
-pub record PassesOne (x : Client) (message : Message) (next : Place) (y : Client) : Type 0 where
+-- a client without commands under way passed a message that asks no server, where the core's version is this text
+pub record PassesOne (version : List ℕ) (x : Client) (message : Message) (next : Place) (y : Client) : Type 0 where
   pub reads : dialect.Reads x.stream message next
   pub asks : dialect.asks_of message ≡ []
   pub served : x.dropped ≡ false
@@ -35,14 +35,14 @@ pub record PassesOne (x : Client) (message : Message) (next : Place) (y : Client
   pub stream : y.stream ≡ next
   pub index : y.index ≡ 0
   pub waits : y.waits ≡ false
-  pub output : bytes_of y.output ≡ bytes_of x.output ++ dialect.passed message
+  pub output : bytes_of y.output ≡ bytes_of x.output ++ dialect.passed version message
   pub dropped : y.dropped ≡ x.dropped
 
 -- a message that asks no server was passed, and is told so
-pub record PassesFront (x : Client) (passed : Passed) (y : Client) : Type 0 where
+pub record PassesFront (version : List ℕ) (x : Client) (passed : Passed) (y : Client) : Type 0 where
   pub message : Message
   pub next : Place
-  pub passes : PassesOne x message next y
+  pub passes : PassesOne version x message next y
   pub told : passed ≡ told_of message
 
 -- the request stands at the client's front, and this ask is its next key's

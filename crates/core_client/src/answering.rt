@@ -11,17 +11,17 @@ use wire_stream::Read;
 use wire_stream::connection::{Passed, pass};
 
 impl Client {
-    /// The message that was read at the front, which asks no server, is answered and done. The only error is running out of
-    /// memory, which leaves the client as it was.
-    pub fn pass(&mut self, read: Read) -> Result<Passed, AllocError>
+    /// The message that was read at the front, which asks no server, is answered and done; `version` is answered by this text. The only
+    /// error is running out of memory, which leaves the client as it was.
+    pub fn pass(&mut self, read: Read, version: &[u8]) -> Result<Passed, AllocError>
         requires read { IsReadAt self.old.stream read }
         requires asks { AsksNone self.old.stream read }
         requires served { self.old.dropped ≡ false }
         requires none { self.old.queue.items ≡ [] }
-        ensures ok { IfOk result (λ passed. PassesFront self.old passed self.new) }
+        ensures ok { IfOk result (λ passed. PassesFront version.now self.old passed self.new) }
         ensures err { OnErr result (Stays self.old self.new) }
     {
-        let passed = pass(read, &mut self.stream, &mut self.output.text)?;
+        let passed = pass(read, version, &mut self.stream, &mut self.output.text)?;
         self.index = 0;
         self.waits = false;
         Ok(passed)

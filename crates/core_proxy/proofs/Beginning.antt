@@ -27,7 +27,7 @@ use Rattle.core_commands.specs.declared.claim.Claim.{Claim}
 use Rattle.core_proxy.specs.Claims.{claim_by, clears_key, copies_key}
 use Rattle.core_client.specs.Clients.{has_own}
 use Rattle.core_client.specs.ClientState.{dialect, front_by, output_by, dropped_by, IsSlot}
-use Rattle.core_proxy.specs.CoreState.{bars_of, client_at, command_at, Beside, owner_by, MayComeOf, state_of, is_call, AreSlots, IsAtFront, IsWaitedFor, IsQueue, IsHeld, IsOnItsWay, ticket_by, FitsBeside, GoesByOne}
+use Rattle.core_proxy.specs.CoreState.{bars_of, client_at, command_at, Beside, owner_by, MayComeOf, state_of, is_call, AreSlots, IsAtFront, IsWaitedFor, IsQueue, IsHeld, IsOnItsWay, ticket_by, FitsBeside, GoesByOne, version_by}
 use Rattle.core_commands.proofs.Commands.{some_command}
 use Rattle.core_proxy.proofs.Commands.{by_number}
 use Rattle.core_proxy.proofs.Claims.{own_there, none_of}
@@ -290,6 +290,7 @@ module _ (old new : Core) (client : ℕ) (x y : Client) (part : Part dialect) (p
             holds = λ s k. refl;
             found = λ n o e. found_like beside fits n;
             turn = refl;
+            version = ap version_by r.limits;
           };
         }),
         r.limits,

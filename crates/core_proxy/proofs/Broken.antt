@@ -14,7 +14,7 @@ use Rattle.core_client.specs.declared.client.Client.{Client}
 use Rattle.core_commands.specs.declared.command.Command.{Command}
 use Rattle.core_proxy.specs.declared.proxy.Core.{Core}
 use Rattle.core_client.specs.ClientState.{dialect, front_by, output_by, dropped_by}
-use Rattle.core_proxy.specs.CoreState.{bars_of, client_at, command_at, Beside, owner_by, MayComeOf, state_of, AreSlots, IsWaitedFor, IsQueue, IsHeld, IsOnItsWay, ticket_by, FitsBeside, GoesBy}
+use Rattle.core_proxy.specs.CoreState.{bars_of, client_at, command_at, Beside, owner_by, MayComeOf, state_of, AreSlots, IsWaitedFor, IsQueue, IsHeld, IsOnItsWay, ticket_by, FitsBeside, GoesBy, version_by}
 use Rattle.core_proxy.specs.Steps.{event_of, settled, Resolves}
 use Rattle.core_proxy.specs.Ending.{Drops}
 use Rattle.core_proxy.specs.OutSince.{out_since}
@@ -150,6 +150,7 @@ module _ (old new : Core) (number : ℕ) (a : Command) (outcome : Outcome) (came
               holds = λ s k. refl;
               found = λ n o e. refl;
               turn = refl;
+              version = ap version_by r.limits;
             };
           }),
           r.limits,

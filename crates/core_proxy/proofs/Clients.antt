@@ -27,7 +27,7 @@ use Rattle.core_proxy.specs.Steps.{Turns}
 use Rattle.core_proxy.proofs.Slots.{held_then, same_held}
 use Rattle.core_proxy.proofs.Tickets.{contrary}
 use Rattle.core_client.specs.ClientState.{dialect, front_by, output_by, dropped_by}
-use Rattle.core_proxy.specs.CoreState.{bars_of, client_at, command_at, Beside, owner_by, MayComeOf, state_of, AreSlots, IsAtFront, IsWaitedFor, IsQueue, IsHeld, IsOnItsWay, ticket_by, FitsBeside, GoesByOne, Opens, Feeds, FeedsOpen, Gives, Closes}
+use Rattle.core_proxy.specs.CoreState.{bars_of, client_at, command_at, Beside, owner_by, MayComeOf, state_of, AreSlots, IsAtFront, IsWaitedFor, IsQueue, IsHeld, IsOnItsWay, ticket_by, FitsBeside, GoesByOne, Opens, Feeds, FeedsOpen, Gives, Closes, version_by}
 
 -- what is left of a command stays so where the limits stay
 pub on_its_way_kept : (old new : Core) (plan : Plan) (command : Command) → new.limits ≡ old.limits → IsOnItsWay old.limits.sharing plan command → IsOnItsWay new.limits.sharing plan command
@@ -110,6 +110,7 @@ feeds old new client x y bytes t served p = λ beside fits. (
       holds = λ s k. refl;
       found = λ n o e. refl;
       turn = refl;
+      version = ap version_by t.limits;
     };
   }),
   t.limits,
@@ -145,6 +146,7 @@ gives old new client x y bytes t taken p = (
         holds = λ s k. refl;
         found = λ n o e. refl;
         turn = refl;
+        version = ap version_by t.limits;
       };
     }),
     t.limits,
@@ -186,6 +188,7 @@ opens old new client x t n =
             holds = λ s k. refl;
             found = λ n o e. refl;
             turn = refl;
+            version = ap version_by t.limits;
           };
         }),
         t.limits,
@@ -269,6 +272,7 @@ closes old new client x t none left = (
             holds = λ s k. refl;
             found = λ n o e. refl;
             turn = refl;
+            version = ap version_by t.limits;
           };
         }),
         t.limits,

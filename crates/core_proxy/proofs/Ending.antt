@@ -16,7 +16,7 @@ use Rattle.core_client.specs.declared.client.Client.{Client}
 use Rattle.core_commands.specs.declared.command.Command.{Command}
 use Rattle.core_proxy.specs.declared.proxy.Core.{Core}
 use Rattle.core_client.specs.ClientState.{dialect, front_by, output_by, dropped_by}
-use Rattle.core_proxy.specs.CoreState.{bars_of, client_at, command_at, Beside, owner_by, MayComeOf, state_of, is_call, has_call_out, AreSlots, IsAtFront, IsWaitedFor, IsQueue, IsHeld, IsOnItsWay, ticket_by, FitsBeside, GoesBy, GoesByOne}
+use Rattle.core_proxy.specs.CoreState.{bars_of, client_at, command_at, Beside, owner_by, MayComeOf, state_of, is_call, has_call_out, AreSlots, IsAtFront, IsWaitedFor, IsQueue, IsHeld, IsOnItsWay, ticket_by, FitsBeside, GoesBy, GoesByOne, version_by}
 use Rattle.core_proxy.specs.Steps.{Turns}
 use Rattle.core_client.specs.Replying.{pending_in, replied_in, GoesOn}
 use Rattle.core_proxy.specs.Ending.{Ends, Drops, Frees}
@@ -345,6 +345,7 @@ module _ (old new : Core) (number : ℕ) (a : Command) (x y : Client) (pending :
             holds = λ s k. refl;
             found = λ n o e. refl;
             turn = refl;
+            version = ap version_by r.limits;
           };
         }),
         r.limits,
@@ -384,6 +385,7 @@ module _ (old new : Core) (client : ℕ) (x y : Client) (t : Turns old new clien
         holds = λ s k. refl;
         found = λ n o e. refl;
         turn = refl;
+        version = ap version_by t.limits;
       };
     }),
     t.limits,
@@ -429,6 +431,7 @@ module _ (old new : Core) (number : ℕ) (a : Command) (x : Client) (r : Frees o
         holds = λ s k. refl;
         found = λ n o e. refl;
         turn = refl;
+        version = ap version_by r.limits;
       };
     }),
     r.limits,

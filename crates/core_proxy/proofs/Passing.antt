@@ -10,7 +10,7 @@ use Rattle.core_proxy.specs.declared.proxy.Core.{Core}
 use Rattle.core_proxy.specs.Steps.{Turns}
 use Rattle.core_client.specs.Fronts.{PassesOne}
 use Rattle.core_client.specs.ClientState.{dialect, Message, front_by, output_by, dropped_by}
-use Rattle.core_proxy.specs.CoreState.{bars_of, MayComeOf, state_of, AreSlots, IsAtFront, IsWaitedFor, IsQueue, GoesByOne}
+use Rattle.core_proxy.specs.CoreState.{bars_of, MayComeOf, state_of, AreSlots, IsAtFront, IsWaitedFor, IsQueue, GoesByOne, version_by}
 use Rattle.core_proxy.proofs.Slots.{same_held}
 use Rattle.core_proxy.proofs.Clients.{changed, stays, command_stays, still_fits, owners}
 
@@ -22,16 +22,16 @@ no_slots (p ∷ ps) slots e h = absurd (some p ps e)
     some : (p : Pending) (ps : List Pending) → ◌≡◌ {A = List Pending} (p ∷ ps) [] → ⊥
     some p ps e = cc
 
-empty_queue : (x y : Client) (message : Message) (next : Place) → PassesOne x message next y → (slots : List (Slot dialect)) → IsQueue (Some x) slots → IsQueue (Some y) slots
-empty_queue x y message next t slots q =
+empty_queue : (version : List ℕ) (x y : Client) (message : Message) (next : Place) → PassesOne version x message next y → (slots : List (Slot dialect)) → IsQueue (Some x) slots → IsQueue (Some y) slots
+empty_queue version x y message next t slots q =
     let none = no_slots x.queue.items slots t.none q.0 in
     (subst (λ l. AreSlots l slots) (sym t.queue) (subst (AreSlots []) (sym none) tt), subst (IsAtFront y) (sym none) t.waits, subst (IsWaitedFor y.waits) (sym none) tt)
 
-pub passes : (old new : Core) (client : ℕ) (x y : Client) (message : Message) (next : Place) → Turns old new client (Some x) (Some y) → PassesOne x message next y → GoesByOne old (Passes client message next) new
+pub passes : (old new : Core) (client : ℕ) (x y : Client) (message : Message) (next : Place) → Turns old new client (Some x) (Some y) → PassesOne (version_by old.limits) x message next y → GoesByOne old (Passes client message next) new
 passes old new client x y message next t p = λ beside fits. (
   beside,
   Passes client message next ∷ [],
-  still_fits old new client (Some x) (Some y) t beside fits (empty_queue x y message next p) (λ n command slots h. same_held x y n command slots p.dropped h),
+  still_fits old new client (Some x) (Some y) t beside fits (empty_queue (version_by old.limits) x y message next p) (λ n command slots h. same_held x y n command slots p.dropped h),
   record { at = refl; holds = refl; found = refl; turn = refl },
   refl,
   walks_lead (tree_words beside.at) (bars_of old beside) (state_of old beside) (state_of new beside) (Passes client message next ∷ []) (record {
@@ -47,7 +47,7 @@ passes old new client x y message next t p = λ beside fits. (
     like = record {
       front = changed old new client (Some x) (Some y) t front_by (λ f. record { place = next; index = 0; waits = false }) (λ i. record { place = p.stream i; index = p.index i; waits = p.waits i });
       queue = λ c. refl;
-      output = changed old new client (Some x) (Some y) t output_by (λ l. l ++ dialect.passed message) p.output;
+      output = changed old new client (Some x) (Some y) t output_by (λ l. l ++ dialect.passed (version_by old.limits) message) p.output;
       dropped = stays old new client (Some x) (Some y) t dropped_by p.dropped;
       number = t.number;
       owner = owners old new client (Some x) (Some y) t;
@@ -56,6 +56,7 @@ passes old new client x y message next t p = λ beside fits. (
       holds = λ s k. refl;
       found = λ n o e. refl;
       turn = refl;
+      version = ap version_by t.limits;
     };
   }),
   t.limits,

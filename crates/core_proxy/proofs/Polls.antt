@@ -42,7 +42,7 @@ use Rattle.core_client.specs.Nexts.{HasCommand}
 use Rattle.core_client.specs.Replying.{IsPlace, AnswersAt}
 use Rattle.core_proxy.specs.Finishing.{CanEnd, IsNote}
 use Rattle.core_client.specs.ClientState.{dialect, front_by, output_by, dropped_by}
-use Rattle.core_proxy.specs.CoreState.{bars_of, client_at, command_at, owner_by, MayComeOf, state_of, is_call, AreSlots, IsAtFront, IsQueue, IsHeld, IsWaitedFor, ticket_by, GoesBy}
+use Rattle.core_proxy.specs.CoreState.{bars_of, client_at, command_at, owner_by, MayComeOf, state_of, is_call, AreSlots, IsAtFront, IsQueue, IsHeld, IsWaitedFor, ticket_by, GoesBy, version_by}
 use Rattle.core_proxy.specs.Claims.{claim_by, is_barred}
 use Rattle.core_client.specs.Clients.{has_own}
 use Rattle.core_proxy.proofs.Clients.{on_its_way_kept, stays, command_stays, still_fits, owners}
@@ -86,6 +86,7 @@ still_goes old new client x y t p = λ beside fits. (
       holds = λ s k. refl;
       found = λ n o e. refl;
       turn = refl;
+      version = ap version_by t.limits;
     };
   }),
   t.limits,
@@ -97,7 +98,7 @@ pub of_client : (core : Core) (client : ℕ) (Is : Client → Type 0) (x : Clien
 of_client core client Is x e h = subst (λ o. MatchOption o ⊥ Is) e h
 
 -- a message was passed
-pub passed_goes : (old new : Core) (client : ℕ) (x y : Client) (passed : Passed) → Turns old new client (Some x) (Some y) → PassesFront x passed y → GoesBy old (IsPassed client passed) new
+pub passed_goes : (old new : Core) (client : ℕ) (x y : Client) (passed : Passed) → Turns old new client (Some x) (Some y) → PassesFront (version_by old.limits) x passed y → GoesBy old (IsPassed client passed) new
 passed_goes old new client x y passed t p =
     goes_as old new (λ entries. entries ≡ Passes client p.message p.next ∷ []) (IsPassed client passed) (λ entries is. (p.message, p.next, p.told, is)) (passes old new client x y p.message p.next t p.passes)
 
@@ -133,6 +134,7 @@ same_goes old new clients commands tree limits number = λ beside fits. (
       holds = λ s k. refl;
       found = λ n o e. refl;
       turn = refl;
+      version = ap version_by limits;
     };
   }),
   limits,

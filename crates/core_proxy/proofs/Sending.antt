@@ -15,7 +15,7 @@ use Rattle.route_job.specs.Jobs.{server_in}
 use Rattle.core_commands.specs.declared.command.Command.{Command}
 use Rattle.core_proxy.specs.declared.proxy.Core.{Core}
 use Rattle.core_proxy.specs.Steps.{SendsOut}
-use Rattle.core_proxy.specs.CoreState.{bars_of, client_at, command_at, Beside, owner_by, MayComeOf, state_of, is_call, IsQueue, IsHeld, IsOnItsWay, ticket_by, FitsBeside, GoesByOne}
+use Rattle.core_proxy.specs.CoreState.{bars_of, client_at, command_at, Beside, owner_by, MayComeOf, state_of, is_call, IsQueue, IsHeld, IsOnItsWay, ticket_by, FitsBeside, GoesByOne, version_by}
 use Rattle.core_client.specs.ClientState.{front_by, output_by, dropped_by}
 use Rattle.core_commands.proofs.Commands.{some_command, is_call_true}
 use Rattle.core_proxy.proofs.Commands.{by_number, call_key}
@@ -117,6 +117,7 @@ module _ (old new : Core) (number : ℕ) (a : Command) (r : SendsOut old new num
             holds = λ s k. refl;
             found = λ n o e. refl;
             turn = refl;
+            version = ap version_by r.limits;
           };
         }),
         r.limits,

@@ -19,7 +19,7 @@ use Rattle.route_job.specs.Jobs.{server_in, call_of}
 use Rattle.core_commands.specs.declared.command.Command.{Command}
 use Rattle.core_proxy.specs.declared.proxy.Core.{Core}
 use Rattle.core_proxy.specs.Steps.{Resolves}
-use Rattle.core_proxy.specs.CoreState.{bars_of, client_at, command_at, Beside, owner_by, MayComeOf, state_of, IsQueue, IsHeld, IsOnItsWay, ticket_by, FitsBeside}
+use Rattle.core_proxy.specs.CoreState.{bars_of, client_at, command_at, Beside, owner_by, MayComeOf, state_of, IsQueue, IsHeld, IsOnItsWay, ticket_by, FitsBeside, version_by}
 use Rattle.core_client.specs.ClientState.{front_by, output_by, dropped_by}
 use Rattle.core_commands.proofs.Commands.{some_command}
 use Rattle.core_proxy.proofs.Commands.{by_number, to_come_after}
@@ -135,6 +135,7 @@ module _ (old new : Core) (number : ℕ) (a b : Command) (outcome : Outcome) (r 
         holds = λ s k. refl;
         found = λ n o e. refl;
         turn = refl;
+        version = ap version_by r.limits;
       };
     }),
   )

@@ -17,7 +17,7 @@ use Rattle.core_proxy.specs.declared.proxy.Core.{Core}
 use Rattle.core_proxy.specs.Steps.{Turns}
 use Rattle.core_client.specs.Heads.{ShowsHead}
 use Rattle.core_client.specs.ClientState.{dialect, Message, quiet_in, front_by, output_by, dropped_by, IsSlot}
-use Rattle.core_proxy.specs.CoreState.{bars_of, Beside, client_at, MayComeOf, state_of, AreSlots, IsAtFront, IsWaitedFor, IsQueue, ticket_by, GoesBy}
+use Rattle.core_proxy.specs.CoreState.{bars_of, Beside, client_at, MayComeOf, state_of, AreSlots, IsAtFront, IsWaitedFor, IsQueue, ticket_by, GoesBy, version_by}
 use Rattle.core_proxy.proofs.Slots.{no_reply, behind, none_behind, held_then}
 use Rattle.core_proxy.proofs.Clients.{on_its_way_kept, changed, stays, command_stays, owners}
 
@@ -117,6 +117,7 @@ module _ (old new : Core) (client : ℕ) (x y : Client) (pending : Pending) (rep
             holds = λ s k. refl;
             found = λ n o e. refl;
             turn = refl;
+            version = ap version_by t.limits;
           };
         }),
         t.limits,

@@ -11,6 +11,7 @@ use Rattle.fresh_runs.specs.Overlap as log
 use Rattle.fresh_runs.specs.Overlap.{Slot, Ticket, Entry, Resets, ticket_in, without, slot_in, is_last_slot}
 use Rattle.fresh_runs.specs.OverlapState.{OverlapState, LeadsTo, Leads}
 use Rattle.wire_parts.specs.Stream.{Place}
+use Rattle.wire_stream.specs.Version.{version_of}
 use Rattle.route_tree.specs.At.{tree_at}
 use Rattle.route_tree.specs.Route.{Route}
 use Rattle.route_tree.specs.Plan.{Plan, IsGood}
@@ -57,6 +58,10 @@ abbrev pub MayComeOf : Option Command → List Call → Answer → Option ℕ �
 MayComeOf None calls reply from = ⊥
 MayComeOf (Some command) calls reply from = Comes command.job calls (record { reply = reply; from = from })
 
+-- the text by which the core tells clients of its version
+abbrev pub version_by : CoreLimits → List ℕ
+version_by limits = version_of limits.version
+
 -- the core and what stands beside it, as the log has them
 abbrev pub state_of : Core → Beside → OverlapState dialect
 state_of core beside =
@@ -72,6 +77,7 @@ state_of core beside =
       holds = beside.holds;
       found = beside.found;
       turn = beside.turn;
+      version = version_by core.limits;
     }
 
 abbrev pub AreSlots : List Pending → List (Slot dialect) → Type 0

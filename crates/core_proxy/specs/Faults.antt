@@ -14,7 +14,7 @@ use Rattle.core_proxy.specs.CoreState.{client_at}
 pub use Rattle.core_commands.specs.Owned.{has_commands}
 
 abbrev pub script_limits : CoreLimits
-script_limits = record { clients = SCRIPT_CLIENTS; held = SCRIPT_HELD; depth = 1; window = 1; sharing = Alone }
+script_limits = record { clients = SCRIPT_CLIENTS; held = SCRIPT_HELD; depth = 1; window = 1; sharing = Alone; version = None }
 
 -- nothing is read of the client any more, or there is none
 abbrev pub IsClosed : Core → ℕ → Type 0

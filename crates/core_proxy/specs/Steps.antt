@@ -27,7 +27,7 @@ use Rattle.core_client.specs.Clients.{has_own}
 use Rattle.core_client.specs.ClientState.{dialect, Message, front_by, IsSlot}
 use Rattle.core_client.specs.Fronts.{PassesOne}
 use Rattle.core_client.specs.Heads.{ShowsHead}
-use Rattle.core_proxy.specs.CoreState.{bars_of, client_at, command_at, Beside, owner_by, state_of, FitsBeside, GoesBy, GoesByOne}
+use Rattle.core_proxy.specs.CoreState.{bars_of, client_at, command_at, Beside, owner_by, state_of, FitsBeside, GoesBy, GoesByOne, version_by}
 
 -- one client's place changed, and nothing else of the core but the room for clients and the lines of keys
 pub record Turns (old new : Core) (client : ℕ) (a b : Option Client) : Type 0 where
@@ -97,7 +97,7 @@ pub record Resolves (old new : Core) (number : ℕ) (a b : Command) (outcome : O
 -- a message that asks no server is passed
 abbrev pub PassingIsAStep : Type 0
 PassingIsAStep =
-    (old new : Core) (client : ℕ) (x y : Client) (message : Message) (next : Place) → Turns old new client (Some x) (Some y) → PassesOne x message next y → GoesByOne old (Passes client message next) new
+    (old new : Core) (client : ℕ) (x y : Client) (message : Message) (next : Place) → Turns old new client (Some x) (Some y) → PassesOne (version_by old.limits) x message next y → GoesByOne old (Passes client message next) new
 
 -- a command begins
 abbrev pub BeginningIsAStep : Type 0

@@ -5,6 +5,7 @@ ghost use Rattle.core_proxy.specs.Faults.{script_limits};
 
 use core_commands::Sharing;
 use mc_types::limits::SCRIPT_CLIENTS;
+use wire_stream::VersionText;
 
 /// How many bytes of a client a core of scripts holds: 2 MiB. mcgate's own.
 pub const SCRIPT_HELD: usize = 2_097_152;
@@ -18,7 +19,7 @@ pub const LAST_GENERATION: u32 = 4_294_967_295;
 /// After how many calls [`Core::serve_one`](crate::Core::serve_one) answers no more of them at once: more than any command makes.
 pub const MOST_CALLS: u64 = 18_446_744_073_709_551_615;
 
-/// How much a core takes at once, and what may be under way together.
+/// How much a core takes at once, what may be under way together, and by what text it tells of its version.
 #[derive(Clone, Copy)]
 pub struct CoreLimits {
     /// How many clients may be open.
@@ -31,11 +32,13 @@ pub struct CoreLimits {
     pub window: usize,
     /// Which commands may be under way together on one key.
     pub sharing: Sharing,
+    /// The text that `version` is answered behind `VERSION `, in place of mcgate's own.
+    pub version: Option<VersionText>,
 }
 
 impl CoreLimits {
-    /// The limits of scripts: [`SCRIPT_CLIENTS`] clients, [`SCRIPT_HELD`] bytes held of each and one command, one call at each server, and
-    /// each key for one command alone.
+    /// The limits of scripts: [`SCRIPT_CLIENTS`] clients, [`SCRIPT_HELD`] bytes held of each and one command, one call at each server,
+    /// each key for one command alone, and mcgate's own version.
     pub fn of_scripts() -> CoreLimits
         ensures { result ≡ script_limits }
     {
@@ -45,6 +48,7 @@ impl CoreLimits {
             depth: 1,
             window: 1,
             sharing: Sharing::Alone,
+            version: None,
         }
     }
 }

@@ -27,7 +27,7 @@ use core_commands::begun::{command_of, drop_ask, drop_command};
 use core_commands::{Claim, Command, Ticket, Turn, turn_of};
 use mc_types::{Key, SharedAsk};
 use wire_stream::connection::Passed;
-use wire_stream::{Read, Request};
+use wire_stream::{Read, Request, version_of};
 
 impl Core {
     // The message that was read at the client's front, which asks no server, is answered.
@@ -39,7 +39,7 @@ impl Core {
     {
         match self.clients.get_mut(client) {
             None => unreachable!(),
-            Some(x) => match x.pass(read) {
+            Some(x) => match x.pass(read, version_of(&self.limits.version)) {
                 Ok(passed) => Ok(passed),
                 Err(_) => Err(CoreFault::NoMemory),
             },

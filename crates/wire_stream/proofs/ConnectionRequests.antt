@@ -26,6 +26,6 @@ own_next held (Classic r) rest = refl
 own_next held (Meta r) rest = refl
 
 -- what is shown for what mcgate itself was asked
-pub own_text : (held : List ℕ) (request : Request) → own_passed (own_of (message_in held request)) ≡ passed_text (Whole (message_in held request))
-own_text held (Classic r) = refl
-own_text held (Meta r) = refl
+pub own_text : (version held : List ℕ) (request : Request) → own_passed version (own_of (message_in held request)) ≡ passed_text version (Whole (message_in held request))
+own_text version held (Classic r) = refl
+own_text version held (Meta r) = refl

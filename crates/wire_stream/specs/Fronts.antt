@@ -41,12 +41,12 @@ told_of (Whole (Refusal why skip)) = Refused
 told_of LongLine = Refused
 told_of OtherProtocol = Refused
 
--- from one place of the stream, with this output, a message that asks no server was answered: the stream goes to the place after it, the output goes on by its answer, and it is told what the message was
-pub record PassesMessage (old : Place) (output : List ℕ) (passed : Passed) (new : Place) (output' : List ℕ) : Type 0 where
+-- from one place of the stream, with this output and this text of mcgate's version, a message that asks no server was answered: the stream goes to the place after it, the output goes on by its answer, and it is told what the message was
+pub record PassesMessage (version : List ℕ) (old : Place) (output : List ℕ) (passed : Passed) (new : Place) (output' : List ℕ) : Type 0 where
   pub message : Said
   pub next : Place
   pub reads : ReadsNext old message next
   pub asks : asks_in message ≡ []
   pub place_is : new ≡ next
-  pub output_is : output' ≡ output ++ passed_text message
+  pub output_is : output' ≡ output ++ passed_text version message
   pub told : passed ≡ told_of message

@@ -5,6 +5,7 @@ pub mod Asks
 pub mod Stream
 pub mod Spelling
 pub mod Laws
+pub mod Version
 pub mod Replies
 pub mod Held
 pub mod TextProtocol

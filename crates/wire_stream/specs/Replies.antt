@@ -129,11 +129,11 @@ is_last asks i = i + 1 == length asks
 abbrev pub ends_with : List Ask → ℕ → Answer → Bool
 ends_with asks i reply = is_failure reply || is_last asks i
 
--- what mcgate itself answers
-abbrev pub own_answer : ProxyCommand → List ℕ
-own_answer Version = codes "VERSION mcgate-1\r\n"
-own_answer Quit = []
-own_answer Noop = codes "MN\r\n"
+-- what mcgate itself answers, where its version is this text
+abbrev pub own_answer : List ℕ → ProxyCommand → List ℕ
+own_answer version Version = codes "VERSION " ++ version ++ codes "\r\n"
+own_answer version Quit = []
+own_answer version Noop = codes "MN\r\n"
 
 abbrev pub refusal_text : RefusalReason → List ℕ
 refusal_text why = refusal_line why ++ codes "\r\n"

@@ -37,16 +37,16 @@ asks_in (Whole message) = asks_of message
 asks_in LongLine = []
 asks_in OtherProtocol = []
 
-abbrev pub own_passed : Option ProxyCommand → List ℕ
-own_passed None = []
-own_passed (Some own) = own_answer own
+abbrev pub own_passed : List ℕ → Option ProxyCommand → List ℕ
+own_passed version None = []
+own_passed version (Some own) = own_answer version own
 
--- what is shown for a message that asks no server
-abbrev pub passed_text : Said → List ℕ
-passed_text (Whole (Served order block)) = own_passed (own_by order)
-passed_text (Whole (Refusal why skip)) = refusal_text why
-passed_text LongLine = long_line_text
-passed_text OtherProtocol = refusal_text Unknown
+-- what is shown for a message that asks no server, where mcgate's version is this text
+abbrev pub passed_text : List ℕ → Said → List ℕ
+passed_text version (Whole (Served order block)) = own_passed version (own_by order)
+passed_text version (Whole (Refusal why skip)) = refusal_text why
+passed_text version LongLine = long_line_text
+passed_text version OtherProtocol = refusal_text Unknown
 
 abbrev pub shown_by : Bool → List Ask → ℕ → Option Ask → Answer → List ℕ
 shown_by quiet asks i None reply = []

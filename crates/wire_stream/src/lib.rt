@@ -15,12 +15,14 @@ pub mod replies;
 pub mod requests;
 pub mod sending;
 pub mod stream;
+pub mod version;
 
 pub use replies::{ends_message, write_long_line, write_own, write_part, write_refusal};
 pub use requests::{Asks, Read, Request, read_request, write_ask};
 pub use sending::send_part;
 pub use stream::TextStream;
 pub use text_words::{Line, line};
+pub use version::{DEFAULT_VERSION, VersionText, version_of};
 pub use wire_answers::{
     AnswerRead, large_len, read_answer, read_received, write_answer, write_end, write_value,
 };

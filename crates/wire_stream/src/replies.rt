@@ -1,6 +1,7 @@
 //! What a client is shown of the reply to one key.
 
 ghost use Rattle.std.specs.Prelude.{◌≡◌, ◌++◌, ◌||◌, [], take, length, OnOk, OnErr, if◌then◌else◌};
+ghost use Rattle.wire_parts.specs.declared.proxy_command.ProxyCommand.TheVariants.{Version};
 ghost use Rattle.wire_answers.specs.Spelling.{value_of, end_text};
 ghost use Rattle.wire_stream.specs.Replies.{shows_values, hidden_code, hidden_answer, is_hidden, is_failure, part_text, shown_text, own_answer, refusal_text, long_line_text};
 
@@ -106,14 +107,39 @@ pub fn write_part(
     written
 }
 
-/// Appends what mcgate itself answers: its version, `MN` to `mn`, and nothing to `quit`. The only error is running out of memory, which
-/// leaves the buffer as it was.
-pub fn write_own(own: ProxyCommand, out: &mut BytesMut) -> Result<(), AllocError>
-    ensures ok { OnOk result (out.new.items ≡ out.old.items ++ own_answer own) }
+fn put_version(version: &[u8], out: &mut BytesMut) -> Result<(), AllocError>
+    ensures ok { OnOk result (out.new.items ≡ out.old.items ++ own_answer version.now Version) }
+    ensures err { OnErr result (take (length out.old.items) out.new.items ≡ out.old.items) }
+{
+    out.extend_from_slice(b"VERSION ")?;
+    out.extend_from_slice(version)?;
+    out.extend_from_slice(b"\r\n")
+}
+
+fn write_version(version: &[u8], out: &mut BytesMut) -> Result<(), AllocError>
+    ensures ok { OnOk result (out.new.items ≡ out.old.items ++ own_answer version.now Version) }
+    ensures err { OnErr result (out.new.items ≡ out.old.items) }
+{
+    let len = out.len();
+    let written = put_version(version, out);
+    if written.is_err() {
+        out.truncate(len);
+    }
+    written
+}
+
+/// Appends what mcgate itself answers: its version by this text, `MN` to `mn`, and nothing to `quit`. The only error is running out of memory,
+/// which leaves the buffer as it was.
+pub fn write_own(
+    own: ProxyCommand,
+    version: &[u8],
+    out: &mut BytesMut,
+) -> Result<(), AllocError>
+    ensures ok { OnOk result (out.new.items ≡ out.old.items ++ own_answer version.now own) }
     ensures err { OnErr result (out.new.items ≡ out.old.items) }
 {
     match own {
-        ProxyCommand::Version => out.extend_from_slice(b"VERSION mcgate-1\r\n"),
+        ProxyCommand::Version => write_version(version, out),
         ProxyCommand::Quit => Ok(()),
         ProxyCommand::Noop => out.extend_from_slice(b"MN\r\n"),
     }

@@ -42,15 +42,15 @@ impl Connection {
         self.stream.feed(piece)
     }
 
-    /// The message that was read at the front, which asks no server, is answered and done. The only error is running out of
-    /// memory, which leaves the connection as it was.
-    pub fn pass(&mut self, read: Read) -> Result<Passed, AllocError>
+    /// The message that was read at the front, which asks no server, is answered and done; `version` is answered by this text. The only
+    /// error is running out of memory, which leaves the connection as it was.
+    pub fn pass(&mut self, read: Read, version: &[u8]) -> Result<Passed, AllocError>
         requires read { IsReadAt self.old.stream read }
         requires asks { AsksNone self.old.stream read }
-        ensures ok { IfOk result (λ passed. PassesMessage self.old.stream (output_of self.old) passed self.new.stream (output_of self.new)) }
+        ensures ok { IfOk result (λ passed. PassesMessage version.now self.old.stream (output_of self.old) passed self.new.stream (output_of self.new)) }
         ensures err { OnErr result (GoesTo self.old self.old.stream [] self.new) }
     {
-        pass(read, &mut self.stream, &mut self.output)
+        pass(read, version, &mut self.stream, &mut self.output)
     }
 
     // The reply to a key of a message is shown, and another key is next.

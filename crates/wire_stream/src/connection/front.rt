@@ -105,17 +105,18 @@ fn refuse(
 fn answer_own(
     own: Option<ProxyCommand>,
     used: usize,
+    version: &[u8],
     stream: &mut ClientStream,
     output: &mut BytesMut,
 ) -> Result<(), AllocError>
     requires { used ≤ length (held_at stream.old) }
     ensures place { OnOk result ((held : List ℕ) → stream.old ≡ Stands Nothing held → stream.new ≡ after_own own (drop used held)) }
-    ensures text { OnOk result (output.new.items ≡ output.old.items ++ own_passed own) }
+    ensures text { OnOk result (output.new.items ≡ output.old.items ++ own_passed version.now own) }
     ensures stays { OnErr result (stream.new ≡ stream.old) }
     ensures kept { OnErr result (output.new.items ≡ output.old.items) }
 {
     if let Some(own) = own {
-        write_own(own, output)?;
+        write_own(own, version, output)?;
     }
     stream.pass_request(used);
     if let Some(ProxyCommand::Quit) = own {
@@ -124,16 +125,17 @@ fn answer_own(
     Ok(())
 }
 
-/// The message that was read at the front, which asks no server, is answered into the output and done. The only error is running
-/// out of memory, which leaves the stream and the output as they were.
+/// The message that was read at the front, which asks no server, is answered into the output and done; `version` is answered by this text.
+/// The only error is running out of memory, which leaves the stream and the output as they were.
 pub fn pass(
     read: Read,
+    version: &[u8],
     stream: &mut ClientStream,
     output: &mut BytesMut,
 ) -> Result<Passed, AllocError>
     requires read { IsReadAt stream.old read }
     requires asks { AsksNone stream.old read }
-    ensures ok { IfOk result (λ passed. PassesMessage stream.old output.old.items passed stream.new output.new.items) }
+    ensures ok { IfOk result (λ passed. PassesMessage version.now stream.old output.old.items passed stream.new output.new.items) }
     ensures stays { OnErr result (stream.new ≡ stream.old) }
     ensures kept { OnErr result (output.new.items ≡ output.old.items) }
 {
@@ -152,7 +154,7 @@ pub fn pass(
             Ok(Passed::Refused)
         }
         Read::Request(request) => {
-            answer_own(request.own(), request.used(), stream, output)?;
+            answer_own(request.own(), request.used(), version, stream, output)?;
             Ok(Passed::Own)
         }
     }

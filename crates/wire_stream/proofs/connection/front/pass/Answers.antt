@@ -19,21 +19,21 @@ refuse-requires c =
 pub returns-in_ok-refuse_long_line-in-TooLong-clause-ok : goal.returns-in_ok-refuse_long_line-in-TooLong-clause-ok
 returns-in_ok-refuse_long_line-in-TooLong-clause-ok c =
     let place = c.args.stream.now in
-    long_line_passed place c.refuse_long_line.new.stream c.args.output.now.items c.refuse_long_line.new.output.items (subst (IsReadAt place) c.in-TooLong.is c.requires.read) c.in_ok-refuse_long_line-in-TooLong.ensures.place c.in_ok-refuse_long_line-in-TooLong.ensures.text
+    long_line_passed c.args.version.now place c.refuse_long_line.new.stream c.args.output.now.items c.refuse_long_line.new.output.items (subst (IsReadAt place) c.in-TooLong.is c.requires.read) c.in_ok-refuse_long_line-in-TooLong.ensures.place c.in_ok-refuse_long_line-in-TooLong.ensures.text
 
 pub returns-in_ok-refuse_protocol-in-OtherProtocol-clause-ok : goal.returns-in_ok-refuse_protocol-in-OtherProtocol-clause-ok
 returns-in_ok-refuse_protocol-in-OtherProtocol-clause-ok c =
     let place = c.args.stream.now in
-    other_passed place c.refuse_protocol.new.stream c.args.output.now.items c.refuse_protocol.new.output.items (subst (IsReadAt place) c.in-OtherProtocol.is c.requires.read) c.in_ok-refuse_protocol-in-OtherProtocol.ensures.place c.in_ok-refuse_protocol-in-OtherProtocol.ensures.text
+    other_passed c.args.version.now place c.refuse_protocol.new.stream c.args.output.now.items c.refuse_protocol.new.output.items (subst (IsReadAt place) c.in-OtherProtocol.is c.requires.read) c.in_ok-refuse_protocol-in-OtherProtocol.ensures.place c.in_ok-refuse_protocol-in-OtherProtocol.ensures.text
 
 pub returns-in_ok-refuse-in-Refused-clause-ok : goal.returns-in_ok-refuse-in-Refused-clause-ok
 returns-in_ok-refuse-in-Refused-clause-ok c =
     let place = c.args.stream.now in
-    refused_passed place c.refuse.new.stream c.args.output.now.items c.refuse.new.output.items c.in-Refused.why c.in-Refused.used c.in-Refused.skip (subst (IsReadAt place) c.in-Refused.is c.requires.read) c.in_ok-refuse-in-Refused.ensures.place c.in_ok-refuse-in-Refused.ensures.text
+    refused_passed c.args.version.now place c.refuse.new.stream c.args.output.now.items c.refuse.new.output.items c.in-Refused.why c.in-Refused.used c.in-Refused.skip (subst (IsReadAt place) c.in-Refused.is c.requires.read) c.in_ok-refuse-in-Refused.ensures.place c.in_ok-refuse-in-Refused.ensures.text
 
 pub returns-in_ok-answer_own-in-Request-clause-ok : goal.returns-in_ok-answer_own-in-Request-clause-ok
 returns-in_ok-answer_own-in-Request-clause-ok c =
     let place = c.args.stream.now in
-    own_passed_by place c.answer_own.new.stream c.args.output.now.items c.answer_own.new.output.items c.in-Request.request c.own.result c.used.result
+    own_passed_by c.args.version.now place c.answer_own.new.stream c.args.output.now.items c.answer_own.new.output.items c.in-Request.request c.own.result c.used.result
     (subst (IsReadAt place) c.in-Request.is c.requires.read) (subst (AsksNone place) c.in-Request.is c.requires.asks)
     c.used.ensures (c.own.ensures (held_at place)) c.in_ok-answer_own-in-Request.ensures.place c.in_ok-answer_own-in-Request.ensures.text
