@@ -6,6 +6,7 @@ use Rattle.fresh_runs.specs.Stream.{Done, AreWhole, IsWhole, written, written_al
 use Rattle.wire_parts.specs.Stream.{Place, extended}
 use Rattle.wire_stream.specs.TextProtocol.{Said, memcached_text, ReadsNext}
 use Rattle.wire_stream.proofs.ReaderLaws.{reader_is}
+use Rattle.wire_stream.specs.Version.{default_version}
 use Rattle.cache_server.specs.Contents.{Contents}
 use Rattle.cache_tcp.specs.ConnectionServing.{AnswersEach, ServesEach, ServesTo}
 use Rattle.cache_tcp.specs.Laws.{PiecesAreOne}
@@ -30,10 +31,10 @@ whole_after : (ds es : List (Done memcached_text)) → AreWhole memcached_text d
 whole_after [] es a b = b
 whole_after (d ∷ ds) es a b = (a.0, whole_after ds es a.1 b)
 
-written_after : (ds es : List (Done memcached_text)) → written_all memcached_text (ds ++ es) ≡ written_all memcached_text ds ++ written_all memcached_text es
+written_after : (ds es : List (Done memcached_text)) → written_all memcached_text default_version (ds ++ es) ≡ written_all memcached_text default_version ds ++ written_all memcached_text default_version es
 written_after [] es = refl
 written_after (d ∷ ds) es =
-    ap (λ (l : List ℕ). written memcached_text d.message d.replies ++ l) (written_after ds es) ∙ sym (append_assoc (written memcached_text d.message d.replies) (written_all memcached_text ds) (written_all memcached_text es))
+    ap (λ (l : List ℕ). written memcached_text default_version d.message d.replies ++ l) (written_after ds es) ∙ sym (append_assoc (written memcached_text default_version d.message d.replies) (written_all memcached_text default_version ds) (written_all memcached_text default_version es))
 
 -- messages, and then others
 pub serves_after : (moment : ℤ) (p q r : Place) (c d e : Contents) (s t : List ℕ) → ServesTo moment p c s q d → ServesTo moment q d t r e → ServesTo moment p c (s ++ t) r e
@@ -50,9 +51,9 @@ pub serves_nothing : (moment : ℤ) (p : Place) (c : Contents) → ServesTo mome
 serves_nothing moment p c = record { done = []; goes = refl; whole = tt; served = refl; text_is = refl }
 
 -- one message with its replies
-pub serves_one : (moment : ℤ) (p q : Place) (c d : Contents) (x : Done memcached_text) → ReadsNext p x.message q → IsWhole memcached_text x.message x.replies → AnswersEach moment (memcached_text.asks_of x.message) c x.replies d → ServesTo moment p c (written memcached_text x.message x.replies) q d
+pub serves_one : (moment : ℤ) (p q : Place) (c d : Contents) (x : Done memcached_text) → ReadsNext p x.message q → IsWhole memcached_text x.message x.replies → AnswersEach moment (memcached_text.asks_of x.message) c x.replies d → ServesTo moment p c (written memcached_text default_version x.message x.replies) q d
 serves_one moment p q c d x reads is answered =
-    record { done = x ∷ []; goes = (q, reads, refl); whole = (is, tt); served = (d, answered, refl); text_is = sym (append-nil (written memcached_text x.message x.replies)) }
+    record { done = x ∷ []; goes = (q, reads, refl); whole = (is, tt); served = (d, answered, refl); text_is = sym (append-nil (written memcached_text default_version x.message x.replies)) }
 
 serves_still : (moment : ℤ) (p q : Place) (c d : Contents) (s more : List ℕ) → ServesTo moment p c s q d → ServesTo moment (extended p more) c s (extended q more) d
 serves_still moment p q c d s more a =

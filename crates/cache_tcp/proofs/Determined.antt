@@ -7,6 +7,7 @@ use Rattle.fresh_runs.specs.Stream.{Done, AreWhole, IsWhole, LastEnds, written, 
 use Rattle.wire_parts.specs.Stream.{Place, Closed, extended}
 use Rattle.wire_stream.specs.TextProtocol.{Said, memcached_text, ends_at, asks_in}
 use Rattle.wire_stream.proofs.ReaderLaws.{reader_is}
+use Rattle.wire_stream.specs.Version.{default_version}
 use Rattle.cache_server.specs.Contents.{Contents}
 use Rattle.cache_tcp.specs.ConnectionServing.{out_of_memory, AnswersAsk, AnswersEach, ServesEach}
 use Rattle.cache_tcp.specs.Laws.{NothingAfterEnd, NoneWants, AllHadMemory, FeedIsDetermined}
@@ -46,7 +47,7 @@ message_once moment said old c d (r ∷ rs) [] a b m n f g = absurd (subst (λ (
 message_once moment said old c d (r ∷ rs) (s ∷ ss) a b m n f g = asks_once moment said 0 (asks_in said) old c d (r ∷ rs) (s ∷ ss) a b m n f g
 
 all_once : (moment : ℤ) (place p q : Place) (old c d : Contents) (ds es : List (Done memcached_text)) → Goes memcached_text place (messages ds) p → Goes memcached_text place (messages es) q → IsStuck memcached_text p → IsStuck memcached_text q
-    → AreWhole memcached_text ds → AreWhole memcached_text es → ServesEach moment old ds c → ServesEach moment old es d → AllHadMemory ds → AllHadMemory es → (written_all memcached_text ds ≡ written_all memcached_text es) × (p ≡ q) × (c ≡ d)
+    → AreWhole memcached_text ds → AreWhole memcached_text es → ServesEach moment old ds c → ServesEach moment old es d → AllHadMemory ds → AllHadMemory es → (written_all memcached_text default_version ds ≡ written_all memcached_text default_version es) × (p ≡ q) × (c ≡ d)
 all_once moment place p q old c d [] [] g h u v w x a b m n = (refl, sym g ∙ h, sym a ∙ b)
 all_once moment place p q old c d [] (e ∷ es) g h u v w x a b m n = absurd (subst (IsStuck memcached_text) (sym g) u e.message h.0 h.1)
 all_once moment place p q old c d (e ∷ ds) [] g h u v w x a b m n = absurd (subst (IsStuck memcached_text) (sym h) v e.message g.0 g.1)
@@ -55,7 +56,7 @@ all_once moment place p q old c d (e ∷ ds) (f ∷ es) g h u v w x a b m n =
     let one = message_once moment e.message old a.0 b.0 e.replies f.replies a.1 (subst (λ (y : Said). AnswersEach moment (asks_in y) old f.replies b.0) (sym same.0) b.1) m.0 n.0
     w.0 (subst (λ (y : Said). IsWhole memcached_text y f.replies) (sym same.0) x.0) in
     let more = all_once moment g.0 p q a.0 c d ds es g.2 (subst (λ (y : Place). Goes memcached_text y (messages es) q) (sym same.1) h.2) u v w.1 x.1 a.2 (subst (λ (y : Contents). ServesEach moment y es d) (sym one.1) b.2) m.1 n.1 in
-    let text : written memcached_text e.message e.replies ≡ written memcached_text f.message f.replies = ap₂ (λ (y : Said) (rs : List Answer). written memcached_text y rs) same.0 one.0 in
+    let text : written memcached_text default_version e.message e.replies ≡ written memcached_text default_version f.message f.replies = ap₂ (λ (y : Said) (rs : List Answer). written memcached_text default_version y rs) same.0 one.0 in
     (ap₂ (λ (k l : List ℕ). k ++ l) text more.0, more.1, more.2)
 
 pub determined : FeedIsDetermined
@@ -63,7 +64,7 @@ determined moment place p q bytes s t old c d a b m n =
     let once = all_once moment (extended place bytes) p q old c d a.serves.done b.serves.done a.serves.goes b.serves.goes a.stuck b.stuck a.serves.whole b.serves.whole a.serves.served b.serves.served m n in
     (a.serves.text_is ∙ once.0 ∙ sym b.serves.text_is, once.1, once.2)
 
-none_after : (moment : ℤ) (next : Place) (old new : Contents) (ds : List (Done memcached_text)) → Goes memcached_text Closed (messages ds) next → ServesEach moment old ds new → (written_all memcached_text ds ≡ []) × (next ≡ Closed) × (new ≡ old)
+none_after : (moment : ℤ) (next : Place) (old new : Contents) (ds : List (Done memcached_text)) → Goes memcached_text Closed (messages ds) next → ServesEach moment old ds new → (written_all memcached_text default_version ds ≡ []) × (next ≡ Closed) × (new ≡ old)
 none_after moment next old new [] g s = (refl, sym g, sym s)
 none_after moment next old new (d ∷ ds) g s = absurd g.1
 

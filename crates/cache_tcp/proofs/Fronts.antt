@@ -15,6 +15,7 @@ use Rattle.wire_stream.specs.Fronts.{PassesMessage}
 use Rattle.wire_stream.specs.Held.{held_at}
 use Rattle.wire_stream.proofs.ReaderLaws.{reader_is}
 use Rattle.wire_stream.proofs.Shorter.{next_len}
+use Rattle.wire_stream.specs.Version.{default_version}
 use Rattle.cache_server.specs.Contents.{Contents}
 use Rattle.cache_tcp.specs.Steps.{Spot, spot_at, place_by, count_by, IsOnWay, ServedStep, Runs, text_of, RunsOn, StopsNext, Stops, IsOneText, IsWithin, ServesNext, PassesOn}
 use Rattle.cache_tcp.proofs.Runs.{runs_after, text_after}
@@ -99,12 +100,12 @@ pub pass_shorter : (place place' : Place) (u v : List ℕ) → PassesOn place u 
 pass_shorter place place' u v p = next_len place p.passes.said place' p.passes.reads
 
 -- a message that asks no server was answered in the text after all pieces
-pub passes_on : (place place' : Place) (passed : Passed) (pieces text text' : List ℕ) → PassesMessage place text passed place' text' → PassesOn place (pieces ++ text) place' (pieces ++ text')
+pub passes_on : (place place' : Place) (passed : Passed) (pieces text text' : List ℕ) → PassesMessage default_version place text passed place' text' → PassesOn place (pieces ++ text) place' (pieces ++ text')
 passes_on place place' passed pieces text text' p =
     record {
-      text = passed_text p.message;
+      text = passed_text default_version p.message;
       passes = record { said = p.message; reads = subst (ReadsNext place p.message) (sym p.place_is) p.reads; asks = p.asks; text_is = refl };
-      unsent_is = ap (λ (l : List ℕ). pieces ++ l) p.output_is ∙ sym (append_assoc pieces text (passed_text p.message));
+      unsent_is = ap (λ (l : List ℕ). pieces ++ l) p.output_is ∙ sym (append_assoc pieces text (passed_text default_version p.message));
     }
 
 -- no ask of a message is answered that has none

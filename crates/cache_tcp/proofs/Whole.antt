@@ -6,6 +6,7 @@ use Rattle.fresh_runs.specs.Stream.{Done, written, written_from, NoneEnds, LastE
 use Rattle.wire_parts.specs.Stream.{Place}
 use Rattle.wire_stream.specs.TextProtocol.{Said, memcached_text, ReadsNext, asks_in, passed_text, shown_of, ends_at}
 use Rattle.wire_stream.proofs.ReaderLaws.{reader_is}
+use Rattle.wire_stream.specs.Version.{default_version}
 use Rattle.cache_server.specs.Contents.{Contents}
 use Rattle.cache_tcp.specs.ConnectionServing.{AnswersAsk, AnswersEach, ServesTo}
 use Rattle.cache_tcp.specs.Laws.{StepsAreMessages, GoesOnAsAtOnce}
@@ -44,7 +45,7 @@ whole_by : (m : Said) (rs : List Answer) (r : Answer) → LastEnds memcached_tex
 whole_by m [] r h = h
 whole_by m (x ∷ rs) r h = h
 
-written_is : (m : Said) (rs : List Answer) (r : Answer) → written memcached_text m (rs ++ r ∷ []) ≡ written_from memcached_text m 0 (rs ++ r ∷ [])
+written_is : (m : Said) (rs : List Answer) (r : Answer) → written memcached_text default_version m (rs ++ r ∷ []) ≡ written_from memcached_text m 0 (rs ++ r ∷ [])
 written_is m [] r = refl
 written_is m (x ∷ rs) r = refl
 
@@ -104,7 +105,7 @@ begun_last moment place place' first c d count text more b a =
     let at : slice_get (asks_in a.said) (length b.replies) ≡ Some a.ask = subst (λ k. slice_get (asks_in a.said) k ≡ Some a.ask) (sym b.count_is) a.at in
     let ends : ends_at a.said (0 + length b.replies) a.reply ≡ true = sym (a.ended_is ∙ ap (λ k. ends_at a.said k a.reply) zero) in
     let shown : more ≡ shown_of a.said (0 + length b.replies) a.reply = a.text_is ∙ ap (λ k. shown_of a.said k a.reply) zero in
-    let all : text ++ more ≡ written memcached_text a.said replies =
+    let all : text ++ more ≡ written memcached_text default_version a.said replies =
     ap (λ (l : List ℕ). l ++ more) before.2 ∙ ap (λ (l : List ℕ). written_from memcached_text a.said 0 b.replies ++ l) shown ∙ sym (written_more a.said 0 b.replies a.reply) ∙ sym (written_is a.said b.replies a.reply) in
     subst (λ (l : List ℕ). ServesTo moment place first l place' d) (sym all)
     (serves_one moment place place' first d done reads (whole_by a.said b.replies a.reply (last_more a.said 0 b.replies a.reply before.1 ends)) (answers_more moment (asks_in a.said) first c d b.replies a.ask a.reply before.0 at a.answered))
@@ -116,7 +117,7 @@ passed moment place place' first c count text more b zero p =
     let none = b.none zero in
     subst (λ (l : List ℕ). ServesTo moment place first (l ++ more) place' c) (sym none.0)
     (subst (λ (l : List ℕ). ServesTo moment place first l place' c) (sym p.text_is)
-    (subst (λ (x : Contents). ServesTo moment place x (passed_text p.said) place' c) (sym none.1) (serves_one moment place place' c c done p.reads p.asks refl)))
+    (subst (λ (x : Contents). ServesTo moment place x (passed_text default_version p.said) place' c) (sym none.1) (serves_one moment place place' c c done p.reads p.asks refl)))
 
 -- after a step the message at the front goes on, or it is done
 Further : ℤ → Spot → Contents → Contents → List ℕ → Spot → Type 0

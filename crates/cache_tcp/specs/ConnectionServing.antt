@@ -11,6 +11,7 @@ use Rattle.fresh_runs.specs.Protocol.{Goes, IsStuck}
 use Rattle.fresh_runs.specs.Stream.{Done, AreWhole, written_all}
 use Rattle.wire_parts.specs.Stream.{Place, extended}
 use Rattle.wire_stream.specs.TextProtocol.{Said, memcached_text, ReadsNext, asks_in}
+use Rattle.wire_stream.specs.Version.{default_version}
 use Rattle.cache_server.specs.Contents.{Contents, at_moment}
 use Rattle.cache_server.specs.Table.{Applies}
 
@@ -66,7 +67,7 @@ pub record ServesTo (moment : ℤ) (place : Place) (old : Contents) (text : List
   pub goes : Goes memcached_text place (map (λ (d : Done memcached_text). d.message) done) next
   pub whole : AreWhole memcached_text done
   pub served : ServesEach moment old done new
-  pub text_is : text ≡ written_all memcached_text done
+  pub text_is : text ≡ written_all memcached_text default_version done
 
 -- A piece came: all messages that are complete then are served.
 pub record Feeds (moment : ℤ) (place : Place) (bytes : List ℕ) (old : Contents) (text : List ℕ) (next : Place) (new : Contents) : Type 0 where

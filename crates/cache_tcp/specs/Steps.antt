@@ -11,6 +11,7 @@ use Rattle.wire_stream.specs.Asks.{asks_of}
 use Rattle.wire_stream.specs.Held.{held_at}
 use Rattle.wire_stream.specs.TextProtocol.{Said, Whole, memcached_text, ReadsNext, asks_in, passed_text, shown_of, ends_at}
 use Rattle.wire_stream.specs.Fronts.{IsFront}
+use Rattle.wire_stream.specs.Version.{default_version}
 use Rattle.cache_server.specs.Contents.{Contents, at_moment}
 use Rattle.cache_tcp.specs.ConnectionServing.{AnswersAsk}
 
@@ -63,7 +64,7 @@ pub record PassesNext (place : Place) (text : List ℕ) (place' : Place) : Type 
   pub said : Said
   pub reads : ReadsNext place said place'
   pub asks : asks_in said ≡ []
-  pub text_is : text ≡ passed_text said
+  pub text_is : text ≡ passed_text default_version said
 
 -- a step answers the next ask
 abbrev pub Asks : ℤ → Spot → Contents → List ℕ → Spot → Contents → Type 0
@@ -119,7 +120,7 @@ pub record Stops (moment : ℤ) (from : Spot) (old new : Contents) : Type 0 wher
 
 -- what is shown for one ask, or for one message that asks no server
 abbrev pub IsOneText : List ℕ → Type 0
-IsOneText text = ((said : Said) × (count : ℕ) × (reply : Answer) × (text ≡ shown_of said count reply)) ⊎ ((said : Said) × (text ≡ passed_text said))
+IsOneText text = ((said : Said) × (count : ℕ) × (reply : Answer) × (text ≡ shown_of said count reply)) ⊎ ((said : Said) × (text ≡ passed_text default_version said))
 
 -- So many bytes at most are to be sent, and after them what is left of the one text that passes that.
 pub record IsWithin (most : ℕ) (unsent : List ℕ) : Type 0 where

@@ -31,7 +31,7 @@ use Rattle.core_commands.specs.declared.sharing.Sharing.TheVariants as sharings
 use Rattle.core_proxy.specs.Claims.{is_delete, clears_by, copies_by, bars_by}
 use Rattle.core_proxy.specs.Faults.{CanOpen, OpenFault}
 use Rattle.core_proxy.specs.CoreState as core_state
-use Rattle.core_proxy.specs.CoreState.{dialect, bars_of, nothing_beside, state_of, FeedsOpen, GoesBy}
+use Rattle.core_proxy.specs.CoreState.{dialect, bars_of, nothing_beside, state_of, FeedsOpen, GoesBy, version_by}
 use Rattle.core_accepted.specs.declared.beginnings.Beginnings.{Beginnings}
 use Rattle.core_accepted.specs.declared.served.ServedCore.{ServedCore}
 use Rattle.core_accepted.specs.Begun.{any_begun}
@@ -134,7 +134,7 @@ grown_logs_are_fresh arbitrary known served word are since opening past led open
     let cover : IsCoveredOrUntouched words opening = subst (λ (plans : ℕ → List ℕ → Plan). IsCoveredOrUntouched (tree_words plans) opening) (sym led.plain) (since_is_covered arbitrary (trees_of known.configs) are since led.tree loaded opening opens) in
     let rule = served.core.limits.sharing in
     let Bars = bars_of served.core led.beside in
-    let run = runs dialect words Bars opening past led.leads.follows in
+    let run = runs dialect words Bars opening (version_by served.core.limits) past led.leads.follows in
     let by : rule ≡ sharings.Alone → IsFreshByNumber opening (run_of past) = λ e. untouched.fresh_by_number words Bars opening cover (alone rule led.beside.at e) _ lost run in
     record {
       fresh = untouched.fresh words Bars opening cover (copies rule led.beside.at) _ lost run;

@@ -38,9 +38,9 @@ goes_on served opening past led event may like = (
 
 pub servers_may_lose : ServersMayLose
 servers_may_lose served opening past led (Turns server key turned) is =
-    goes_on served opening past led (Turns server key turned) tt (record { front = λ c. refl; queue = λ c. refl; output = λ c. refl; dropped = λ c. refl; number = refl; owner = λ n. refl; to_come = λ n o e calls reply from l. l; out = λ s. refl; holds = λ s k. refl; found = λ n o e. refl; turn = refl })
+    goes_on served opening past led (Turns server key turned) tt (record { front = λ c. refl; queue = λ c. refl; output = λ c. refl; dropped = λ c. refl; number = refl; owner = λ n. refl; to_come = λ n o e calls reply from l. l; out = λ s. refl; holds = λ s k. refl; found = λ n o e. refl; turn = refl; version = refl })
 servers_may_lose served opening past led (Restarts server) is =
-    goes_on served opening past led (Restarts server) tt (record { front = λ c. refl; queue = λ c. refl; output = λ c. refl; dropped = λ c. refl; number = refl; owner = λ n. refl; to_come = λ n o e calls reply from l. l; out = λ s. refl; holds = λ s k. refl; found = λ n o e. refl; turn = refl })
+    goes_on served opening past led (Restarts server) tt (record { front = λ c. refl; queue = λ c. refl; output = λ c. refl; dropped = λ c. refl; number = refl; owner = λ n. refl; to_come = λ n o e calls reply from l. l; out = λ s. refl; holds = λ s k. refl; found = λ n o e. refl; turn = refl; version = refl })
 servers_may_lose served opening past led (Begins number ask) is = absurd is
 servers_may_lose served opening past led (Calls number server ask origin end) is = absurd is
 servers_may_lose served opening past led (Replies number key reply from) is = absurd is

@@ -13,7 +13,7 @@ use Rattle.route_tree.specs.Route.{Route}
 use Rattle.route_tree.specs.Plan.{Plan}
 use Rattle.route_tree.specs.At.{tree_at}
 use Rattle.route_tree.specs.Word.{Word, tree_words}
-use Rattle.core_proxy.specs.CoreState.{dialect, bars_of}
+use Rattle.core_proxy.specs.CoreState.{dialect, bars_of, version_by}
 use Rattle.core_accepted.specs.declared.served.ServedCore.{ServedCore}
 use Rattle.core_accepted.specs.Logs.{MayHaveLed}
 use Rattle.core_accepted.specs.Late.{begun}
@@ -67,4 +67,4 @@ led_owns served believes log led name tree Bars P by fewer all =
     let its : tree_words (λ m key. tree_at (led.tree m) key) n ask calls reply from = subst (λ (at : ℕ → List ℕ → Plan). tree_words at n ask calls reply from) led.plain word in
     (its.0, subst (λ (t : Route). Word (tree_at t ask.key) ask Client 0 calls (record { reply = reply; from = from })) (sym (by n mine)) its.1))
     fewer believes (run_of log) all
-    (runs dialect (tree_words led.beside.at) (bars_of served.core led.beside) believes log led.leads.follows)
+    (runs dialect (tree_words led.beside.at) (bars_of served.core led.beside) believes (version_by served.core.limits) log led.leads.follows)

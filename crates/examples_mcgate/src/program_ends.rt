@@ -18,7 +18,7 @@ use mcgate_check::{Form, RunFault};
 use mcgate_replay::Judging;
 use mcgate_replay::judging::USUAL_GENERATIONS;
 use route_json::Config;
-use serve_links::ServerDialect;
+use serve_links::{ServerDialect, VersionText};
 use std::alloc::{AllocError, Global};
 use std::io;
 use std::io::ErrorKind;
@@ -114,6 +114,8 @@ mcgate serve --listen a:1 --config c --server-dialect auto => serve - fail-limit
 mcgate serve --listen a:1 --config c --server-dialect classic => serve - fail-limit 3 classic
 mcgate serve --listen a:1 --config c --server-dialect meta => serve - fail-limit 3 meta
 mcgate serve --listen a:1 --config c --server-dialect old => refused, told
+mcgate serve --listen a:1 --config c --version-text 1.6.0-mcgate => serve - fail-limit 3 auto version 1.6.0-mcgate
+mcgate serve --listen a:1 --config c --version-text  => refused, told
 mcgate serve --listen a:1 --config c --certificate d => serve - by d fail-limit 3 auto
 mcgate serve --listen a:1 --config c --opened own --new-servers empty => serve - fail-limit 3 auto own empty
 mcgate serve --listen a:1 --config c --opened any --new-servers any => serve - fail-limit 3 auto
@@ -240,6 +242,14 @@ fn push_number(out: &mut String, word: &str, number: Option<u32>) -> Result<(), 
     Ok(())
 }
 
+fn push_version(out: &mut String, version: &Option<VersionText>) -> Result<(), AllocError> {
+    if let Some(version) = version {
+        let text = str::from_utf8(version.as_bytes()).unwrap_or("?");
+        write!(out, " version {text}")?;
+    }
+    Ok(())
+}
+
 fn dialect_word(dialect: ServerDialect) -> &'static str {
     match dialect {
         ServerDialect::Auto => "auto",
@@ -316,6 +326,7 @@ fn push_serve(out: &mut String, job: &ServeJob<'_>) -> Result<(), AllocError> {
         ""
     })?;
     write!(out, " {}", dialect_word(job.settings.server_dialect))?;
+    push_version(out, &job.settings.version)?;
     push_beginning(out, "own", job.begun.opened)?;
     push_beginning(out, "empty", job.begun.added)
 }

@@ -285,6 +285,7 @@ fn limits(text: &str) -> CoreLimits {
         depth,
         window,
         sharing,
+        version: None,
     }
 }
 

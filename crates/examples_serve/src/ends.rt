@@ -9,7 +9,9 @@ use gate_check::{Accepted, judge};
 use route_json::addresses::Servers;
 use route_json::addresses::servers::MAX_SERVERS;
 use route_json::{Config, read_config, read_config_after};
-use serve_proxy::{Beginnings, LinkLimits, LinkNews, ProxyEnd, Settings, text_at};
+use serve_proxy::{
+    Beginnings, LinkLimits, LinkNews, ProxyEnd, Settings, VersionText, text_at,
+};
 use serve_wire::Wire;
 use serve_wire::sockets::Sockets;
 use std::alloc::{AllocError, Global};
@@ -708,6 +710,7 @@ impl TurnedEnds<'_> {
             "slow-retry-proxy" => self.begin_proxy(text, retried_after(u64::MAX)),
             "quick-retry-proxy" => self.begin_proxy(text, retried_after(1)),
             "hasty-proxy" => self.begin_proxy(text, hasty()),
+            "versioned-proxy" => self.begin_proxy(text, versioned()),
             _ => Err("no such event")?,
         }
     }
@@ -816,6 +819,14 @@ fn hasty() -> Settings {
     }
 }
 
+// The settings of a proxy that tells of another version than mcgate's own.
+fn versioned() -> Settings {
+    Settings {
+        version: VersionText::read(b"1.6.0 mcgate"),
+        ..Settings::usual()
+    }
+}
+
 impl Stage for TurnedEnds<'_> {
     fn answer(&mut self, event: &str, want: &str) -> Result<String, Fail> {
         let (verb, text) = cut(event);
@@ -829,7 +840,8 @@ impl Stage for TurnedEnds<'_> {
             | "strict-proxy"
             | "slow-retry-proxy"
             | "quick-retry-proxy"
-            | "hasty-proxy" => {
+            | "hasty-proxy"
+            | "versioned-proxy" => {
                 self.set_server(verb, text)?;
                 Ok(String::new(self.rt.alloc()))
             }

@@ -44,6 +44,15 @@ load <A, both cleared> => 2
 ask 0 get a\r\n => VALUE a 0 1\r\n1\r\nEND\r\n
 ask 0 delete b\r\n => NOT_FOUND\r\n
 
+A version is told by the text that was given, and by mcgate's own where none was. No server is asked.
+server
+versioned-proxy <one server>
+connect => 0
+ask 0 version\r\nmn\r\nversion\r\n => VERSION 1.6.0 mcgate\r\nMN\r\nVERSION 1.6.0 mcgate\r\n
+proxy <one server>
+connect => 1
+ask 1 version\r\n => VERSION mcgate-1\r\n
+
 One client too many is told so and closed, and the other one is served. When that one has left there is room again.
 cache
 small-proxy <one server>

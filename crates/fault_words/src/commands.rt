@@ -12,6 +12,8 @@ pub enum Takes {
     Count,
     /// One of a few words.
     Word,
+    /// The text of a version.
+    Version,
 }
 
 /// The commands.
@@ -48,7 +50,7 @@ const CHECK_FLAGS: [&str; 8] = [
     "new-servers",
 ];
 
-const SERVE_FLAGS: [&str; 37] = [
+const SERVE_FLAGS: [&str; 38] = [
     "help",
     "check",
     "config",
@@ -81,6 +83,7 @@ const SERVE_FLAGS: [&str; 37] = [
     "log-level",
     "log-json",
     "server-dialect",
+    "version-text",
     "opened",
     "new-servers",
     "reload-ms",
@@ -146,6 +149,8 @@ pub fn takes_of(flag: &str) -> Takes {
         Takes::Word
     } else if flag == "pool" {
         Takes::Pool
+    } else if flag == "version-text" {
+        Takes::Version
     } else {
         Takes::Count
     }
@@ -181,6 +186,7 @@ impl Takes {
             Takes::Pool => "NAME",
             Takes::Count => "N",
             Takes::Word => "WORD",
+            Takes::Version => "TEXT",
         }
     }
 }

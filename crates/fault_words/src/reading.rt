@@ -8,6 +8,7 @@ use crate::names::nearest;
 use mc_types::Key;
 use std::alloc::{AllocError, Global};
 use text_words::number::u32_number;
+use wire_stream::VersionText;
 
 // The flag of this name among these.
 fn flag_named(flags: &'static [&'static str], name: &str) -> Option<&'static str> {
@@ -21,6 +22,7 @@ fn is_value(flag: &str, text: &str) -> bool {
         Takes::File | Takes::Address | Takes::Pool => true,
         Takes::Count => !matches!(u32_number(text.as_bytes()), None | Some(0)),
         Takes::Word => words_after(flag).contains(&text),
+        Takes::Version => VersionText::read(text.as_bytes()).is_some(),
     }
 }
 

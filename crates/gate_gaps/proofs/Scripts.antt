@@ -156,8 +156,8 @@ module _ {P : Protocol} where
   -- ---- between two events
 
   -- the core has nothing left to do and no call is out, and its first client's reader stands there
-  record RestsAt (core : List (Entry P)) (place : P.Place) : Type 0 where
-    settled : IsSettled core
+  record RestsAt (version : List ℕ) (core : List (Entry P)) (place : P.Place) : Type 0 where
+    settled : IsSettled version core
     front : front_of core 0 ≡ record { place = place; index = 0; waits = false }
     out : (s : ℕ) → out_of core s ≡ []
     served : (c : ℕ) → is_dropped core c ≡ false
@@ -165,13 +165,13 @@ module _ {P : Protocol} where
   -- ---- while a command is under way
 
   -- command n of the first client is under way, its message is its last, and none of its calls is out
-  record BusyAt (core : List (Entry P)) (n : ℕ) (part : Part P) (past : List Event) : Type 0 where
+  record BusyAt (version : List ℕ) (core : List (Entry P)) (n : ℕ) (part : Part P) (past : List Event) : Type 0 where
     run_is : run_of core ≡ past
     front : front_of core 0 ≡ record { place = part.next; index = 0; waits = false }
     stuck : (c : ℕ) → IsStuck P (front_of core c).place
     queue : queue_of core 0 ≡ slot_of n part ∷ []
     others : (c : ℕ) → queue_of core (suc c) ≡ []
-    given : (c : ℕ) → given_of core c ≡ output_of core c
+    given : (c : ℕ) → given_of core c ≡ output_of version core c
     owner : (m : ℕ) → owner_of core m ≡ cond (nat_eq n m) (Some (record { client = 0; ask = part.ask })) None
     out : (s : ℕ) → out_of core s ≡ []
     served : (c : ℕ) → is_dropped core c ≡ false
@@ -184,18 +184,18 @@ module _ {P : Protocol} where
   played_made n [] log = omega arith
   played_made n (c ∷ calls) log = let e = played_made n calls (Results n c.server c.ask c.origin (end_of n c.outcome) ∷ Does (Sends n c.server c.ask c.origin) ∷ log) in omega arith
 
-  module _ (words : Words) (Bars : ℕ → Ask → ℕ → Ask → Type 0) (opening : ℕ → List ℕ → Option Item) where
+  module _ (words : Words) (Bars : ℕ → Ask → ℕ → Ask → Type 0) (opening : ℕ → List ℕ → Option Item) (version : List ℕ) where
     abbrev Is : Lines P → Type 0
-    Is log = (depth window : ℕ) (text_of : Ask → Answer → List ℕ) → IsScript (tt {0}) (λ tree. words) Bars opening depth window text_of (λ log server key. ⊥) log
+    Is log = (depth window : ℕ) (text_of : Ask → Answer → List ℕ) → IsScript (tt {0}) (λ tree. words) Bars opening version depth window text_of (λ log server key. ⊥) log
 
     abbrev May : Lines P → Line P (Unit {0}) → Type 0
-    May log line = (depth window : ℕ) (text_of : Ask → Answer → List ℕ) → MayBe (tt {0}) (λ tree. words) Bars opening depth window text_of (λ log server key. ⊥) log line
+    May log line = (depth window : ℕ) (text_of : Ask → Answer → List ℕ) → MayBe (tt {0}) (λ tree. words) Bars opening version depth window text_of (λ log server key. ⊥) log line
 
     more : (log : Lines P) (line : Line P (Unit {0})) → May log line → Is log → Is (line ∷ log)
     more log line may is depth window text_of = (may depth window text_of, is depth window text_of)
 
     record Rests (log : Lines P) (place : P.Place) : Type 0 where
-      core : RestsAt (core_of log) place
+      core : RestsAt version (core_of log) place
       fed : (c : ℕ) → fed_of log c ≡ said_of log c
       lost : (t : ℕ) → losses_of log t ≡ []
       script : Is log
@@ -203,7 +203,7 @@ module _ {P : Protocol} where
     -- ---- the next event may be taken up
 
     module _ (depth window : ℕ) (text_of : Ask → Answer → List ℕ) where
-      over : (late : Option (Scripted (Unit {0}))) (core : List (Entry P)) → ((s : ℕ) → out_of core s ≡ []) → IsOver (tt {0}) (λ tree. words) Bars opening depth window text_of (λ log server key. ⊥) late core
+      over : (late : Option (Scripted (Unit {0}))) (core : List (Entry P)) → ((s : ℕ) → out_of core s ≡ []) → IsOver (tt {0}) (λ tree. words) Bars opening version depth window text_of (λ log server key. ⊥) late core
       over None core out = tt
       over (Some (Piece c b)) core out = out
       over (Some (Add c b)) core out = tt
@@ -215,7 +215,7 @@ module _ {P : Protocol} where
       over (Some (Moment m)) core out = tt
       over (Some (Reload t)) core out = tt
 
-      made : (now : Option (Scripted (Unit {0}))) (core : List (Entry P)) → ((s : ℕ) → out_of core s ≡ []) → IsMade (tt {0}) (λ tree. words) Bars opening depth window text_of (λ log server key. ⊥) now core
+      made : (now : Option (Scripted (Unit {0}))) (core : List (Entry P)) → ((s : ℕ) → out_of core s ≡ []) → IsMade (tt {0}) (λ tree. words) Bars opening version depth window text_of (λ log server key. ⊥) now core
       made None core out = tt
       made (Some (Piece c b)) core out = tt
       made (Some (Add c b)) core out = tt
@@ -227,7 +227,7 @@ module _ {P : Protocol} where
       made (Some (Moment m)) core out = tt
       made (Some (Reload t)) core out = tt
 
-      quiet : (core : List (Entry P)) → IsSettled core → IsQuiet (tt {0}) (λ tree. words) Bars opening depth window text_of (λ log server key. ⊥) words core
+      quiet : (core : List (Entry P)) → IsSettled version core → IsQuiet (tt {0}) (λ tree. words) Bars opening version depth window text_of (λ log server key. ⊥) words core
       quiet core settled = (
         record {
           shown = λ c slot slots e. absurd (no_more (queue_of core c) slot slots (settled.shown c) e);
@@ -258,7 +258,7 @@ module _ {P : Protocol} where
 
     -- what lines since the piece leave
     record Busy (old log : Lines P) (n : ℕ) (part : Part P) (text : List ℕ) (past : List Event) : Type 0 where
-      core : BusyAt (core_of log) n part past
+      core : BusyAt version (core_of log) n part past
       way : under_way past n ≡ Some part.ask
       fed : (c : ℕ) → fed_of log c ≡ said_of log c
       lost : (t : ℕ) → losses_of log t ≡ []
@@ -325,15 +325,15 @@ module _ {P : Protocol} where
       -- ---- a call
 
       module _ (ends : (m : ℕ) (ask : Ask) (front : List Call) (call : Call) (rest : List Call) (r1 r2 : Answer) (f1 f2 : Option ℕ) → words m ask front r1 f1 → words m ask (front ++ call ∷ rest) r2 f2 → ⊥) where
-        ends_as : (depth window : ℕ) (text_of : Ask → Answer → List ℕ) (ask : Ask) (name : Option Manner) (outcome : Outcome) → IsNamed name outcome → EndsAs {P = P} (tt {0}) (λ tree. words) Bars opening depth window text_of (λ log server key. ⊥) ask name (end_of n outcome)
-        ends_as depth window text_of ask name Failed is = subst (λ m. EndsAs {P = P} (tt {0}) (λ tree. words) Bars opening depth window text_of (λ log server key. ⊥) ask m (end_of n Failed)) (sym is) tt
-        ends_as depth window text_of ask name (Answered answer) is = subst (λ m. EndsAs {P = P} (tt {0}) (λ tree. words) Bars opening depth window text_of (λ log server key. ⊥) ask m (end_of n (Answered answer))) (sym is) tt
+        ends_as : (depth window : ℕ) (text_of : Ask → Answer → List ℕ) (ask : Ask) (name : Option Manner) (outcome : Outcome) → IsNamed name outcome → EndsAs {P = P} (tt {0}) (λ tree. words) Bars opening version depth window text_of (λ log server key. ⊥) ask name (end_of n outcome)
+        ends_as depth window text_of ask name Failed is = subst (λ m. EndsAs {P = P} (tt {0}) (λ tree. words) Bars opening version depth window text_of (λ log server key. ⊥) ask m (end_of n Failed)) (sym is) tt
+        ends_as depth window text_of ask name (Answered answer) is = subst (λ m. EndsAs {P = P} (tt {0}) (λ tree. words) Bars opening version depth window text_of (λ log server key. ⊥) ask m (end_of n (Answered answer))) (sym is) tt
 
-        awaited : (depth window : ℕ) (text_of : Ask → Answer → List ℕ) (now late : Option (Scripted (Unit {0}))) (core : List (Entry P)) (server : ℕ) → ((now ≡ Some (Piece 0 text)) ⊎ (now ≡ None)) → late ≡ Some (Piece 0 text) → ((s : ℕ) → s < server → out_of core s ≡ []) → IsAwaited (tt {0}) (λ tree. words) Bars opening depth window text_of (λ log server key. ⊥) now late core server
+        awaited : (depth window : ℕ) (text_of : Ask → Answer → List ℕ) (now late : Option (Scripted (Unit {0}))) (core : List (Entry P)) (server : ℕ) → ((now ≡ Some (Piece 0 text)) ⊎ (now ≡ None)) → late ≡ Some (Piece 0 text) → ((s : ℕ) → s < server → out_of core s ≡ []) → IsAwaited (tt {0}) (λ tree. words) Bars opening version depth window text_of (λ log server key. ⊥) now late core server
         awaited depth window text_of now late core server (inl e) f h =
-            subst (λ a. IsAwaited (tt {0}) (λ tree. words) Bars opening depth window text_of (λ log server key. ⊥) a late core server) (sym e) (subst (λ b. IsAwaited (tt {0}) (λ tree. words) Bars opening depth window text_of (λ log server key. ⊥) (Some (Piece 0 text)) b core server) (sym f) h)
+            subst (λ a. IsAwaited (tt {0}) (λ tree. words) Bars opening version depth window text_of (λ log server key. ⊥) a late core server) (sym e) (subst (λ b. IsAwaited (tt {0}) (λ tree. words) Bars opening version depth window text_of (λ log server key. ⊥) (Some (Piece 0 text)) b core server) (sym f) h)
         awaited depth window text_of now late core server (inr e) f h =
-            subst (λ a. IsAwaited (tt {0}) (λ tree. words) Bars opening depth window text_of (λ log server key. ⊥) a late core server) (sym e) (subst (λ b. IsAwaited (tt {0}) (λ tree. words) Bars opening depth window text_of (λ log server key. ⊥) None b core server) (sym f) h)
+            subst (λ a. IsAwaited (tt {0}) (λ tree. words) Bars opening version depth window text_of (λ log server key. ⊥) a late core server) (sym e) (subst (λ b. IsAwaited (tt {0}) (λ tree. words) Bars opening version depth window text_of (λ log server key. ⊥) None b core server) (sym f) h)
 
         module _ (log : Lines P) (past : List Event) (busy : Busy old log n part text past) (c : Call) (may : MayCome words Bars opening past (Calls n c.server c.ask c.origin (end_of n c.outcome))) (name : IsNamed (named_in old (made_in log + 1)) c.outcome) where
           abbrev ticket : Ticket
@@ -380,7 +380,7 @@ module _ {P : Protocol} where
               ends n may.0 (calls_so_far past n) read_back front.0 r front.1 f front.2 here
               (subst (λ l. words n may.0 l front.1 front.2) (append_assoc (calls_so_far past n) (read_back ∷ []) front.0) front.3)
 
-          still : (depth window : ℕ) (text_of : Ask → Answer → List ℕ) → IsStill (tt {0}) (λ tree. words) Bars opening depth window text_of (λ log server key. ⊥) words core1
+          still : (depth window : ℕ) (text_of : Ask → Answer → List ℕ) → IsStill (tt {0}) (λ tree. words) Bars opening version depth window text_of (λ log server key. ⊥) words core1
           still depth window text_of = record {
             shown = by_client (λ d. (slot : Slot P) (slots : List (Slot P)) → queue_of core1 d ≡ slot ∷ slots → slot.reply ≡ None)
                 (λ slot slots e. ap (λ (s : Slot P). s.reply) (sym (same_head (queue_of core1 0) (slot_of n part) slot slots busy.core.queue e)))
@@ -404,14 +404,14 @@ module _ {P : Protocol} where
 
           may_settle : May sent (Results n c.server c.ask c.origin (end_of n c.outcome))
           may_settle depth window text_of = (
-            subst (λ l. MayFollow words Bars opening l (Happens event)) (sym lost_none) (subst (λ l. MayCome words Bars opening l event) (sym busy.core.run_is) may, found),
+            subst (λ l. MayFollow words Bars opening version l (Happens event)) (sym lost_none) (subst (λ l. MayCome words Bars opening l event) (sym busy.core.run_is) may, found),
             ends_as depth window text_of c.ask (named_in sent (made_in sent + 1)) c.outcome (subst (λ m. IsNamed m c.outcome) (sym (busy.named (made_in log + 1))) name),
             awaited depth window text_of (current sent) (latest sent) core1 c.server busy.now busy.late lowest,
             still depth window text_of,
             ([], is_out),
           )
 
-          settled_core : BusyAt (Happens event ∷ core1) n part (event ∷ past)
+          settled_core : BusyAt version (Happens event ∷ core1) n part (event ∷ past)
           settled_core = record {
             run_is = ap (λ l. event ∷ l) busy.core.run_is;
             front = busy.core.front;
@@ -426,7 +426,7 @@ module _ {P : Protocol} where
 
           one_call : Busy old settled n part text (event ∷ past)
           one_call = record {
-            core = subst (λ l. BusyAt (Happens event ∷ l) n part (event ∷ past)) (sym lost_none) settled_core;
+            core = subst (λ l. BusyAt version (Happens event ∷ l) n part (event ∷ past)) (sym lost_none) settled_core;
             way = busy.way;
             fed = λ d. append-nil (fed_of log d) ∙ busy.fed d;
             lost = busy.lost;
@@ -464,7 +464,7 @@ module _ {P : Protocol} where
         front_stays : front_of (core_of e3) 0 ≡ record { place = part.next; index = 0; waits = false }
         front_stays = pick_true (is_last part) (front_of (core_of log) 0) _ at_last ∙ busy.core.front
 
-        given_is : given_of (core_of e2) 0 ++ P.shown part.message part.index reply ≡ output_of (core_of e2) 0
+        given_is : given_of (core_of e2) 0 ++ P.shown part.message part.index reply ≡ output_of version (core_of e2) 0
         given_is = ap (λ l. l ++ P.shown part.message part.index reply) (busy.core.given 0)
 
         ended : Done old e3 text part.next (Replies n part.ask.key reply from ∷ past)
@@ -475,7 +475,7 @@ module _ {P : Protocol} where
                 stuck = by_client (λ d. IsStuck P (front_of (core_of e3) d).place) (subst (λ (q : Front P). IsStuck P q.place) (sym front_stays) one.stuck)
                     (λ d. subst (λ (q : Front P). IsStuck P q.place) (sym (pick_false (nat_eq 0 (suc d)) _ (front_of (core_of log) (suc d)) (not_zero d))) (busy.core.stuck (suc d)));
                 shown = by_client (λ d. queue_of (core_of e3) d ≡ []) (ap behind_head queued) (λ d. pick_false (nat_eq 0 (suc d)) _ (queue_of (core_of e1) (suc d)) (not_zero d) ∙ pick_false (nat_eq 0 (suc d)) _ (queue_of (core_of log) (suc d)) (not_zero d) ∙ busy.core.others d);
-                given = by_client (λ d. given_of (core_of e3) d ≡ output_of (core_of e3) d) given_is (λ d. pick_false (nat_eq 0 (suc d)) _ (given_of (core_of log) (suc d)) (not_zero d) ∙ busy.core.given (suc d) ∙ sym (pick_false (nat_eq 0 (suc d)) _ (output_of (core_of log) (suc d)) (not_zero d)));
+                given = by_client (λ d. given_of (core_of e3) d ≡ output_of version (core_of e3) d) given_is (λ d. pick_false (nat_eq 0 (suc d)) _ (given_of (core_of log) (suc d)) (not_zero d) ∙ busy.core.given (suc d) ∙ sym (pick_false (nat_eq 0 (suc d)) _ (output_of version (core_of log) (suc d)) (not_zero d)));
                 free = λ m. ap (λ o. cond (nat_eq n m) None o) (busy.core.owner m) ∙ over_after (nat_eq n m) (record { client = 0; ask = part.ask });
               };
               front = front_stays;
@@ -493,7 +493,7 @@ module _ {P : Protocol} where
           named = busy.named;
         }
           where
-            may_end : MayFollow words Bars opening (core_of log) (Ends 0 n part reply from)
+            may_end : MayFollow words Bars opening version (core_of log) (Ends 0 n part reply from)
             may_end = (
               subst (λ l. MayCome words Bars opening l (Replies n part.ask.key reply from)) (sym busy.core.run_is) may,
               busy.core.owner n ∙ pick_true (nat_eq n n) _ None (eq-eqb n n refl),
@@ -516,7 +516,7 @@ module _ {P : Protocol} where
 
 -- ---- the whole script
 
-module _ (P : Protocol) (words : Words) (Bars : ℕ → Ask → ℕ → Ask → Type 0) (opening : ℕ → List ℕ → Option Item) (s : ℕ) (key : List ℕ) (i j : ℕ) (text1 text2 : List ℕ) (delete read : Ask) (front last back final : List Call) (reply1 reply2 : Answer) (from1 from2 : Option ℕ) (m1 m2 : P.Message) (p1 p2 : P.Place) (quiet_start : IsStuck P P.start) (one1 : IsOneAsk P P.start text1 delete reply1 m1 p1) (one2 : IsOneAsk P p1 text2 read reply2 m2 p2) (ends : (m : ℕ) (ask : Ask) (front : List Call) (call : Call) (rest : List Call) (r1 r2 : Answer) (f1 f2 : Option ℕ) → words m ask front r1 f1 → words m ask (front ++ call ∷ rest) r2 f2 → ⊥) (h1 : Each (IsTry delete.key) front) (i_is : length front ≡ i) (a1 : Each IsAnswered last) (h2 : Each (IsTry read.key) back) (j_is : length back ≡ j) (a2 : Each IsAnswered final) where
+module _ (P : Protocol) (words : Words) (Bars : ℕ → Ask → ℕ → Ask → Type 0) (opening : ℕ → List ℕ → Option Item) (version : List ℕ) (s : ℕ) (key : List ℕ) (i j : ℕ) (text1 text2 : List ℕ) (delete read : Ask) (front last back final : List Call) (reply1 reply2 : Answer) (from1 from2 : Option ℕ) (m1 m2 : P.Message) (p1 p2 : P.Place) (quiet_start : IsStuck P P.start) (one1 : IsOneAsk P P.start text1 delete reply1 m1 p1) (one2 : IsOneAsk P p1 text2 read reply2 m2 p2) (ends : (m : ℕ) (ask : Ask) (front : List Call) (call : Call) (rest : List Call) (r1 r2 : Answer) (f1 f2 : Option ℕ) → words m ask front r1 f1 → words m ask (front ++ call ∷ rest) r2 f2 → ⊥) (h1 : Each (IsTry delete.key) front) (i_is : length front ≡ i) (a1 : Each IsAnswered last) (h2 : Each (IsTry read.key) back) (j_is : length back ≡ j) (a2 : Each IsAnswered final) where
   -- the run after what came before, up to the reply to each command
   abbrev deleted : List Event → List Event
   deleted past = Replies 1 delete.key reply1 from1 ∷ played 1 last (played 1 front (Begins 1 delete ∷ past))
@@ -530,7 +530,7 @@ module _ (P : Protocol) (words : Words) (Bars : ℕ → Ask → ℕ → Ask → 
   abbrev log0 : Lines P
   log0 = Takes (Hold s key (49 ∷ [])) ∷ empty
 
-  nothing : Rests words Bars opening empty P.start
+  nothing : Rests words Bars opening version empty P.start
   nothing = record {
     core = record {
       settled = record { stuck = λ c. quiet_start; shown = λ c. refl; given = λ c. refl; free = λ n. refl };
@@ -543,12 +543,12 @@ module _ (P : Protocol) (words : Words) (Bars : ℕ → Ask → ℕ → Ask → 
     script = λ depth window text_of. tt;
   }
 
-  rests0 : Rests words Bars opening log0 P.start
+  rests0 : Rests words Bars opening version log0 P.start
   rests0 = record {
     core = nothing.core;
     fed = λ c. refl;
     lost = λ t. refl;
-    script = more words Bars opening empty (Takes (Hold s key (49 ∷ []))) (taken words Bars opening empty P.start (Hold s key (49 ∷ [])) nothing) nothing.script;
+    script = more words Bars opening version empty (Takes (Hold s key (49 ∷ []))) (taken words Bars opening version empty P.start (Hold s key (49 ∷ [])) nothing) nothing.script;
   }
 
   abbrev log1 : Lines P
@@ -560,10 +560,10 @@ module _ (P : Protocol) (words : Words) (Bars : ℕ → Ask → ℕ → Ask → 
   abbrev part2 : Part P
   part2 = record { message = m2; next = p2; index = 0; ask = read }
 
-  first : Run words Bars opening (deleted []) → (log3 : Lines P) × Done words Bars opening log1 log3 text1 p1 (deleted (run_of (core_of log1))) × (made_in log3 ≡ made_in log1 + length front + length last)
+  first : Run words Bars opening (deleted []) → (log3 : Lines P) × Done words Bars opening version log1 log3 text1 p1 (deleted (run_of (core_of log1))) × (made_in log3 ≡ made_in log1 + length front + length last)
   first run =
       let zero1 : made_in log1 ≡ 0 = fails_made i log0 in
-      command words Bars opening log1 P.start (fails_rest words Bars opening i log0 P.start rests0) 1 part1 text1 reply1 from1 one1 refl ends front last
+      command words Bars opening version log1 P.start (fails_rest words Bars opening version i log0 P.start rests0) 1 part1 text1 reply1 from1 one1 refl ends front last
       (sym (ap (λ l. commands_in (run_of l) + 1) (fails_core i log0)))
       (subst (λ l. Run words Bars opening (deleted (run_of l))) (sym (fails_core i log0)) run)
       (tries_named (named_in log1) delete.key (made_in log1) i front h1 (let e = i_is in omega arith) (λ t lt le. fails_named i log0 t (let z = zero1 in let a = lt in omega arith) (let z = zero1 in let a = le in omega arith)))
@@ -591,14 +591,14 @@ module _ (P : Protocol) (words : Words) (Bars : ℕ → Ask → ℕ → Ask → 
       let d = commands_played 1 front (Begins 1 delete ∷ []) in
       let e = high in omega arith)
 
-  second : Run words Bars opening (shown (deleted [])) → (IsFreshByNumber opening (shown (deleted [])) → ⊥) → (log3 : Lines P) → Done words Bars opening log1 log3 text1 p1 (deleted (run_of (core_of log1))) → made_in log3 ≡ made_in log1 + length front + length last → Leaks P words Bars opening (leaking_script s key i text1 j text2)
+  second : Run words Bars opening (shown (deleted [])) → (IsFreshByNumber opening (shown (deleted [])) → ⊥) → (log3 : Lines P) → Done words Bars opening version log1 log3 text1 p1 (deleted (run_of (core_of log1))) → made_in log3 ≡ made_in log1 + length front + length last → Leaks P words Bars opening version (leaking_script s key i text1 j text2)
   second run leaks log3 d1 many =
       let log4 : Lines P = fails_log j log3 in
       let past4 : run_of (core_of log4) ≡ deleted [] = ap run_of (fails_core j log3) ∙ d1.run_is ∙ ap (λ l. deleted (run_of l)) (fails_core i log0) in
       let count : 2 ≡ commands_in (run_of (core_of log4)) + 1 = (let c = ap commands_in past4 in let d = commands_played 1 last (played 1 front (Begins 1 delete ∷ [])) in let e = commands_played 1 front (Begins 1 delete ∷ []) in omega arith) in
       let same : made_in log4 ≡ made_in log3 = fails_made j log3 in
       let zero1 : made_in log1 ≡ 0 = fails_made i log0 in
-      let d2 = command words Bars opening log4 p1 (fails_rest words Bars opening j log3 p1 d1.rests) 2 part2 text2 reply2 from2 one2 refl ends back final count
+      let d2 = command words Bars opening version log4 p1 (fails_rest words Bars opening version j log3 p1 d1.rests) 2 part2 text2 reply2 from2 one2 refl ends back final count
       (subst (λ l. Run words Bars opening (shown l)) (sym past4) run)
       (tries_named (named_in log4) read.key (made_in log4) j back h2 (let e = j_is in omega arith) (λ t lt le. fails_named j log3 t (let z = same in let a = lt in omega arith) (let z = same in let a = le in omega arith)))
       (answered_named (named_in log4) (made_in log4 + length back) final a2 (λ t lt. fails_other j log3 t (let z = same in let e = j_is in let a = lt in omega arith) ∙ d1.named t ∙ fails_other i log0 t (let z = same in let y = many in let w = zero1 in let v = i_is in let a = lt in omega arith))) in
@@ -617,7 +617,7 @@ module _ (P : Protocol) (words : Words) (Bars : ℕ → Ask → ℕ → Ask → 
         leaks = λ fresh. leaks (subst (IsFreshByNumber opening) run_is fresh);
       }
 
-  pub scripts_leak : Run words Bars opening (shown (deleted [])) → (IsFreshByNumber opening (shown (deleted [])) → ⊥) → Leaks P words Bars opening (leaking_script s key i text1 j text2)
+  pub scripts_leak : Run words Bars opening (shown (deleted [])) → (IsFreshByNumber opening (shown (deleted [])) → ⊥) → Leaks P words Bars opening version (leaking_script s key i text1 j text2)
   scripts_leak run leaks =
       let run4 = run_before words Bars opening 2 back (Begins 2 read ∷ deleted []) (run_before words Bars opening 2 final (played 2 back (Begins 2 read ∷ deleted [])) run.1) in
       let d1 = first run4.1 in

@@ -33,13 +33,13 @@ in_log (At turn loss) = logged.At turn loss
 in_log (Now loss) = logged.Now loss
 in_log (Moment moment) = logged.Moment moment
 
--- a log of the script, however much may be under way and whatever the texts of answers, in which no tree is loaded and servers drop nothing by themselves: all that the script says was fed, and each command has its reply, yet its run isn't fresh
-pub record Leaks (P : Protocol) (words : Words) (Bars : ℕ → Ask → ℕ → Ask → Type 0) (opening : ℕ → List ℕ → Option Item) (events : List Scripted) : Type 0 where
+-- a log of the script, where the proxy's version is this text, however much may be under way and whatever the texts of answers, in which no tree is loaded and servers drop nothing by themselves: all that the script says was fed, and each command has its reply, yet its run isn't fresh
+pub record Leaks (P : Protocol) (words : Words) (Bars : ℕ → Ask → ℕ → Ask → Type 0) (opening : ℕ → List ℕ → Option Item) (version : List ℕ) (events : List Scripted) : Type 0 where
   pub log : List (Line P (Unit {0}))
-  pub script : (depth window : ℕ) (text_of : Ask → Answer → List ℕ) → IsScript tt (λ tree. words) Bars opening depth window text_of (λ log server key. ⊥) log
+  pub script : (depth window : ℕ) (text_of : Ask → Answer → List ℕ) → IsScript tt (λ tree. words) Bars opening version depth window text_of (λ log server key. ⊥) log
   pub script_is : script_of log ≡ map in_log events
   pub fed : (c : ℕ) → fed_of log c ≡ said_of log c
-  pub settled : IsSettled (core_of log)
+  pub settled : IsSettled version (core_of log)
   pub replied : (n : ℕ) → 1 ≤ n → n ≤ commands_in (run_of (core_of log)) → (key : List ℕ) × (reply : Answer) × IsReplied (run_of (core_of log)) n key reply
   pub leaks : IsFreshByNumber opening (run_of (core_of log)) → ⊥
 

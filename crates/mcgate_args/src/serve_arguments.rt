@@ -5,7 +5,7 @@ use crate::beginning_arguments::{begun_of, flushes_new};
 use crate::log_arguments::{Log, log_of};
 use clap::ArgMatches;
 use core_accepted::Beginnings;
-use serve_links::{ServerDialect, Settings};
+use serve_links::{ServerDialect, Settings, VersionText};
 
 /// What `mcgate serve` is to do.
 #[derive(Clone, Copy)]
@@ -114,6 +114,8 @@ opens, fails or comes back.
                          error, warn, info or debug; without it and the next one, all, as they are
   --log-json             each is an object in JSON with that
   --server-dialect WORD  how servers are asked for classic gets: classic, meta, or auto, by what each answers to an mn; auto
+  --version-text TEXT    version is answered by VERSION TEXT, for clients that read a number there: 1 to 64 bytes of ASCII, printed ones
+                         and spaces, the first and the last no space; mcgate-1
   --opened WORD          what the servers of the first configuration held before: any, or own: of each key nothing but what its tree
                          may put on them; any
   --new-servers WORD     what servers held that a reload brings: any, or empty: nothing, or flush: each is emptied by flush_all before
@@ -163,6 +165,17 @@ fn dialect_of(
     }
 }
 
+// The text after its flag by which clients are told the version, if one is given.
+fn version_of(given: &ArgMatches<'_>) -> Result<Option<VersionText>, ArgumentsFault> {
+    let Some(text) = given.get_str("version-text") else {
+        return Ok(None);
+    };
+    match VersionText::read(text.as_bytes()) {
+        Some(version) => Ok(Some(version)),
+        None => Err(ArgumentsFault::Refused),
+    }
+}
+
 // The mode after its flag, or the usual one: for the user that it runs as, for its group too, or for everybody.
 fn mode_of(given: &ArgMatches<'_>) -> Result<u32, ArgumentsFault> {
     match given.get_str("unix-mode") {
@@ -202,6 +215,7 @@ fn settings_of(given: &ArgMatches<'_>) -> Result<Settings, ArgumentsFault> {
         polls: count_of(given, "polls")?,
         server_dialect: dialect_of(given, usual.server_dialect)?,
         flushes_new: flushes_new(given),
+        version: version_of(given)?,
         ..usual
     })
 }

@@ -12,6 +12,7 @@ use Rattle.wire_parts.specs.declared.skip.Skip.TheVariants.{Nothing}
 use Rattle.wire_parts.specs.Stream.{Stands}
 use Rattle.wire_stream.specs.Spelling.{message_of}
 use Rattle.wire_stream.specs.TextProtocol.{Whole, memcached_text}
+use Rattle.wire_stream.specs.Version.{default_version}
 use Rattle.route_tree.specs.At.{tree_at}
 use Rattle.route_tree.specs.Direct.{words_of}
 use Rattle.route_tree.specs.Place.{tree_at_place}
@@ -76,8 +77,8 @@ module _ (config : Configuration) (gap : Gap) (key : List ℕ) (f : Failures) (t
   abbrev bars : ℕ → Ask → ℕ → Ask → Type 0
   bars = bars_by Alone (λ n k. tree_at config.tree k)
 
-  leaks : Leaks memcached_text (words_of config.tree) bars (opening_of events) events
-  leaks = numbers_have_script memcached_text (λ n k. tree_at config.tree k) bars (opening_of events) key gap.op kinds.Delete gap.server (delete_text key) (read_text gap.op key) (Whole (message_of (delete_of kinds.Delete key))) (Whole (message_of (read_of gap.op key))) (Stands Nothing []) (Stands Nothing []) first.is_key.key_is taking good good (baited gap.server key f.delete f.read (delete_text key) (read_text gap.op key)) quiet_start (one_delete key (answer_of_nothing (dialect_of kinds.Delete) Delete) first.is_key.key_is) (one_read gap.op key (answer_of gap.op) taking first.is_key.key_is) f.delete f.read numbers.0 numbers.1
+  leaks : Leaks memcached_text (words_of config.tree) bars (opening_of events) default_version events
+  leaks = numbers_have_script memcached_text (λ n k. tree_at config.tree k) bars (opening_of events) default_version key gap.op kinds.Delete gap.server (delete_text key) (read_text gap.op key) (Whole (message_of (delete_of kinds.Delete key))) (Whole (message_of (read_of gap.op key))) (Stands Nothing []) (Stands Nothing []) first.is_key.key_is taking good good (baited gap.server key f.delete f.read (delete_text key) (read_text gap.op key)) quiet_start (one_delete key (answer_of_nothing (dialect_of kinds.Delete) Delete) first.is_key.key_is) (one_read gap.op key (answer_of gap.op) taking first.is_key.key_is) f.delete f.read numbers.0 numbers.1
 
   can_be : first_bad (length config.servers) events ≡ None
   can_be =

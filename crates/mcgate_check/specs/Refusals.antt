@@ -17,6 +17,7 @@ use Rattle.gate_check.specs.Tables.{IsTable}
 use Rattle.gate_check.specs.declared.gap.Gap.{Gap}
 use Rattle.gate_check.specs.Gate.{IsGapAt}
 use Rattle.wire_stream.specs.TextProtocol.{memcached_text}
+use Rattle.wire_stream.specs.Version.{default_version}
 use Rattle.core_proxy.specs.Claims.{bars_by}
 use Rattle.core_proxy.specs.CoreState.{dialect}
 use Rattle.core_commands.specs.declared.sharing.Sharing.TheVariants.{Alone}
@@ -61,7 +62,7 @@ pub record LeaksStepped (tree : Route) (events : List Scripted) : Type 0 where
 -- over the configuration's servers each of the events can be, so that the script can be driven; and it has a log, by the tree's words and with each command alone on its key, whose run isn't fresh: one of these events, whatever the servers' tables, or one as it is driven
 pub record IsShowing (config : Configuration) (events : List Scripted) : Type 0 where
   pub can_be : first_bad (length config.servers) events ≡ None
-  pub leaks : Leaks memcached_text (words_of config.tree) (bars_by Alone (λ n key. tree_at config.tree key)) (opening_of events) events ⊎ LeaksStepped config.tree events
+  pub leaks : Leaks memcached_text (words_of config.tree) (bars_by Alone (λ n key. tree_at config.tree key)) (opening_of events) default_version events ⊎ LeaksStepped config.tree events
 
 -- the script, over the first key that is tried and stands at the gap's place, can be driven and has a run that isn't fresh, none of whose commands is broken; the failed calls are those that it names, not applied. Where each call but one of the delete and one of the read can fail, so many do before it
 pub record IsRefusalRun (config : Configuration) (gap : Gap) (events : List Scripted) : Type 0 where

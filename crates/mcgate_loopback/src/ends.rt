@@ -98,6 +98,7 @@ fn settings() -> Settings {
         polls: None,
         server_dialect: ServerDialect::Classic,
         flushes_new: false,
+        version: None,
     }
 }
 

@@ -42,6 +42,7 @@ use Rattle.script_run.proofs.Steps.{after_it, handed_on, nothing_fed, fed_more, 
 use Rattle.script_run.proofs.Rising.{outputs_last, outputs_none}
 use Rattle.script_run.proofs.Stood.{said_append, through_on, throughs_on, steps_on, marked_on, marked_one, before_it}
 use Rattle.script_run.proofs.Worlds.{AreHeld, held_so, world_next, world_stays, none_had, brought, brought_some, some_brought, brought_still}
+use Rattle.wire_stream.specs.Version.{default_version}
 
 -- ---- results that are faults
 
@@ -211,7 +212,7 @@ module _ (first : Route) (refused : List Bool) (reloads : List Reload) (events :
   part_by loaded left done next given marks k servers within h is one outputs last by_event through steps begun marked made =
       let plans : ℕ → List ℕ → Plan = λ n key. tree_at (tree_by first h.loads n) key in
       let says = law (opening_of events) (tree_by first h.loads) h.log k h.stands in
-      let run : RunsBy first h.loads events h.log = runs dialect (tree_words plans) (bars_by Alone plans) (opening_of events) h.log says.follows in
+      let run : RunsBy first h.loads events h.log = runs dialect (tree_words plans) (bars_by Alone plans) (opening_of events) default_version h.log says.follows in
       record {
         log = h.log;
         loads = h.loads;
@@ -277,7 +278,7 @@ module _ (first : Route) (refused : List Bool) (reloads : List Reload) (events :
       let after = g.more ++ log in
       let plans : ℕ → List ℕ → Plan = λ n key. tree_at (tree n) key in
       let says = law opening tree after (kept_of m.mid m.at) g.stands in
-      let run : RunsBy first h.come.loads events after = runs dialect (tree_words plans) (bars_by Alone plans) opening after says.follows in
+      let run : RunsBy first h.come.loads events after = runs dialect (tree_words plans) (bars_by Alone plans) opening default_version after says.follows in
       let turn = turn_on refused reloads events g.more log loaded h.come.loads h.come.in_turn in
       record {
         part = record {

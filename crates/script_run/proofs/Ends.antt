@@ -16,12 +16,13 @@ use Rattle.route_tree.specs.Plan.{Plan}
 use Rattle.route_tree.specs.Route.{Route}
 use Rattle.route_tree.specs.Word.{tree_words}
 use Rattle.core_proxy.specs.Claims.{bars_by}
-use Rattle.core_proxy.specs.CoreState.{dialect, nothing_beside, state_of, IsTakenOver, Reloads}
+use Rattle.core_proxy.specs.CoreState.{dialect, nothing_beside, state_of, IsTakenOver, Reloads, version_by}
 use Rattle.core_proxy.specs.Faults.{script_limits}
 use Rattle.core_proxy.specs.declared.limits.CoreLimits.{CoreLimits}
 use Rattle.core_commands.specs.declared.sharing.Sharing.TheVariants.{Alone}
 use Rattle.script_run.specs.Standing.{Kept, tree_by, calls_at, Stands, IsBesides}
 use Rattle.script_run.specs.Laws.{IsBegin, Says}
+use Rattle.wire_stream.specs.Version.{default_version}
 
 -- ---- the begin
 
@@ -105,10 +106,10 @@ alone at number other ask client same = (refl, refl)
 -- a log of a core of scripts follows so
 follows_alone :
     (opening : ℕ → List ℕ → Option Item) (at plans : ℕ → List ℕ → Plan) (limits : CoreLimits) (log : List (Entry dialect)) → at ≡ plans → limits ≡ script_limits
-    → Follows (tree_words at) (bars_by limits.sharing at) opening log → Follows (tree_words plans) (bars_by Alone plans) opening log
+    → Follows (tree_words at) (bars_by limits.sharing at) opening (version_by limits) log → Follows (tree_words plans) (bars_by Alone plans) opening default_version log
 follows_alone opening at plans limits log same is f =
-    subst (λ (p : ℕ → List ℕ → Plan). Follows (tree_words p) (bars_by Alone p) opening log) same
-    (subst (λ (l : CoreLimits). Follows (tree_words at) (bars_by l.sharing at) opening log) is f)
+    subst (λ (p : ℕ → List ℕ → Plan). Follows (tree_words p) (bars_by Alone p) opening default_version log) same
+    (subst (λ (l : CoreLimits). Follows (tree_words at) (bars_by l.sharing at) opening (version_by l) log) is f)
 
 pub says : (opening : ℕ → List ℕ → Option Item) (tree : ℕ → Route) (log : List (Entry dialect)) (k : Kept) → Stands opening tree log k → Says opening tree log k
 says opening tree log k s =
@@ -116,7 +117,7 @@ says opening tree log k s =
     let words = tree_words plans in
     let Bars = bars_by Alone plans in
     let follows = follows_alone opening s.beside.at plans k.core.limits log s.plain s.limits s.leads.follows in
-    let run = runs dialect words Bars opening log follows in
+    let run = runs dialect words Bars opening default_version log follows in
     let counts = counts_stale words Bars opening (alone plans) in
     let stale : k.stale ≡ stale_in opening (run_of log) = s.stale ∙ sym (counts.last _ run) in
     record {

@@ -2,12 +2,13 @@
 use Rattle.std.proofs.Common.{cond, List, [], ◌∷◌, ◌++◌, refl, sym, ap, ◌∙◌, subst, arith}
 use Rattle.std.proofs.lemmas.Bool.{eq-eqb}
 use Rattle.fresh_runs.specs.Run.{calls_so_far}
-use Rattle.fresh_runs.specs.Overlap.{Entry, Gives, run_of, given_of}
+use Rattle.fresh_runs.specs.Overlap.{Entry, Gives, run_of, output_of, given_of}
 use Rattle.fresh_runs.specs.OverlapState.{LeadsTo}
 use Rattle.script_events.specs.Found.{AreFound}
 use Rattle.script_events.specs.Caches.{held_at}
 use Rattle.route_tree.specs.Word.{tree_words}
-use Rattle.core_proxy.specs.CoreState.{dialect, bars_of, state_of}
+use Rattle.core_proxy.specs.CoreState.{dialect, bars_of, state_of, version_by}
+use Rattle.core_proxy.specs.declared.limits.CoreLimits.{CoreLimits}
 use Rattle.script_run.specs.Standing.{calls_at}
 use Rattle.script_run.specs.Laws.{GivesGoOn}
 use Rattle.script_run.proofs.PollsEntries.{same_words}
@@ -44,7 +45,7 @@ gives_go_on opening tree log client bytes old new stands step rest =
       };
       streams = λ c. refl;
       given = λ c. refl;
-      all = ap (λ b. cond b (given_of log client ++ bytes) (given_of log client)) (eq-eqb client client refl) ∙ leads.follows.0;
+      all = ap (λ b. cond b (given_of log client ++ bytes) (given_of log client)) (eq-eqb client client refl) ∙ leads.follows.0 ∙ ap (λ (l : CoreLimits). output_of (version_by l) log client) (g.6 ∙ stands.limits);
       story = refl;
       left = record { front = λ c. refl; queue = λ c. refl; output = λ c. refl; owner = λ n. refl };
     }

@@ -12,6 +12,7 @@ use Rattle.fresh_runs.specs.OverlapLaws.{WritesAll}
 use Rattle.fresh_runs.proofs.OverlapMessages.{all_written}
 use Rattle.wire_stream.specs.Replies.{is_failure}
 use Rattle.wire_stream.proofs.ReaderLaws.{reader_is}
+use Rattle.wire_stream.specs.Version.{default_version}
 use Rattle.core_proxy.specs.CoreState.{dialect}
 use Rattle.script_events.specs.Scripted.{Scripted}
 use Rattle.script_events.proofs.Quiet.{quiet_start}
@@ -44,12 +45,12 @@ record IsSilent (front : Front dialect) (queue : List (Slot dialect)) (output gi
   pub given_is : given ≡ []
 
 module _ (words : Words) (Bars : ℕ → Ask → ℕ → Ask → Type 0) (opening : ℕ → List ℕ → Option Item) where
-  silent : (log : List (Entry dialect)) → Follows words Bars opening log → (c : ℕ) → stream_of log c ≡ [] → IsSilent (front_of log c) (queue_of log c) (output_of log c) (given_of log c)
+  silent : (log : List (Entry dialect)) → Follows words Bars opening default_version log → (c : ℕ) → stream_of log c ≡ [] → IsSilent (front_of log c) (queue_of log c) (output_of default_version log c) (given_of log c)
   silent [] f c none = record { place = refl; queue_is = refl; output_is = refl; given_is = refl }
   silent (Feeds client bytes ∷ log) f c none =
       let stream = stream_of log c in
       let front = front_of log c in
-      (elim (nat_eq client c) as (λ b. cond b (stream ++ bytes) stream ≡ [] → IsSilent (cond b (fed_front front bytes) front) (queue_of log c) (output_of log c) (given_of log c)) [
+      (elim (nat_eq client c) as (λ b. cond b (stream ++ bytes) stream ≡ [] → IsSilent (cond b (fed_front front bytes) front) (queue_of log c) (output_of default_version log c) (given_of log c)) [
         | true ↦ λ e.
             let n = nothing_left stream bytes e in
             let s = silent log f.1 c n.0 in
@@ -60,7 +61,7 @@ module _ (words : Words) (Bars : ℕ → Ask → ℕ → Ask → Type 0) (openin
       let front = front_of log c in
       let queue = queue_of log c in
       let s = silent log f.1 c none in
-      (elim (nat_eq client c) as (λ b. nat_eq client c ≡ b → IsSilent (cond b (after_start front part) front) (cond b (queue ++ slot_of number part ∷ []) queue) (output_of log c) (given_of log c)) [
+      (elim (nat_eq client c) as (λ b. nat_eq client c ≡ b → IsSilent (cond b (after_start front part) front) (cond b (queue ++ slot_of number part ∷ []) queue) (output_of default_version log c) (given_of log c)) [
         | true ↦ λ same. absurd (quiet_start part.message part.next (subst (λ p. dialect.Reads p part.message part.next) (ap (λ d. (front_of log d).place) (eqb-true client c same) ∙ s.place) f.0.1.reads))
         | false ↦ λ _. s
       ]) refl
@@ -70,13 +71,13 @@ module _ (words : Words) (Bars : ℕ → Ask → ℕ → Ask → Type 0) (openin
       let front = front_of log c in
       let queue = queue_of log c in
       let s = silent log f.1 c none in
-      (elim (nat_eq client c) as (λ b. nat_eq client c ≡ b → IsSilent (cond b (after_end front part reply) front) (cond b (answered_in number reply queue) queue) (output_of log c) (given_of log c)) [
+      (elim (nat_eq client c) as (λ b. nat_eq client c ≡ b → IsSilent (cond b (after_end front part reply) front) (cond b (answered_in number reply queue) queue) (output_of default_version log c) (given_of log c)) [
         | true ↦ λ same. no_slot (slot_of number part) (ap (λ q. slot_in q number) (sym (ap (queue_of log) (eqb-true client c same) ∙ s.queue_is)) ∙ f.0.2)
         | false ↦ λ _. s
       ]) refl
   silent (Shows client slot reply ∷ log) f c none =
       let queue = queue_of log c in
-      let output = output_of log c in
+      let output = output_of default_version log c in
       let s = silent log f.1 c none in
       (elim (nat_eq client c) as (λ b. nat_eq client c ≡ b → IsSilent (front_of log c) (cond b (behind_head queue) queue) (cond b (output ++ dialect.shown slot.message slot.index reply) output) (given_of log c)) [
         | true ↦ λ same. no_queue slot f.0.0.0 (sym (ap (queue_of log) (eqb-true client c same) ∙ s.queue_is) ∙ f.0.0.1)
@@ -84,46 +85,46 @@ module _ (words : Words) (Bars : ℕ → Ask → ℕ → Ask → Type 0) (openin
       ]) refl
   silent (Passes client message next ∷ log) f c none =
       let front = front_of log c in
-      let output = output_of log c in
+      let output = output_of default_version log c in
       let s = silent log f.1 c none in
-      (elim (nat_eq client c) as (λ b. nat_eq client c ≡ b → IsSilent (cond {A = Front dialect} b (record { place = next; index = 0; waits = false }) front) (queue_of log c) (cond b (output ++ dialect.passed message) output) (given_of log c)) [
+      (elim (nat_eq client c) as (λ b. nat_eq client c ≡ b → IsSilent (cond {A = Front dialect} b (record { place = next; index = 0; waits = false }) front) (queue_of log c) (cond b (output ++ dialect.passed default_version message) output) (given_of log c)) [
         | true ↦ λ same. absurd (quiet_start message next (subst (λ p. dialect.Reads p message next) (ap (λ d. (front_of log d).place) (eqb-true client c same) ∙ s.place) f.0.0))
         | false ↦ λ _. s
       ]) refl
   silent (Gives client bytes ∷ log) f c none =
       let given = given_of log c in
       let s = silent log f.1 c none in
-      (elim (nat_eq client c) as (λ b. nat_eq client c ≡ b → IsSilent (front_of log c) (queue_of log c) (output_of log c) (cond b (given ++ bytes) given)) [
-        | true ↦ λ same. record { place = s.place; queue_is = s.queue_is; output_is = s.output_is; given_is = subst (λ d. given_of log d ++ bytes ≡ output_of log d) (eqb-true client c same) f.0 ∙ s.output_is }
+      (elim (nat_eq client c) as (λ b. nat_eq client c ≡ b → IsSilent (front_of log c) (queue_of log c) (output_of default_version log c) (cond b (given ++ bytes) given)) [
+        | true ↦ λ same. record { place = s.place; queue_is = s.queue_is; output_is = s.output_is; given_is = subst (λ d. given_of log d ++ bytes ≡ output_of default_version log d) (eqb-true client c same) f.0 ∙ s.output_is }
         | false ↦ λ _. s
       ]) refl
   silent (Drops client ∷ log) f c none = silent log f.1 c none
   silent (Frees number ∷ log) f c none = silent log f.1 c none
   silent (Resets client ∷ log) f c none =
-      (elim (nat_eq client c) as (λ b. cond b [] (stream_of log c) ≡ [] → IsSilent (cond b start_front (front_of log c)) (cond b [] (queue_of log c)) (cond b [] (output_of log c)) (cond b [] (given_of log c))) [
+      (elim (nat_eq client c) as (λ b. cond b [] (stream_of log c) ≡ [] → IsSilent (cond b start_front (front_of log c)) (cond b [] (queue_of log c)) (cond b [] (output_of default_version log c)) (cond b [] (given_of log c))) [
         | true ↦ λ _. record { place = refl; queue_is = refl; output_is = refl; given_is = refl }
         | false ↦ λ e. silent log f.1 c e
       ]) none
 
   -- ---- each client
 
-  done_for : (log : List (Entry dialect)) → Follows words Bars opening log → (c : ℕ) → stream_of log c ≡ [] → IsDoneFor log c
+  done_for : (log : List (Entry dialect)) → Follows words Bars opening default_version log → (c : ℕ) → stream_of log c ≡ [] → IsDoneFor log c
   done_for log f c none =
       let s = silent log f c none in
       record { stuck = subst (IsStuck dialect) (sym s.place) quiet_start; shown = s.queue_is; given = s.given_is ∙ sym s.output_is }
 
-  each_done : (events : List Scripted) (log : List (Entry dialect)) → Follows words Bars opening log → ((c : ℕ) → stream_of log c ≡ said_in events c) → IsSettled events log → (c : ℕ) → IsDoneFor log c
+  each_done : (events : List Scripted) (log : List (Entry dialect)) → Follows words Bars opening default_version log → ((c : ℕ) → stream_of log c ≡ said_in events c) → IsSettled events log → (c : ℕ) → IsDoneFor log c
   each_done events log f said settled c = elim (settled.clients c) [
     | inl none ↦ done_for log f c (said c ∙ none)
     | inr done ↦ done
   ]
 
   -- nothing is left to do for any client, whether it said anything or not
-  pub all_settled : (events : List Scripted) (log : List (Entry dialect)) → Follows words Bars opening log → ((c : ℕ) → stream_of log c ≡ said_in events c) → IsSettled events log → overlap.IsSettled log
+  pub all_settled : (events : List Scripted) (log : List (Entry dialect)) → Follows words Bars opening default_version log → ((c : ℕ) → stream_of log c ≡ said_in events c) → IsSettled events log → overlap.IsSettled default_version log
   all_settled events log f said settled =
       let each = each_done events log f said settled in
       record { stuck = λ c. (each c).stuck; shown = λ c. (each c).shown; given = λ c. (each c).given; free = settled.free }
 
   -- each client's stream is its messages, and the client was given what these show
-  pub each_written : (events : List Scripted) (log : List (Entry dialect)) → Follows words Bars opening log → ((c : ℕ) → stream_of log c ≡ said_in events c) → IsSettled events log → (c : ℕ) → WritesAll dialect words Bars opening log c
-  each_written events log f said settled c = all_written dialect reader_is ends_with_last words Bars opening log f (all_settled events log f said settled) c
+  pub each_written : (events : List Scripted) (log : List (Entry dialect)) → Follows words Bars opening default_version log → ((c : ℕ) → stream_of log c ≡ said_in events c) → IsSettled events log → (c : ℕ) → WritesAll dialect words Bars opening default_version log c
+  each_written events log f said settled c = all_written dialect reader_is ends_with_last words Bars opening default_version log f (all_settled events log f said settled) c

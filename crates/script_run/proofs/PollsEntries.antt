@@ -12,7 +12,7 @@ use Rattle.script_events.specs.Caches.{held_at}
 use Rattle.route_tree.specs.Plan.{Plan}
 use Rattle.route_tree.specs.Word.{tree_words}
 use Rattle.core_proxy.specs.Claims.{bars_by}
-use Rattle.core_proxy.specs.CoreState.{dialect, Message, Beside, bars_of, state_of}
+use Rattle.core_proxy.specs.CoreState.{dialect, Message, Beside, bars_of, state_of, version_by}
 use Rattle.core_proxy.specs.Polls.{IsPolled, Perhaps, BeginsBelow}
 use Rattle.core_proxy.specs.declared.limits.CoreLimits.{CoreLimits}
 use Rattle.core_proxy.specs.declared.note.Poll.{Poll}
@@ -49,9 +49,9 @@ unknown_stay polls.Waiting old new counts n e = counts.found n ∙ e
 unknown_stay polls.Queued old new counts n e = counts.found n ∙ e
 unknown_stay polls.Busy old new counts n e = counts.found n ∙ e
 
-module _ (at : ℕ → List ℕ → Plan) (Bars : ℕ → Ask → ℕ → Ask → Type 0) (opening : ℕ → List ℕ → Option Item) where
+module _ (at : ℕ → List ℕ → Plan) (Bars : ℕ → Ask → ℕ → Ask → Type 0) (opening : ℕ → List ℕ → Option Item) (version : List ℕ) where
   -- what a log came of follows too
-  behind : (more log : List (Entry dialect)) → Follows (tree_words at) Bars opening (more ++ log) → Follows (tree_words at) Bars opening log
+  behind : (more log : List (Entry dialect)) → Follows (tree_words at) Bars opening version (more ++ log) → Follows (tree_words at) Bars opening version log
   behind [] log f = f
   behind (entry ∷ more) log f = behind more log f.1
 
@@ -63,7 +63,7 @@ module _ (at : ℕ → List ℕ → Plan) (Bars : ℕ → Ask → ℕ → Ask �
         (record { served = t.served; unbroken = t.unbroken; loses = t.loses; out = t.out; known = t.known; items = t.items; commands = t.commands; stale = t.stale; last = t.last; later = t.later; streams = t.streams; given = t.given; story = t.story })
 
     -- what a poll answers tells what came of the log
-    polled : (log : List (Entry dialect)) (client : ℕ) (poll : Poll) (second : List (Entry dialect)) (old new : Kept) → Follows (tree_words at) Bars opening (second ++ log) → IsPolled client poll second → CountsPoll poll old new → Tells opening base found log old → Tells opening base found (second ++ log) new
+    polled : (log : List (Entry dialect)) (client : ℕ) (poll : Poll) (second : List (Entry dialect)) (old new : Kept) → Follows (tree_words at) Bars opening version (second ++ log) → IsPolled client poll second → CountsPoll poll old new → Tells opening base found log old → Tells opening base found (second ++ log) new
     polled log client polls.Idle second old new f is counts t = subst (λ l. Tells opening base found (l ++ log) new) (sym is) (besides opening base found log old new counts t)
     polled log client polls.Waiting second old new f is counts t = subst (λ l. Tells opening base found (l ++ log) new) (sym is) (besides opening base found log old new counts t)
     polled log client polls.Queued second old new f is counts t = subst (λ l. Tells opening base found (l ++ log) new) (sym is) (besides opening base found log old new counts t)
@@ -79,19 +79,19 @@ module _ (at : ℕ → List ℕ → Plan) (Bars : ℕ → Ask → ℕ → Ask �
         let end : Entry dialect = Ends client note.number part reply note.from in
         let shows : List (Entry dialect) = each (λ (s : Slot dialect × Answer). let e : Entry dialect = Shows client s.0 s.1 in e) shown in
         let whole : second ++ log ≡ shows ++ (end ∷ log) = ap (λ l. l ++ log) (is.4 ∙ ap₂ (λ a b. a ++ b) is.3.1 ended.4) ∙ append_assoc shows (end ∷ []) log in
-        let follows = behind shows (end ∷ log) (subst (Follows (tree_words at) Bars opening) whole f) in
+        let follows = behind shows (end ∷ log) (subst (Follows (tree_words at) Bars opening version) whole f) in
         subst (λ l. Tells opening base found l new) (sym whole)
-        (shown_more opening base found client shown (end ∷ log) new (ends opening base found at Bars log client note part reply old new follows ended.2 ended.3 counts t))
+        (shown_more opening base found client shown (end ∷ log) new (ends opening base found at Bars version log client note part reply old new follows ended.2 ended.3 counts t))
 
     -- a command that began before that is new
     begun : (core : Core) (client : ℕ) (first : List (Entry dialect)) (k : Kept) → Perhaps (BeginsBelow core client) first → ((n : ℕ) → commands_in (run_of base) < n → found n ≡ []) → ((n : ℕ) → commands_in (run_of base) < n → k.stamps n ≡ [])
-        → Follows (tree_words at) Bars opening (first ++ base) → Tells opening base found base k → Tells opening base found (first ++ base) k
+        → Follows (tree_words at) Bars opening version (first ++ base) → Tells opening base found base k → Tells opening base found (first ++ base) k
     begun core client first k (inl none) unseen unknown f t = subst (λ l. Tells opening base found (l ++ base) k) (sym none) t
     begun core client first k (inr some) unseen unknown f t =
         let number = some.1.0 in
         let part = some.1.2.0 in
         let is = some.1.2.2 in
-        let may = subst (λ l. Follows (tree_words at) Bars opening (l ++ base)) is f in
+        let may = subst (λ l. Follows (tree_words at) Bars opening version (l ++ base)) is f in
         let next = may.0.3 in
         let high : commands_in (run_of base) < number = omega (arith, next) in
         subst (λ l. Tells opening base found (l ++ base) k) (sym is)
@@ -117,7 +117,8 @@ polls_go_on opening tree log client poll old new stands p counts =
     let words = tree_words beside.at in
     let bars = bars_of old.core beside in
     let whole : g.1 ++ log ≡ second ++ (first ++ log) = ap (λ l. l ++ log) kind.4 ∙ append_assoc second first log in
-    let follows : Follows words bars opening (second ++ (first ++ log)) = subst (Follows words bars opening) whole leads.follows in
+    let version = version_by new.core.limits in
+    let follows : Follows words bars opening version (second ++ (first ++ log)) = subst (Follows words bars opening version) whole leads.follows in
     let count = stands.leads.count in
     let told : Tells opening log beside.found log old = record {
       served = stands.served;
@@ -134,8 +135,8 @@ polls_go_on opening tree log client poll old new stands p counts =
       given = λ c. refl;
       story = refl;
     } in
-    let began = begun beside.at bars opening log beside.found old.core client first old kind.2 (λ n high. stands.fits.unseen n (omega (arith, count, high))) (λ n high. stands.unknown n (omega (arith, count, high))) (behind beside.at bars opening second (first ++ log) follows) told in
-    let t : Tells opening log beside.found (g.1 ++ log) new = subst (λ l. Tells opening log beside.found l new) (sym whole) (polled beside.at bars opening log beside.found (first ++ log) client poll second old new follows kind.3 counts began) in
+    let began = begun beside.at bars opening version log beside.found old.core client first old kind.2 (λ n high. stands.fits.unseen n (omega (arith, count, high))) (λ n high. stands.unknown n (omega (arith, count, high))) (behind beside.at bars opening version second (first ++ log) follows) told in
+    let t : Tells opening log beside.found (g.1 ++ log) new = subst (λ l. Tells opening log beside.found l new) (sym whole) (polled beside.at bars opening version log beside.found (first ++ log) client poll second old new follows kind.3 counts began) in
     let servers = servers_stay poll old new counts in
     let goes : GoesOn opening tree log new = record {
       more = g.1;

@@ -197,9 +197,9 @@ module _ (opening : ℕ → List ℕ → Option Item) (base : List (Entry dialec
       let at = shown_found (calls_so_far past number) (found number) stamps i reply h m in
       at.2 ∙ sym (ap (λ o. option_map (λ (i : Item). i.stamp) o) (is i at.0 at.1))
 
-  module _ (at : ℕ → List ℕ → Plan) (Bars : ℕ → Ask → ℕ → Ask → Type 0) where
+  module _ (at : ℕ → List ℕ → Plan) (Bars : ℕ → Ask → ℕ → Ask → Type 0) (version : List ℕ) where
     -- a command that ends is counted, and what its calls found is forgotten
-    pub ends : (log : List (Entry dialect)) (client : ℕ) (note : Note) (part : Part dialect) (reply : Answer) (old new : Kept) → Follows (tree_words at) Bars opening (Ends client note.number part reply note.from ∷ log)
+    pub ends : (log : List (Entry dialect)) (client : ℕ) (note : Note) (part : Part dialect) (reply : Answer) (old new : Kept) → Follows (tree_words at) Bars opening version (Ends client note.number part reply note.from ∷ log)
         → note.ask ≡ part.ask → IsTrue note.acknowledged ↔ Acknowledges part.ask reply → CountsOne note old new → Tells opening base found log old → Tells opening base found (Ends client note.number part reply note.from ∷ log) new
     ends log client note part reply old new f asks ack counts t =
         let run = run_of log in
@@ -208,7 +208,7 @@ module _ (opening : ℕ → List ℕ → Option Item) (base : List (Entry dialec
         let key = part.ask.key in
         let me : Owner = record { client = client; ask = part.ask } in
         let held : owner_of log number ≡ Some me = f.0.1 in
-        let way : under_way run number ≡ Some part.ask = owner_way (tree_words at) Bars opening log f.1 number me held in
+        let way : under_way run number ≡ Some part.ask = owner_way (tree_words at) Bars opening version log f.1 number me held in
         let said : note.acknowledged ≡ is_acknowledged (under_way run number) reply = says_so note.acknowledged part.ask reply ack ∙ sym (ap (λ o. is_acknowledged o reply) way) in
         let answer = replies_show_what_was_found at number f.0.0.0 (calls_so_far run number) reply from f.0.0.3 in
         let item = shown_item opening run number from in

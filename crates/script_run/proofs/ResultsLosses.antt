@@ -52,14 +52,14 @@ one_more x beside e es may like rest =
 pub losses_lead : (x : Core) (beside : Beside) (lost : List Event) → AreLosses lost → Leads (tree_words beside.at) (bars_of x beside) (state_of x beside) (happened lost) (state_of x (bereft lost beside))
 losses_lead x beside [] are =
     walks_lead (tree_words beside.at) (bars_of x beside) (state_of x beside) (state_of x (bereft [] beside)) []
-    (record { may = tt; like = record { front = λ c. refl; queue = λ c. refl; output = λ c. refl; dropped = λ c. refl; number = refl; owner = λ n. refl; to_come = λ n o e calls reply from l. l; out = λ s. refl; holds = λ s k. refl; found = λ n o e. refl; turn = refl } })
+    (record { may = tt; like = record { front = λ c. refl; queue = λ c. refl; output = λ c. refl; dropped = λ c. refl; number = refl; owner = λ n. refl; to_come = λ n o e calls reply from l. l; out = λ s. refl; holds = λ s k. refl; found = λ n o e. refl; turn = refl; version = refl } })
 losses_lead x beside (Turns server key turned ∷ es) are =
     one_more x beside (Turns server key turned) es tt
-    (record { front = λ c. refl; queue = λ c. refl; output = λ c. refl; dropped = λ c. refl; number = refl; owner = λ n. refl; to_come = λ n o e calls reply from l. l; out = λ s. refl; holds = λ s k. refl; found = λ n o e. refl; turn = refl })
+    (record { front = λ c. refl; queue = λ c. refl; output = λ c. refl; dropped = λ c. refl; number = refl; owner = λ n. refl; to_come = λ n o e calls reply from l. l; out = λ s. refl; holds = λ s k. refl; found = λ n o e. refl; turn = refl; version = refl })
     (losses_lead x beside es are.1)
 losses_lead x beside (Restarts server ∷ es) are =
     one_more x beside (Restarts server) es tt
-    (record { front = λ c. refl; queue = λ c. refl; output = λ c. refl; dropped = λ c. refl; number = refl; owner = λ n. refl; to_come = λ n o e calls reply from l. l; out = λ s. refl; holds = λ s k. refl; found = λ n o e. refl; turn = refl })
+    (record { front = λ c. refl; queue = λ c. refl; output = λ c. refl; dropped = λ c. refl; number = refl; owner = λ n. refl; to_come = λ n o e calls reply from l. l; out = λ s. refl; holds = λ s k. refl; found = λ n o e. refl; turn = refl; version = refl })
     (losses_lead x beside es are)
 losses_lead x beside (Begins number ask ∷ es) are = absurd are
 losses_lead x beside (Calls number server ask origin end ∷ es) are = absurd are

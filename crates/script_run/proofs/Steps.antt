@@ -32,6 +32,7 @@ use Rattle.script_run.specs.declared.driver.runner.Runner.{Runner}
 use Rattle.script_run.specs.Driving.{said_by, joined, CutsCome, shown_to, IsHanded, AreHandedInTurn}
 use Rattle.script_run.specs.World.{Changes, lost_now}
 use Rattle.script_run.specs.Stepping.{FedBy, FedInTurn, FedAtOnce, IsServedBelow, FedInCuts, FedAsPiece, CutsBy, TakesTurns, AreFit, AreAskedBy, IsHeard, LeavesBy, GoesOnSaid, Befalls, IsGivenAll, HandsOut, HandsSome}
+use Rattle.wire_stream.specs.Version.{default_version}
 
 -- ---- bytes that a client says
 
@@ -456,8 +457,8 @@ hands_then First Then All each x y z a b d m n s opening tree log stands =
 kept_one : (client : ℕ) (bytes : List ℕ) (opening : ℕ → List ℕ → Option Item) (tree : ℕ → Route) (log : List (Entry dialect)) (k : Kept) (g : GoesOnGiven opening tree log client bytes k) (c : ℕ) → IsGivenAll log c → IsGivenAll (g.more ++ log) c
 kept_one client bytes opening tree log k g c is = by (nat_eq client c) refl
   where
-    by : (b : Bool) → nat_eq client c ≡ b → given_of (g.more ++ log) c ≡ output_of (g.more ++ log) c
-    by true e = subst (λ d. given_of (g.more ++ log) d ≡ output_of (g.more ++ log) d) (eqb-true client c e) g.all
+    by : (b : Bool) → nat_eq client c ≡ b → given_of (g.more ++ log) c ≡ output_of default_version (g.more ++ log) c
+    by true e = subst (λ d. given_of (g.more ++ log) d ≡ output_of default_version (g.more ++ log) d) (eqb-true client c e) g.all
     by false e = g.given c ∙ ap (λ b. cond b (given_of log c ++ bytes) (given_of log c)) e ∙ is ∙ sym (g.left.output c)
 
 -- a client is given its output, which is empty

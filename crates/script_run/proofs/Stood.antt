@@ -46,6 +46,7 @@ use Rattle.script_run.proofs.Worlds.{brought, brought_still}
 use Rattle.script_run.proofs.Served.{idle_for, free_all, comes_so}
 use Rattle.script_run.proofs.Rising.{all_handed, outputs_next, outputs_last, outputs_none}
 use Rattle.script_run.proofs.Come.{said_split, mark_count, come_on, come_ended, come_out, begins, next_left}
+use Rattle.wire_stream.specs.Version.{default_version}
 
 -- ---- what is said in events, one after another
 
@@ -507,8 +508,8 @@ module _ (first : Route) (refused : List Bool) (reloads : List Reload) (events :
       let says = law opening tree end.log (kept_of d t) end.stands in
       let said : (c : ℕ) → stream_of end.log c ≡ said_in events c = λ c. sym (end.streams c ∙ append-nil (stream_of end.log c)) in
       let settled : IsSettled events end.log = subst (λ (l : List Scripted). IsSettled l end.log) all (piece_settled done opening tree (g.more ++ log) end.log b t g.stands rest o.left o.all (λ c le. h.heard c (subst (λ (n : ℕ). n ≤ c) same le))) in
-      let replied = sym (replied_unbroken (tree_words plans) (bars_by Alone plans) opening end.log says.follows says.unbroken settled.free) in
-      let run : RunsBy first end.loads events end.log = runs dialect (tree_words plans) (bars_by Alone plans) opening end.log says.follows in
+      let replied = sym (replied_unbroken (tree_words plans) (bars_by Alone plans) opening default_version end.log says.follows says.unbroken settled.free) in
+      let run : RunsBy first end.loads events end.log = runs dialect (tree_words plans) (bars_by Alone plans) opening default_version end.log says.follows in
       record {
         log = end.log;
         loads = end.loads;

@@ -34,6 +34,7 @@ use Rattle.script_run.specs.Results.{CallResult, call_of, calls_of}
 use Rattle.script_run.specs.Turns.{AreInTurn}
 use Rattle.script_run.specs.Standing.{Kept, Stands, replied_in, tree_by}
 use Rattle.script_run.specs.World.{World}
+use Rattle.wire_stream.specs.Version.{default_version}
 
 -- ---- what a script says
 
@@ -101,7 +102,7 @@ leaves_out before (event ∷ events) = leaves_out (may_be_out event before) even
 pub record IsDoneFor (log : List (Entry dialect)) (c : ℕ) : Type 0 where
   pub stuck : IsStuck dialect (front_of log c).place
   pub shown : queue_of log c ≡ []
-  pub given : given_of log c ≡ output_of log c
+  pub given : given_of log c ≡ output_of default_version log c
 
 -- nothing is left to do for any client that said something in these events, and no command is under way
 pub record IsSettled (events : List Scripted) (log : List (Entry dialect)) : Type 0 where
@@ -117,7 +118,7 @@ pub record IsStalledIn (events done : List Scripted) (log : List (Entry dialect)
 
 -- clients that said something in these events were given all that there was for them
 abbrev pub HaveAllOutput : List Scripted → List (Entry dialect) → Type 0
-HaveAllOutput done log = (c : ℕ) → (said_in done c ≡ []) ⊎ (given_of log c ≡ output_of log c)
+HaveAllOutput done log = (c : ℕ) → (said_in done c ≡ []) ⊎ (given_of log c ≡ output_of default_version log c)
 
 -- a part of the log, after the first events of a script: clients had said what these say, and were given their outputs, which were all that there were; servers were what they and the results made of them; nothing more could be done without a result; and unless calls may be out nothing was left to do
 pub record IsThrough (events done : List Scripted) (log : List (Entry dialect)) (given : List Shown) : Type 0 where
@@ -302,7 +303,7 @@ loaded_trees loads = map (λ load. load.1) loads
 -- the log follows, each command by the tree that was loaded last before it began, and each alone on its key, from what the script put on the servers
 abbrev pub FollowsBy : Route → List (ℕ × Route) → List Scripted → List (Entry dialect) → Type 0
 FollowsBy first loads events log =
-    Follows (tree_words (λ n key. tree_at (tree_by first loads n) key)) (bars_by Alone (λ n key. tree_at (tree_by first loads n) key)) (opening_of events) log
+    Follows (tree_words (λ n key. tree_at (tree_by first loads n) key)) (bars_by Alone (λ n key. tree_at (tree_by first loads n) key)) (opening_of events) default_version log
 
 -- the run of the log is a run of these trees
 abbrev pub RunsBy : Route → List (ℕ × Route) → List Scripted → List (Entry dialect) → Type 0
@@ -312,7 +313,7 @@ RunsBy first loads events log =
 -- a client's stream is its messages and less than a whole one; it was given what they and the replies of their commands show, and nothing else
 abbrev pub IsWritten : Route → List (ℕ × Route) → List Scripted → List (Entry dialect) → ℕ → Type 0
 IsWritten first loads events log c =
-    WritesAll dialect (tree_words (λ n key. tree_at (tree_by first loads n) key)) (bars_by Alone (λ n key. tree_at (tree_by first loads n) key)) (opening_of events) log c
+    WritesAll dialect (tree_words (λ n key. tree_at (tree_by first loads n) key)) (bars_by Alone (λ n key. tree_at (tree_by first loads n) key)) (opening_of events) default_version log c
 
 -- where each key has one server and no other tree comes, the run is fresh, whatever the gate would say
 abbrev pub IsFreshIfDirect : Route → List Reload → List Scripted → List (Entry dialect) → Type 0

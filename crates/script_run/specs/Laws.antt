@@ -32,6 +32,7 @@ use Rattle.core_proxy.specs.declared.note.Poll.TheVariants as polls
 use Rattle.script_events.specs.Caches.{held_at}
 use Rattle.script_run.specs.Results.{IsTold}
 use Rattle.script_run.specs.Standing.{Kept, story_of, HasSameStory, replied_in, broken_in, tree_by, calls_at, Stands, GoesOn, GoesOnFed, GoesOnGiven, LeavesAsMuch, CountsAsMany, HasServers, FoundAsMuch, IsBesides}
+use Rattle.wire_stream.specs.Version.{default_version}
 
 -- ---- polls
 
@@ -163,7 +164,7 @@ NothingStands = (tree : Route) (k : Kept) → IsBegin tree k → Stands (held_at
 
 -- what a log that stands says: it follows by the trees that were loaded, each command alone on its key, none was broken off, and nobody but the core writes the servers; calls and stale replies are counted; where deletes clear what later commands take, it is fresh and no reply is stale
 pub record Says (opening : ℕ → List ℕ → Option Item) (tree : ℕ → Route) (log : List (Entry dialect)) (k : Kept) : Type 0 where
-  pub follows : Follows (tree_words (λ n key. tree_at (tree n) key)) (bars_by Alone (λ n key. tree_at (tree n) key)) opening log
+  pub follows : Follows (tree_words (λ n key. tree_at (tree n) key)) (bars_by Alone (λ n key. tree_at (tree n) key)) opening default_version log
   pub begun : k.core.number ≡ commands_in (run_of log)
   pub ended : k.commands ≡ replied_in (run_of log)
   pub unbroken : broken_in (run_of log) ≡ 0

@@ -17,6 +17,7 @@ use Rattle.core_commands.specs.declared.ticket.Ticket.{Ticket}
 use Rattle.core_proxy.specs.Faults.{script_limits}
 use Rattle.core_proxy.specs.CoreState.{dialect, bars_of, Beside, FitsBeside, state_of}
 use Rattle.core_proxy.specs.declared.proxy.Core.{Core}
+use Rattle.wire_stream.specs.Version.{default_version}
 
 -- what is kept beside the log: the core, the servers of the script, their caches, how many calls had their results, the calls that are out in the order in which they went out, the stamps of what the calls of
 -- each command under way found, how many commands had their replies and how many of these were stale, and the number of the last acknowledged delete of each key
@@ -101,7 +102,7 @@ pub record Stands (opening : ℕ → List ℕ → Option Item) (tree : ℕ → R
 pub record LeavesAsMuch (before after : List (Entry dialect)) : Type 0 where
   pub front : (c : ℕ) → front_of after c ≡ front_of before c
   pub queue : (c : ℕ) → queue_of after c ≡ queue_of before c
-  pub output : (c : ℕ) → output_of after c ≡ output_of before c
+  pub output : (c : ℕ) → output_of default_version after c ≡ output_of default_version before c
   pub owner : (n : ℕ) → owner_of after n ≡ owner_of before n
 
 -- the log goes on, and leads there; its clients said nothing more, and were given nothing more
@@ -124,7 +125,7 @@ pub record GoesOnGiven (opening : ℕ → List ℕ → Option Item) (tree : ℕ 
   pub stands : Stands opening tree (more ++ log) k
   pub streams : (c : ℕ) → stream_of (more ++ log) c ≡ stream_of log c
   pub given : (c : ℕ) → given_of (more ++ log) c ≡ (if nat_eq client c then given_of log c ++ bytes else given_of log c)
-  pub all : given_of (more ++ log) client ≡ output_of (more ++ log) client
+  pub all : given_of (more ++ log) client ≡ output_of default_version (more ++ log) client
   pub story : HasSameStory log (more ++ log)
   pub left : LeavesAsMuch log (more ++ log)
 

@@ -22,6 +22,7 @@ use Rattle.script_run.specs.Running.{kept_of, IsLoadedBy, AreOfOne, AreAsked, Ar
 use Rattle.script_run.specs.declared.driver.runner.Runner.{Runner}
 use Rattle.script_run.specs.World.{Changes, lost_now, World}
 use Rattle.script_run.specs.Driving.{said_by, said_in, shown_to, joined, AreCuts, IsServedFor, CutsCome, AreHandedInTurn, AreRising, AreOutputs, HaveAllOutput, trees_loaded, loaded_trees, CameInTurn, leaves_out, IsSettled, AreThrough, AreSteps, AreMarked, StepsPart, AreSpentIn}
+use Rattle.wire_stream.specs.Version.{default_version}
 
 -- an event that asks clients nothing leaves as much to do as there was
 abbrev pub LeavesBy : Scripted → List (Entry dialect) → List (Entry dialect) → Type 0
@@ -205,7 +206,7 @@ RestsAfter (Moment moment) old new = new ≡ old
 
 -- the client was given all that there was for it
 abbrev pub IsGivenAll : List (Entry dialect) → ℕ → Type 0
-IsGivenAll log c = given_of log c ≡ output_of log c
+IsGivenAll log c = given_of log c ≡ output_of default_version log c
 
 -- the log goes on, and where clients were given what was handed out before, they are given what is handed out after, in its order; these are given all that there is for them, and nothing else is done
 pub record GoesOnShown (AreGiven : ℕ → Type 0) (opening : ℕ → List ℕ → Option Item) (tree : ℕ → Route) (log : List (Entry dialect)) (before after : List Shown) (k : Kept) : Type 0 where

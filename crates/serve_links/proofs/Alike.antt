@@ -169,9 +169,9 @@ record Over (l : List (Entry dialect)) (n : ℕ) : Type 0 where
   ask : Ask
   begins : begun (run_of l) n ≡ Some ask
 
-module _ (words : ℕ → Ask → List Call → Answer → Option ℕ → Type 0) (Bars : ℕ → Ask → ℕ → Ask → Type 0) (believes : ℕ → List ℕ → Option Item) where
+module _ (words : ℕ → Ask → List Call → Answer → Option ℕ → Type 0) (Bars : ℕ → Ask → ℕ → Ask → Type 0) (believes : ℕ → List ℕ → Option Item) (version : List ℕ) where
   abbrev Follow : List (Entry dialect) → Type 0
-  Follow l = Follows words Bars believes l
+  Follow l = Follows words Bars believes version l
 
   unlike_owner : (l : List (Entry dialect)) (m n : ℕ) (o : Owner) → owner_of l m ≡ Some o → owner_of l n ≡ None → nat_eq m n ≡ false
   unlike_owner l m n o has none = differs m n (λ is. some_none (sym has ∙ ap (owner_of l) is ∙ none))

@@ -22,7 +22,7 @@ use Rattle.core_commands.specs.declared.command.Command.{Command}
 use Rattle.core_commands.specs.Begun.{owner_by}
 use Rattle.core_commands.specs.Out.{has_call_out}
 use Rattle.core_proxy.specs.Claims.{bars_by}
-use Rattle.core_proxy.specs.CoreState.{dialect, command_at, bars_of, ticket_by, MayComeOf}
+use Rattle.core_proxy.specs.CoreState.{dialect, command_at, bars_of, ticket_by, MayComeOf, version_by}
 use Rattle.core_proxy.specs.CallsStay.{called_by}
 use Rattle.core_proxy.proofs.Commands.{goes_on}
 use Rattle.core_accepted.specs.declared.served.ServedCore.{ServedCore}
@@ -128,9 +128,10 @@ walks_are_fresh_late steps first last tells orderly fresh opening moves same alo
     let rule = last.core.limits.sharing in
     let words = words_by led.tree in
     let Bars : ℕ → Ask → ℕ → Ask → Type 0 = bars_by rule at in
-    let follows : Follows words Bars along.believes past = subst (λ (at : ℕ → List ℕ → Plan). Follows (tree_words at) (bars_by rule at) along.believes past) led.plain led.leads.follows in
+    let version = version_by last.core.limits in
+    let follows : Follows words Bars along.believes version past = subst (λ (at : ℕ → List ℕ → Plan). Follows (tree_words at) (bars_by rule at) along.believes version past) led.plain led.leads.follows in
     let own : Own words Bars (seen (moments_in moves)) =
-    does_own words Bars along.believes moves follows ((part_laws words Bars).own along.believes (run_of past) (runs dialect words Bars along.believes past follows)) along.applied along.alike
+    does_own words Bars along.believes version moves follows ((part_laws words Bars).own along.believes (run_of past) (runs dialect words Bars along.believes version past follows)) along.applied along.alike
     (out_ways first last along.believes moves along.leads) (front_out last along.believes past led) in
     let core : DoesAsCore last opening (moments_in moves) = record { believes = along.believes; log = past; led = led; own = own_part words Bars (seen (moments_in moves)) own; serves = along.serves } in
     subst (λ (l : List Moment). IsFreshBy opening WasOver l) order.0 (fresh opening (as_pipes moves) (subst (λ (l : List Moment). DoesAsCore last opening l) (sym order.0) core) order.1)

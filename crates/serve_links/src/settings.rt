@@ -4,6 +4,7 @@ ghost use Rattle.std.specs.Prelude.{◌≡◌, ◌≤◌, ◌+◌, ◌⊎◌};
 ghost use Rattle.serve_links.specs.Lateness.{usual_limits};
 
 use core_proxy::Sharing;
+use wire_stream::VersionText;
 
 /// In which dialect a server is asked for classic gets. All else is asked as the client wrote it.
 #[derive(Clone, Copy, PartialEq, Eq)]
@@ -39,7 +40,7 @@ pub struct LinkLimits {
     pub stores_wait: bool,
 }
 
-/// How many clients there may be, how many calls may be out, how long is waited, and how servers are asked.
+/// How many clients there may be, how many calls may be out, how long is waited, how servers are asked, and what clients are told.
 #[derive(Clone, Copy)]
 pub struct Settings {
     /// How many clients may be connected.
@@ -69,11 +70,13 @@ pub struct Settings {
     pub server_dialect: ServerDialect,
     /// Whether a server that comes with a later configuration is emptied before its first call.
     pub flushes_new: bool,
+    /// The text that `version` is answered behind `VERSION `, in place of mcgate's own.
+    pub version: Option<VersionText>,
 }
 
 impl Settings {
     /// 1,024 clients, 32 commands of each, 256 calls that have gone out to each server, keys shared, one second each time, for stores too, three failures,
-    /// no connection given up for late answers, any number of reads, and dialects as servers tell.
+    /// no connection given up for late answers, any number of reads, dialects as servers tell, and mcgate's own version.
     pub fn usual() -> Settings {
         Settings {
             clients: 1_024,
@@ -90,6 +93,7 @@ impl Settings {
             polls: None,
             server_dialect: ServerDialect::Auto,
             flushes_new: false,
+            version: None,
         }
     }
 

@@ -15,7 +15,7 @@ use Rattle.serve_proxy.specs.declared.beginning.TheConstants.{HELD_LIMIT}
 
 -- the core's limits
 abbrev pub limits_by : Settings → CoreLimits
-limits_by settings = record { clients = settings.clients; held = HELD_LIMIT; depth = settings.client_window; window = settings.link_window; sharing = settings.sharing }
+limits_by settings = record { clients = settings.clients; held = HELD_LIMIT; depth = settings.client_window; window = settings.link_window; sharing = settings.sharing; version = settings.version }
 
 -- it is a new core on accepted trees, where servers began so
 abbrev pub BeginsFresh : List Configuration → Beginnings → Settings → ServedCore → Type 0

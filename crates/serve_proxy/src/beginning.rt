@@ -22,6 +22,7 @@ fn limits_of(settings: Settings) -> CoreLimits
         depth: settings.client_window,
         window: settings.link_window,
         sharing: settings.sharing,
+        version: settings.version,
     }
 }
 

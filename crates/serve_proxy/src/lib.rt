@@ -46,5 +46,7 @@ mod worklist;
 
 pub use core_accepted::{Beginning, Beginnings};
 pub use proxy::ProxyEnd;
-pub use serve_links::{CallTally, Cause, LinkLimits, LinkNews, ServerDialect, Settings, Tally};
+pub use serve_links::{
+    CallTally, Cause, LinkLimits, LinkNews, ServerDialect, Settings, Tally, VersionText,
+};
 pub use texts::text_at;

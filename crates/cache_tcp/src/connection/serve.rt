@@ -18,7 +18,7 @@ use mc_types::{Answer, Ask, SharedAsk};
 use std::alloc::{AllocError, Global};
 use wire_parts::to_send::SendBuffer;
 use wire_stream::connection::{ClientStream, Front, pass};
-use wire_stream::{Read, Request, ends_message, write_part};
+use wire_stream::{DEFAULT_VERSION, Read, Request, ends_message, write_part};
 
 // A drop that is a call keeps the proof of a caller short.
 fn drop_answer(_answer: Answer) {}
@@ -155,7 +155,7 @@ fn pass_front(stream: &mut ClientStream, read: Read, out: &mut SendBuffer) -> Re
     ensures ok { OnOk result (PassesOn stream.old (bytes_of out.old) stream.new (bytes_of out.new)) }
     ensures kept { OnErr result (bytes_of out.new ≡ bytes_of out.old) }
 {
-    pass(read, stream, &mut out.text)?;
+    pass(read, DEFAULT_VERSION, stream, &mut out.text)?;
     Ok(())
 }
 

@@ -54,6 +54,7 @@ const LIMITS: CoreLimits = CoreLimits {
     depth: 2,
     window: 2,
     sharing: Sharing::Alone,
+    version: None,
 };
 
 fn core_by(alloc: Global, text: &str) -> Result<ServedCore, Fail> {

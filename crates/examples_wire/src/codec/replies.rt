@@ -8,7 +8,7 @@ use mc_types::{Answer, Ask, Body, ErrorText, OwnText};
 use std::alloc::{AllocError, Global};
 use std::test::Fail;
 use wire_answers::{AnswerRead, read_answer, write_end, write_value};
-use wire_stream::{ProxyCommand, ends_message, write_own, write_part};
+use wire_stream::{DEFAULT_VERSION, ProxyCommand, ends_message, write_own, write_part};
 
 // What servers answered, one after another, and what the client of the one request is shown. `call failed` stands for an answer of the proxy's
 // own, and with `...` behind them more answers are to come.
@@ -149,9 +149,9 @@ fn an_error_ends_a_message(rt: HostRuntime) -> Result<(), Fail> {
 #[test]
 fn answers_of_its_own(rt: HostRuntime) -> Result<(), Fail> {
     let mut out = BytesMut::new(rt.alloc());
-    write_own(ProxyCommand::Version, &mut out)?;
-    write_own(ProxyCommand::Quit, &mut out)?;
-    write_own(ProxyCommand::Noop, &mut out)?;
+    write_own(ProxyCommand::Version, DEFAULT_VERSION, &mut out)?;
+    write_own(ProxyCommand::Quit, DEFAULT_VERSION, &mut out)?;
+    write_own(ProxyCommand::Noop, DEFAULT_VERSION, &mut out)?;
     assert_eq!(rt; out.as_slice(), b"VERSION mcgate-1\r\nMN\r\n".as_slice());
     Ok(())
 }
