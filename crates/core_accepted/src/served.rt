@@ -6,15 +6,16 @@ ghost use Rattle.fresh_runs.specs.Overlap as log;
 ghost use Rattle.core_proxy.specs.Faults.{IsClosed, CanOpen, CanFeed, CanClose, OpenFault, FeedFault, OutputFault, CloseFault};
 ghost use Rattle.core_proxy.specs.CoreState.{IsOut, Opens, Feeds, Gives, Closes, LeavesLine, client_at, dropped_by, held_by, output_by};
 ghost use Rattle.core_commands.specs.Lines.{is_standing};
-ghost use Rattle.core_proxy.specs.Polls.{Polls, PollFault, Then, Perhaps, BeginsOne, IsPolled};
+ghost use Rattle.core_proxy.specs.Polls.{Polls, PollFault};
 ghost use Rattle.core_proxy.specs.Settles.{FitsCall, asked, SettleFault};
 ghost use Rattle.core_accepted.specs.Logs.{IsNew, IsNewFrom, IsUnchecked, LogsGoBy, fed};
 ghost use Rattle.core_accepted.specs.Loading.{IsLoaded, RefusesLoad};
-ghost use Rattle.core_accepted.specs.Results.{PollStops, TakesResult, SettleStops, IsSettled};
+ghost use Rattle.core_accepted.specs.Results.{PollGoes, PollStops, TakesResult, SettleStops, IsSettled};
 
 use crate::beginnings::Beginnings;
 use crate::generations::Generations;
 use crate::loading::{LoadFault, load_accepted, load_any};
+use crate::tally::CommandTally;
 use core_proxy::{Core, CoreFault, CoreLimits, Poll, Ticket};
 use gate_check::Accepted;
 use mc_types::{Ask, Outcome};
@@ -33,6 +34,8 @@ pub struct ServedCore {
     pub(crate) core: Core,
     // The configurations that the gate accepted, and the ledger that knows them; `None` where it wasn't asked.
     pub(crate) accepted: Option<Generations>,
+    // How many of its commands have ended.
+    pub(crate) ended: CommandTally,
 }
 
 impl ServedCore {
@@ -62,6 +65,7 @@ impl ServedCore {
         Ok(ServedCore {
             core: Core::unchecked(alloc, tree, limits),
             accepted: Some(generations),
+            ended: CommandTally::new(),
         })
     }
 
@@ -72,6 +76,7 @@ impl ServedCore {
         ServedCore {
             core: Core::unchecked(alloc, tree, limits),
             accepted: None,
+            ended: CommandTally::new(),
         }
     }
 
@@ -134,10 +139,19 @@ impl ServedCore {
     pub fn poll(&mut self, client: usize) -> Result<Poll, CoreFault>
         ensures ok { IfOk result (λ poll. Polls self.old.core client poll self.new.core) }
         ensures err { IfErr result (λ fault. PollFault self.old.core client fault self.new.core) }
-        ensures fresh { IfOk result (λ poll. LogsGoBy self.old (Then (Perhaps (BeginsOne client)) (IsPolled client poll)) self.new) }
+        ensures fresh { IfOk result (λ poll. PollGoes self.old client poll self.new) }
         ensures stops { IfErr result (λ fault. PollStops self.old client fault self.new) }
     {
-        self.core.poll(client)
+        let polled = self.core.poll(client);
+        self.ended.note_polled(&polled);
+        polled
+    }
+
+    /// How many of its commands have ended, as its polls told.
+    pub fn ended(&self) -> CommandTally
+        ensures { result ≡ self.now.ended }
+    {
+        self.ended
     }
 
     /// As `Core::leave_line`.

@@ -123,7 +123,7 @@ fn commands_of<W: Wire>(
     alloc: Global,
     end: &ProxyEnd<W>,
 ) -> Result<Vec<CommandNumbers>, AllocError> {
-    let tally = end.tally();
+    let tally = end.commands();
     let mut commands = Vec::new(alloc);
     for op in Op::all() {
         let of_op = tally.of(op);

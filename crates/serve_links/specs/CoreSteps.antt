@@ -12,10 +12,10 @@ use Rattle.core_proxy.specs.declared.note.Poll.{Poll}
 use Rattle.core_proxy.specs.Faults.{CanOpen, CanFeed, CanClose, OpenFault}
 use Rattle.core_proxy.specs.CoreState.{Opens, Feeds, Gives, Closes, LeavesLine, client_at, dropped_by}
 use Rattle.core_proxy.specs.Settles as of_calls
-use Rattle.core_proxy.specs.Polls.{Polls, PollFault, Then, Perhaps, BeginsOne, IsPolled}
+use Rattle.core_proxy.specs.Polls.{Polls, PollFault}
 use Rattle.core_accepted.specs.declared.beginnings.Beginnings.{Beginnings}
 use Rattle.core_accepted.specs.Logs.{LogsGoBy, IsAccepted, IsAcceptedSince, fed}
-use Rattle.core_accepted.specs.Results.{PollStops}
+use Rattle.core_accepted.specs.Results.{PollGoes, PollStops}
 use Rattle.core_accepted.specs.declared.served.ServedCore.{ServedCore}
 use Rattle.core_accepted.specs.Results.{IsSettled}
 use Rattle.core_accepted.specs.Loading.{IsLoaded}
@@ -52,7 +52,7 @@ Does (NotOpened fault) old new = OpenFault old.core fault new.core × LogsGoBy o
 Does (Fed client piece) old new =
     CanFeed old.core client piece × Feeds old.core client piece new.core
     × LogsGoBy old (λ entries. entries ≡ fed (dropped_by (client_at old.core client)) client piece) new
-Does (Polled client poll) old new = Polls old.core client poll new.core × LogsGoBy old (Then (Perhaps (BeginsOne client)) (IsPolled client poll)) new
+Does (Polled client poll) old new = Polls old.core client poll new.core × PollGoes old client poll new
 Does (Stopped client fault) old new = PollFault old.core client fault new.core × PollStops old client fault new
 Does (Settled number outcome) old new = IsSettled old number outcome new
 Does (Gave client bytes) old new = Gives old.core client bytes new.core × LogsGoBy old (λ entries. entries ≡ log.Gives client bytes ∷ []) new

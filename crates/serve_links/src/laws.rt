@@ -2,6 +2,7 @@
 
 ghost use Rattle.serve_links.specs.CoreSteps.{IsOfTurn, IsFailure, IsSending, IsAnyCall};
 ghost use Rattle.serve_links.specs.Called.{WalksTellCalls};
+ghost use Rattle.serve_links.specs.Counts.{CommandsAreCounted};
 ghost use Rattle.serve_links.specs.InOrder.{ConnectionsAreInOrder, WalksAreFreshLate};
 ghost use Rattle.serve_links.specs.Story.{StoriesGoOn};
 
@@ -18,6 +19,12 @@ pub fn stories_go_on()
 /// number is given out.
 pub fn walks_tell_calls()
     ensures { WalksTellCalls }
+{}
+
+/// Whatever calls of a core are made, what it counts of commands are those that its polls told to have ended, as far as a count goes: in all, and of
+/// each operation by their replies.
+pub fn commands_are_counted()
+    ensures { CommandsAreCounted }
 {}
 
 /// Where what is done to a server's connections is in order, a new one is begun only where none is there: so, if a server applies what came over
