@@ -96,7 +96,7 @@ loads_accepted :
     → AreSoundSince (is_arbitrary now) (trees_of now.configs) → core_state.Reloads old.core config.tree x → IsLoaded old config number (record old { core = x; accepted = Some now })
 loads_accepted old x was now config number word is count sound step = record {
   word = ap Some is ∙ sym (ap (option_map (more config)) word);
-  ended = refl;
+  tally = refl;
   sound = sound;
   number_is = count;
   reloads = step;
@@ -112,7 +112,7 @@ loads_any :
     → IsLoaded old config number (record old { core = x })
 loads_any old x config number word count step = record {
   word = word ∙ sym (ap (option_map (more config)) word);
-  ended = refl;
+  tally = refl;
   sound = subst AreSoundIfAsked (sym word) tt;
   number_is = subst (λ (w : Option Known). IsGeneration w x number) (sym word) count;
   reloads = step;

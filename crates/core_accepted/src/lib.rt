@@ -16,4 +16,4 @@ pub use gate_growth::ledger::Beginning;
 pub use generations::Generations;
 pub use loading::LoadFault;
 pub use served::ServedCore;
-pub use tally::{CommandTally, OpTally};
+pub use tally::{CoreTally, OpTally};

@@ -1,16 +1,20 @@
-//! How many commands of a core have ended, and how. A count that reaches the greatest number stays there.
+//! What a core has done so far. A count that reaches the greatest number stays there.
 
 ghost use Rattle.std.specs.Prelude.{◌≡◌, ◌<◌, length, IfOk, OnErr};
 ghost use Rattle.route_tree.specs.Operation.{op_number};
-ghost use Rattle.core_accepted.specs.Tallies.{more_at, with_note, with_poll, none_ended, of_op};
+ghost use Rattle.core_accepted.specs.Tallies.{more_at, with_note, with_poll, with_opening, nothing_done, of_op};
 
 use core_proxy::{CoreFault, Note, Poll};
 use mc_types::Op;
 
-/// How many commands have ended.
+/// What a core has done so far.
 #[derive(Clone, Copy)]
-pub struct CommandTally {
-    /// How many there are in all.
+pub struct CoreTally {
+    /// How many clients it has opened.
+    pub opened: u64,
+    /// How many it has turned away.
+    pub refused: u64,
+    /// How many commands have ended.
     pub ended: u64,
     // Of each operation, those whose reply shows an item.
     items: [u64; 12],
@@ -60,16 +64,28 @@ fn add_at(counts: &mut [u64; 12], place: usize)
     counts[place] = counts[place].saturating_add(1);
 }
 
-impl CommandTally {
-    /// None yet.
-    pub fn new() -> CommandTally
-        ensures { result ≡ none_ended }
+impl CoreTally {
+    /// Nothing yet.
+    pub fn new() -> CoreTally
+        ensures { result ≡ nothing_done }
     {
-        CommandTally {
+        CoreTally {
+            opened: 0,
+            refused: 0,
             ended: 0,
             items: [0; 12],
             acknowledged: [0; 12],
             others: [0; 12],
+        }
+    }
+
+    /// A client was opened, or turned away.
+    pub fn note_opening(&mut self, opening: &Result<usize, CoreFault>)
+        ensures { self.new ≡ with_opening opening.now self.old }
+    {
+        match opening {
+            Ok(_) => self.opened = self.opened.saturating_add(1),
+            Err(_) => self.refused = self.refused.saturating_add(1),
         }
     }
 

@@ -7,8 +7,8 @@ use Rattle.fresh_runs.specs.Overlap as log
 use Rattle.core_proxy.specs.declared.fault.CoreFault.{CoreFault}
 use Rattle.core_proxy.specs.declared.fault.CoreFault.TheVariants as faults
 use Rattle.core_proxy.specs.declared.note.Poll.{Poll}
-use Rattle.core_proxy.specs.Faults.{CanOpen, CanFeed, CanClose, OpenFault, FeedFault, OutputFault, CloseFault}
-use Rattle.core_proxy.specs.CoreState.{Opens, Feeds, Gives, Closes, LeavesLine, client_at, dropped_by, output_by}
+use Rattle.core_proxy.specs.Faults.{CanFeed, CanClose, FeedFault, OutputFault, CloseFault}
+use Rattle.core_proxy.specs.CoreState.{Feeds, Gives, Closes, LeavesLine, client_at, dropped_by, output_by}
 use Rattle.core_proxy.specs.Polls.{Polls, PollFault}
 use Rattle.route_json.specs.Configuration.{Configuration}
 use Rattle.core_accepted.specs.declared.served.ServedCore.{ServedCore}
@@ -123,12 +123,6 @@ pub settled : {a b : ServedCore} → GoesBy IsSettlement a b → GoesOn a b
 settled g = record { steps = g.steps; kinds = each_settled g.steps g.kinds; walks = g.walks }
 
 -- ---- each call of a core
-
-pub by_open :
-    (r : Result ℕ CoreFault) (a b : ServedCore) → IfOk r (λ client. CanOpen a.core × Opens a.core client b.core) → IfErr r (λ fault. OpenFault a.core fault b.core)
-    → LogsGoBy a (λ entries. entries ≡ []) b → GoesOn a b
-by_open (Ok client) a b ok err fresh = one IsOfTurn (Opened client) a b tt (ok.0, ok.1, fresh)
-by_open (Err fault) a b ok err fresh = one IsOfTurn (NotOpened fault) a b tt (err, fresh)
 
 pub by_feed :
     (client : ℕ) (piece : List ℕ) (r : Result (Unit {0}) CoreFault) (a b : ServedCore) → OnOk r (CanFeed a.core client piece × Feeds a.core client piece b.core)

@@ -5,10 +5,10 @@ use Rattle.route_tree.specs.Operation.{same_op}
 use Rattle.core_proxy.specs.declared.note.Poll.{Poll}
 use Rattle.core_proxy.specs.declared.note.Poll.TheVariants as polls
 use Rattle.core_accepted.specs.declared.served.ServedCore.{ServedCore}
-use Rattle.core_accepted.specs.declared.tally.CommandTally.{CommandTally}
+use Rattle.core_accepted.specs.declared.tally.CoreTally.{CoreTally}
 use Rattle.core_accepted.specs.declared.tally.OpTally.{OpTally}
-use Rattle.core_accepted.specs.Tallies.{ReplyKind, ShowsItem, Acknowledges, TellsOther, kind_of, none_ended, of_op}
-use Rattle.serve_links.specs.CoreSteps.{Step, Polled, Walks}
+use Rattle.core_accepted.specs.Tallies.{ReplyKind, ShowsItem, Acknowledges, TellsOther, kind_of, nothing_done, of_op}
+use Rattle.serve_links.specs.CoreSteps.{Step, Opened, NotOpened, Polled, Walks}
 
 -- how many of these steps are so
 abbrev pub number_of : (Step → Bool) → List Step → ℕ
@@ -26,6 +26,16 @@ same_kind Acknowledges Acknowledges = true
 same_kind TellsOther TellsOther = true
 same_kind a b = false
 
+-- whether a client was opened by this step
+abbrev pub opens_one : Step → Bool
+opens_one (Opened client) = true
+opens_one step = false
+
+-- whether one was turned away
+abbrev pub refuses_one : Step → Bool
+refuses_one (NotOpened fault) = true
+refuses_one step = false
+
 -- whether a command has ended by this step
 abbrev pub ends_one : Step → Bool
 ends_one (Polled client (polls.Did note)) = true
@@ -42,13 +52,15 @@ count_of ShowsItem tally = tally.items
 count_of Acknowledges tally = tally.acknowledged
 count_of TellsOther tally = tally.others
 
--- by how many of these steps a command has ended is counted, and of each operation by how many with a reply of each kind
-pub record AreCounted (steps : List Step) (tally : CommandTally) : Type 0 where
+-- by how many of these steps a client was opened is counted, or turned away, or a command has ended, and of each operation by how many with a reply of each kind
+pub record AreCounted (steps : List Step) (tally : CoreTally) : Type 0 where
+  pub opened : tally.opened ≡ counted (number_of opens_one steps)
+  pub refused : tally.refused ≡ counted (number_of refuses_one steps)
   pub ended : tally.ended ≡ counted (number_of ends_one steps)
   pub replies : (op : Op) (kind : ReplyKind) → count_of kind (of_op tally op) ≡ counted (number_of (ends_so op kind) steps)
   pub places : (length tally.items ≡ 12) × (length tally.acknowledged ≡ 12) × (length tally.others ≡ 12)
 
 -- laws of all walks: a core that is new has counted none; and one that has counted the steps before a walk has counted those of the walk after it
-pub record CommandsAreCounted : Type 0 where
-  pub begins : AreCounted [] none_ended
-  pub goes_on : (steps past : List Step) (old new : ServedCore) → Walks steps old new → AreCounted past old.ended → AreCounted (steps ++ past) new.ended
+pub record StepsAreCounted : Type 0 where
+  pub begins : AreCounted [] nothing_done
+  pub goes_on : (steps past : List Step) (old new : ServedCore) → Walks steps old new → AreCounted past old.tally → AreCounted (steps ++ past) new.tally

@@ -1,7 +1,6 @@
 //! What an end has done so far, beside its core. A count that reaches the greatest number stays there.
 
 ghost use Rattle.std.specs.Prelude.{◌≡◌, ◌<◌};
-ghost use Rattle.core_accepted.specs.Tallies.{one_more};
 ghost use Rattle.serve_links.specs.Counting.{span_of, with_answer, with_failure};
 
 use crate::news::Cause;
@@ -13,10 +12,6 @@ pub struct Tally {
     pub read: u64,
     /// How many bytes it had for them, sent or not.
     pub shown: u64,
-    /// How many clients were taken.
-    pub accepted: u64,
-    /// How many were turned away, as there were too many.
-    pub refused: u64,
 }
 
 /// What has become of the calls of a server that went out.
@@ -90,8 +85,6 @@ impl Tally {
         Tally {
             read: 0,
             shown: 0,
-            accepted: 0,
-            refused: 0,
         }
     }
 
@@ -103,20 +96,6 @@ impl Tally {
     /// There are so many bytes to send.
     pub fn note_shown(&mut self, count: usize) {
         self.shown = self.shown.saturating_add(count as u64);
-    }
-
-    /// A client was taken.
-    pub fn note_accepted(&mut self)
-        ensures { self.new ≡ record self.old { accepted = one_more self.old.accepted } }
-    {
-        self.accepted = self.accepted.saturating_add(1);
-    }
-
-    /// One was turned away.
-    pub fn note_refused(&mut self)
-        ensures { self.new ≡ record self.old { refused = one_more self.old.refused } }
-    {
-        self.refused = self.refused.saturating_add(1);
     }
 }
 
