@@ -82,10 +82,7 @@ fn span_of(micros: u64) -> usize
 impl Tally {
     /// Nothing yet.
     pub fn new() -> Tally {
-        Tally {
-            read: 0,
-            shown: 0,
-        }
+        Tally { read: 0, shown: 0 }
     }
 
     /// So many bytes were read.
