@@ -34,9 +34,11 @@ use Rattle.core_proxy.specs.CoreState as core_state
 use Rattle.core_proxy.specs.CoreState.{dialect, bars_of, nothing_beside, state_of, FeedsOpen, GoesBy, version_by}
 use Rattle.core_accepted.specs.declared.beginnings.Beginnings.{Beginnings}
 use Rattle.core_accepted.specs.declared.served.ServedCore.{ServedCore}
+use Rattle.core_accepted.specs.declared.tally.CoreTally.{CoreTally}
 use Rattle.core_accepted.specs.Begun.{any_begun}
+use Rattle.core_accepted.specs.Tallies.{nothing_done}
 use Rattle.core_accepted.specs.Known.{Known, is_arbitrary, first_of}
-use Rattle.core_accepted.specs.Logs.{MayBeLoaded, MayHaveLed, LogsGoBy, IsNewFrom, IsUnchecked, fed, IsFreshLog, IsAccepted, EveryLogIsFresh, EveryLogFromIsFresh, IsAcceptedSince, BeginSo, EveryLogSinceIsFresh}
+use Rattle.core_accepted.specs.Logs.{MayBeLoaded, MayHaveLed, LogsGoCounting, LogsGoBy, IsNewFrom, IsUnchecked, fed, IsFreshLog, IsAccepted, EveryLogIsFresh, EveryLogFromIsFresh, IsAcceptedSince, BeginSo, EveryLogSinceIsFresh}
 
 tree_at_number : (xs : List Configuration) (i : ℕ) (c : Configuration) → slice_get xs i ≡ Some c → slice_get (trees_of xs) i ≡ Some c.tree
 tree_at_number [] i c e = absurd (cc)
@@ -58,7 +60,7 @@ led_there old x opening at plans log now same limits leads =
 -- the empty log led to a new core by its tree
 led_by_none :
     (word : Option Known) (tree : Route) (limits : CoreLimits) (x : Core) → MayBeLoaded word (λ _. tree) → core_state.IsFresh tree limits x
-    → (opening : ℕ → List ℕ → Option Item) → MayHaveLed opening [] (record { core = x; accepted = word })
+    → (opening : ℕ → List ℕ → Option Item) → MayHaveLed opening [] (record { core = x; accepted = word; tally = nothing_done })
 led_by_none word tree limits x loaded new opening =
     let plans : ℕ → List ℕ → Plan = λ n key. tree_at tree key in
     record {
@@ -72,18 +74,19 @@ led_by_none word tree limits x loaded new opening =
 
 pub new_is_led :
     (xs : List Configuration) (c : Configuration) (begun : Beginnings) (limits : CoreLimits) (x : Core) (known : Known) → IsLast xs c → known ≡ first_of c begun → core_state.IsFresh c.tree limits x
-    → IsNewFrom xs begun limits (record { core = x; accepted = Some known })
+    → IsNewFrom xs begun limits (record { core = x; accepted = Some known; tally = nothing_done })
 new_is_led xs c begun limits x known at is new =
-    subst (λ (k : Known). IsNewFrom xs begun limits (record { core = x; accepted = Some k })) (sym is)
-    (record { config = c; last = at; word = refl; core_is = new; led = led_by_none (Some (first_of c begun)) c.tree limits x (all_by_last (c ∷ []) c refl) new })
+    subst (λ (k : Known). IsNewFrom xs begun limits (record { core = x; accepted = Some k; tally = nothing_done })) (sym is)
+    (record { config = c; last = at; word = refl; tally = refl; core_is = new; led = led_by_none (Some (first_of c begun)) c.tree limits x (all_by_last (c ∷ []) c refl) new })
 
-pub unchecked_is_led : (tree : Route) (limits : CoreLimits) (x : Core) → core_state.IsFresh tree limits x → IsUnchecked tree limits (record { core = x; accepted = None })
-unchecked_is_led tree limits x new = record { word = refl; core_is = new; led = led_by_none None tree limits x tt new }
+pub unchecked_is_led : (tree : Route) (limits : CoreLimits) (x : Core) → core_state.IsFresh tree limits x → IsUnchecked tree limits (record { core = x; accepted = None; tally = nothing_done })
+unchecked_is_led tree limits x new = record { word = refl; tally = refl; core_is = new; led = led_by_none None tree limits x tt new }
 
 -- a step of the core
 pub goes : (old : ServedCore) (x : Core) (IsKind : List (Entry dialect) → Type 0) → GoesBy old.core IsKind x → LogsGoBy old IsKind (record old { core = x })
 goes old x IsKind step = record {
   word = refl;
+  tally = refl;
   logs = λ opening past led.
       let s = step led.beside led.fits in
       let at = s.3.at in (
@@ -101,9 +104,21 @@ goes old x IsKind step = record {
       );
 }
 
+-- the same, and so it is counted
+pub counting :
+    (count : CoreTally → CoreTally) (old : ServedCore) (x : Core) (tally : CoreTally) (IsKind : List (Entry dialect) → Type 0) → tally ≡ count old.tally → LogsGoBy old IsKind (record old { core = x })
+    → LogsGoCounting count old IsKind (record old { core = x; tally = tally })
+counting count old x tally IsKind is goes = record {
+  word = refl;
+  tally = is;
+  logs = λ opening past led.
+      let g = goes.logs opening past led in
+      (g.0, g.1, record { tree = g.2.tree; loaded = g.2.loaded; beside = g.2.beside; plain = g.2.plain; fits = g.2.fits; leads = g.2.leads }, g.3);
+}
+
 -- nothing happened
 pub stays : (old : ServedCore) → LogsGoBy old (λ entries. entries ≡ []) old
-stays old = record { word = refl; logs = λ opening past led. ([], refl, led, record { at = refl; holds = refl; found = refl; turn = refl }) }
+stays old = record { word = refl; tally = refl; logs = λ opening past led. ([], refl, led, record { at = refl; holds = refl; found = refl; turn = refl }) }
 
 -- a piece came
 pub feeds : (b : Bool) (old : ServedCore) (x : Core) (client : ℕ) (bytes : List ℕ) → FeedsOpen b old.core client bytes x → LogsGoBy old (λ entries. entries ≡ fed b client bytes) (record old { core = x })
@@ -168,6 +183,7 @@ begin_anyhow first opening = opens_anyhow (first_of first any_begun) refl openin
 grown : (old : ServedCore) (n : ℕ) → LogsGoBy old (λ entries. entries ≡ []) (record old { core = record old.core { clients = record old.core.clients { capacity = n } } })
 grown old n = record {
   word = refl;
+  tally = refl;
   logs = λ opening past led.
       let f = led.fits in (
         [],

@@ -67,7 +67,7 @@ loaded_more trees tree number new h =
 over :
     (old : ServedCore) (x : Core) (word : Option Known) (new : Route) → core_state.Reloads old.core new x
     → ((tree : ℕ → Route) → MayBeLoaded old.accepted tree → MayBeLoaded word (before_or old.core.number tree new))
-    → (opening : ℕ → List ℕ → Option Item) (past : List (Entry dialect)) (led : MayHaveLed opening past old) → TakesOver opening past new old (record { core = x; accepted = word }) led
+    → (opening : ℕ → List ℕ → Option Item) (past : List (Entry dialect)) (led : MayHaveLed opening past old) → TakesOver opening past new old (record old { core = x; accepted = word }) led
 over old x word new step loads opening past led =
     let last = old.core.number in
     let tree = before_or last led.tree new in
@@ -93,9 +93,10 @@ over old x word new step loads opening past led =
 -- of one more configuration that the gate accepted
 loads_accepted :
     (old : ServedCore) (x : Core) (was now : Known) (config : Configuration) (number : ℕ) → old.accepted ≡ Some was → now ≡ more config was → number ≡ length now.configs
-    → AreSoundSince (is_arbitrary now) (trees_of now.configs) → core_state.Reloads old.core config.tree x → IsLoaded old config number (record { core = x; accepted = Some now })
+    → AreSoundSince (is_arbitrary now) (trees_of now.configs) → core_state.Reloads old.core config.tree x → IsLoaded old config number (record old { core = x; accepted = Some now })
 loads_accepted old x was now config number word is count sound step = record {
   word = ap Some is ∙ sym (ap (option_map (more config)) word);
+  tally = refl;
   sound = sound;
   number_is = count;
   reloads = step;
@@ -111,6 +112,7 @@ loads_any :
     → IsLoaded old config number (record old { core = x })
 loads_any old x config number word count step = record {
   word = word ∙ sym (ap (option_map (more config)) word);
+  tally = refl;
   sound = subst AreSoundIfAsked (sym word) tt;
   number_is = subst (λ (w : Option Known). IsGeneration w x number) (sym word) count;
   reloads = step;
@@ -120,7 +122,7 @@ loads_any old x config number word count step = record {
 -- where the core has a gate, a configuration whose load came out well is loaded
 pub next_loaded :
     (old : ServedCore) (x : Core) (was now : Known) (config : Configuration) (r : Result ℕ LoadFault) → old.accepted ≡ Some was → OnOk r (now ≡ more config was) → IfOk r (λ number. number ≡ length now.configs)
-    → OnOk r (AreSoundSince (is_arbitrary now) (trees_of now.configs)) → OnOk r (core_state.Reloads old.core config.tree x) → IfOk r (λ number. IsLoaded old config number (record { core = x; accepted = Some now }))
+    → OnOk r (AreSoundSince (is_arbitrary now) (trees_of now.configs)) → OnOk r (core_state.Reloads old.core config.tree x) → IfOk r (λ number. IsLoaded old config number (record old { core = x; accepted = Some now }))
 next_loaded old x was now config (Ok number) word taken count sound step = loads_accepted old x was now config number word taken count sound step
 next_loaded old x was now config (Err fault) word taken count sound step = tt
 

@@ -49,10 +49,10 @@ settles_on old x number a outcome IsMore by opening past led end is ends =
     )
 
 pub takes_result : (old : ServedCore) (x : Core) (number : ℕ) (outcome : Outcome) → Settles old.core number outcome x → TakesResult old number outcome (record old { core = x })
-takes_result old x number outcome s = record { word = refl; settles = s; goes = settles_on old x number s.command outcome _ s.goes }
+takes_result old x number outcome s = record { word = refl; tally = refl; settles = s; goes = settles_on old x number s.command outcome _ s.goes }
 
 pub settle_stops : (old : ServedCore) (x : Core) (number : ℕ) (outcome : Outcome) (fault : CoreFault) → SettleFault old.core number outcome fault x → SettleStops old number outcome fault (record old { core = x })
-settle_stops old x number outcome faults.NoMemory f = record { word = refl; breaks = f; goes = settles_on old x number f.command outcome _ f.goes }
+settle_stops old x number outcome faults.NoMemory f = record { word = refl; tally = refl; breaks = f; goes = settles_on old x number f.command outcome _ f.goes }
 settle_stops old x number outcome faults.NoTicket f = (f.0, same old x f.1)
 settle_stops old x number outcome faults.TooManyClients f = absurd f
 settle_stops old x number outcome faults.NoClient f = absurd f

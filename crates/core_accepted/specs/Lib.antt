@@ -1,5 +1,6 @@
 pub mod Begun
 pub mod Known
+pub mod Tallies
 pub mod Logs
 pub mod Results
 pub mod Loading

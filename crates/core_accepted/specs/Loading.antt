@@ -43,6 +43,7 @@ AreSoundIfAsked None = Unit {0}
 -- the configuration is the next one that the gate accepted, if it was asked; it has this number, and its tree is the core's
 pub record IsLoaded (old : ServedCore) (config : Configuration) (number : ℕ) (new : ServedCore) : Type 0 where
   pub word : new.accepted ≡ option_map (more config) old.accepted
+  pub tally : new.tally ≡ old.tally
   pub sound : AreSoundIfAsked new.accepted
   pub number_is : IsGeneration new.accepted new.core number
   pub reloads : core_state.Reloads old.core config.tree new.core

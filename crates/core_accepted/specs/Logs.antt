@@ -20,7 +20,9 @@ use Rattle.core_proxy.specs.CoreState as core_state
 use Rattle.core_proxy.specs.CoreState.{dialect, bars_of, Beside, FitsBeside, IsBeside, state_of}
 use Rattle.core_accepted.specs.declared.beginnings.Beginnings.{Beginnings}
 use Rattle.core_accepted.specs.declared.served.ServedCore.{ServedCore}
+use Rattle.core_accepted.specs.declared.tally.CoreTally.{CoreTally}
 use Rattle.core_accepted.specs.Begun.{any_begun}
+use Rattle.core_accepted.specs.Tallies.{nothing_done}
 use Rattle.core_accepted.specs.Known.{Known, is_arbitrary, first_of}
 
 -- the trees by which commands run, by the commands' numbers: where the gate was asked, those that it accepted, one after another; else any
@@ -37,18 +39,24 @@ pub record MayHaveLed (opening : ℕ → List ℕ → Option Item) (past : List 
   pub fits : FitsBeside served.core beside
   pub leads : LeadsTo (tree_words beside.at) (bars_of served.core beside) opening past (state_of served.core beside)
 
--- the gate's word stays as it is; and each log that may have led to the core before goes on by entries of this kind, the latest first, and may have led to the core after. Servers stay
-pub record LogsGoBy (old : ServedCore) (IsKind : List (Entry dialect) → Type 0) (new : ServedCore) : Type 0 where
+-- the gate's word stays as it is, what the core counts goes on so, and each log that may have led to the core before goes on by entries of this kind, the latest first, and may have led to the core after. Servers stay
+pub record LogsGoCounting (count : CoreTally → CoreTally) (old : ServedCore) (IsKind : List (Entry dialect) → Type 0) (new : ServedCore) : Type 0 where
   pub word : new.accepted ≡ old.accepted
+  pub tally : new.tally ≡ count old.tally
   pub logs :
       (opening : ℕ → List ℕ → Option Item) (past : List (Entry dialect)) (led : MayHaveLed opening past old)
       → (entries : List (Entry dialect)) × IsKind entries × (led' : MayHaveLed opening (entries ++ past) new) × IsBeside led.beside led'.beside
+
+-- the same where nothing is counted
+abbrev pub LogsGoBy : ServedCore → (List (Entry dialect) → Type 0) → ServedCore → Type 0
+LogsGoBy = LogsGoCounting (λ tally. tally)
 
 -- the gate accepted these configurations, the core is a new one on the tree of the last of them, which is its first generation, servers began so, and the empty log led to it
 pub record IsNewFrom (accepted : List Configuration) (begun : Beginnings) (limits : CoreLimits) (served : ServedCore) : Type 0 where
   pub config : Configuration
   pub last : IsLast accepted config
   pub word : served.accepted ≡ Some (first_of config begun)
+  pub tally : served.tally ≡ nothing_done
   pub core_is : core_state.IsFresh config.tree limits served.core
   pub led : (opening : ℕ → List ℕ → Option Item) → MayHaveLed opening [] served
 
@@ -59,6 +67,7 @@ IsNew accepted limits served = IsNewFrom accepted any_begun limits served
 -- no gate was asked, the core is a new one on this tree, and the empty log led to it
 pub record IsUnchecked (tree : Route) (limits : CoreLimits) (served : ServedCore) : Type 0 where
   pub word : served.accepted ≡ None
+  pub tally : served.tally ≡ nothing_done
   pub core_is : core_state.IsFresh tree limits served.core
   pub led : (opening : ℕ → List ℕ → Option Item) → MayHaveLed opening [] served
 

@@ -12,12 +12,23 @@ use Rattle.route_job.specs.Jobs.{server_in}
 use Rattle.core_commands.specs.declared.command.Command.{Command}
 use Rattle.core_proxy.specs.declared.fault.CoreFault.{CoreFault}
 use Rattle.core_proxy.specs.declared.fault.CoreFault.TheVariants as faults
+use Rattle.core_proxy.specs.declared.note.Poll.{Poll}
 use Rattle.core_proxy.specs.CoreState.{dialect, client_at, dropped_by, IsBeside}
 use Rattle.core_proxy.specs.Steps.{event_of, settled}
 use Rattle.core_proxy.specs.Settles.{HasNoCall, Settles, SettlesRefused, freed}
-use Rattle.core_proxy.specs.Polls.{StopsPolling, SoFar, Then}
+use Rattle.core_proxy.specs.Polls.{StopsPolling, SoFar, Then, Perhaps, BeginsOne, IsPolled}
+use Rattle.core_accepted.specs.declared.tally.CoreTally.{CoreTally}
 use Rattle.core_accepted.specs.declared.served.ServedCore.{ServedCore}
-use Rattle.core_accepted.specs.Logs.{MayHaveLed, LogsGoBy}
+use Rattle.core_accepted.specs.Logs.{MayHaveLed, LogsGoCounting, LogsGoBy}
+use Rattle.core_accepted.specs.Tallies.{with_poll}
+
+-- each log stays, and so it is counted
+abbrev pub StaysCounting : (CoreTally → CoreTally) → ServedCore → ServedCore → Type 0
+StaysCounting count old new = LogsGoCounting count old (λ entries. entries ≡ []) new
+
+-- a poll told this: each log goes on by it, a command may have begun before it, and one that ended is counted
+abbrev pub PollGoes : ServedCore → ℕ → Poll → ServedCore → Type 0
+PollGoes old client poll new = LogsGoCounting (with_poll poll) old (Then (Perhaps (BeginsOne client)) (IsPolled client poll)) new
 
 -- memory was refused in a poll: nothing is done for the client any more
 pub record StopsFor (old : ServedCore) (client : ℕ) (new : ServedCore) : Type 0 where
@@ -44,12 +55,14 @@ SettlesOn old number a outcome IsMore new =
 -- the command of this number has the result of its call; where nothing is done for its client any more, it is broken off
 pub record TakesResult (old : ServedCore) (number : ℕ) (outcome : Outcome) (new : ServedCore) : Type 0 where
   pub word : new.accepted ≡ old.accepted
+  pub tally : new.tally ≡ old.tally
   pub settles : Settles old.core number outcome new.core
   pub goes : SettlesOn old number settles.command outcome (λ more. more ≡ (if dropped_by (client_at old.core settles.command.client) then log.Frees number ∷ [] else [])) new
 
 -- memory was refused: the command of this number has the result all the same, and nothing is done for its client any more
 pub record BreaksWith (old : ServedCore) (number : ℕ) (outcome : Outcome) (new : ServedCore) : Type 0 where
   pub word : new.accepted ≡ old.accepted
+  pub tally : new.tally ≡ old.tally
   pub breaks : SettlesRefused old.core number outcome new.core
   pub goes : SettlesOn old number breaks.command outcome (λ more. more ≡ freed breaks.numbers ++ log.Frees number ∷ log.Drops breaks.command.client ∷ []) new
 

@@ -9,9 +9,11 @@ pub mod generations;
 pub mod laws;
 pub mod loading;
 pub mod served;
+pub mod tally;
 
 pub use beginnings::Beginnings;
 pub use gate_growth::ledger::Beginning;
 pub use generations::Generations;
 pub use loading::LoadFault;
 pub use served::ServedCore;
+pub use tally::{CoreTally, OpTally};

@@ -6,15 +6,17 @@ ghost use Rattle.fresh_runs.specs.Overlap as log;
 ghost use Rattle.core_proxy.specs.Faults.{IsClosed, CanOpen, CanFeed, CanClose, OpenFault, FeedFault, OutputFault, CloseFault};
 ghost use Rattle.core_proxy.specs.CoreState.{IsOut, Opens, Feeds, Gives, Closes, LeavesLine, client_at, dropped_by, held_by, output_by};
 ghost use Rattle.core_commands.specs.Lines.{is_standing};
-ghost use Rattle.core_proxy.specs.Polls.{Polls, PollFault, Then, Perhaps, BeginsOne, IsPolled};
+ghost use Rattle.core_proxy.specs.Polls.{Polls, PollFault};
 ghost use Rattle.core_proxy.specs.Settles.{FitsCall, asked, SettleFault};
 ghost use Rattle.core_accepted.specs.Logs.{IsNew, IsNewFrom, IsUnchecked, LogsGoBy, fed};
+ghost use Rattle.core_accepted.specs.Tallies.{with_client, with_refusal};
 ghost use Rattle.core_accepted.specs.Loading.{IsLoaded, RefusesLoad};
-ghost use Rattle.core_accepted.specs.Results.{PollStops, TakesResult, SettleStops, IsSettled};
+ghost use Rattle.core_accepted.specs.Results.{StaysCounting, PollGoes, PollStops, TakesResult, SettleStops, IsSettled};
 
 use crate::beginnings::Beginnings;
 use crate::generations::Generations;
 use crate::loading::{LoadFault, load_accepted, load_any};
+use crate::tally::CoreTally;
 use core_proxy::{Core, CoreFault, CoreLimits, Poll, Ticket};
 use gate_check::Accepted;
 use mc_types::{Ask, Outcome};
@@ -33,6 +35,8 @@ pub struct ServedCore {
     pub(crate) core: Core,
     // The configurations that the gate accepted, and the ledger that knows them; `None` where it wasn't asked.
     pub(crate) accepted: Option<Generations>,
+    // What it has done so far.
+    pub(crate) tally: CoreTally,
 }
 
 impl ServedCore {
@@ -62,6 +66,7 @@ impl ServedCore {
         Ok(ServedCore {
             core: Core::unchecked(alloc, tree, limits),
             accepted: Some(generations),
+            tally: CoreTally::new(),
         })
     }
 
@@ -72,6 +77,7 @@ impl ServedCore {
         ServedCore {
             core: Core::unchecked(alloc, tree, limits),
             accepted: None,
+            tally: CoreTally::new(),
         }
     }
 
@@ -79,9 +85,12 @@ impl ServedCore {
     pub fn open_client(&mut self) -> Result<usize, CoreFault>
         ensures ok { IfOk result (λ client. CanOpen self.old.core × Opens self.old.core client self.new.core) }
         ensures err { IfErr result (λ fault. OpenFault self.old.core fault self.new.core) }
-        ensures fresh { LogsGoBy self.old (λ entries. entries ≡ []) self.new }
+        ensures opened { IfOk result (λ client. StaysCounting with_client self.old self.new) }
+        ensures refused { IfErr result (λ fault. StaysCounting with_refusal self.old self.new) }
     {
-        self.core.open_client()
+        let opening = self.core.open_client();
+        self.tally.note_opening(&opening);
+        opening
     }
 
     /// As `Core::feed`.
@@ -134,10 +143,19 @@ impl ServedCore {
     pub fn poll(&mut self, client: usize) -> Result<Poll, CoreFault>
         ensures ok { IfOk result (λ poll. Polls self.old.core client poll self.new.core) }
         ensures err { IfErr result (λ fault. PollFault self.old.core client fault self.new.core) }
-        ensures fresh { IfOk result (λ poll. LogsGoBy self.old (Then (Perhaps (BeginsOne client)) (IsPolled client poll)) self.new) }
+        ensures fresh { IfOk result (λ poll. PollGoes self.old client poll self.new) }
         ensures stops { IfErr result (λ fault. PollStops self.old client fault self.new) }
     {
-        self.core.poll(client)
+        let polled = self.core.poll(client);
+        self.tally.note_polled(&polled);
+        polled
+    }
+
+    /// What it has done so far: clients opened or turned away, and commands ended, as its calls told.
+    pub fn tally(&self) -> CoreTally
+        ensures { result ≡ self.now.tally }
+    {
+        self.tally
     }
 
     /// As `Core::leave_line`.

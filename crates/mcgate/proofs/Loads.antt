@@ -13,6 +13,9 @@ use Rattle.serve_links.specs.CoreSteps.{Step, Walks}
 use Rattle.serve_links.specs.Story.{Agrees, texts_of}
 use Rattle.serve_links.specs.Called.{TellsCalls}
 use Rattle.serve_links.specs.Talks.{IsOrderly}
+use Rattle.core_accepted.specs.Tallies.{nothing_done}
+use Rattle.serve_links.specs.Counts.{AreCounted}
+use Rattle.serve_links.proofs.Counts.{steps_are_counted}
 use Rattle.serve_links.proofs.LateWalks.{walks_are_fresh_late}
 use Rattle.serve_links.proofs.Walked.{walks_keep_since}
 use Rattle.serve_proxy.specs.declared.proxy.ProxyEnd.{ProxyEnd}
@@ -76,6 +79,14 @@ has_freshly_late (servables.Accepted accepted) begun settings steps a b begins w
     λ any. walks_are_fresh_late steps a b tells orderly (late_since begins.config begun b sound (walks_keep_since steps a b walks begins.config begun ([], begins.word)) any).1
 has_freshly_late (servables.Unchecked configuration) begun settings steps a b begins walks tells orderly sound = tt
 
+-- nothing was counted at first
+nothing_done_by : (servable : Servable) (begun : Beginnings) (settings : Settings) (core : ServedCore) → BeginsBy servable begun settings core → core.tally ≡ nothing_done
+nothing_done_by (servables.Accepted accepted) begun settings core begins = begins.tally
+nothing_done_by (servables.Unchecked configuration) begun settings core begins = begins.tally
+
+has_counted : (steps : List Step) (first last : ServedCore) → first.tally ≡ nothing_done → Walks steps first last → AreCounted steps last.tally
+has_counted steps first last none walks = subst (λ l. AreCounted l last.tally) (append-nil steps) (steps_are_counted.goes_on steps [] first last walks (subst (AreCounted []) (sym none) steps_are_counted.begins))
+
 pub has_served :
     (servable : Servable) (begun : Beginnings) (settings : Settings) (first last : ProxyEnd Sockets) → BeginsServing servable begun settings first → Serves history_of first last → LogsAreFresh last.core.value
     → TreesAreSound last.core.value → HasServed servable begun settings last
@@ -89,6 +100,7 @@ has_served servable begun settings first last begins g fresh sound =
       agrees = agrees;
       fresh = has_freshly servable begun shared g.steps first.core.value last.core.value begins.core.2 g.walks fresh;
       late = has_freshly_late servable begun shared g.steps first.core.value last.core.value begins.core.2 g.walks begins.agrees.calls agrees.orderly sound;
+      counts = has_counted g.steps first.core.value last.core.value (nothing_done_by servable begun shared first.core.value begins.core.2) g.walks;
     }
 
 by_kind :

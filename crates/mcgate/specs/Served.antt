@@ -10,6 +10,7 @@ use Rattle.serve_wire.specs.Events.{Event}
 use Rattle.serve_wire.specs.declared.sockets.sockets.Sockets.{Sockets}
 use Rattle.serve_links.specs.CoreSteps.{Step}
 use Rattle.serve_links.specs.Story.{Agrees, texts_of}
+use Rattle.serve_links.specs.Counts.{AreCounted}
 use Rattle.serve_links.specs.InOrder.{AreFreshAlong}
 use Rattle.serve_proxy.specs.declared.proxy.ProxyEnd.{ProxyEnd}
 use Rattle.serve_proxy.specs.Beginning.{BeginsFresh, BeginsUnchecked}
@@ -75,7 +76,7 @@ abbrev pub GoFreshlyLate : Servable → Beginnings → List Step → ServedCore 
 GoFreshlyLate (servables.Accepted accepted) begun steps first last = begun ≡ any_begun → AreFreshAlong steps first last
 GoFreshlyLate (servables.Unchecked configuration) begun steps first last = Unit {0}
 
--- an end that began so was served: turns and loads alone led to what it is, the ends of its clients and its links agree with them, and each log goes on by them freshly
+-- an end that began so was served: turns and loads alone led to what it is, the ends of its clients and its links agree with them, each log goes on by them freshly, and what is counted is what they are
 pub record HasServed (servable : Servable) (begun : Beginnings) (settings : Settings) (end : ProxyEnd Sockets) : Type 0 where
   pub first : ProxyEnd Sockets
   pub begins : BeginsServing servable begun settings first
@@ -83,6 +84,7 @@ pub record HasServed (servable : Servable) (begun : Beginnings) (settings : Sett
   pub agrees : Agrees serves.steps (proxy_of history_of end)
   pub fresh : GoFreshly servable begun serves.steps first.core.value end.core.value
   pub late : GoFreshlyLate servable begun serves.steps first.core.value end.core.value
+  pub counts : AreCounted serves.steps end.core.value.tally
 
 -- where the gate accepted what is served, the core is one on its configuration and others that it accepted after it, and each log that may have led to it is fresh, if servers began so; and if they may have held anything, also where they apply calls that had failed late, but in the order of their connections
 abbrev pub StaysFresh : Servable → Beginnings → ServedCore → Type 0

@@ -209,7 +209,7 @@ impl Ends {
     /// How many commands and calls there were.
     pub fn counts(&self) -> Counts {
         Counts {
-            commands: self.proxy.tally().commands,
+            commands: self.proxy.core_tally().ended,
             calls: self.servers.calls(),
         }
     }
@@ -389,7 +389,7 @@ impl Ends {
             .saturating_add(self.received)
             .saturating_add(tally.read)
             .saturating_add(tally.shown)
-            .saturating_add(tally.commands)
+            .saturating_add(self.proxy.core_tally().ended)
             .saturating_add(self.servers.calls())
             .saturating_add(self.servers.moved())
     }

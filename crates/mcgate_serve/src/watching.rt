@@ -109,10 +109,11 @@ fn process_use<R: Files + AllocGlobal>(rt: &R) -> Used {
 
 fn clients_of<W: Wire>(end: &ProxyEnd<W>, seen: &Seen) -> ClientNumbers {
     let tally = end.tally();
+    let of_core = end.core_tally();
     ClientNumbers {
         connected: end.clients() as u64,
-        accepted: tally.accepted,
-        refused: tally.refused,
+        accepted: of_core.opened,
+        refused: of_core.refused,
         closed_slow: seen.closed_slow,
         read_bytes: tally.read,
         sent_bytes: tally.shown,
@@ -123,7 +124,7 @@ fn commands_of<W: Wire>(
     alloc: Global,
     end: &ProxyEnd<W>,
 ) -> Result<Vec<CommandNumbers>, AllocError> {
-    let tally = end.tally();
+    let tally = end.core_tally();
     let mut commands = Vec::new(alloc);
     for op in Op::all() {
         let of_op = tally.of(op);

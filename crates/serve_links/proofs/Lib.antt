@@ -21,3 +21,4 @@ pub mod Away
 pub mod InOrder
 pub mod Alike
 pub mod LateWalks
+pub mod Counts

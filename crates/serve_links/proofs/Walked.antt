@@ -7,13 +7,13 @@ use Rattle.fresh_runs.specs.Overlap as log
 use Rattle.core_proxy.specs.declared.fault.CoreFault.{CoreFault}
 use Rattle.core_proxy.specs.declared.fault.CoreFault.TheVariants as faults
 use Rattle.core_proxy.specs.declared.note.Poll.{Poll}
-use Rattle.core_proxy.specs.Faults.{CanOpen, CanFeed, CanClose, OpenFault, FeedFault, OutputFault, CloseFault}
-use Rattle.core_proxy.specs.CoreState.{Opens, Feeds, Gives, Closes, LeavesLine, client_at, dropped_by, output_by}
-use Rattle.core_proxy.specs.Polls.{Polls, PollFault, Then, Perhaps, BeginsOne, IsPolled}
+use Rattle.core_proxy.specs.Faults.{CanFeed, CanClose, FeedFault, OutputFault, CloseFault}
+use Rattle.core_proxy.specs.CoreState.{Feeds, Gives, Closes, LeavesLine, client_at, dropped_by, output_by}
+use Rattle.core_proxy.specs.Polls.{Polls, PollFault}
 use Rattle.route_json.specs.Configuration.{Configuration}
 use Rattle.core_accepted.specs.declared.served.ServedCore.{ServedCore}
 use Rattle.core_accepted.specs.Logs.{LogsGoBy, IsAccepted, IsAcceptedSince, fed}
-use Rattle.core_accepted.specs.Results.{PollStops, SettleStops}
+use Rattle.core_accepted.specs.Results.{PollGoes, PollStops, SettleStops}
 use Rattle.serve_links.specs.declared.calls.calls.SentCall.{SentCall}
 use Rattle.serve_links.specs.declared.calls.calls.Next.{Next}
 use Rattle.serve_links.specs.declared.calls.calls.Next.TheVariants as nexts
@@ -124,12 +124,6 @@ settled g = record { steps = g.steps; kinds = each_settled g.steps g.kinds; walk
 
 -- ---- each call of a core
 
-pub by_open :
-    (r : Result ℕ CoreFault) (a b : ServedCore) → IfOk r (λ client. CanOpen a.core × Opens a.core client b.core) → IfErr r (λ fault. OpenFault a.core fault b.core)
-    → LogsGoBy a (λ entries. entries ≡ []) b → GoesOn a b
-by_open (Ok client) a b ok err fresh = one IsOfTurn (Opened client) a b tt (ok.0, ok.1, fresh)
-by_open (Err fault) a b ok err fresh = one IsOfTurn (NotOpened fault) a b tt (err, fresh)
-
 pub by_feed :
     (client : ℕ) (piece : List ℕ) (r : Result (Unit {0}) CoreFault) (a b : ServedCore) → OnOk r (CanFeed a.core client piece × Feeds a.core client piece b.core)
     → IfErr r (λ fault. FeedFault a.core client piece fault × (b ≡ a)) → OnOk r (LogsGoBy a (λ entries. entries ≡ fed (dropped_by (client_at a.core client)) client piece) b)
@@ -152,7 +146,7 @@ by_close client (Err fault) a b ok err fresh = still err.1
 
 pub by_poll :
     (client : ℕ) (r : Result Poll CoreFault) (a b : ServedCore) → IfOk r (λ poll. Polls a.core client poll b.core) → IfErr r (λ fault. PollFault a.core client fault b.core)
-    → IfOk r (λ poll. LogsGoBy a (Then (Perhaps (BeginsOne client)) (IsPolled client poll)) b) → IfErr r (λ fault. PollStops a client fault b) → GoesOn a b
+    → IfOk r (λ poll. PollGoes a client poll b) → IfErr r (λ fault. PollStops a client fault b) → GoesOn a b
 by_poll client (Ok poll) a b ok err fresh stops = one IsOfTurn (Polled client poll) a b tt (ok, fresh)
 by_poll client (Err fault) a b ok err fresh stops = one IsOfTurn (Stopped client fault) a b tt (err, stops)
 

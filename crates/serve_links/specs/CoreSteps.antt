@@ -12,13 +12,14 @@ use Rattle.core_proxy.specs.declared.note.Poll.{Poll}
 use Rattle.core_proxy.specs.Faults.{CanOpen, CanFeed, CanClose, OpenFault}
 use Rattle.core_proxy.specs.CoreState.{Opens, Feeds, Gives, Closes, LeavesLine, client_at, dropped_by}
 use Rattle.core_proxy.specs.Settles as of_calls
-use Rattle.core_proxy.specs.Polls.{Polls, PollFault, Then, Perhaps, BeginsOne, IsPolled}
+use Rattle.core_proxy.specs.Polls.{Polls, PollFault}
 use Rattle.core_accepted.specs.declared.beginnings.Beginnings.{Beginnings}
 use Rattle.core_accepted.specs.Logs.{LogsGoBy, IsAccepted, IsAcceptedSince, fed}
-use Rattle.core_accepted.specs.Results.{PollStops}
+use Rattle.core_accepted.specs.Results.{StaysCounting, PollGoes, PollStops}
 use Rattle.core_accepted.specs.declared.served.ServedCore.{ServedCore}
 use Rattle.core_accepted.specs.Results.{IsSettled}
 use Rattle.core_accepted.specs.Loading.{IsLoaded}
+use Rattle.core_accepted.specs.Tallies.{with_client, with_refusal}
 use Rattle.serve_links.specs.declared.settings.Greeting.{Greeting}
 use Rattle.serve_links.specs.declared.news.Cause.{Cause}
 
@@ -47,12 +48,12 @@ pub data Step : Type 0 where
 -- a core goes from one state to another by this call: as the core's own call of that name goes, and with each log that may have led to it. By what was done at a connection it stays; where bytes
 -- spell the answer to a call, that call of the core is out, and asks this
 abbrev pub Does : Step → ServedCore → ServedCore → Type 0
-Does (Opened client) old new = CanOpen old.core × Opens old.core client new.core × LogsGoBy old (λ entries. entries ≡ []) new
-Does (NotOpened fault) old new = OpenFault old.core fault new.core × LogsGoBy old (λ entries. entries ≡ []) new
+Does (Opened client) old new = CanOpen old.core × Opens old.core client new.core × StaysCounting with_client old new
+Does (NotOpened fault) old new = OpenFault old.core fault new.core × StaysCounting with_refusal old new
 Does (Fed client piece) old new =
     CanFeed old.core client piece × Feeds old.core client piece new.core
     × LogsGoBy old (λ entries. entries ≡ fed (dropped_by (client_at old.core client)) client piece) new
-Does (Polled client poll) old new = Polls old.core client poll new.core × LogsGoBy old (Then (Perhaps (BeginsOne client)) (IsPolled client poll)) new
+Does (Polled client poll) old new = Polls old.core client poll new.core × PollGoes old client poll new
 Does (Stopped client fault) old new = PollFault old.core client fault new.core × PollStops old client fault new
 Does (Settled number outcome) old new = IsSettled old number outcome new
 Does (Gave client bytes) old new = Gives old.core client bytes new.core × LogsGoBy old (λ entries. entries ≡ log.Gives client bytes ∷ []) new

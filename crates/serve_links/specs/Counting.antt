@@ -1,27 +1,13 @@
--- What is counted of commands that ended, and of calls that were settled. Source: mcgate's own.
-use Rattle.std.specs.Prelude.{ℕ, ◌+◌, ◌-◌, ◌^◌, Option, Some, None, Bool, true, false, List, [], ◌∷◌, if◌then◌else◌, nat_lt, min, slice_index, slice_set}
+-- What is counted of calls that were settled. Source: mcgate's own.
+use Rattle.std.specs.Prelude.{ℕ, ◌+◌, ◌-◌, ◌^◌, List, [], ◌∷◌, if◌then◌else◌, nat_lt, min, slice_index, slice_set}
 use Rattle.mc_types.specs.declared.call.Outcome.{Outcome}
 use Rattle.mc_types.specs.declared.call.Outcome.TheVariants.{Answered, Failed}
-use Rattle.core_proxy.specs.declared.note.Note.{Note}
-use Rattle.serve_links.specs.declared.tally.OpTally.{OpTally}
+use Rattle.core_accepted.specs.Tallies.{one_more}
 use Rattle.serve_links.specs.declared.tally.CallTally.{CallTally}
 use Rattle.serve_links.specs.declared.calls.times.CallTimes.{CallTimes}
 use Rattle.serve_links.specs.declared.calls.calls.SentCall.{SentCall}
 use Rattle.serve_links.specs.declared.calls.calls.Next.{Next}
 use Rattle.serve_links.specs.declared.calls.calls.Next.TheVariants as nexts
-
--- one more, as far as it is counted
-abbrev pub one_more : ℕ → ℕ
-one_more count = min (count + 1) (2 ^ 64 - 1)
-
--- one more has ended: acknowledged or not, and its reply shows the item of this call, or none
-abbrev pub with_one : Bool → Option ℕ → OpTally → OpTally
-with_one true from tally = record tally { acknowledged = one_more tally.acknowledged }
-with_one false (Some call) tally = record tally { items = one_more tally.items }
-with_one false None tally = record tally { others = one_more tally.others }
-
-abbrev pub with_ended : Note → OpTally → OpTally
-with_ended note tally = with_one note.acknowledged note.from tally
 
 -- the place of the first of these limits that a time doesn't pass, or the one after them all
 abbrev pub place_among : List ℕ → ℕ → ℕ

@@ -14,3 +14,4 @@ pub mod Called
 pub mod Shut
 pub mod Story
 pub mod InOrder
+pub mod Counts

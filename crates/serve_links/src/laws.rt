@@ -2,6 +2,7 @@
 
 ghost use Rattle.serve_links.specs.CoreSteps.{IsOfTurn, IsFailure, IsSending, IsAnyCall};
 ghost use Rattle.serve_links.specs.Called.{WalksTellCalls};
+ghost use Rattle.serve_links.specs.Counts.{StepsAreCounted};
 ghost use Rattle.serve_links.specs.InOrder.{ConnectionsAreInOrder, WalksAreFreshLate};
 ghost use Rattle.serve_links.specs.Story.{StoriesGoOn};
 
@@ -18,6 +19,12 @@ pub fn stories_go_on()
 /// number is given out.
 pub fn walks_tell_calls()
     ensures { WalksTellCalls }
+{}
+
+/// Whatever calls of a core are made, what it counts is what they were, as far as a count goes: how many clients were opened and turned away, how many
+/// commands its polls told to have ended, and of each operation how many with a reply of each kind.
+pub fn steps_are_counted()
+    ensures { StepsAreCounted }
 {}
 
 /// Where what is done to a server's connections is in order, a new one is begun only where none is there: so, if a server applies what came over

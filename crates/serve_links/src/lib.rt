@@ -21,5 +21,5 @@ pub use news::{CAUSES, Cause, LinkNews};
 pub use outcomes::{HeldAnswers, fail_all, fail_late, settle_held};
 pub use room::{IDLE_ROOM, KEPT_ROOM, OWN_ROOM, give_back, has_spare};
 pub use settings::{Greeting, LinkLimits, ServerDialect, Settings};
-pub use tally::{CallTally, LinkTally, OpTally, SPANS, Tally};
+pub use tally::{CallTally, LinkTally, SPANS, Tally};
 pub use wire_stream::VersionText;

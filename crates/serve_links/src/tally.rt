@@ -1,38 +1,17 @@
-//! What an end has done so far. A count that reaches the greatest number stays there.
+//! What an end has done so far, beside its core. A count that reaches the greatest number stays there.
 
 ghost use Rattle.std.specs.Prelude.{◌≡◌, ◌<◌};
-ghost use Rattle.serve_links.specs.Counting.{one_more, with_ended, span_of, with_answer, with_failure};
+ghost use Rattle.serve_links.specs.Counting.{span_of, with_answer, with_failure};
 
 use crate::news::Cause;
-use core_proxy::Note;
-use mc_types::Op;
 
-/// What an end has done so far.
+/// What an end has done so far, beside its core.
 #[derive(Clone, Copy)]
 pub struct Tally {
     /// How many bytes it has read of its clients.
     pub read: u64,
     /// How many bytes it had for them, sent or not.
     pub shown: u64,
-    /// How many clients were taken.
-    pub accepted: u64,
-    /// How many were turned away, as there were too many.
-    pub refused: u64,
-    /// How many commands have ended.
-    pub commands: u64,
-    // Those of each operation.
-    ops: [OpTally; 12],
-}
-
-/// How many commands of an operation have ended.
-#[derive(Clone, Copy)]
-pub struct OpTally {
-    /// Those whose reply shows an item.
-    pub items: u64,
-    /// Deletes that were acknowledged.
-    pub acknowledged: u64,
-    /// All others.
-    pub others: u64,
 }
 
 /// What has become of the calls of a server that went out.
@@ -63,26 +42,6 @@ pub struct LinkTally {
     pub late: u64,
     // How often it failed for each cause.
     failed: [u64; 7],
-}
-
-// The place of an operation among all.
-fn place_of(op: Op) -> usize
-    ensures { result < 12 }
-{
-    match op {
-        Op::Get => 0,
-        Op::Gat => 1,
-        Op::Set => 2,
-        Op::Add => 3,
-        Op::Replace => 4,
-        Op::Append => 5,
-        Op::Prepend => 6,
-        Op::Cas => 7,
-        Op::Delete => 8,
-        Op::Incr => 9,
-        Op::Decr => 10,
-        Op::Touch => 11,
-    }
 }
 
 // The place of a cause among all.
@@ -120,41 +79,10 @@ fn span_of(micros: u64) -> usize
     }
 }
 
-impl OpTally {
-    // None yet.
-    fn new() -> OpTally {
-        OpTally {
-            items: 0,
-            acknowledged: 0,
-            others: 0,
-        }
-    }
-
-    /// One more has ended, as this tells.
-    pub fn note(&mut self, note: &Note)
-        ensures { self.new ≡ with_ended note.now self.old }
-    {
-        if note.acknowledged {
-            self.acknowledged = self.acknowledged.saturating_add(1);
-        } else if note.from.is_some() {
-            self.items = self.items.saturating_add(1);
-        } else {
-            self.others = self.others.saturating_add(1);
-        }
-    }
-}
-
 impl Tally {
     /// Nothing yet.
     pub fn new() -> Tally {
-        Tally {
-            read: 0,
-            shown: 0,
-            accepted: 0,
-            refused: 0,
-            commands: 0,
-            ops: [OpTally::new(); 12],
-        }
+        Tally { read: 0, shown: 0 }
     }
 
     /// So many bytes were read.
@@ -165,36 +93,6 @@ impl Tally {
     /// There are so many bytes to send.
     pub fn note_shown(&mut self, count: usize) {
         self.shown = self.shown.saturating_add(count as u64);
-    }
-
-    /// A client was taken.
-    pub fn note_accepted(&mut self)
-        ensures { self.new ≡ record self.old { accepted = one_more self.old.accepted } }
-    {
-        self.accepted = self.accepted.saturating_add(1);
-    }
-
-    /// One was turned away.
-    pub fn note_refused(&mut self)
-        ensures { self.new ≡ record self.old { refused = one_more self.old.refused } }
-    {
-        self.refused = self.refused.saturating_add(1);
-    }
-
-    /// A command ended, as this tells.
-    pub fn note_command(&mut self, note: &Note)
-        ensures { self.new.commands ≡ one_more self.old.commands }
-    {
-        self.commands = self.commands.saturating_add(1);
-        let place = place_of(note.ask.get().op);
-        let mut of_op = self.ops[place];
-        of_op.note(note);
-        self.ops[place] = of_op;
-    }
-
-    /// How many commands of this operation have ended.
-    pub fn of(&self, op: Op) -> OpTally {
-        self.ops[place_of(op)]
     }
 }
 

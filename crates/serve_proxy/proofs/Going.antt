@@ -19,9 +19,10 @@ use Rattle.core_proxy.specs.declared.note.Poll.{Poll}
 use Rattle.core_proxy.specs.declared.note.Poll.TheVariants as polls
 use Rattle.core_proxy.specs.Faults.{CanClose, OpenFault, CloseFault}
 use Rattle.core_proxy.specs.CoreState.{Closes as ClosesIn, LeavesLine, client_at, output_by}
-use Rattle.core_proxy.specs.Polls.{Polls, PollFault, Then, Perhaps, BeginsOne, IsPolled}
+use Rattle.core_proxy.specs.Polls.{Polls, PollFault}
 use Rattle.core_accepted.specs.Logs.{LogsGoBy}
-use Rattle.core_accepted.specs.Results.{PollStops}
+use Rattle.core_accepted.specs.Results.{StaysCounting, PollGoes, PollStops}
+use Rattle.core_accepted.specs.Tallies.{with_refusal}
 use Rattle.core_accepted.specs.declared.served.ServedCore.{ServedCore}
 use Rattle.serve_clients.specs.declared.clients.Client.{Client}
 use Rattle.serve_clients.specs.declared.clients.Clients.{Clients}
@@ -566,7 +567,7 @@ by_one step a b is does = record { steps = step ∷ []; kinds = (is, tt); walks 
 
 pub by_poll :
     (client : ℕ) (r : Result Poll CoreFault) (a b : ServedCore) → IfOk r (λ poll. Polls a.core client poll b.core) → IfErr r (λ fault. PollFault a.core client fault b.core)
-    → IfOk r (λ poll. LogsGoBy a (Then (Perhaps (BeginsOne client)) (IsPolled client poll)) b) → IfErr r (λ fault. PollStops a client fault b) → GoesBy IsSilent a b
+    → IfOk r (λ poll. PollGoes a client poll b) → IfErr r (λ fault. PollStops a client fault b) → GoesBy IsSilent a b
 by_poll client (Ok poll) a b ok err fresh stops = by_one (Polled client poll) a b tt (ok, fresh)
 by_poll client (Err fault) a b ok err fresh stops = by_one (Stopped client fault) a b tt (err, stops)
 
@@ -600,7 +601,7 @@ close_none {h} {cs} {ls} client (Ok done) a b nobody ok err fresh = record {
     told past j z there was = elim (cases_Bool (nat_eq client j)) [ inl e ↦ absurd (none_some (sym nobody ∙ ap (client_of cs) (eqb-true client j e) ∙ there)) | inr e ↦ (ap (λ (t : Bool). if t then false else is_open_in past j) e ∙ was.0, was.1) ]
 close_none {h} {cs} {ls} client (Err fault) a b nobody ok err fresh = same_core err.1
 
-pub by_not_opened : (fault : CoreFault) (a b : ServedCore) → OpenFault a.core fault b.core → LogsGoBy a (λ entries. entries ≡ []) b → GoesBy IsSilent a b
+pub by_not_opened : (fault : CoreFault) (a b : ServedCore) → OpenFault a.core fault b.core → StaysCounting with_refusal a b → GoesBy IsSilent a b
 by_not_opened fault a b err fresh = by_one (NotOpened fault) a b tt (err, fresh)
 
 -- what is done at one link is done among all

@@ -16,8 +16,8 @@ use Rattle.core_commands.specs.declared.ticket.Ticket.{Ticket}
 use Rattle.core_proxy.specs.declared.fault.CoreFault.{CoreFault}
 use Rattle.core_proxy.specs.declared.note.Poll.{Poll}
 use Rattle.core_proxy.specs.declared.note.Poll.TheVariants as polls
-use Rattle.core_proxy.specs.Polls.{Polls, Then, Perhaps, BeginsOne, IsPolled}
-use Rattle.core_accepted.specs.Logs.{LogsGoBy}
+use Rattle.core_proxy.specs.Polls.{Polls}
+use Rattle.core_accepted.specs.Results.{PollGoes}
 use Rattle.core_accepted.specs.declared.served.ServedCore.{ServedCore}
 use Rattle.serve_clients.specs.declared.clients.Clients.{Clients}
 use Rattle.serve_clients.specs.Marks.{client_of}
@@ -125,10 +125,10 @@ given_from links at x y (Some call) within was is did = λ h cs core. line_gave 
 
 -- the core gave one out
 pub polled_call :
-    (client : ℕ) (ticket : Ticket) (r : Result Poll CoreFault) (a b : ServedCore) → r ≡ Ok (polls.Call ticket) → IfOk r (λ poll. Polls a.core client poll b.core) → IfOk r (λ poll. LogsGoBy a (Then (Perhaps (BeginsOne client)) (IsPolled client poll)) b)
+    (client : ℕ) (ticket : Ticket) (r : Result Poll CoreFault) (a b : ServedCore) → r ≡ Ok (polls.Call ticket) → IfOk r (λ poll. Polls a.core client poll b.core) → IfOk r (λ poll. PollGoes a client poll b)
     → Does (Polled client (polls.Call ticket)) a b
 polled_call client ticket r a b is ok fresh =
-    (subst (λ (q : Result Poll CoreFault). IfOk q (λ poll. Polls a.core client poll b.core)) is ok, subst (λ (q : Result Poll CoreFault). IfOk q (λ poll. LogsGoBy a (Then (Perhaps (BeginsOne client)) (IsPolled client poll)) b)) is fresh)
+    (subst (λ (q : Result Poll CoreFault). IfOk q (λ poll. Polls a.core client poll b.core)) is ok, subst (λ (q : Result Poll CoreFault). IfOk q (λ poll. PollGoes a client poll b)) is fresh)
 
 -- the link at a place stands there still
 pub open_still : (at : ℕ) (ls ls' : List Link) → ls' ≡ ls → IsOpenAt at ls → IsOpenAt at ls'

@@ -20,7 +20,8 @@ use Rattle.core_proxy.specs.declared.note.Note.{Note}
 use Rattle.core_proxy.specs.declared.note.Poll.{Poll}
 use Rattle.core_proxy.specs.declared.note.Poll.TheVariants as polls
 use Rattle.core_accepted.specs.declared.served.ServedCore.{ServedCore}
-use Rattle.core_accepted.specs.Logs.{MayHaveLed, LogsGoBy, IsFreshLog, BeginSo, fed}
+use Rattle.core_accepted.specs.declared.tally.CoreTally.{CoreTally}
+use Rattle.core_accepted.specs.Logs.{MayHaveLed, LogsGoCounting, IsFreshLog, BeginSo, fed}
 use Rattle.core_accepted.specs.Results.{PollStops, TakesResult, SettleStops}
 use Rattle.serve_links.specs.CoreSteps.{Step, Opened, NotOpened, Fed, Polled, Stopped, Settled, Gave, Closed, LeftLine, Broke, Loaded, Linked, Asked, Greeted, Spelled, Late, CameLate, Lost, Does, Walks}
 use Rattle.core_accepted.proofs.Keeping.{since_are_fresh}
@@ -116,7 +117,7 @@ turned opening past served led (event ∷ turns) are =
 
 module _ (opening : ℕ → List ℕ → Option Item) (past : List (Entry dialect)) (old new : ServedCore) (led : MayHaveLed opening past old)
     (Holds : (later : List (Entry dialect)) → MayHaveLed opening later new → Type 0) (holds : (later : List (Entry dialect)) (by : MayHaveLed opening later new) → Holds later by) where
-  by_fresh : (IsKind : List (Entry dialect) → Type 0) → ((entries : List (Entry dialect)) → IsKind entries → AreOwn entries) → LogsGoBy old IsKind new → GoesOnSaying opening IsKind past new Holds
+  by_fresh : {count : CoreTally → CoreTally} (IsKind : List (Entry dialect) → Type 0) → ((entries : List (Entry dialect)) → IsKind entries → AreOwn entries) → LogsGoCounting count old IsKind new → GoesOnSaying opening IsKind past new Holds
   by_fresh IsKind own goes = let g = goes.logs opening past led in (g.0, g.1, own g.0 g.1, g.2, holds (g.0 ++ past) g.2)
 
   by_none : new ≡ old → StaysOn opening past old new Holds
@@ -177,8 +178,8 @@ module _ (opening : ℕ → List ℕ → Option Item) (past : List (Entry dialec
 
 module _ (opening : ℕ → List ℕ → Option Item) (past : List (Entry dialect)) (old new : ServedCore) (led : MayHaveLed opening past old)
     (Holds : (later : List (Entry dialect)) → MayHaveLed opening later new → Type 0) (holds : (later : List (Entry dialect)) (by : MayHaveLed opening later new) → Holds later by) where
-  goes_by : (IsKind : List (Entry dialect) → Type 0) → ((entries : List (Entry dialect)) → IsKind entries → AreOwn entries) → LogsGoBy old IsKind new → GoesOnSaying opening IsKind past new Holds
-  goes_by IsKind own goes = by_fresh opening past old new led Holds holds IsKind own goes
+  goes_by : {count : CoreTally → CoreTally} (IsKind : List (Entry dialect) → Type 0) → ((entries : List (Entry dialect)) → IsKind entries → AreOwn entries) → LogsGoCounting count old IsKind new → GoesOnSaying opening IsKind past new Holds
+  goes_by {count} IsKind own goes = by_fresh opening past old new led Holds holds {count} IsKind own goes
 
   -- whatever servers lost before a result, and others wrote there
   settles_after : (number : ℕ) (outcome : Outcome) → TakesResult old number outcome new ⊎ ((fault : CoreFault) × SettleStops old number outcome fault new) → StepGoes opening (Settled number outcome) past old led new Holds

@@ -100,10 +100,7 @@ fn take_client<W: Wire>(core: &mut ServedCore, sockets: &mut Sockets<W>, conn: u
 {
     match core.open_client() {
         Ok(id) => keep_client(core, sockets, id, conn),
-        Err(_) => {
-            sockets.tally.note_refused();
-            turn_away(sockets.alloc, &mut sockets.wire, conn)
-        }
+        Err(_) => turn_away(sockets.alloc, &mut sockets.wire, conn),
     }
 }
 
@@ -114,7 +111,6 @@ fn keep_client<W: Wire>(core: &mut ServedCore, sockets: &mut Sockets<W>, id: usi
 {
     sockets.drop_end(id);
     if sockets.insert_client(id, conn) {
-        sockets.tally.note_accepted();
         return;
     }
     let _ = sockets.clients.remove(id);

@@ -31,7 +31,7 @@ use crate::showing::give_back_room;
 use crate::sockets::Sockets;
 use crate::stalls::{USUAL_MOST, close_slow};
 use core_accepted::laws::{accepted_trees_are_sound, begun_core_is_fresh};
-use core_accepted::{Beginnings, LoadFault, ServedCore};
+use core_accepted::{Beginnings, CoreTally, LoadFault, ServedCore};
 use gate_check::{Accepted, ReloadFault};
 use route_json::Config;
 use route_json::addresses::{Servers, address_in};
@@ -286,7 +286,15 @@ impl<W: Wire> ProxyEnd<W> {
         self.sockets.in_rounds = true;
     }
 
-    /// What it has done so far.
+    /// What its core has done so far: clients opened and turned away, and commands ended, in all and of each operation by their replies. Each count is
+    /// of just that, as far as it goes ([`serve_links::laws::steps_are_counted`]).
+    pub fn core_tally(&self) -> CoreTally
+        ensures { result ≡ self.now.core.value.tally }
+    {
+        self.core.tally()
+    }
+
+    /// What it has done so far, beside its core.
     pub fn tally(&self) -> Tally
         ensures { result ≡ self.now.sockets.tally }
     {

@@ -220,7 +220,6 @@ fn poll_once<W: Wire, N: Net>(
         }
         Ok(Polled::Did(note)) => {
             sockets.note_went_on(id);
-            sockets.tally.note_command(&note);
             sockets.times.end(id, note.number, now);
             sockets.is_freed = true;
             Rest::More

@@ -1,0 +1,74 @@
+-- What a core counts: clients, and commands that ended. Source: mcgate's own.
+use Rattle.std.specs.Prelude.{◌≡◌, ℕ, ◌+◌, ◌-◌, ◌^◌, Option, Some, None, Result, Ok, Err, Bool, true, false, List, replicate, min, slice_index, slice_set}
+use Rattle.mc_types.specs.declared.ask.Op.{Op}
+use Rattle.route_tree.specs.Operation.{op_number}
+use Rattle.core_proxy.specs.declared.fault.CoreFault.{CoreFault}
+use Rattle.core_proxy.specs.declared.note.Note.{Note}
+use Rattle.core_proxy.specs.declared.note.Poll.{Poll}
+use Rattle.core_proxy.specs.declared.note.Poll.TheVariants as polls
+use Rattle.core_accepted.specs.declared.tally.CoreTally.{CoreTally}
+use Rattle.core_accepted.specs.declared.tally.OpTally.{OpTally}
+
+-- the replies that are told apart: one that shows an item, that to a delete that was acknowledged, and any other
+pub data ReplyKind : Type 0 where
+  ShowsItem : ReplyKind
+  Acknowledges : ReplyKind
+  TellsOther : ReplyKind
+
+-- by whether it acknowledges a delete, and the call whose item it shows, if it shows one
+abbrev pub kind_by : Bool → Option ℕ → ReplyKind
+kind_by true from = Acknowledges
+kind_by false (Some call) = ShowsItem
+kind_by false None = TellsOther
+
+-- the reply of a command that ended so
+abbrev pub kind_of : Note → ReplyKind
+kind_of note = kind_by note.acknowledged note.from
+
+-- one more, as far as it is counted
+abbrev pub one_more : ℕ → ℕ
+one_more count = min (count + 1) (2 ^ 64 - 1)
+
+-- one more at this place
+abbrev pub more_at : ℕ → List ℕ → List ℕ
+more_at place counts = slice_set counts place (one_more (slice_index counts place))
+
+-- one more command of this operation has ended, with such a reply
+abbrev pub with_reply : ReplyKind → Op → CoreTally → CoreTally
+with_reply ShowsItem op tally = record tally { ended = one_more tally.ended; items = more_at (op_number op) tally.items }
+with_reply Acknowledges op tally = record tally { ended = one_more tally.ended; acknowledged = more_at (op_number op) tally.acknowledged }
+with_reply TellsOther op tally = record tally { ended = one_more tally.ended; others = more_at (op_number op) tally.others }
+
+abbrev pub with_note : Note → CoreTally → CoreTally
+with_note note tally = with_reply (kind_of note) note.ask.op tally
+
+-- the command that a poll tells to have ended is counted
+abbrev pub with_poll : Poll → CoreTally → CoreTally
+with_poll (polls.Did note) tally = with_note note tally
+with_poll polls.Idle tally = tally
+with_poll polls.Own tally = tally
+with_poll polls.Refused tally = tally
+with_poll (polls.Call ticket) tally = tally
+with_poll polls.Waiting tally = tally
+with_poll polls.Queued tally = tally
+with_poll polls.Busy tally = tally
+
+-- one more client was opened
+abbrev pub with_client : CoreTally → CoreTally
+with_client tally = record tally { opened = one_more tally.opened }
+
+-- one more was turned away
+abbrev pub with_refusal : CoreTally → CoreTally
+with_refusal tally = record tally { refused = one_more tally.refused }
+
+abbrev pub with_opening : Result ℕ CoreFault → CoreTally → CoreTally
+with_opening (Ok client) tally = with_client tally
+with_opening (Err fault) tally = with_refusal tally
+
+-- nothing was done yet
+abbrev pub nothing_done : CoreTally
+nothing_done = record { opened = 0; refused = 0; ended = 0; items = replicate 12 0; acknowledged = replicate 12 0; others = replicate 12 0 }
+
+-- of one operation
+abbrev pub of_op : CoreTally → Op → OpTally
+of_op tally op = record { items = slice_index tally.items (op_number op); acknowledged = slice_index tally.acknowledged (op_number op); others = slice_index tally.others (op_number op) }

@@ -1,0 +1,129 @@
+//! What a core has done so far. A count that reaches the greatest number stays there.
+
+ghost use Rattle.std.specs.Prelude.{◌≡◌, ◌<◌, length, IfOk, OnErr};
+ghost use Rattle.route_tree.specs.Operation.{op_number};
+ghost use Rattle.core_accepted.specs.Tallies.{more_at, with_note, with_poll, with_opening, nothing_done, of_op};
+
+use core_proxy::{CoreFault, Note, Poll};
+use mc_types::Op;
+
+/// What a core has done so far.
+#[derive(Clone, Copy)]
+pub struct CoreTally {
+    /// How many clients it has opened.
+    pub opened: u64,
+    /// How many it has turned away.
+    pub refused: u64,
+    /// How many commands have ended.
+    pub ended: u64,
+    // Of each operation, those whose reply shows an item.
+    items: [u64; 12],
+    // Deletes that were acknowledged.
+    acknowledged: [u64; 12],
+    // All others.
+    others: [u64; 12],
+}
+
+/// How many commands of an operation have ended.
+#[derive(Clone, Copy)]
+pub struct OpTally {
+    /// Those whose reply shows an item.
+    pub items: u64,
+    /// Deletes that were acknowledged.
+    pub acknowledged: u64,
+    /// All others.
+    pub others: u64,
+}
+
+// The place of an operation among all.
+fn place_of(op: Op) -> usize
+    ensures place { result ≡ op_number op }
+    ensures bound { result < 12 }
+{
+    match op {
+        Op::Get => 0,
+        Op::Gat => 1,
+        Op::Set => 2,
+        Op::Add => 3,
+        Op::Replace => 4,
+        Op::Append => 5,
+        Op::Prepend => 6,
+        Op::Cas => 7,
+        Op::Delete => 8,
+        Op::Incr => 9,
+        Op::Decr => 10,
+        Op::Touch => 11,
+    }
+}
+
+// There is one more at this place.
+fn add_at(counts: &mut [u64; 12], place: usize)
+    requires { place < 12 }
+    ensures { counts.new ≡ more_at place counts.old }
+{
+    counts[place] = counts[place].saturating_add(1);
+}
+
+impl CoreTally {
+    /// Nothing yet.
+    pub fn new() -> CoreTally
+        ensures { result ≡ nothing_done }
+    {
+        CoreTally {
+            opened: 0,
+            refused: 0,
+            ended: 0,
+            items: [0; 12],
+            acknowledged: [0; 12],
+            others: [0; 12],
+        }
+    }
+
+    /// A client was opened, or turned away.
+    pub fn note_opening(&mut self, opening: &Result<usize, CoreFault>)
+        ensures { self.new ≡ with_opening opening.now self.old }
+    {
+        match opening {
+            Ok(_) => self.opened = self.opened.saturating_add(1),
+            Err(_) => self.refused = self.refused.saturating_add(1),
+        }
+    }
+
+    /// A command ended, as this tells.
+    pub fn note(&mut self, note: &Note)
+        ensures { self.new ≡ with_note note.now self.old }
+    {
+        self.ended = self.ended.saturating_add(1);
+        let place = place_of(note.ask.get().op);
+        if note.acknowledged {
+            add_at(&mut self.acknowledged, place)
+        } else if note.from.is_some() {
+            add_at(&mut self.items, place)
+        } else {
+            add_at(&mut self.others, place)
+        }
+    }
+
+    /// A poll ended with this: a command ended, if it tells so.
+    pub fn note_polled(&mut self, polled: &Result<Poll, CoreFault>)
+        ensures counted { IfOk polled.now (λ poll. self.new ≡ with_poll poll self.old) }
+        ensures none { OnErr polled.now (self.new ≡ self.old) }
+    {
+        match polled {
+            Ok(Poll::Did(note)) => self.note(note),
+            _ => {}
+        }
+    }
+
+    /// How many commands of this operation have ended.
+    pub fn of(&self, op: Op) -> OpTally
+        ensures { result ≡ of_op self.now op }
+    {
+        let place = place_of(op);
+        OpTally {
+            items: self.items[place],
+            acknowledged: self.acknowledged[place],
+            others: self.others[place],
+        }
+    }
+}
