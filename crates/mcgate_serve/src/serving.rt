@@ -28,10 +28,12 @@ use crate::lines::Lines;
 use crate::listens::Listens;
 use crate::names::{Names, follows};
 use crate::outages::Outages;
-use crate::remembering::{Kept, Remembering, forget, remember};
+use crate::remembering::{Kept, Remembering, forget, remember, tell_unwritten};
+use crate::seen::Seen;
+use crate::server_news::ServerNews;
 use crate::special::is_special;
 use crate::started::Started;
-use crate::watching::{Seen, Times, Watching, stats_of, write_servers};
+use crate::watching::{Times, Watching, stats_of, write_servers};
 use core_accepted::LoadFault;
 use gate_check::ReloadFault;
 use mc_types::{Key, ServerId};
@@ -251,10 +253,7 @@ fn notes_new<R: Files + AllocGlobal + Eprint, W: Write>(
         Ok(()) => Ok(true),
         Err(error) if error.kind() == ErrorKind::OutOfMemory => Err(Stop::Memory),
         Err(error) => {
-            let line = format_args!(
-                "mcgate: cannot write which servers are to be emptied: {error}"
-            );
-            lines.tell(rt, line);
+            tell_unwritten(rt, lines, emptying.path(), &error);
             writeln!(out, "reload refused: history not written")?;
             Ok(false)
         }
@@ -270,7 +269,8 @@ fn before_of(memory: &Option<Kept>) -> u32 {
 }
 
 impl<W: Wire + Drop> Serving<W> {
-    /// Of this end, by a configuration of these servers, which starts so. Where the proxy is one of a fleet the configuration is given.
+    /// Of this end, by a configuration of these servers, which starts so, and of which this was seen. Where the proxy is one of a fleet the
+    /// configuration is given.
     pub fn new<R: Clock + AllocGlobal>(
         rt: &R,
         end: ProxyEnd<W>,
@@ -278,6 +278,7 @@ impl<W: Wire + Drop> Serving<W> {
         in_use: Option<Config>,
         started: Started,
         lines: Lines,
+        seen: Seen,
         watching: Option<Watching>,
         controlling: Option<Controlling>,
     ) -> io::Result<Serving<W>>
@@ -287,6 +288,8 @@ impl<W: Wire + Drop> Serving<W> {
         let (text, memory) = started.into_parts();
         let before = before_of(&memory);
         let names = Names::of(rt.alloc(), &servers);
+        let mut seen = seen;
+        seen.config.generation = u64::from(before).saturating_add(1);
         Ok(Serving {
             end,
             servers,
@@ -301,7 +304,7 @@ impl<W: Wire + Drop> Serving<W> {
             lines,
             outages: Outages::new(rt.alloc()),
             names,
-            seen: Seen::new(before.saturating_add(1)),
+            seen,
             watching,
             controlling,
             input: None,
@@ -583,11 +586,13 @@ impl<W: Listens> Serving<W> {
     }
 
     // What was emptied is noted. Where that can't be written, it may be emptied once more by the next run.
-    fn settle_emptying<R: Files + AllocGlobal>(&mut self, rt: &R)
+    fn settle_emptying<R: Files + AllocGlobal + Eprint>(&mut self, rt: &R)
         ensures { self.new.end ≡ self.old.end }
     {
         if let Some(emptying) = &mut self.emptying {
-            let _ = emptying.settle(rt, &self.end, &self.servers);
+            if let Err(error) = emptying.settle(rt, &self.end, &self.servers) {
+                tell_unwritten(rt, &mut self.lines, emptying.path(), &error);
+            }
         }
     }
 
@@ -697,6 +702,19 @@ impl<W: Listens> Serving<W> {
     {
         self.tell_links(rt);
         self.tell_stalled(rt);
+        self.tell_refused(rt)
+    }
+
+    // Tells how many clients were turned away, as there were too many.
+    fn tell_refused<R: Eprint>(&mut self, rt: &R)
+        ensures { self.new.end ≡ self.old.end }
+    {
+        let refused = self.end.tally().refused;
+        let now = self.end.wire().last_millis();
+        if let Some(count) = self.seen.next_refused(refused, now) {
+            let line = format_args!("mcgate: clients refused as too many: {count}");
+            self.lines.warn(rt, line);
+        }
     }
 
     // Tells how many clients were closed, as they took nothing for too long.
@@ -736,7 +754,11 @@ impl<W: Listens> Serving<W> {
             return;
         }
         if let Some(text) = self.servers.get(ServerId::new(number)) {
-            let line = format_args!("mcgate: server {text}: {news}");
+            let told = ServerNews {
+                news,
+                flushes: self.end.link(at).is_some_and(|link| link.flushes),
+            };
+            let line = format_args!("mcgate: server {text}: {told}");
             match news {
                 LinkNews::Opened | LinkNews::Back => self.lines.tell(rt, line),
                 LinkNews::Failed(_, _) | LinkNews::Late => self.lines.warn(rt, line),
@@ -766,10 +788,11 @@ impl<W: Listens> Serving<W> {
         self.outages.note_down(at, self.lines.now())
     }
 
-    // The name of a server whose connection failed is soon looked up again.
+    // This is kept of a server. The name of one whose connection failed is soon looked up again.
     fn note_news(&mut self, at: usize, news: LinkNews)
         ensures { self.new.end ≡ self.old.end }
     {
+        self.seen.note_news(at, news, self.end.wire().last_millis());
         match news {
             LinkNews::Failed(_, _) => self.names.note_failed(at),
             LinkNews::Opened | LinkNews::Back | LinkNews::Late => {}
@@ -1020,7 +1043,7 @@ impl<W: Listens> Serving<W> {
 
     // Connections to this server that are begun from now on go where its name leads, which is told.
     #[tactic(auto, using(crate::proofs::Loads::stays_still))]
-    fn move_to<R: Net + Eprint>(&mut self, rt: &R, at: usize, words: &str)
+    fn move_to<R: Net + AllocGlobal + Eprint>(&mut self, rt: &R, at: usize, words: &str)
         ensures links { self.new.end.sockets.links ≡ self.old.end.sockets.links }
         ensures core { self.new.end.core ≡ self.old.end.core }
         ensures ends { Stay W.history self.old.end.sockets self.new.end.sockets }
@@ -1030,6 +1053,7 @@ impl<W: Listens> Serving<W> {
         match text_at(&self.servers, at) {
             Some(text) => {
                 if self.end.resolve(rt, text).is_ok() {
+                    self.seen.note_found(rt.alloc(), text, true);
                     let line = format_args!("mcgate: server {text}: {words}");
                     self.lines.tell(rt, line);
                 }
@@ -1165,15 +1189,15 @@ impl<W: Listens> Serving<W> {
         ensures in_use { IfOk result (λ _. LoadsText self.old.in_use self.new.in_use self.old.servers (string_bytes text) self.old.end.core.value self.new.end.core.value) }
     {
         let is_used = self.judge_text(rt, job.any, text.as_str(), said)?;
-        self.note_said(rt, job.file, text, is_used, said.as_slice());
+        self.note_said(rt, job, text, is_used, said.as_slice());
         Ok(is_used)
     }
 
-    // What was said of a text is printed, and where it is no configuration, why. The file has it.
+    // What was said of a text is printed, and where it isn't loaded, more of it. The file has it.
     fn note_said<R: AllocGlobal + Print + Eprint>(
         &mut self,
         rt: &R,
-        file: &str,
+        job: &ServeJob<'_>,
         text: String,
         is_used: bool,
         said: &[u8],
@@ -1184,7 +1208,7 @@ impl<W: Listens> Serving<W> {
     {
         self.lines.print(rt, said);
         self.tell_verdict(rt, is_used, said);
-        say_why(rt, &mut self.lines, file, text.as_str(), said);
+        say_why(rt, &mut self.lines, job, text.as_str(), said);
         self.note_text(text, is_used);
     }
 
@@ -1495,7 +1519,7 @@ impl<W: Listens> Serving<W> {
         ensures { self.new.end ≡ self.old.end }
     {
         let mut text = Vec::new(rt.alloc());
-        let written = write_servers(&self.end, &self.servers, &mut text);
+        let written = write_servers(&self.end, &self.servers, &self.seen, &mut text);
         self.answer_written(place, written, text.as_slice());
     }
 
@@ -1687,7 +1711,11 @@ impl<W: Listens> Serving<W> {
     }
 
     // Looks up those of these servers that weren't in use before.
-    fn resolve<R: Net + Eprint>(&mut self, rt: &R, servers: &Servers) -> io::Result<()>
+    fn resolve<R: Net + AllocGlobal + Eprint>(
+        &mut self,
+        rt: &R,
+        servers: &Servers,
+    ) -> io::Result<()>
         ensures looked { OnOk result (AreLookedUp (length self.old.servers) servers.now (W.history self.new.end.sockets.wire)) }
         ensures core { self.new.end.core ≡ self.old.end.core }
         ensures ends { Stay W.history self.old.end.sockets self.new.end.sockets }
@@ -1701,7 +1729,7 @@ impl<W: Listens> Serving<W> {
     }
 
     // Looks up this one of them.
-    fn resolve_at<R: Net + Eprint>(
+    fn resolve_at<R: Net + AllocGlobal + Eprint>(
         &mut self,
         rt: &R,
         servers: &Servers,
@@ -1719,7 +1747,7 @@ impl<W: Listens> Serving<W> {
         }
     }
 
-    fn resolve_one<R: Net + Eprint>(&mut self, rt: &R, text: &str) -> io::Result<()>
+    fn resolve_one<R: Net + AllocGlobal + Eprint>(&mut self, rt: &R, text: &str) -> io::Result<()>
         ensures looked { W.history self.new.end.sockets.wire ≡ looks_up text.now ∷ W.history self.old.end.sockets.wire }
         ensures core { self.new.end.core ≡ self.old.end.core }
         ensures ends { Stay W.history self.old.end.sockets self.new.end.sockets }
@@ -1727,7 +1755,8 @@ impl<W: Listens> Serving<W> {
         ensures in_use { self.new.in_use ≡ self.old.in_use }
     {
         let found = self.end.resolve(rt, text);
-        tell_if_unknown(rt, &mut self.lines, text, found)?;
+        let is_found = tell_if_unknown(rt, &mut self.lines, text, found)?;
+        self.seen.note_found(rt.alloc(), text, is_found);
         Ok(())
     }
 
