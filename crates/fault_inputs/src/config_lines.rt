@@ -97,7 +97,7 @@ fn name_in(fault: &ConfigFault) -> Option<&str> {
 // Of a text that is JSON: where the fault stands.
 fn walked_line<'a>(
     alloc: Global,
-    source: Source<'a>,
+    source: Source<'_>,
     value: &'a Value,
     fault: &'a ConfigFault,
 ) -> Result<String, AllocError> {

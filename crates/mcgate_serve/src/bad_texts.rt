@@ -49,6 +49,13 @@ fn is_of_tree(said: &[u8]) -> bool {
     said.starts_with(b"reload refused generation=") || said.starts_with(b"reload refused: reads=")
 }
 
+/// Says these lines, but for those that are too long.
+pub fn say_all<R: Eprint>(rt: &R, lines: &mut Lines, details: &Details) {
+    for line in details.lines() {
+        say(rt, lines, line.as_str());
+    }
+}
+
 // The server whose epoch is over, where this was said of a text that is a configuration.
 fn over_in(said: &[u8]) -> Option<&str> {
     let said = std::str::from_utf8(said).ok()?;
@@ -70,9 +77,7 @@ fn say_faults<R: AllocGlobal + Eprint>(
             details.add_over(rt.alloc(), file, text, server);
         }
     }
-    for line in details.lines() {
-        say(rt, lines, line.as_str());
-    }
+    say_all(rt, lines, &details);
 }
 
 /// Says more on standard error of a text of the job's file that isn't loaded, of which this was said: why it is no configuration, or which

@@ -67,10 +67,7 @@ fn text_with(alloc: Global, names: &[String]) -> Result<String, AllocError> {
 }
 
 // What a file has; nothing where there is none.
-fn text_in<R: Files + Input + AllocGlobal>(rt: &R, path: Option<&str>) -> io::Result<String> {
-    let Some(path) = path else {
-        return Ok(String::new(rt.alloc()));
-    };
+fn text_in<R: Files + Input + AllocGlobal>(rt: &R, path: &str) -> io::Result<String> {
     if !is_there(rt, path) {
         return Ok(String::new(rt.alloc()));
     }
@@ -116,7 +113,10 @@ impl Emptying {
         flushes_new: bool,
     ) -> io::Result<Emptying> {
         let path = path_beside(rt.alloc(), history)?;
-        let written = text_in(rt, path.as_deref())?;
+        let written = match &path {
+            Some(path) => text_in(rt, path.as_str())?,
+            None => String::new(rt.alloc()),
+        };
         let names = lines_of(rt.alloc(), written.as_str())?;
         Ok(Emptying {
             path,
@@ -128,7 +128,10 @@ impl Emptying {
 
     /// The file that has them; empty where no history is kept.
     pub fn path(&self) -> &str {
-        self.path.as_deref().unwrap_or("")
+        match &self.path {
+            Some(path) => path.as_str(),
+            None => "",
+        }
     }
 
     // The file names them, and the disk has it. What another process has written there stays.

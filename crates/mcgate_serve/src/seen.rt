@@ -23,6 +23,8 @@ pub struct Seen {
     pub config: ConfigNumbers,
     /// How many clients were closed, as they took too little.
     pub closed_slow: u64,
+    /// Whether its file couldn't be read when that was tried last.
+    pub is_unread: bool,
     // The servers whose names have led to no machine so far.
     unknown: Vec<String>,
     // What went wrong last at each server, by its number.
@@ -43,6 +45,7 @@ impl Seen {
                 refused: 0,
             },
             closed_slow: 0,
+            is_unread: false,
             unknown: Vec::new(alloc),
             failures: Vec::new(alloc),
             refused_told: 0,

@@ -18,10 +18,11 @@ ghost use Rattle.mcgate_serve.specs.LooksUp.{AreLookedUp};
 ghost use Rattle.mcgate_serve.specs.Emptied.{IsDueAt, EmptiesOnly, FlushesAt};
 ghost use Rattle.mcgate_serve.specs.Names.{follows};
 
-use crate::bad_texts::say_why;
+use crate::bad_texts::{say_all, say_why};
 use crate::controlling::Controlling;
 use crate::draining::Draining;
 use crate::emptying::Emptying;
+use crate::histories::input_of;
 use crate::input_end::InputEnd;
 use crate::limits::own_limits;
 use crate::lines::Lines;
@@ -31,15 +32,15 @@ use crate::outages::Outages;
 use crate::remembering::{Kept, Remembering, forget, remember, tell_unwritten};
 use crate::seen::Seen;
 use crate::server_news::ServerNews;
-use crate::special::is_special;
+use crate::special::{is_special, special_line};
 use crate::started::Started;
 use crate::watching::{Times, Watching, stats_of, write_servers};
 use core_accepted::LoadFault;
 use gate_check::ReloadFault;
 use mc_types::{Key, ServerId};
+use mcgate_args::details::Details;
 use mcgate_args::ends::{Stop, find_in_text};
 use mcgate_args::fleets::members::may_follow;
-use mcgate_args::input::text_of;
 use mcgate_args::input_text::InputFault;
 use mcgate_args::log_arguments::level_of;
 use mcgate_args::serve_arguments::ServeJob;
@@ -153,12 +154,31 @@ pub struct Serving<W: Wire> {
     are_limited: bool,
 }
 
-// The text of a regular file. Of what is none the program doesn't wait for a text.
-fn regular_text<R: Files + Input + AllocGlobal>(rt: &R, file: &str) -> Result<String, InputFault> {
+// The text of a regular file; else a line of detail says why there is none. Of what is no such file the program doesn't wait for a text.
+fn regular_text<R: Files + Input + AllocGlobal>(
+    rt: &R,
+    file: &str,
+    details: &mut Details,
+) -> Result<String, InputFault> {
     if is_special(rt, file) {
+        details.add(special_line(rt.alloc(), file));
         return Err(InputFault::Device);
     }
-    text_of(rt, Some(file))
+    let text = input_of(rt, file, details);
+    if let Err(fault) = &text {
+        details.add_configuration(rt.alloc(), file, &Err(*fault));
+    }
+    text
+}
+
+// What is answered where a text was to be loaded and there is none, for these reasons.
+fn failed_answer(alloc: Global, details: &Details) -> Result<String, AllocError> {
+    let why = match details.lines() {
+        [why, ..] => why.as_str(),
+        [] => "FILE can't be read",
+    };
+    let why = why.strip_prefix("mcgate: ").unwrap_or(why);
+    format!(in alloc; "reload failed: {why}\n")
 }
 
 // A configuration that was read, and its servers once more.
@@ -792,7 +812,8 @@ impl<W: Listens> Serving<W> {
     fn note_news(&mut self, at: usize, news: LinkNews)
         ensures { self.new.end ≡ self.old.end }
     {
-        self.seen.note_news(at, news, self.end.wire().last_millis());
+        let now = self.end.wire().last_millis();
+        self.seen.note_news(at, news, now);
         match news {
             LinkNews::Failed(_, _) => self.names.note_failed(at),
             LinkNews::Opened | LinkNews::Back | LinkNews::Late => {}
@@ -1110,7 +1131,7 @@ impl<W: Listens> Serving<W> {
         Ok(())
     }
 
-    // Reads the file. A text that it hadn't before is loaded; where it can't be read nothing is done.
+    // Reads the file. A text that it hadn't before is loaded; where it can't be read that is told once.
     #[tactic(auto, using(crate::proofs::Loads::serves_still))]
     fn look<R: Files + Input + Net + Clock + AllocGlobal + Print + Eprint>(
         &mut self,
@@ -1121,10 +1142,27 @@ impl<W: Listens> Serving<W> {
     {
         self.turns = 0;
         self.since = Instant::now(rt)?;
-        match regular_text(rt, job.file) {
-            Ok(text) => self.take_text(rt, job, text),
+        let mut details = Details::new(rt.alloc());
+        match regular_text(rt, job.file, &mut details) {
+            Ok(text) => {
+                self.seen.is_unread = false;
+                self.take_text(rt, job, text)
+            }
             Err(InputFault::NoMemory) => Err(Stop::Memory),
-            Err(_) => Ok(()),
+            Err(_) => {
+                self.tell_unread(rt, &details);
+                Ok(())
+            }
+        }
+    }
+
+    // Tells why the file can't be read, if it could be before.
+    fn tell_unread<R: Eprint>(&mut self, rt: &R, details: &Details)
+        ensures { self.new.end ≡ self.old.end }
+    {
+        if !self.seen.is_unread {
+            self.seen.is_unread = true;
+            say_all(rt, &mut self.lines, details);
         }
     }
 
@@ -1453,17 +1491,24 @@ impl<W: Listens> Serving<W> {
     {
         self.turns = 0;
         self.since = Instant::now(rt)?;
-        match regular_text(rt, job.file) {
+        let mut details = Details::new(rt.alloc());
+        match regular_text(rt, job.file, &mut details) {
             Ok(text) => self.reload_text(rt, job, place, text),
             Err(InputFault::NoMemory) => Err(Stop::Memory),
             Err(_) => {
-                self.answer(
-                    place,
-                    Ruling::Failed,
-                    b"reload failed: FILE can't be read\n",
-                );
+                self.answer_failed(rt.alloc(), place, &details);
                 Ok(())
             }
+        }
+    }
+
+    // The one at this place is answered that nothing is loaded, for these reasons.
+    fn answer_failed(&mut self, alloc: Global, place: usize, details: &Details)
+        ensures { self.new.end ≡ self.old.end }
+    {
+        match failed_answer(alloc, details) {
+            Ok(told) => self.answer(place, Ruling::Failed, told.as_bytes()),
+            Err(_) => self.answer(place, Ruling::Failed, b"out of memory\n"),
         }
     }
 
