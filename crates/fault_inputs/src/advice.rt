@@ -260,6 +260,12 @@ impl About<'_, '_> {
             Trouble::Missing(holder, name) => self.push_missing(words, holder, name),
             Trouble::Wanted(wanted) => write!(words, "expected {wanted}"),
             Trouble::NoServer(text) => self.push_no_server(words, text),
+            Trouble::Over(name) => push_between(
+                words,
+                "the epoch of \"",
+                name,
+                "\" is over, as a later server has its address: take a new one, as HOST:PORT#3",
+            ),
             Trouble::EmptyPool(_) => words.push_str("the pool has no servers"),
             Trouble::TooManyServers(_, count) => {
                 write!(

@@ -86,14 +86,23 @@ fn place_in(
     }
 }
 
+// The name of a server whose epoch may be over, by a fault.
+fn name_in(fault: &ConfigFault) -> Option<&str> {
+    match fault {
+        ConfigFault::BadAddress(name) => Some(name.as_str()),
+        _ => None,
+    }
+}
+
 // Of a text that is JSON: where the fault stands.
-fn walked_line(
+fn walked_line<'a>(
     alloc: Global,
     source: Source<'_>,
-    value: &Value,
-    fault: &ConfigFault,
+    value: &'a Value,
+    fault: &'a ConfigFault,
 ) -> Result<String, AllocError> {
     let mut walk = Walk::new(alloc);
+    walk.over = name_in(fault);
     match walk.whole(value) {
         Err(Stop::NoMemory) => Err(AllocError),
         Err(Stop::Trouble(trouble)) if trouble.is(fault) => {
@@ -152,6 +161,22 @@ pub fn lines_of_configuration(
 ) -> Result<Vec<String>, AllocError> {
     let mut lines = Vec::new(alloc);
     push_fault_line(alloc, Source::whole(file, text), &mut lines)?;
+    Ok(lines)
+}
+
+/// What is said of the text of a file that names this server, whose epoch is over by servers before: where that stands. The only error is
+/// running out of memory.
+///
+/// Source: mcgate's own.
+pub fn lines_of_over(
+    alloc: Global,
+    file: &str,
+    text: &str,
+    name: &str,
+) -> Result<Vec<String>, AllocError> {
+    let fault = ConfigFault::BadAddress(String::from_str(alloc, name)?);
+    let mut lines = Vec::new(alloc);
+    lines.push(fault_line(alloc, Source::whole(file, text), &fault)?)?;
     Ok(lines)
 }
 

@@ -12,5 +12,5 @@ pub mod slip;
 pub mod trouble;
 pub mod walk;
 
-pub use config_lines::{lines_of_configuration, lines_of_warnings};
+pub use config_lines::{lines_of_configuration, lines_of_over, lines_of_warnings};
 pub use script_lines::{lines_of_bad_line, lines_of_script};

@@ -24,6 +24,8 @@ pub enum Trouble<'a> {
     Wanted(&'static str),
     /// The text is no server's.
     NoServer(&'a str),
+    /// The epoch of the server of this name is over: a server after it has its address.
+    Over(&'a str),
     /// The pool has no servers.
     EmptyPool(&'a str),
     /// It has so many.
@@ -61,7 +63,9 @@ impl Trouble<'_> {
             (Trouble::Missing(_, name), ConfigFault::BadField(found)) => { *name == found.as_str() }
             (Trouble::Wanted(_), ConfigFault::BadField(_) | ConfigFault::NotJson) => true,
             (Trouble::NoPlace(_), ConfigFault::BadField(found)) => found.as_str() == "slots",
-            (Trouble::NoServer(text), ConfigFault::BadAddress(found)) => { *text == found.as_str() }
+            (Trouble::NoServer(text) | Trouble::Over(text), ConfigFault::BadAddress(found)) => {
+                *text == found.as_str()
+            }
             (Trouble::EmptyPool(name), ConfigFault::EmptyPool(found)) => { *name == found.as_str() }
             (Trouble::TooManyServers(name, _), ConfigFault::TooManyServers(found)) => {
                 *name == found.as_str()

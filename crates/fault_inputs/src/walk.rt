@@ -25,6 +25,8 @@ pub struct Walk<'a> {
     pub way: Vec<PathStep<'a>>,
     /// The pools that routes name.
     pub used: BTreeMap<&'a str, ()>,
+    /// The name of the server that is trouble, as its epoch is over, if there is one.
+    pub over: Option<&'a str>,
 }
 
 fn fail<'a>(trouble: Trouble<'a>) -> Result<(), Stop<'a>> {
@@ -145,6 +147,7 @@ impl<'a> Walk<'a> {
             pools: None,
             way: Vec::new(alloc),
             used: BTreeMap::new(alloc),
+            over: None,
         }
     }
 
@@ -303,6 +306,9 @@ impl<'a> Walk<'a> {
             return fail(Trouble::Wanted("the text of an address, HOST:PORT"));
         };
         match read_server(text.as_str()) {
+            Some((name, _)) if self.over.is_some_and(|over| over == name) => {
+                fail(Trouble::Over(name))
+            }
             Some(_) => Ok(()),
             None => fail(Trouble::NoServer(text.as_str())),
         }

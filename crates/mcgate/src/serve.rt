@@ -22,6 +22,7 @@ use mcgate_check::status::DONE;
 use mcgate_serve::controlling::Controlling;
 use mcgate_serve::folders::look_for_socket;
 use mcgate_serve::lines::Lines;
+use mcgate_serve::seen::Seen;
 use mcgate_serve::serving::{Serving, resolve, tell_if_unknown};
 use mcgate_serve::started::Started;
 use mcgate_serve::watching::Watching;
@@ -194,10 +195,11 @@ fn open_wire<R: Net + Clock + AllocGlobal>(
     Ok(wire)
 }
 
-// The wire looks up these servers. Those that name no host are told of.
-fn look_up<R: Net + Eprint>(
+// The wire looks up these servers. Those that name no host are told of, and that is seen.
+fn look_up<R: Net + AllocGlobal + Eprint>(
     rt: &R,
     lines: &mut Lines,
+    seen: &mut Seen,
     wire: &mut Sockets,
     servers: &Servers,
 ) -> io::Result<()>
@@ -205,15 +207,16 @@ fn look_up<R: Net + Eprint>(
     ensures looked { OnOk result (AreLookedUp 0 servers.now (history_of wire.new)) }
 {
     for at in 0..servers.len() {
-        look_up_at(rt, lines, wire, servers, at)?;
+        look_up_at(rt, lines, seen, wire, servers, at)?;
     }
     Ok(())
 }
 
 // The same of this one of them.
-fn look_up_at<R: Net + Eprint>(
+fn look_up_at<R: Net + AllocGlobal + Eprint>(
     rt: &R,
     lines: &mut Lines,
+    seen: &mut Seen,
     wire: &mut Sockets,
     servers: &Servers,
     at: usize,
@@ -222,22 +225,24 @@ fn look_up_at<R: Net + Eprint>(
     ensures looked { (text : List ℕ) → slice_get servers.now at ≡ Some text → HasHappened (looks_up text) (history_of wire.new) }
 {
     match text_at(servers, at) {
-        Some(text) => look_up_text(rt, lines, wire, text),
+        Some(text) => look_up_text(rt, lines, seen, wire, text),
         None => Ok(()),
     }
 }
 
 // The same of this text.
-fn look_up_text<R: Net + Eprint>(
+fn look_up_text<R: Net + AllocGlobal + Eprint>(
     rt: &R,
     lines: &mut Lines,
+    seen: &mut Seen,
     wire: &mut Sockets,
     text: &str,
 ) -> io::Result<()>
     ensures { history_of wire.new ≡ looks_up text.now ∷ history_of wire.old }
 {
     let found = wire.resolve(rt, text.as_bytes(), address_in(text).as_bytes());
-    tell_if_unknown(rt, lines, text, found)?;
+    let is_found = tell_if_unknown(rt, lines, text, found)?;
+    seen.note_found(rt.alloc(), text, is_found);
     Ok(())
 }
 
@@ -271,6 +276,7 @@ fn tell_unknown<R: Net + Eprint>(
 fn listen<R: Net + Clock + AllocGlobal + Eprint>(
     rt: &R,
     lines: &mut Lines,
+    seen: &mut Seen,
     job: &ServeJob<'_>,
     listeners: Vec<Listener>,
     servers: &Servers,
@@ -280,7 +286,7 @@ fn listen<R: Net + Clock + AllocGlobal + Eprint>(
 {
     match open_wire(rt, job, listeners) {
         Ok(mut wire) => {
-            look_up(rt, lines, &mut wire, servers)?;
+            look_up(rt, lines, seen, &mut wire, servers)?;
             Ok(wire)
         }
         Err(error) => {
@@ -294,6 +300,7 @@ fn listen<R: Net + Clock + AllocGlobal + Eprint>(
 fn open<R: Net + Clock + AllocGlobal + Eprint>(
     rt: &R,
     lines: &mut Lines,
+    seen: &mut Seen,
     job: &ServeJob<'_>,
     listeners: Vec<Listener>,
     servable: Servable,
@@ -303,7 +310,7 @@ fn open<R: Net + Clock + AllocGlobal + Eprint>(
     ensures ends { IfOk result (λ end. Agrees [] (proxy_of history_of end)) }
     ensures texts { IfOk result (λ end. texts_of end.sockets.links.all.items ≡ servers.now) }
 {
-    let wire = listen(rt, lines, job, listeners, servers)?;
+    let wire = listen(rt, lines, seen, job, listeners, servers)?;
     Ok(end_over(rt.alloc(), wire, servable, servers, job.begun, job.settings)?)
 }
 
@@ -323,7 +330,10 @@ fn start<R: Net + Clock + AllocGlobal + Eprint>(
     let servers = servable.servers(rt.alloc())?;
     let in_use = servable.used_first(rt.alloc(), job.fleet)?;
     let mut lines = lines;
-    let end = open(rt, &mut lines, job, listeners, servable, &servers)?;
+    let mut seen = Seen::new(rt.alloc());
+    let end = open(
+        rt, &mut lines, &mut seen, job, listeners, servable, &servers,
+    )?;
     Serving::new(
         rt,
         end,
@@ -331,6 +341,7 @@ fn start<R: Net + Clock + AllocGlobal + Eprint>(
         in_use,
         started,
         lines,
+        seen,
         watching,
         controlling,
     )

@@ -41,28 +41,30 @@ fn words_of(command: Command) -> &'static [&'static str] {
     }
 }
 
-// A parser that knows these flags too.
-fn with_flags<'a>(
-    alloc: Global,
-    parser: clap::Command<'a>,
-    names: &[&'static str],
-) -> Result<clap::Command<'a>, AllocError> {
-    let mut parser = parser;
-    for name in names {
-        parser = parser.arg(flag(alloc, name))?;
-    }
-    Ok(parser)
+// What an argument is.
+#[derive(Clone, Copy)]
+enum Kind {
+    Flag,
+    Word,
 }
 
-// A parser that knows these words too.
-fn with_words<'a>(
+fn argument<'a>(alloc: Global, kind: Kind, name: &'static str) -> Arg<'a> {
+    match kind {
+        Kind::Flag => flag(alloc, name),
+        Kind::Word => word(alloc, name),
+    }
+}
+
+// A parser that knows these too.
+fn with_arguments<'a>(
     alloc: Global,
     parser: clap::Command<'a>,
+    kind: Kind,
     names: &[&'static str],
 ) -> Result<clap::Command<'a>, AllocError> {
     let mut parser = parser;
     for name in names {
-        parser = parser.arg(word(alloc, name))?;
+        parser = parser.arg(argument(alloc, kind, name))?;
     }
     Ok(parser)
 }
@@ -92,8 +94,9 @@ fn bare_parser<'a>(alloc: Global, name: &'static str) -> clap::Command<'a> {
 
 // The parser of what follows a command.
 fn parser_of<'a>(alloc: Global, command: Command) -> Result<clap::Command<'a>, AllocError> {
-    let parser = with_flags(alloc, bare_parser(alloc, command.name()), command.flags())?;
-    with_words(alloc, parser, words_of(command))
+    let parser = bare_parser(alloc, command.name());
+    let parser = with_arguments(alloc, parser, Kind::Flag, command.flags())?;
+    with_arguments(alloc, parser, Kind::Word, words_of(command))
 }
 
 // Drops a parser.
@@ -117,7 +120,7 @@ fn with_command<'a>(
 /// The parser of the program's arguments. The only error is running out of memory.
 pub fn program<'a>(alloc: Global) -> Result<clap::Command<'a>, AllocError> {
     let parser = bare_parser(alloc, "mcgate");
-    let mut parser = with_flags(alloc, parser, TOP_FLAGS.as_slice())?;
+    let mut parser = with_arguments(alloc, parser, Kind::Flag, TOP_FLAGS.as_slice())?;
     for command in COMMANDS {
         parser = with_command(alloc, parser, command)?;
     }

@@ -5,7 +5,9 @@ use crate::input::InputFailure;
 use crate::input_text::{INPUT_LIMIT, InputFault};
 use crate::refusal_details::{Origin, lines_of_refusal};
 use core_accepted::{Beginning, Beginnings};
-use fault_inputs::{lines_of_bad_line, lines_of_configuration, lines_of_script, lines_of_warnings};
+use fault_inputs::{
+    lines_of_bad_line, lines_of_configuration, lines_of_over, lines_of_script, lines_of_warnings,
+};
 use fault_words::script::BadLine;
 use fault_words::{WordFault, address_trouble, fault_in_words, key_fault_in_words};
 use mcgate_check::Form;
@@ -243,6 +245,11 @@ impl Details {
     /// What is wrong with a text that is to be a configuration.
     pub fn add_text(&mut self, alloc: Global, name: &str, text: &str) {
         self.add_all(lines_of_configuration(alloc, name, text));
+    }
+
+    /// Where a configuration's text names this server, whose epoch is over.
+    pub fn add_over(&mut self, alloc: Global, name: &str, text: &str, server: &str) {
+        self.add_all(lines_of_over(alloc, name, text, server));
     }
 
     /// What is to be said of an input that is a configuration.

@@ -5,7 +5,7 @@ ghost use Rattle.std.specs.Prelude.{◌≡◌, IfSome};
 ghost use Rattle.route_json.specs.NumberedServers.{texts};
 ghost use Rattle.mcgate_serve.specs.Emptied.{is_among, IsNamedAt};
 
-use crate::remembering::put;
+use crate::remembering::{OTHER_WROTE, put_over};
 use mcgate_args::input::text_of;
 use mcgate_args::input_text::InputFault;
 use route_json::addresses::Servers;
@@ -23,8 +23,8 @@ use std::rt::Files;
 pub struct Emptying {
     path: Option<String>,
     names: Vec<String>,
-    // Whether the file has just these.
-    is_written: bool,
+    // What the file had when it was read or written last.
+    written: String,
     // Whether servers that a reload brings are.
     flushes_new: bool,
 }
@@ -66,13 +66,21 @@ fn text_with(alloc: Global, names: &[String]) -> Result<String, AllocError> {
     Ok(text)
 }
 
-// The names in a file.
-fn names_in<R: Files + Input + AllocGlobal>(rt: &R, path: &str) -> io::Result<Vec<String>> {
+// What a file has; nothing where there is none.
+fn text_in<R: Files + Input + AllocGlobal>(rt: &R, path: &str) -> io::Result<String> {
+    if !is_there(rt, path) {
+        return Ok(String::new(rt.alloc()));
+    }
     match text_of(rt, Some(path)) {
-        Ok(text) => Ok(lines_of(rt.alloc(), text.as_str())?),
+        Ok(text) => Ok(text),
         Err(InputFault::NoMemory) => Err(io::Error::from(ErrorKind::OutOfMemory)),
         Err(_) => Err(io::Error::from(ErrorKind::InvalidData)),
     }
+}
+
+/// What is said of the file beside this history where it can't be read.
+pub fn unread_line(alloc: Global, history: &str, error: &io::Error) -> Result<String, AllocError> {
+    format!(in alloc; "mcgate: cannot read {history}.flush: {error}")
 }
 
 fn has(names: &[String], name: &str) -> bool
@@ -105,28 +113,40 @@ impl Emptying {
         flushes_new: bool,
     ) -> io::Result<Emptying> {
         let path = path_beside(rt.alloc(), history)?;
-        let names = match &path {
-            Some(path) if is_there(rt, path.as_str()) => names_in(rt, path.as_str())?,
-            _ => Vec::new(rt.alloc()),
+        let written = match &path {
+            Some(path) => text_in(rt, path.as_str())?,
+            None => String::new(rt.alloc()),
         };
+        let names = lines_of(rt.alloc(), written.as_str())?;
         Ok(Emptying {
             path,
             names,
-            is_written: true,
+            written,
             flushes_new,
         })
     }
 
-    // The file names them, and the disk has it.
+    /// The file that has them; empty where no history is kept.
+    pub fn path(&self) -> &str {
+        match &self.path {
+            Some(path) => path.as_str(),
+            None => "",
+        }
+    }
+
+    // The file names them, and the disk has it. What another process has written there stays.
     fn write<R: Files + AllocGlobal>(&mut self, rt: &R) -> io::Result<()> {
-        if self.is_written {
+        let Some(path) = &self.path else {
+            return Ok(());
+        };
+        let text = text_with(rt.alloc(), &self.names)?;
+        if text.as_str() == self.written.as_str() {
             return Ok(());
         }
-        if let Some(path) = &self.path {
-            let text = text_with(rt.alloc(), &self.names)?;
-            put(rt, path.as_str(), text.as_str())?;
+        if !put_over(rt, path.as_str(), self.written.as_str(), text.as_str())? {
+            return Err(io::Error::other(OTHER_WROTE));
         }
-        self.is_written = true;
+        self.written = text;
         Ok(())
     }
 
@@ -134,7 +154,6 @@ impl Emptying {
     fn note(&mut self, alloc: Global, name: &str) -> Result<(), AllocError> {
         if !has(&self.names, name) {
             self.names.push(String::from_str(alloc, name)?)?;
-            self.is_written = false;
         }
         Ok(())
     }
@@ -206,10 +225,10 @@ impl Emptying {
                 left.push(String::from_str(rt.alloc(), name.as_str())?)?;
             }
         }
-        if left.len() < self.names.len() {
-            self.names = left;
-            self.is_written = false;
+        if left.len() == self.names.len() {
+            return Ok(());
         }
+        self.names = left;
         self.write(rt)
     }
 }

@@ -29,8 +29,8 @@ fn special_line(alloc: Global, path: &str) -> Result<String, AllocError> {
     format!(in alloc; "mcgate: {path} is no regular file")
 }
 
-// The text of a file. Where a device fails, a line of detail says why.
-fn input_of<R: Files + Input + AllocGlobal>(
+/// The text of a file. Where a device fails, a line of detail says why.
+pub fn input_of<R: Files + Input + AllocGlobal>(
     rt: &R,
     path: &str,
     details: &mut Details,

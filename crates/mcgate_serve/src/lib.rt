@@ -15,6 +15,8 @@ pub mod listens;
 pub mod names;
 mod outages;
 mod remembering;
+pub mod seen;
+mod server_news;
 pub mod serving;
 pub mod special;
 pub mod started;

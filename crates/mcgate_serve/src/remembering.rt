@@ -13,7 +13,7 @@ use mcgate_args::ends::Stop;
 use mcgate_args::histories::print_kept_after;
 use mcgate_args::input_text::{INPUT_LIMIT, read_input_noting};
 use std::alloc::{AllocError, Global};
-use std::fs::{File, OpenFile, rename};
+use std::fs::{File, OpenFile, remove_file, rename};
 use std::io;
 use std::io::{ErrorKind, Read, Write};
 use std::rt::Files;
@@ -26,6 +26,10 @@ pub struct Kept {
     /// How new servers began.
     added: Beginning,
 }
+
+/// What is said of a file that isn't written, since another process has written it.
+pub const OTHER_WROTE: &str =
+    "another process has written it: each mcgate has a history of its own";
 
 /// What became of a text that is to be loaded.
 #[derive(Drop)]
@@ -50,12 +54,15 @@ fn sync_folder<R: Files>(rt: &R, folder: &str) -> io::Result<()> {
 }
 
 // The file has the text, and the disk too: at each moment before it has it as it was. One that couldn't be read again isn't written.
-pub fn put<R: Files + AllocGlobal>(rt: &R, path: &str, text: &str) -> io::Result<()> {
+fn put<R: Files + AllocGlobal>(rt: &R, path: &str, text: &str) -> io::Result<()> {
     if text.len() > INPUT_LIMIT {
         return Err(io::Error::from(ErrorKind::FileTooLarge));
     }
     let beside = format!(in rt.alloc(); "{path}.new")?;
-    write_synced(rt, beside.as_str(), text)?;
+    if let Err(error) = write_synced(rt, beside.as_str(), text) {
+        let _ = remove_file(rt, beside.as_str());
+        return Err(error);
+    }
     rename(rt, beside.as_str(), path)?;
     sync_folder(rt, folder_of(path))
 }
@@ -85,8 +92,14 @@ fn is_of_another<R: Files + AllocGlobal>(rt: &R, path: &str, text: &str) -> io::
     }
 }
 
-// The same as `put`, over this text, which the file had last: whether it has it still. If another process has written it, it stays.
-fn put_over<R: Files + AllocGlobal>(rt: &R, path: &str, old: &str, text: &str) -> io::Result<bool> {
+/// The file has this text, and the disk too, where it had this one last: whether it did. What another process has written there stays. An
+/// error comes where the system refuses, or the text is too long to be read again; the file has it as it was then.
+pub fn put_over<R: Files + AllocGlobal>(
+    rt: &R,
+    path: &str,
+    old: &str,
+    text: &str,
+) -> io::Result<bool> {
     if is_of_another(rt, path, old)? {
         return Ok(false);
     }
@@ -99,8 +112,8 @@ pub fn unwritten_line(alloc: Global, path: &str, error: &io::Error) -> Result<St
     format!(in alloc; "mcgate: cannot write {path}: {error}")
 }
 
-// Says it.
-fn tell_unwritten<R: AllocGlobal + Eprint>(
+/// Says it.
+pub fn tell_unwritten<R: AllocGlobal + Eprint>(
     rt: &R,
     lines: &mut Lines,
     path: &str,
@@ -113,10 +126,7 @@ fn tell_unwritten<R: AllocGlobal + Eprint>(
 
 // Says of a history that another process has written it.
 fn tell_other<R: Eprint>(rt: &R, lines: &mut Lines, path: &str) {
-    let line = format_args!(
-        "mcgate: {path}: another process has written it: each mcgate has a history of its own"
-    );
-    lines.warn(rt, line);
+    lines.warn(rt, format_args!("mcgate: {path}: {OTHER_WROTE}"));
 }
 
 impl Kept {

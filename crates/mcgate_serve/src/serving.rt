@@ -18,26 +18,29 @@ ghost use Rattle.mcgate_serve.specs.LooksUp.{AreLookedUp};
 ghost use Rattle.mcgate_serve.specs.Emptied.{IsDueAt, EmptiesOnly, FlushesAt};
 ghost use Rattle.mcgate_serve.specs.Names.{follows};
 
-use crate::bad_texts::say_why;
+use crate::bad_texts::{say_all, say_why};
 use crate::controlling::Controlling;
 use crate::draining::Draining;
 use crate::emptying::Emptying;
+use crate::histories::input_of;
 use crate::input_end::InputEnd;
 use crate::limits::own_limits;
 use crate::lines::Lines;
 use crate::listens::Listens;
 use crate::names::{Names, follows};
 use crate::outages::Outages;
-use crate::remembering::{Kept, Remembering, forget, remember};
-use crate::special::is_special;
+use crate::remembering::{Kept, Remembering, forget, remember, tell_unwritten};
+use crate::seen::Seen;
+use crate::server_news::ServerNews;
+use crate::special::{is_special, special_line};
 use crate::started::Started;
-use crate::watching::{Seen, Times, Watching, stats_of, write_servers};
+use crate::watching::{Times, Watching, stats_of, write_servers};
 use core_accepted::LoadFault;
 use gate_check::ReloadFault;
 use mc_types::{Key, ServerId};
+use mcgate_args::details::Details;
 use mcgate_args::ends::{Stop, find_in_text};
 use mcgate_args::fleets::members::may_follow;
-use mcgate_args::input::text_of;
 use mcgate_args::input_text::InputFault;
 use mcgate_args::log_arguments::level_of;
 use mcgate_args::serve_arguments::ServeJob;
@@ -151,12 +154,31 @@ pub struct Serving<W: Wire> {
     are_limited: bool,
 }
 
-// The text of a regular file. Of what is none the program doesn't wait for a text.
-fn regular_text<R: Files + Input + AllocGlobal>(rt: &R, file: &str) -> Result<String, InputFault> {
+// The text of a regular file; else a line of detail says why there is none. Of what is no such file the program doesn't wait for a text.
+fn regular_text<R: Files + Input + AllocGlobal>(
+    rt: &R,
+    file: &str,
+    details: &mut Details,
+) -> Result<String, InputFault> {
     if is_special(rt, file) {
+        details.add(special_line(rt.alloc(), file));
         return Err(InputFault::Device);
     }
-    text_of(rt, Some(file))
+    let text = input_of(rt, file, details);
+    if let Err(fault) = &text {
+        details.add_configuration(rt.alloc(), file, &Err(*fault));
+    }
+    text
+}
+
+// What is answered where a text was to be loaded and there is none, for these reasons.
+fn failed_answer(alloc: Global, details: &Details) -> Result<String, AllocError> {
+    let why = match details.lines() {
+        [why, ..] => why.as_str(),
+        [] => "FILE can't be read",
+    };
+    let why = why.strip_prefix("mcgate: ").unwrap_or(why);
+    format!(in alloc; "reload failed: {why}\n")
 }
 
 // A configuration that was read, and its servers once more.
@@ -251,10 +273,7 @@ fn notes_new<R: Files + AllocGlobal + Eprint, W: Write>(
         Ok(()) => Ok(true),
         Err(error) if error.kind() == ErrorKind::OutOfMemory => Err(Stop::Memory),
         Err(error) => {
-            let line = format_args!(
-                "mcgate: cannot write which servers are to be emptied: {error}"
-            );
-            lines.tell(rt, line);
+            tell_unwritten(rt, lines, emptying.path(), &error);
             writeln!(out, "reload refused: history not written")?;
             Ok(false)
         }
@@ -270,7 +289,8 @@ fn before_of(memory: &Option<Kept>) -> u32 {
 }
 
 impl<W: Wire + Drop> Serving<W> {
-    /// Of this end, by a configuration of these servers, which starts so. Where the proxy is one of a fleet the configuration is given.
+    /// Of this end, by a configuration of these servers, which starts so, and of which this was seen. Where the proxy is one of a fleet the
+    /// configuration is given.
     pub fn new<R: Clock + AllocGlobal>(
         rt: &R,
         end: ProxyEnd<W>,
@@ -278,6 +298,7 @@ impl<W: Wire + Drop> Serving<W> {
         in_use: Option<Config>,
         started: Started,
         lines: Lines,
+        seen: Seen,
         watching: Option<Watching>,
         controlling: Option<Controlling>,
     ) -> io::Result<Serving<W>>
@@ -287,6 +308,8 @@ impl<W: Wire + Drop> Serving<W> {
         let (text, memory) = started.into_parts();
         let before = before_of(&memory);
         let names = Names::of(rt.alloc(), &servers);
+        let mut seen = seen;
+        seen.config.generation = u64::from(before).saturating_add(1);
         Ok(Serving {
             end,
             servers,
@@ -301,7 +324,7 @@ impl<W: Wire + Drop> Serving<W> {
             lines,
             outages: Outages::new(rt.alloc()),
             names,
-            seen: Seen::new(before.saturating_add(1)),
+            seen,
             watching,
             controlling,
             input: None,
@@ -583,11 +606,13 @@ impl<W: Listens> Serving<W> {
     }
 
     // What was emptied is noted. Where that can't be written, it may be emptied once more by the next run.
-    fn settle_emptying<R: Files + AllocGlobal>(&mut self, rt: &R)
+    fn settle_emptying<R: Files + AllocGlobal + Eprint>(&mut self, rt: &R)
         ensures { self.new.end ≡ self.old.end }
     {
         if let Some(emptying) = &mut self.emptying {
-            let _ = emptying.settle(rt, &self.end, &self.servers);
+            if let Err(error) = emptying.settle(rt, &self.end, &self.servers) {
+                tell_unwritten(rt, &mut self.lines, emptying.path(), &error);
+            }
         }
     }
 
@@ -697,6 +722,19 @@ impl<W: Listens> Serving<W> {
     {
         self.tell_links(rt);
         self.tell_stalled(rt);
+        self.tell_refused(rt)
+    }
+
+    // Tells how many clients were turned away, as there were too many.
+    fn tell_refused<R: Eprint>(&mut self, rt: &R)
+        ensures { self.new.end ≡ self.old.end }
+    {
+        let refused = self.end.tally().refused;
+        let now = self.end.wire().last_millis();
+        if let Some(count) = self.seen.next_refused(refused, now) {
+            let line = format_args!("mcgate: clients refused as too many: {count}");
+            self.lines.warn(rt, line);
+        }
     }
 
     // Tells how many clients were closed, as they took nothing for too long.
@@ -736,7 +774,11 @@ impl<W: Listens> Serving<W> {
             return;
         }
         if let Some(text) = self.servers.get(ServerId::new(number)) {
-            let line = format_args!("mcgate: server {text}: {news}");
+            let told = ServerNews {
+                news,
+                flushes: self.end.link(at).is_some_and(|link| link.flushes),
+            };
+            let line = format_args!("mcgate: server {text}: {told}");
             match news {
                 LinkNews::Opened | LinkNews::Back => self.lines.tell(rt, line),
                 LinkNews::Failed(_, _) | LinkNews::Late => self.lines.warn(rt, line),
@@ -766,10 +808,12 @@ impl<W: Listens> Serving<W> {
         self.outages.note_down(at, self.lines.now())
     }
 
-    // The name of a server whose connection failed is soon looked up again.
+    // This is kept of a server. The name of one whose connection failed is soon looked up again.
     fn note_news(&mut self, at: usize, news: LinkNews)
         ensures { self.new.end ≡ self.old.end }
     {
+        let now = self.end.wire().last_millis();
+        self.seen.note_news(at, news, now);
         match news {
             LinkNews::Failed(_, _) => self.names.note_failed(at),
             LinkNews::Opened | LinkNews::Back | LinkNews::Late => {}
@@ -1020,7 +1064,7 @@ impl<W: Listens> Serving<W> {
 
     // Connections to this server that are begun from now on go where its name leads, which is told.
     #[tactic(auto, using(crate::proofs::Loads::stays_still))]
-    fn move_to<R: Net + Eprint>(&mut self, rt: &R, at: usize, words: &str)
+    fn move_to<R: Net + AllocGlobal + Eprint>(&mut self, rt: &R, at: usize, words: &str)
         ensures links { self.new.end.sockets.links ≡ self.old.end.sockets.links }
         ensures core { self.new.end.core ≡ self.old.end.core }
         ensures ends { Stay W.history self.old.end.sockets self.new.end.sockets }
@@ -1030,6 +1074,7 @@ impl<W: Listens> Serving<W> {
         match text_at(&self.servers, at) {
             Some(text) => {
                 if self.end.resolve(rt, text).is_ok() {
+                    self.seen.note_found(rt.alloc(), text, true);
                     let line = format_args!("mcgate: server {text}: {words}");
                     self.lines.tell(rt, line);
                 }
@@ -1086,7 +1131,7 @@ impl<W: Listens> Serving<W> {
         Ok(())
     }
 
-    // Reads the file. A text that it hadn't before is loaded; where it can't be read nothing is done.
+    // Reads the file. A text that it hadn't before is loaded; where it can't be read that is told once.
     #[tactic(auto, using(crate::proofs::Loads::serves_still))]
     fn look<R: Files + Input + Net + Clock + AllocGlobal + Print + Eprint>(
         &mut self,
@@ -1097,10 +1142,27 @@ impl<W: Listens> Serving<W> {
     {
         self.turns = 0;
         self.since = Instant::now(rt)?;
-        match regular_text(rt, job.file) {
-            Ok(text) => self.take_text(rt, job, text),
+        let mut details = Details::new(rt.alloc());
+        match regular_text(rt, job.file, &mut details) {
+            Ok(text) => {
+                self.seen.is_unread = false;
+                self.take_text(rt, job, text)
+            }
             Err(InputFault::NoMemory) => Err(Stop::Memory),
-            Err(_) => Ok(()),
+            Err(_) => {
+                self.tell_unread(rt, &details);
+                Ok(())
+            }
+        }
+    }
+
+    // Tells why the file can't be read, if it could be before.
+    fn tell_unread<R: Eprint>(&mut self, rt: &R, details: &Details)
+        ensures { self.new.end ≡ self.old.end }
+    {
+        if !self.seen.is_unread {
+            self.seen.is_unread = true;
+            say_all(rt, &mut self.lines, details);
         }
     }
 
@@ -1165,15 +1227,15 @@ impl<W: Listens> Serving<W> {
         ensures in_use { IfOk result (λ _. LoadsText self.old.in_use self.new.in_use self.old.servers (string_bytes text) self.old.end.core.value self.new.end.core.value) }
     {
         let is_used = self.judge_text(rt, job.any, text.as_str(), said)?;
-        self.note_said(rt, job.file, text, is_used, said.as_slice());
+        self.note_said(rt, job, text, is_used, said.as_slice());
         Ok(is_used)
     }
 
-    // What was said of a text is printed, and where it is no configuration, why. The file has it.
+    // What was said of a text is printed, and where it isn't loaded, more of it. The file has it.
     fn note_said<R: AllocGlobal + Print + Eprint>(
         &mut self,
         rt: &R,
-        file: &str,
+        job: &ServeJob<'_>,
         text: String,
         is_used: bool,
         said: &[u8],
@@ -1184,7 +1246,7 @@ impl<W: Listens> Serving<W> {
     {
         self.lines.print(rt, said);
         self.tell_verdict(rt, is_used, said);
-        say_why(rt, &mut self.lines, file, text.as_str(), said);
+        say_why(rt, &mut self.lines, job, text.as_str(), said);
         self.note_text(text, is_used);
     }
 
@@ -1429,17 +1491,24 @@ impl<W: Listens> Serving<W> {
     {
         self.turns = 0;
         self.since = Instant::now(rt)?;
-        match regular_text(rt, job.file) {
+        let mut details = Details::new(rt.alloc());
+        match regular_text(rt, job.file, &mut details) {
             Ok(text) => self.reload_text(rt, job, place, text),
             Err(InputFault::NoMemory) => Err(Stop::Memory),
             Err(_) => {
-                self.answer(
-                    place,
-                    Ruling::Failed,
-                    b"reload failed: FILE can't be read\n",
-                );
+                self.answer_failed(rt.alloc(), place, &details);
                 Ok(())
             }
+        }
+    }
+
+    // The one at this place is answered that nothing is loaded, for these reasons.
+    fn answer_failed(&mut self, alloc: Global, place: usize, details: &Details)
+        ensures { self.new.end ≡ self.old.end }
+    {
+        match failed_answer(alloc, details) {
+            Ok(told) => self.answer(place, Ruling::Failed, told.as_bytes()),
+            Err(_) => self.answer(place, Ruling::Failed, b"out of memory\n"),
         }
     }
 
@@ -1495,7 +1564,7 @@ impl<W: Listens> Serving<W> {
         ensures { self.new.end ≡ self.old.end }
     {
         let mut text = Vec::new(rt.alloc());
-        let written = write_servers(&self.end, &self.servers, &mut text);
+        let written = write_servers(&self.end, &self.servers, &self.seen, &mut text);
         self.answer_written(place, written, text.as_slice());
     }
 
@@ -1687,7 +1756,11 @@ impl<W: Listens> Serving<W> {
     }
 
     // Looks up those of these servers that weren't in use before.
-    fn resolve<R: Net + Eprint>(&mut self, rt: &R, servers: &Servers) -> io::Result<()>
+    fn resolve<R: Net + AllocGlobal + Eprint>(
+        &mut self,
+        rt: &R,
+        servers: &Servers,
+    ) -> io::Result<()>
         ensures looked { OnOk result (AreLookedUp (length self.old.servers) servers.now (W.history self.new.end.sockets.wire)) }
         ensures core { self.new.end.core ≡ self.old.end.core }
         ensures ends { Stay W.history self.old.end.sockets self.new.end.sockets }
@@ -1701,7 +1774,7 @@ impl<W: Listens> Serving<W> {
     }
 
     // Looks up this one of them.
-    fn resolve_at<R: Net + Eprint>(
+    fn resolve_at<R: Net + AllocGlobal + Eprint>(
         &mut self,
         rt: &R,
         servers: &Servers,
@@ -1719,7 +1792,7 @@ impl<W: Listens> Serving<W> {
         }
     }
 
-    fn resolve_one<R: Net + Eprint>(&mut self, rt: &R, text: &str) -> io::Result<()>
+    fn resolve_one<R: Net + AllocGlobal + Eprint>(&mut self, rt: &R, text: &str) -> io::Result<()>
         ensures looked { W.history self.new.end.sockets.wire ≡ looks_up text.now ∷ W.history self.old.end.sockets.wire }
         ensures core { self.new.end.core ≡ self.old.end.core }
         ensures ends { Stay W.history self.old.end.sockets self.new.end.sockets }
@@ -1727,7 +1800,8 @@ impl<W: Listens> Serving<W> {
         ensures in_use { self.new.in_use ≡ self.old.in_use }
     {
         let found = self.end.resolve(rt, text);
-        tell_if_unknown(rt, &mut self.lines, text, found)?;
+        let is_found = tell_if_unknown(rt, &mut self.lines, text, found)?;
+        self.seen.note_found(rt.alloc(), text, is_found);
         Ok(())
     }
 

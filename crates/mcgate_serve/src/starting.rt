@@ -4,7 +4,7 @@ ghost use Rattle.std.specs.Prelude.{IsTrue, IfOk, string_bytes};
 ghost use Rattle.gate_history.specs.Standing.{StandsInHistory};
 ghost use Rattle.mcgate_serve.specs.InFleet.{Keeps, LastStandBeside};
 
-use crate::emptying::Emptying;
+use crate::emptying::{Emptying, unread_line};
 use crate::folders::look_for_file;
 use crate::histories::file_at;
 use crate::lines::Lines;
@@ -20,6 +20,7 @@ use mcgate_args::serve_arguments::ServeJob;
 use mcgate_check::status::{BAD_INPUT, REFUSED};
 use serve_proxy::Beginnings;
 use std::alloc::Global;
+use std::io;
 use std::io::Write;
 use std::rt::Files;
 
@@ -37,13 +38,13 @@ fn begun_after(file: &HistoryFile, begun: Beginnings) -> Beginnings {
 
 // The servers that the last generation brought, after those before, are to be emptied, where it is new and that is so of new ones: it is
 // written.
-fn note_new<R: Files + Input + AllocGlobal>(
+fn add_new<R: Files + AllocGlobal>(
     rt: &R,
     job: &ServeJob<'_>,
-    path: &str,
     file: &HistoryFile,
     is_new: bool,
-) -> Result<(), Stop> {
+    emptying: &mut Emptying,
+) -> io::Result<()> {
     if !is_new || !job.settings.flushes_new {
         return Ok(());
     }
@@ -53,8 +54,31 @@ fn note_new<R: Files + Input + AllocGlobal>(
         return Ok(());
     }
     let from = generations[count - 2].config.servers().len();
-    let mut emptying = Emptying::read(rt, Some(path), true)?;
-    Ok(emptying.add(rt, generations[count - 1].config.servers(), from)?)
+    emptying.add(rt, generations[count - 1].config.servers(), from)
+}
+
+// The same, once it is known which servers the run before left so. Where the file that has them can't be read or written a line of detail
+// says why.
+fn note_new<R: Files + Input + AllocGlobal>(
+    rt: &R,
+    job: &ServeJob<'_>,
+    path: &str,
+    file: &HistoryFile,
+    is_new: bool,
+    details: &mut Details,
+) -> Result<(), Stop> {
+    let mut emptying = match Emptying::read(rt, Some(path), job.settings.flushes_new) {
+        Ok(emptying) => emptying,
+        Err(error) => {
+            details.add(unread_line(rt.alloc(), path, &error));
+            return Err(Stop::from(error));
+        }
+    };
+    if let Err(error) = add_new(rt, job, file, is_new, &mut emptying) {
+        details.add(unwritten_line(rt.alloc(), emptying.path(), &error));
+        return Err(Stop::from(error));
+    }
+    Ok(())
 }
 
 // The text is served after the history of this file, of which it is the last generation: the file is written, if that is new.
@@ -129,7 +153,7 @@ fn begin_last<R: Files + Input + AllocGlobal, W: Write>(
         return Ok(Begun::Printed(REFUSED));
     }
     let is_new = count < file.count();
-    note_new(rt, job, path, &file, is_new)?;
+    note_new(rt, job, path, &file, is_new, details)?;
     keep_in(rt, path, file, text, begun, is_new, details)
 }
 

@@ -1,5 +1,6 @@
 //! What a proxy that runs tells over HTTP of what it counts.
 
+use crate::seen::{LastFailure, Seen};
 use crate::serving::resolve;
 use gate_gaps::names::op_name;
 use mc_types::{Op, ServerId};
@@ -20,48 +21,11 @@ use watch_admin::http::request::Page;
 use watch_admin::http::visitors::Visitors;
 use watch_admin::json::write_json;
 use watch_admin::numbers::{
-    ClientNumbers, CommandNumbers, CommandTimes, ConfigNumbers, FailureNumbers, LimitNumbers,
-    Numbers, ProcessNumbers, ServerNumbers, SpanNumbers, families_of,
+    ClientNumbers, CommandNumbers, CommandTimes, FailureNumbers, LimitNumbers, Numbers,
+    ProcessNumbers, ServerNumbers, SpanNumbers, families_of,
 };
 use watch_admin::places::PLACES;
 use watch_admin::prometheus::write_prometheus;
-
-/// What is counted of a proxy that runs, besides what its end counts.
-#[derive(Clone, Copy)]
-pub struct Seen {
-    pub config: ConfigNumbers,
-    /// How many clients were closed, as they took too little.
-    pub closed_slow: u64,
-}
-
-impl Seen {
-    /// Nothing yet: the generation of this number is in use.
-    pub fn new(generation: u32) -> Seen {
-        Seen {
-            config: ConfigNumbers {
-                generation: u64::from(generation),
-                accepted: 0,
-                unchanged: 0,
-                refused: 0,
-            },
-            closed_slow: 0,
-        }
-    }
-
-    /// A new text came, after which the generation of this number is in use: whether the text says it.
-    pub fn note_text(&mut self, generation: u32, is_used: bool) {
-        let config = &mut self.config;
-        let generation = u64::from(generation);
-        if !is_used {
-            config.refused = config.refused.saturating_add(1);
-        } else if generation == config.generation {
-            config.unchanged = config.unchanged.saturating_add(1);
-        } else {
-            config.accepted = config.accepted.saturating_add(1);
-        }
-        config.generation = generation;
-    }
-}
 
 /// Who asks for the numbers, and since when it runs.
 #[derive(Drop)]
@@ -202,6 +166,7 @@ fn limits_told(link: &Link) -> LimitNumbers {
 fn server_of<W: Wire>(
     alloc: Global,
     end: &ProxyEnd<W>,
+    seen: &Seen,
     server: usize,
     text: &str,
 ) -> Result<Option<ServerNumbers>, AllocError> {
@@ -214,6 +179,7 @@ fn server_of<W: Wire>(
         limits: limits_told(link),
         is_up: link.is_connected && !link.is_late(),
         is_late: link.is_late(),
+        is_unknown: seen.is_unknown(text),
         connections: link.tally.stood,
         calls_out: link.calls.len() as u64,
         failures: failures_by_cause(alloc, link)?,
@@ -228,6 +194,7 @@ fn servers_of<W: Wire>(
     alloc: Global,
     end: &ProxyEnd<W>,
     servers: &Servers,
+    seen: &Seen,
 ) -> Result<Vec<ServerNumbers>, AllocError> {
     let mut told = Vec::new(alloc);
     for server in 0..servers.len() {
@@ -235,7 +202,7 @@ fn servers_of<W: Wire>(
             return Ok(told);
         };
         if let Some(text) = servers.get(ServerId::new(number)) {
-            if let Some(numbers) = server_of(alloc, end, server, text)? {
+            if let Some(numbers) = server_of(alloc, end, seen, server, text)? {
                 told.push(numbers)?;
             }
         }
@@ -272,7 +239,7 @@ fn numbers_of<R: Files + AllocGlobal, W: Wire>(
         clients: clients_of(end, seen),
         commands: commands_of(rt.alloc(), end)?,
         command_times: command_times_of(rt.alloc(), end)?,
-        servers: servers_of(rt.alloc(), end, servers)?,
+        servers: servers_of(rt.alloc(), end, servers, seen)?,
         scrapes: times.scrapes,
     })
 }
@@ -288,12 +255,14 @@ pub fn stats_of<R: Files + AllocGlobal, W: Wire>(
     json_of(rt.alloc(), &numbers_of(rt, end, servers, seen, times)?)
 }
 
-// How a server is whose link is so.
-fn state_of(link: &Link) -> &'static str {
+// How a server is whose link is so, and whose name leads to no machine or does.
+fn state_of(link: &Link, is_unknown: bool) -> &'static str {
     if link.is_late() {
         "late"
     } else if link.is_connected {
         "up"
+    } else if is_unknown {
+        "unknown"
     } else if link.tally.stood == 0 && failures_of(link) == 0 {
         "unused"
     } else {
@@ -310,28 +279,58 @@ fn failures_of(link: &Link) -> u64 {
     count
 }
 
-/// Writes a line for each server: how it is, its calls that are out, its connections and its failures.
+// The line of a server: how it is, its calls that are out, its connections, its failures and its limits.
+fn write_server<O: Write>(
+    link: &Link,
+    text: &str,
+    is_unknown: bool,
+    out: &mut O,
+) -> io::Result<()> {
+    write!(
+        out,
+        "server {text} {} calls_out={} connections={} failures={} call_ms={} connect_ms={} fail_limit={} retry_ms={}",
+        state_of(link, is_unknown),
+        link.calls.len(),
+        link.tally.stood,
+        failures_of(link),
+        link.limits.call_ms,
+        link.limits.connect_ms,
+        link.limits.fail_limit,
+        link.limits.retry_ms
+    )
+}
+
+// What follows on it: what went wrong last, how many seconds ago, and whether the server is still to be emptied.
+fn write_trouble<O: Write>(
+    link: &Link,
+    failure: Option<LastFailure>,
+    now: u64,
+    out: &mut O,
+) -> io::Result<()> {
+    if let Some(LastFailure { cause, at }) = failure {
+        let seconds = now.saturating_sub(at) / 1_000;
+        write!(out, " last_failure={cause} last_failure_s={seconds}")?;
+    }
+    if link.flushes {
+        write!(out, " flush_all=due")?;
+    }
+    writeln!(out)
+}
+
+/// Writes a line for each server: how it is, its calls that are out, its connections, failures and limits, and what went wrong last.
 pub fn write_servers<O: Write, W: Wire>(
     end: &ProxyEnd<W>,
     servers: &Servers,
+    seen: &Seen,
     out: &mut O,
 ) -> io::Result<()> {
+    let now = end.wire().last_millis();
     for server in 0..servers.len() {
         let (Some(link), Some(text)) = (end.link(server), text_at(servers, server)) else {
             return Ok(());
         };
-        writeln!(
-            out,
-            "server {text} {} calls_out={} connections={} failures={} call_ms={} connect_ms={} fail_limit={} retry_ms={}",
-            state_of(link),
-            link.calls.len(),
-            link.tally.stood,
-            failures_of(link),
-            link.limits.call_ms,
-            link.limits.connect_ms,
-            link.limits.fail_limit,
-            link.limits.retry_ms
-        )?;
+        write_server(link, text, seen.is_unknown(text), out)?;
+        write_trouble(link, seen.last_failure(server), now, out)?;
     }
     Ok(())
 }

@@ -111,6 +111,8 @@ pub struct ServerNumbers {
     pub is_up: bool,
     /// Whether answers of it are late.
     pub is_late: bool,
+    /// Whether its name has led to no machine so far.
+    pub is_unknown: bool,
     /// How many connections to it stood.
     pub connections: u64,
     /// How many calls are out.
@@ -393,6 +395,7 @@ fn add_command_times(
 enum ServerCount {
     Up,
     Late,
+    Unknown,
     Connections,
     CallsOut,
     CallLimit,
@@ -405,6 +408,7 @@ fn server_amount(server: &ServerNumbers, what: ServerCount) -> Amount {
     match what {
         ServerCount::Up => Amount::Count(u64::from(server.is_up)),
         ServerCount::Late => Amount::Count(u64::from(server.is_late)),
+        ServerCount::Unknown => Amount::Count(u64::from(server.is_unknown)),
         ServerCount::Connections => Amount::Count(server.connections),
         ServerCount::CallsOut => Amount::Count(server.calls_out),
         ServerCount::CallLimit => Amount::Millis(server.limits.call_ms),
@@ -579,7 +583,7 @@ fn add_limits(
     Ok(())
 }
 
-fn add_servers(
+fn add_states(
     alloc: Global,
     servers: &[ServerNumbers],
     families: &mut Vec<Family>,
@@ -596,6 +600,21 @@ fn add_servers(
         "1 while answers of the server to calls that have failed are still to come.",
         server_samples(alloc, servers, ServerCount::Late)?,
     ))?;
+    families.push(each(
+        "mcgate_server_unknown",
+        MetricKind::Gauge,
+        "1 while the server's name has led to no machine: its calls fail at once.",
+        server_samples(alloc, servers, ServerCount::Unknown)?,
+    ))?;
+    Ok(())
+}
+
+fn add_servers(
+    alloc: Global,
+    servers: &[ServerNumbers],
+    families: &mut Vec<Family>,
+) -> Result<(), AllocError> {
+    add_states(alloc, servers, families)?;
     families.push(each(
         "mcgate_server_connections_total",
         MetricKind::Counter,

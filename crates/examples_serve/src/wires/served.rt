@@ -9,6 +9,7 @@ use mcgate_args::details::Details;
 use mcgate_args::log_arguments::{Level, Log};
 use mcgate_args::serve_arguments::ServeJob;
 use mcgate_serve::lines::Lines;
+use mcgate_serve::seen::Seen;
 use mcgate_serve::serving::Serving;
 use mcgate_serve::started::{Begun, Started};
 use mcgate_serve::starting::begin;
@@ -379,7 +380,8 @@ fn serving_of(
     started: Started,
 ) -> Result<Serving<Memory>, Fail> {
     let lines = Lines::new(rt.alloc(), Some(LOG));
-    Ok(Serving::new(rt, end, servers, None, started, lines, None, None)?)
+    let seen = Seen::new(rt.alloc());
+    Ok(Serving::new(rt, end, servers, None, started, lines, seen, None, None)?)
 }
 
 fn serve_text(

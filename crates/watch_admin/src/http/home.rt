@@ -13,7 +13,7 @@ body { font: 15px/1.45 system-ui, sans-serif; margin: 1.5em auto; max-width: 72e
 h1 { font-size: 1.4em } h1 small { font-weight: normal; color: #666; font-size: .65em } h2 { font-size: 1.05em; margin: 1.6em 0 .4em } h2 small { font-weight: normal; color: #666 }
 table { border-collapse: collapse; width: 100% } th, td { text-align: right; padding: .25em .7em; border-bottom: 1px solid #ddd }
 th { color: #666; font-weight: normal } th:first-child, td:first-child { text-align: left } td { font-variant-numeric: tabular-nums }
-.up { color: #17722f } .late, .warn { color: #9a6200; font-weight: bold } .down { color: #b3261e; font-weight: bold } .unused { color: #777 }
+.up { color: #17722f } .late, .warn { color: #9a6200; font-weight: bold } .down, .unknown { color: #b3261e; font-weight: bold } .unused { color: #777 }
 #told p { margin: .2em 0; padding: .3em .7em; border-left: 4px solid #b3261e; background: #fbeceb }
 ul { margin: 0; padding-left: 1.3em; border-left: 1px solid #ddd; list-style: none } #tree > ul { border: 0; padding: 0 } li { padding: .1em 0 }
 li b { font-weight: 600 } li i { color: #666; font-style: normal }
@@ -75,6 +75,7 @@ function most(buckets, part) {
 function state(now, server) {
   if (sum(now.mcgate_server_late, {server})) return "late";
   if (sum(now.mcgate_server_up, {server})) return "up";
+  if (sum(now.mcgate_server_unknown, {server})) return "unknown";
   return sum(now.mcgate_server_connections_total, {server}) + sum(now.mcgate_server_failures_total, {server}) ? "down" : "unused";
 }
 
@@ -117,6 +118,10 @@ function tell(now) {
   const lost = sum(now.mcgate_commands_total, {op: "delete", reply: "other"});
   if (refused) told.push("Texts of its file that were refused: " + number(refused) + ". What is in use may not be what the file says.");
   if (lost) told.push("Deletes that weren't acknowledged: " + number(lost) + ".");
+  const unknown = now.mcgate_server_unknown.filter(row => row.value).map(row => row.server);
+  const many = sum(now.mcgate_client_connections_total, {verdict: "refused"});
+  if (unknown.length) told.push("Names that lead to no machine: " + unknown.join(", ") + ". Calls to these servers fail at once.");
+  if (many) told.push("Clients refused, as there were too many: " + number(many) + ".");
   if (now.mcgate_slow_clients_closed_total) told.push("Clients closed, as they took too little: " + number(now.mcgate_slow_clients_closed_total) + ".");
   at("told").replaceChildren(...told.map(text => made("p", text)));
 }

@@ -1,0 +1,119 @@
+//! What is counted and kept of a proxy that runs, besides what its end counts: what became of texts of its file, and what went wrong last
+//! at each server.
+
+use serve_links::LinkNews;
+use std::alloc::Global;
+use watch_admin::numbers::ConfigNumbers;
+
+// Of clients that were turned away is told once in so many milliseconds.
+const QUIET_MS: u64 = 60_000;
+
+/// What went wrong last at a server.
+#[derive(Clone, Copy)]
+pub struct LastFailure {
+    /// The name of its cause, as it is counted.
+    pub cause: &'static str,
+    /// When that was, in milliseconds.
+    pub at: u64,
+}
+
+/// What is counted and kept of a proxy that runs, besides what its end counts.
+#[derive(Drop)]
+pub struct Seen {
+    pub config: ConfigNumbers,
+    /// How many clients were closed, as they took too little.
+    pub closed_slow: u64,
+    /// Whether its file couldn't be read when that was tried last.
+    pub is_unread: bool,
+    // The servers whose names have led to no machine so far.
+    unknown: Vec<String>,
+    // What went wrong last at each server, by its number.
+    failures: Vec<Option<LastFailure>>,
+    // How many clients that were turned away were told, and from when on more may be.
+    refused_told: u64,
+    refused_from: u64,
+}
+
+impl Seen {
+    /// Nothing yet: the first generation is in use.
+    pub fn new(alloc: Global) -> Seen {
+        Seen {
+            config: ConfigNumbers {
+                generation: 1,
+                accepted: 0,
+                unchanged: 0,
+                refused: 0,
+            },
+            closed_slow: 0,
+            is_unread: false,
+            unknown: Vec::new(alloc),
+            failures: Vec::new(alloc),
+            refused_told: 0,
+            refused_from: 0,
+        }
+    }
+
+    /// A new text came, after which the generation of this number is in use: whether the text says it.
+    pub fn note_text(&mut self, generation: u32, is_used: bool) {
+        let config = &mut self.config;
+        let generation = u64::from(generation);
+        if !is_used {
+            config.refused = config.refused.saturating_add(1);
+        } else if generation == config.generation {
+            config.unchanged = config.unchanged.saturating_add(1);
+        } else {
+            config.accepted = config.accepted.saturating_add(1);
+        }
+        config.generation = generation;
+    }
+
+    /// The name of this server was looked up, by which no machine was known: whether it leads to one. Where memory is refused nothing is
+    /// noted.
+    pub fn note_found(&mut self, alloc: Global, server: &str, is_found: bool) {
+        self.unknown.retain(|name| name.as_str() != server);
+        if is_found {
+            return;
+        }
+        if let Ok(name) = String::from_str(alloc, server) {
+            let _ = self.unknown.push(name);
+        }
+    }
+
+    /// Whether the name of this server has led to no machine so far.
+    pub fn is_unknown(&self, server: &str) -> bool {
+        self.unknown.iter().any(|name| name.as_str() == server)
+    }
+
+    /// This happened at the server of this number at this time. Where memory is refused nothing is noted.
+    pub fn note_news(&mut self, server: usize, news: LinkNews, now: u64) {
+        let cause = match news {
+            LinkNews::Failed(cause, _) => cause.name(),
+            LinkNews::Late => "call_late",
+            LinkNews::Opened | LinkNews::Back => return,
+        };
+        for _ in self.failures.len()..=server {
+            if self.failures.push(None).is_err() {
+                return;
+            }
+        }
+        if let Some(failure) = self.failures.get_mut(server) {
+            *failure = Some(LastFailure { cause, at: now });
+        }
+    }
+
+    /// What went wrong last at the server of this number, if something did.
+    pub fn last_failure(&self, server: usize) -> Option<LastFailure> {
+        *self.failures.get(server)?
+    }
+
+    /// How many clients were turned away since that was told last, of so many in all, if that is to be told now.
+    pub fn next_refused(&mut self, refused: u64, now: u64) -> Option<u64> {
+        if refused <= self.refused_told || now < self.refused_from {
+            return None;
+        }
+        let count = refused - self.refused_told;
+        self.refused_told = refused;
+        self.refused_from = now.saturating_add(QUIET_MS);
+        Some(count)
+    }
+}
