@@ -9,9 +9,7 @@ use gate_check::{Accepted, judge};
 use route_json::addresses::Servers;
 use route_json::addresses::servers::MAX_SERVERS;
 use route_json::{Config, read_config, read_config_after};
-use serve_proxy::{
-    Beginnings, LinkLimits, LinkNews, ProxyEnd, Settings, VersionText, text_at,
-};
+use serve_proxy::{Beginnings, LinkLimits, LinkNews, ProxyEnd, Settings, VersionText, text_at};
 use serve_wire::Wire;
 use serve_wire::sockets::Sockets;
 use std::alloc::{AllocError, Global};

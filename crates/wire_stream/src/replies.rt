@@ -130,11 +130,7 @@ fn write_version(version: &[u8], out: &mut BytesMut) -> Result<(), AllocError>
 
 /// Appends what mcgate itself answers: its version by this text, `MN` to `mn`, and nothing to `quit`. The only error is running out of memory,
 /// which leaves the buffer as it was.
-pub fn write_own(
-    own: ProxyCommand,
-    version: &[u8],
-    out: &mut BytesMut,
-) -> Result<(), AllocError>
+pub fn write_own(own: ProxyCommand, version: &[u8], out: &mut BytesMut) -> Result<(), AllocError>
     ensures ok { OnOk result (out.new.items ≡ out.old.items ++ own_answer version.now own) }
     ensures err { OnErr result (out.new.items ≡ out.old.items) }
 {

@@ -1,4 +1,5 @@
-use Rattle.std.proofs.Common.{sym}
+use Rattle.std.proofs.Common.{ℕ, List, sym, subst}
+use Rattle.core_client.specs.Fronts.{PassesFront}
 use Rattle.core_client.specs.Nexts.{IsPassing}
 use Rattle.core_proxy.proofs.Clients.{written}
 use Rattle.core_proxy.proofs.Polls.{passed_goes, still_goes, still_served, of_client}
@@ -8,7 +9,8 @@ pub returns-in-Ok-clause-ok : goal.returns-in-Ok-clause-ok
 returns-in-Ok-clause-ok c =
     let old = c.args.self.now in
     let x = c.in-Some.x.now in
-    passed_goes old _ c.args.client x c.pass.new.self c.in-Ok.passed (written old c.args.client x c.pass.new.self (sym c.in-Some.ensures.value)) c.in-Ok.ensures.ok
+    passed_goes old _ c.args.client x c.pass.new.self c.in-Ok.passed (written old c.args.client x c.pass.new.self (sym c.in-Some.ensures.value))
+    (subst (λ (v : List ℕ). PassesFront v x c.in-Ok.passed c.pass.new.self) c.version_of.ensures c.in-Ok.ensures.ok)
 
 pub returns-in-Err-clause-err : goal.returns-in-Err-clause-err
 returns-in-Err-clause-err c =
