@@ -179,7 +179,7 @@ module _ (opening : ℕ → List ℕ → Option Item) (past : List (Entry dialec
 module _ (opening : ℕ → List ℕ → Option Item) (past : List (Entry dialect)) (old new : ServedCore) (led : MayHaveLed opening past old)
     (Holds : (later : List (Entry dialect)) → MayHaveLed opening later new → Type 0) (holds : (later : List (Entry dialect)) (by : MayHaveLed opening later new) → Holds later by) where
   goes_by : {count : CoreTally → CoreTally} (IsKind : List (Entry dialect) → Type 0) → ((entries : List (Entry dialect)) → IsKind entries → AreOwn entries) → LogsGoCounting count old IsKind new → GoesOnSaying opening IsKind past new Holds
-  goes_by {count} IsKind own goes = by_fresh opening past old new led Holds holds {count} IsKind own goes
+  goes_by {count} IsKind own goes = by_fresh opening past old new led Holds holds IsKind own goes
 
   -- whatever servers lost before a result, and others wrote there
   settles_after : (number : ℕ) (outcome : Outcome) → TakesResult old number outcome new ⊎ ((fault : CoreFault) × SettleStops old number outcome fault new) → StepGoes opening (Settled number outcome) past old led new Holds

@@ -19,7 +19,7 @@ opening old x tally (Ok client) opened failed is = (counting with_client old x t
 opening old x tally (Err fault) opened failed is = (tt, counting with_refusal old x tally (λ entries. entries ≡ []) is (opens old x (Err fault) opened failed))
 
 pub returns-clause-opened : goal.returns-clause-opened
-returns-clause-opened c = (opening c.args.self.now c.open_client.new.self c.note_opening.new.self c.open_client.result c.open_client.ensures.ok c.open_client.ensures.err c.note_opening.ensures).0
+returns-clause-opened c = (opening c.args.self.now c.open_client-opening.new.self c.note_opening.new.self c.open_client-opening.result c.open_client-opening.ensures.ok c.open_client-opening.ensures.err c.note_opening.ensures).0
 
 pub returns-clause-refused : goal.returns-clause-refused
-returns-clause-refused c = (opening c.args.self.now c.open_client.new.self c.note_opening.new.self c.open_client.result c.open_client.ensures.ok c.open_client.ensures.err c.note_opening.ensures).1
+returns-clause-refused c = (opening c.args.self.now c.open_client-opening.new.self c.note_opening.new.self c.open_client-opening.result c.open_client-opening.ensures.ok c.open_client-opening.ensures.err c.note_opening.ensures).1

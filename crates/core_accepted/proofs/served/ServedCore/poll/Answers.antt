@@ -22,7 +22,7 @@ stops old x tally client (Ok poll) failed none = tt
 stops old x tally client (Err fault) failed none = subst (λ t. PollStops old client fault (record old { core = x; tally = t })) (sym none) (poll_stops old x client fault failed)
 
 pub returns-clause-fresh : goal.returns-clause-fresh
-returns-clause-fresh c = fresh c.args.self.now c.poll.new.self c.note_polled.new.self c.args.client c.poll.result c.poll.ensures.ok c.note_polled.ensures.counted
+returns-clause-fresh c = fresh c.args.self.now c.poll-polled.new.self c.note_polled.new.self c.args.client c.poll-polled.result c.poll-polled.ensures.ok c.note_polled.ensures.counted
 
 pub returns-clause-stops : goal.returns-clause-stops
-returns-clause-stops c = stops c.args.self.now c.poll.new.self c.note_polled.new.self c.args.client c.poll.result c.poll.ensures.err c.note_polled.ensures.none
+returns-clause-stops c = stops c.args.self.now c.poll-polled.new.self c.note_polled.new.self c.args.client c.poll-polled.result c.poll-polled.ensures.err c.note_polled.ensures.none
