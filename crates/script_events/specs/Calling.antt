@@ -1,5 +1,5 @@
 -- What a call is to the cache of its server, exactly, and how it ends where it is named to fail. Source: mcgate's own.
-use Rattle.std.specs.Prelude.{◌≡◌, ℕ, ℤ, nat_abs, List, ◌⊎◌, Option, Some, None, slice_get, slice_set}
+use Rattle.std.specs.Prelude.{◌≡◌, ℕ, ℤ, nat_abs, List, [], ◌⊎◌, Option, Some, None, slice_get, slice_set}
 use Rattle.mc_types.specs.declared.ask.Ask.{Ask}
 use Rattle.mc_types.specs.declared.answer.Answer.{Answer}
 use Rattle.mc_types.specs.declared.call.Outcome.TheVariants.{Answered, Failed}
@@ -17,7 +17,7 @@ use Rattle.script_events.specs.declared.servers.event.Made.{Made}
 -- a call ends as it is named by a script, whatever else the script is of; the text of an answer is its spelling
 abbrev pub EndsAs : Ask → Option Manner → End → Type 0
 EndsAs ask named end =
-    script.EndsAs {P = silence} {T = ℕ} 0 (λ tree number ask calls reply from. ⊥) (λ number ask other client. ⊥) (λ server key. None) 1 1 spelling_of (λ log server key. ⊥) ask named end
+    script.EndsAs {P = silence} {T = ℕ} 0 (λ tree number ask calls reply from. ⊥) (λ number ask other client. ⊥) (λ server key. None) [] 1 1 spelling_of (λ log server key. ⊥) ask named end
 
 -- the cache of the server answers so by the table of that moment, with the stamp of the item that it found, and loses only what has expired and what the call pushes out; the other caches stay
 pub record AppliesAt (stamp : ℕ) (moment : ℤ) (old : List Contents) (server : ℕ) (ask : Ask) (answer : Answer) (found : Option ℕ) (new : List Contents) : Type 0 where
