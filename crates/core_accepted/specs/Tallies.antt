@@ -1,5 +1,5 @@
 -- What a core counts: clients, and commands that ended. Source: mcgate's own.
-use Rattle.std.specs.Prelude.{◌≡◌, ℕ, ◌+◌, ◌-◌, ◌^◌, Option, Some, None, Result, Ok, Err, Bool, true, false, List, replicate, min, slice_index, slice_set}
+use Rattle.std.specs.Prelude.{ℕ, ◌+◌, ◌-◌, ◌^◌, Option, Some, None, Result, Ok, Err, Bool, true, false, List, replicate, min, slice_index, slice_set}
 use Rattle.mc_types.specs.declared.ask.Op.{Op}
 use Rattle.route_tree.specs.Operation.{op_number}
 use Rattle.core_proxy.specs.declared.fault.CoreFault.{CoreFault}

@@ -1,6 +1,6 @@
 //! What a core has done so far. A count that reaches the greatest number stays there.
 
-ghost use Rattle.std.specs.Prelude.{◌≡◌, ◌<◌, length, IfOk, OnErr};
+ghost use Rattle.std.specs.Prelude.{◌≡◌, ◌<◌, IfOk, OnErr};
 ghost use Rattle.route_tree.specs.Operation.{op_number};
 ghost use Rattle.core_accepted.specs.Tallies.{more_at, with_note, with_poll, with_opening, nothing_done, of_op};
 

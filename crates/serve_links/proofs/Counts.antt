@@ -1,5 +1,5 @@
 -- What is counted is what a walk tells.
-use Rattle.std.proofs.Common.{◌≡◌, ◌≢◌, ℕ, ◌+◌, ◌-◌, ◌^◌, ◌<◌, Bool, true, false, List, [], ◌∷◌, ◌++◌, length, replicate, min, if◌then◌else◌, inl, inr, refl, sym, ap, ◌∙◌, subst, arith}
+use Rattle.std.proofs.Common.{◌≡◌, ℕ, ◌+◌, ◌<◌, Bool, true, false, List, [], ◌∷◌, ◌++◌, length, replicate, if◌then◌else◌, inl, inr, refl, sym, ap, ◌∙◌, subst, arith}
 use Rattle.std.proofs.lemmas.Bool.{eqb-true, eqb-false}
 use Rattle.std.proofs.lemmas.List.{length-set, get_or-set_same, get_or-set_other}
 use Rattle.std.specs.Prelude.{nat_eq, slice_index, ◌&&◌}
@@ -16,7 +16,7 @@ use Rattle.core_accepted.specs.declared.served.ServedCore.{ServedCore}
 use Rattle.core_accepted.specs.declared.tally.CoreTally.{CoreTally}
 use Rattle.core_accepted.specs.Results.{PollStops, SettleStops, IsSettled}
 use Rattle.core_accepted.specs.Tallies.{ReplyKind, ShowsItem, Acknowledges, TellsOther, kind_of, one_more, more_at, with_reply, with_note, with_client, with_refusal, nothing_done, of_op}
-use Rattle.serve_links.specs.CoreSteps.{Step, Opened, NotOpened, Fed, Polled, Stopped, Settled, Gave, Closed, LeftLine, Broke, Loaded, Linked, Asked, Greeted, Spelled, Late, CameLate, Lost, Does, Walks}
+use Rattle.serve_links.specs.CoreSteps.{Step, Opened, NotOpened, Fed, Polled, Stopped, Settled, Gave, Closed, LeftLine, Loaded, Spelled, Does, Walks}
 use Rattle.serve_links.specs.Counts.{number_of, counted, same_kind, opens_one, refuses_one, ends_one, ends_so, count_of, AreCounted, StepsAreCounted}
 
 -- ---- one more
@@ -157,6 +157,7 @@ polled client polls.Waiting past a b does was = kept (Polled client polls.Waitin
 polled client polls.Queued past a b does was = kept (Polled client polls.Queued) past a.tally b.tally refl refl refl (λ op kind. refl) does.1.tally was
 polled client polls.Busy past a b does was = kept (Polled client polls.Busy) past a.tally b.tally refl refl refl (λ op kind. refl) does.1.tally was
 
+-- (of all others the core is as it was)
 step_counted : (step : Step) (past : List Step) (a b : ServedCore) → Does step a b → AreCounted past a.tally → AreCounted (step ∷ past) b.tally
 step_counted (Opened client) past a b does was = opened client past a.tally b.tally does.2.tally was
 step_counted (NotOpened fault) past a b does was = not_opened fault past a.tally b.tally does.1.tally was
@@ -167,15 +168,9 @@ step_counted (Settled number outcome) past a b does was = kept (Settled number o
 step_counted (Gave client bytes) past a b does was = kept (Gave client bytes) past a.tally b.tally refl refl refl (λ op kind. refl) does.1.tally was
 step_counted (Closed client) past a b does was = kept (Closed client) past a.tally b.tally refl refl refl (λ op kind. refl) does.2.tally was
 step_counted (LeftLine client) past a b does was = kept (LeftLine client) past a.tally b.tally refl refl refl (λ op kind. refl) does.1.tally was
-step_counted (Broke client) past a b does was = kept (Broke client) past a.tally b.tally refl refl refl (λ op kind. refl) (tally_same a b does) was
 step_counted (Loaded configuration generation) past a b does was = kept (Loaded configuration generation) past a.tally b.tally refl refl refl (λ op kind. refl) does.tally was
-step_counted (Linked at dialect) past a b does was = kept (Linked at dialect) past a.tally b.tally refl refl refl (λ op kind. refl) (tally_same a b does) was
-step_counted (Asked at number dialect ask) past a b does was = kept (Asked at number dialect ask) past a.tally b.tally refl refl refl (λ op kind. refl) (tally_same a b does) was
-step_counted (Greeted at dialect bytes) past a b does was = kept (Greeted at dialect bytes) past a.tally b.tally refl refl refl (λ op kind. refl) (tally_same a b does) was
-step_counted (Late at number) past a b does was = kept (Late at number) past a.tally b.tally refl refl refl (λ op kind. refl) (tally_same a b does) was
-step_counted (CameLate at number ask answer bytes) past a b does was = kept (CameLate at number ask answer bytes) past a.tally b.tally refl refl refl (λ op kind. refl) (tally_same a b does) was
 step_counted (Spelled at number ask answer bytes) past a b does was = kept (Spelled at number ask answer bytes) past a.tally b.tally refl refl refl (λ op kind. refl) (tally_same a b does.0) was
-step_counted (Lost at why) past a b does was = kept (Lost at why) past a.tally b.tally refl refl refl (λ op kind. refl) (tally_same a b does) was
+step_counted step past a b does was = kept step past a.tally b.tally refl refl refl (λ op kind. refl) (tally_same a b does) was
 
 -- ---- all of them
 

@@ -2,7 +2,6 @@
 use Rattle.std.specs.Prelude.{◌≡◌, ℕ, ◌+◌, ◌-◌, ◌^◌, Bool, true, false, List, [], ◌∷◌, ◌++◌, length, min, if◌then◌else◌, ◌&&◌}
 use Rattle.mc_types.specs.declared.ask.Op.{Op}
 use Rattle.route_tree.specs.Operation.{same_op}
-use Rattle.core_proxy.specs.declared.note.Poll.{Poll}
 use Rattle.core_proxy.specs.declared.note.Poll.TheVariants as polls
 use Rattle.core_accepted.specs.declared.served.ServedCore.{ServedCore}
 use Rattle.core_accepted.specs.declared.tally.CoreTally.{CoreTally}
