@@ -62,7 +62,7 @@ pub struct LinkTally {
     /// How often a call of it was late.
     pub late: u64,
     // How often it failed for each cause.
-    failed: [u64; 7],
+    failed: [u64; 8],
 }
 
 // The place of an operation among all.
@@ -87,7 +87,7 @@ fn place_of(op: Op) -> usize
 
 // The place of a cause among all.
 fn cause_place(cause: Cause) -> usize
-    ensures { result < 7 }
+    ensures { result < 8 }
 {
     match cause {
         Cause::Unreachable => 0,
@@ -97,6 +97,7 @@ fn cause_place(cause: Cause) -> usize
         Cause::Foreign => 4,
         Cause::VainReads => 5,
         Cause::AnswerLate => 6,
+        Cause::NoRoom => 7,
     }
 }
 
@@ -238,7 +239,7 @@ impl LinkTally {
         LinkTally {
             stood: 0,
             late: 0,
-            failed: [0; 7],
+            failed: [0; 8],
         }
     }
 
