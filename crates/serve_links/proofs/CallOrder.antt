@@ -21,19 +21,19 @@ use Rattle.core_proxy.specs.CoreState.{has_call_out}
 use Rattle.core_proxy.specs.Settles.{FitsCall, asked, asked_by}
 use Rattle.core_accepted.specs.declared.served.ServedCore.{ServedCore}
 use Rattle.core_accepted.specs.Results.{IsSettled}
-use Rattle.serve_links.specs.Dialects.{asked_in}
+use Rattle.serve_links.specs.Dialects.{asked_in, IsForeignIn}
 use Rattle.serve_links.specs.declared.calls.calls.SentCall.{SentCall}
 use Rattle.serve_links.specs.Calls.{IsReadFor, IsReadNext, first_asked, FitsFirst, SettlesFirst}
 
 pub read_classic : SpelledAnswersFit → (ask : Ask) (bytes : List ℕ) (read : AnswerRead) → IsAsk ask → Reads ask bytes read → IsReadFor Classic ask bytes read
 read_classic fit ask bytes (reads.Answer answer used) is spells = (spells, fit ask bytes answer used is spells)
 read_classic fit ask bytes reads.More is more = more.0
-read_classic fit ask bytes reads.Foreign is bad = tt
+read_classic fit ask bytes reads.Foreign is bad = bad.1
 
 pub read_meta : (ask : Ask) (bytes : List ℕ) (read : AnswerRead) → ReadsInMeta ask bytes read → IsReadFor Meta ask bytes read
 read_meta ask bytes (reads.Answer answer used) spells = spells
 read_meta ask bytes reads.More more = more.0
-read_meta ask bytes reads.Foreign bad = tt
+read_meta ask bytes reads.Foreign bad = λ more answer used spells. bad.1 more spells.told used spells.spells
 
 same_ask : {x y : Ask} → ◌≡◌ {A = Option Ask} (Some x) (Some y) → x ≡ y
 same_ask e = cc
@@ -48,7 +48,14 @@ fits_call core number ask answer e fits =
 pub read_next : (dialect : Dialect) (core : Core) (number : ℕ) (bytes : List ℕ) (ask : Ask) (read : AnswerRead) → asked core number ≡ Some ask → IsReadFor dialect ask bytes read → IsReadNext dialect core number bytes read
 read_next dialect core number bytes ask (reads.Answer answer used) e is = (ask, e, is.0, fits_call core number ask answer e is.1)
 read_next dialect core number bytes ask reads.More e is = (ask, e, is)
-read_next dialect core number bytes ask reads.Foreign e is = tt
+read_next dialect core number bytes ask reads.Foreign e is = λ other asks. subst (λ x. IsForeignIn dialect x bytes) (same_ask (sym e ∙ asks)) is
+
+-- where no call of it is out
+pub read_nothing : (dialect : Dialect) (core : Core) (number : ℕ) (bytes : List ℕ) → asked core number ≡ None → IsReadNext dialect core number bytes reads.Foreign
+read_nothing dialect core number bytes e = λ ask asks. absurd (none_some (sym e ∙ asks))
+  where
+    none_some : {x : Ask} → None ≡ Some x → ⊥
+    none_some e = cc
 
 pub fits_first : (sent : List SentCall) (core : Core) (number : ℕ) (dialect : Dialect) (outcome : Outcome) → first_asked sent ≡ Some (number, dialect) → FitsCall core number outcome → FitsFirst sent core outcome
 fits_first [] core number dialect outcome e fits = tt

@@ -1,7 +1,7 @@
 -- What a server tells over its link's connection.
-use Rattle.std.proofs.Common.{◌≡◌, ℕ, suc, ◌+◌, ◌-◌, ◌≤◌, Bool, true, false, not, codes, None, List, [], ◌∷◌, ◌++◌, length, take, drop, length-append, Some, refl, sym, ap, ◌∙◌, subst, inr, arith}
+use Rattle.std.proofs.Common.{◌≡◌, ℕ, suc, ◌+◌, ◌-◌, ◌≤◌, Bool, true, false, not, codes, None, List, [], ◌∷◌, ◌++◌, length, take, drop, length-append, append_assoc, Some, refl, sym, ap, ◌∙◌, subst, inr, arith}
 use Rattle.std.specs.Str.{bytes_eq}
-use Rattle.std.proofs.lemmas.List.{take-append-drop, take_all, length-drop}
+use Rattle.std.proofs.lemmas.List.{take-append-drop, take-append-le, take_all, length-drop}
 use Rattle.std.proofs.lemmas.Slice.Eq.{bytes_eq-Decides}
 use Rattle.std.proofs.Math.Seq.{take-append-add}
 use Rattle.text_words.specs.Line.{LF}
@@ -11,7 +11,7 @@ use Rattle.wire_stream.specs.declared.meta_gets.dialect.DialectRead.{DialectRead
 use Rattle.wire_stream.specs.declared.meta_gets.dialect.DialectRead.TheVariants as reads
 use Rattle.serve_wire.specs.declared.conn.conn.Conn.{Conn}
 use Rattle.serve_links.specs.declared.link.Link.{Link}
-use Rattle.serve_links.specs.Dialects.{IsGreeting, flushed_of, Greets, ReadsDialect, ReadsGreeting, four_more}
+use Rattle.serve_links.specs.Dialects.{IsGreeting, flushed_of, Greets, GreetsNone, TellsIn, ReadsDialect, ReadsGreeting, four_more}
 use Rattle.serve_links.specs.declared.settings.Greeting.{Greeting}
 use Rattle.serve_links.specs.declared.settings.ServerDialect.TheVariants as asks
 use Rattle.serve_links.specs.Lines.{TakesGreeting, HasLearnt, Learns}
@@ -43,17 +43,27 @@ used_within bytes dialect used is =
     let e : used ≡ length is.text + 1 = is.used_is in
     omega (arith, whole, e)
 
+-- whatever follows that line
+tells_over : (told rest : List ℕ) (dialect : Dialect) → IsGreeting dialect told → IsDialectLine (told ++ rest) dialect (length told)
+tells_over told rest dialect is = record {
+  text = is.text;
+  rest = is.rest ++ rest;
+  line = record { whole = ap (λ l. l ++ rest) is.line.whole ∙ append_assoc is.text (LF ∷ is.rest) rest; one = is.line.one; short = is.line.short };
+  says = is.says;
+  used_is = is.used_is;
+}
+
 -- so it is with what is read of them
 pub reads_dialect : (bytes : List ℕ) (read : DialectRead) → TellsDialect bytes read → ReadsDialect asks.Auto bytes read
 reads_dialect bytes (reads.Told dialect used) is = (used_within bytes dialect used is, front_greets bytes dialect used is)
 reads_dialect bytes reads.More is = tt
-reads_dialect bytes reads.Foreign is = tt
+reads_dialect bytes reads.Foreign is = λ more dialect told rest e tells. is.1 more dialect (length told) (subst (λ l. IsDialectLine l dialect (length told)) (sym e) (tells_over told rest dialect tells))
 
 -- where nothing is to be said before
 pub reads_alone : (greeting : Greeting) (bytes : List ℕ) (read : DialectRead) → greeting.flushes ≡ false → ReadsDialect greeting.dialect bytes read → ReadsGreeting greeting bytes read
 reads_alone greeting bytes (reads.Told dialect used) off is = (is.0, (take used bytes, ap (λ b. flushed_of b ++ take used bytes) (sym off), is.1))
 reads_alone greeting bytes reads.More off is = tt
-reads_alone greeting bytes reads.Foreign off is = tt
+reads_alone greeting bytes reads.Foreign off is = λ more dialect said rest e greets. is more dialect said rest e (subst (TellsIn greeting.dialect dialect) (sym (greets.1 ∙ ap (λ b. flushed_of b ++ greets.0) off)) greets.2)
 
 -- where it is said that the server has emptied itself, what stands behind that
 pub reads_behind : (greeting : Greeting) (rest : List ℕ) (read : DialectRead) → greeting.flushes ≡ true → ReadsDialect greeting.dialect rest read → ReadsGreeting greeting (codes "OK\r\n" ++ rest) (four_more read)
@@ -67,7 +77,18 @@ reads_behind greeting rest (reads.Told dialect used) on is =
     within : (n : ℕ) (l : List ℕ) → n ≤ length l → n + 4 ≤ length (codes "OK\r\n" ++ l)
     within n l le = omega (arith, le)
 reads_behind greeting rest reads.More on is = tt
-reads_behind greeting rest reads.Foreign on is = tt
+reads_behind greeting rest reads.Foreign on is = λ more dialect said later e greets.
+    is more dialect greets.0 later (ap (drop 4) (e ∙ ap (λ l. l ++ later) (greets.1 ∙ ap (λ b. flushed_of b ++ greets.0) on))) greets.2
+
+-- where the first four bytes don't say it, nothing does
+pub never_flushed : (greeting : Greeting) (bytes : List ℕ) → greeting.flushes ≡ true → 4 ≤ length bytes → bytes_eq (take 4 bytes) (codes "OK\r\n") ≡ false → GreetsNone greeting bytes
+never_flushed greeting bytes on long not more dialect said rest e greets = false_true (sym not ∙ (bytes_eq-Decides (take 4 bytes) (codes "OK\r\n")).1 front)
+  where
+    false_true : false ≡ true → ⊥
+    false_true e = cc
+
+    front : take 4 bytes ≡ codes "OK\r\n"
+    front = sym (take-append-le 4 bytes more long) ∙ ap (take 4) (e ∙ ap (λ l. l ++ rest) (greets.1 ∙ ap (λ b. flushed_of b ++ greets.0) on))
 
 -- all that stands behind a place
 pub rest_of : (i : ℕ) (l : List ℕ) → take (length l - i) (drop i l) ≡ drop i l

@@ -263,4 +263,5 @@ pub line_passes :
 line_passes x y c d (lates.Whole used) was is off text waiting awaits speaks draining sent same passes =
     line_throws x y c d passes.0 y.late.items passes.3.0 used was is off text waiting awaits speaks sent passes.1 refl passes.3.1 passes.2 (ap (λ (z : Conn). z.number) same) (ap (λ (z : Conn). bytes_of z.unsent) same)
 line_passes x y c d lates.More was is off text waiting awaits speaks draining sent same passes = passes_none x y c d was is text waiting awaits speaks draining sent same passes
-line_passes x y c d lates.Foreign was is off text waiting awaits speaks draining sent same passes = passes_none x y c d was is text waiting awaits speaks draining sent same passes
+line_passes x y c d lates.Foreign was is off text waiting awaits speaks draining sent same passes = passes_none x y c d was is text waiting awaits speaks draining sent same (passes.0, passes.1)
+line_passes x y c d lates.NoMemory was is off text waiting awaits speaks draining sent same passes = passes_none x y c d was is text waiting awaits speaks draining sent same passes

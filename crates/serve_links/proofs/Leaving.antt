@@ -1,5 +1,5 @@
 -- What is settled of the bytes that a link holds, and what is left of them.
-use Rattle.std.proofs.Common.{◌≡◌, ℕ, ◌≤◌, min, List, [], ◌∷◌, ◌++◌, length, take, drop, refl, sym, subst, ap, ◌∙◌, inr, append_assoc, arith}
+use Rattle.std.proofs.Common.{◌≡◌, ◌≢◌, ℕ, ◌≤◌, true, false, eqb, min, List, [], ◌∷◌, ◌++◌, length, take, drop, refl, sym, subst, ap, ◌∙◌, inr, append_assoc, arith}
 use Rattle.std.proofs.lemmas.List.{append-nil, drop_min, take-append-drop}
 use Rattle.mc_types.specs.declared.answer.Answer.{Answer}
 use Rattle.core_accepted.specs.declared.served.ServedCore.{ServedCore}
@@ -7,14 +7,44 @@ use Rattle.serve_links.specs.declared.calls.calls.SentCall.{SentCall}
 use Rattle.serve_links.specs.declared.calls.calls.Next.{Next}
 use Rattle.serve_links.specs.declared.calls.calls.Next.TheVariants as nexts
 use Rattle.serve_links.specs.Calls.{AwaitsFirst, SettlesNext}
-use Rattle.serve_links.specs.Settled.{HoldsNoAnswer, SettlesOne, SettlesEach, SettlesSome, SettlesFront, used_by}
+use Rattle.serve_links.specs.Dialects.{SpellsIn}
+use Rattle.serve_links.specs.Settled.{HoldsNoAnswer, HoldsForeign, SettlesOne, SettlesEach, SettlesSome, SettlesFront, used_by}
 
 -- more is awaited, and nothing has changed
 pub awaited : (sent : List SentCall) (bytes : List ℕ) (a : ServedCore) (sent' : List SentCall) (b : ServedCore) → SettlesNext sent bytes a nexts.More sent' b → HoldsNoAnswer sent' bytes b
 awaited sent bytes a sent' b is =
     inr (subst (λ (s : List SentCall). AwaitsFirst s bytes b.core) (sym is.1) (subst (λ (c : ServedCore). AwaitsFirst sent bytes c.core) (sym is.2) is.0))
 
+-- bytes that are some
+pub some_held : (bytes : List ℕ) → eqb (length bytes) 0 ≡ false → bytes ≢ []
+some_held bytes e none = false_true (sym e ∙ ap (λ (l : List ℕ). eqb (length l) 0) none)
+  where
+    false_true : false ≡ true → ⊥
+    false_true e = cc
+
+-- no answer to the first call begins so, and nothing has changed
+pub foreign : (sent : List SentCall) (bytes : List ℕ) (a : ServedCore) (sent' : List SentCall) (b : ServedCore) → bytes ≢ [] → SettlesNext sent bytes a nexts.Foreign sent' b → HoldsForeign sent' bytes b
+foreign sent bytes a sent' b some is =
+    subst (λ (s : List SentCall). HoldsForeign s bytes b) (sym is.1) (subst (λ (c : ServedCore). HoldsForeign sent bytes c) (sym is.2) (record { some = some; foreign = is.0 }))
+
+-- whatever follows what is held
+pub foreign_over : (sent : List SentCall) (bytes more : List ℕ) (b : ServedCore) → HoldsForeign sent bytes b → HoldsForeign sent (bytes ++ more) b
+foreign_over sent bytes more b is = record {
+  some = λ none. is.some (no_front bytes none);
+  foreign = λ number dialect ask first asks later answer used. subst (λ (l : List ℕ). ¬ SpellsIn dialect ask l answer used) (sym (append_assoc bytes more later)) (is.foreign number dialect ask first asks (more ++ later) answer used);
+}
+  where
+    no_front : (l : List ℕ) → l ++ more ≡ [] → l ≡ []
+    no_front [] none = refl
+    no_front (byte ∷ l) none = absurd (some_none byte (l ++ more) none)
+      where
+        some_none : (byte : ℕ) (l : List ℕ) → byte ∷ l ≡ [] → ⊥
+        some_none byte l e = cc
+
 -- the same of equal bytes
+pub foreign_as : {sent : List SentCall} {x y : List ℕ} {b : ServedCore} → y ≡ x → HoldsForeign sent x b → HoldsForeign sent y b
+foreign_as {sent} {x} {y} {b} e is = subst (λ (l : List ℕ). HoldsForeign sent l b) (sym e) is
+
 pub settles_as : (sent : List SentCall) (xs ys : List ℕ) (a : ServedCore) (next : Next) (sent' : List SentCall) (b : ServedCore) → ys ≡ xs → SettlesNext sent xs a next sent' b → SettlesNext sent ys a next sent' b
 settles_as sent xs ys a next sent' b e is = subst (λ (bytes : List ℕ). SettlesNext sent bytes a next sent' b) (sym e) is
 
@@ -60,7 +90,8 @@ pub by_next :
     → SettlesSome sent bytes a sent' (drop (used_by next) bytes) b
 by_next sent bytes a (nexts.Settled client used) sent' b is = one sent bytes a client used sent' (drop used bytes) b refl is
 by_next sent bytes a nexts.More sent' b is = none is.1 refl is.2
-by_next sent bytes a nexts.Foreign sent' b is = none is.0 refl is.1
+by_next sent bytes a nexts.Foreign sent' b is = none is.1 refl is.2
+by_next sent bytes a nexts.NoMemory sent' b is = none is.0 refl is.1
 
 over_each :
     (answers : List Answer) (s : List SentCall) (x : List ℕ) (a : ServedCore) (t : List SentCall) (y : List ℕ) (b : ServedCore) (more : List ℕ)

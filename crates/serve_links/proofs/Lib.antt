@@ -5,6 +5,7 @@ pub mod Walked
 pub mod Called
 pub mod Failing
 pub mod Feeding
+pub mod Foreign
 pub mod Leaving
 pub mod Reading
 pub mod Shutting

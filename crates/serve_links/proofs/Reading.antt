@@ -1,5 +1,5 @@
 -- What reads and writes of a client's end come to, and that it goes on to agree.
-use Rattle.std.proofs.Common.{◌≡◌, ℕ, false, List, Result, Ok, Err, ap, ◌∙◌, arith}
+use Rattle.std.proofs.Common.{◌≡◌, ◌≢◌, ℕ, ◌+◌, false, List, [], length, length-append, Result, Ok, Err, sym, ap, ◌∙◌, subst, arith}
 use Rattle.std.specs.Prelude.{IfOk, OnErr}
 use Rattle.wire_parts.specs.Sending.{bytes_of}
 use Rattle.serve_wire.specs.Events.{Event}
@@ -18,6 +18,13 @@ use Rattle.serve_clients.proofs.Agreeing.{end_reads, end_breaks, end_sends, end_
 pub came : {E : Type 0} (r : Result Got E) (c limit : ℕ) (held held' : List ℕ) (h h' : List Event) → IfOk r (λ what. Reads c limit held what held' h h') → OnErr r ((held' ≡ held) × (h' ≡ h)) → ReadsOn c held held' h h'
 came (Ok what) c limit held held' h h' ok err = reads_on c limit held what held' h h' ok
 came (Err refused) c limit held held' h h' ok err = reads_on c 0 held got.Full held' h h' (omega arith, err.0, err.1)
+
+-- where bytes came, some are held
+pub came_some : (c limit : ℕ) (held : List ℕ) (what : Got) (held' : List ℕ) (h h' : List Event) → what ≡ got.Bytes → Reads c limit held what held' h h' → held' ≢ []
+came_some c limit held what held' h h' is r none = by (subst (λ w. Reads c limit held w held' h h') is r)
+  where
+    by : Reads c limit held got.Bytes held' h h' → ⊥
+    by came = let all : 0 ≡ length held + length came.1.bytes = sym (ap length none) ∙ ap length came.1.held_is ∙ length-append held came.1.bytes in let some = came.1.some in omega (arith, all, some)
 
 pub only_none : (c : ℕ) (h : List Event) → TouchesOnly c h h
 only_none c h = λ d other. untouched d h

@@ -14,7 +14,7 @@ use Rattle.core_proxy.specs.Settles.{FitsCall, asked}
 use Rattle.core_accepted.specs.declared.served.ServedCore.{ServedCore}
 use Rattle.core_accepted.specs.Late.{is_store}
 use Rattle.core_accepted.specs.Results.{IsSettled}
-use Rattle.serve_links.specs.Dialects.{SpellsIn, IsCutIn}
+use Rattle.serve_links.specs.Dialects.{SpellsIn, IsForeignIn, IsCutIn}
 use Rattle.serve_links.specs.declared.calls.calls.SentCall.{SentCall}
 use Rattle.serve_links.specs.declared.calls.calls.LateCall.{LateCall}
 use Rattle.serve_links.specs.declared.calls.calls.LateRead.{LateRead}
@@ -22,17 +22,17 @@ use Rattle.serve_links.specs.declared.calls.calls.LateRead.TheVariants as lates
 use Rattle.serve_links.specs.declared.calls.calls.Next.{Next}
 use Rattle.serve_links.specs.declared.calls.calls.Next.TheVariants as nexts
 
--- what was read is the answer to the ask, as it was asked in this dialect, or the bytes are cut before its end
+-- what was read is the answer to the ask, as it was asked in this dialect; or the bytes are cut before its end, or no answer begins so
 abbrev pub IsReadFor : Dialect → Ask → List ℕ → AnswerRead → Type 0
 IsReadFor dialect ask bytes (reads.Answer answer used) = SpellsIn dialect ask bytes answer used × Fits ask answer
 IsReadFor dialect ask bytes reads.More = IsCutIn dialect ask bytes
-IsReadFor dialect ask bytes reads.Foreign = Unit {0}
+IsReadFor dialect ask bytes reads.Foreign = IsForeignIn dialect ask bytes
 
 -- the same of what the core's call of this number asks
 abbrev pub IsReadNext : Dialect → Core → ℕ → List ℕ → AnswerRead → Type 0
 IsReadNext dialect core number bytes (reads.Answer answer used) = (ask : Ask) × (asked core number ≡ Some ask) × SpellsIn dialect ask bytes answer used × FitsCall core number (Answered answer)
 IsReadNext dialect core number bytes reads.More = (ask : Ask) × (asked core number ≡ Some ask) × IsCutIn dialect ask bytes
-IsReadNext dialect core number bytes reads.Foreign = Unit {0}
+IsReadNext dialect core number bytes reads.Foreign = (ask : Ask) → asked core number ≡ Some ask → IsForeignIn dialect ask bytes
 
 -- the number of the call that went out first, and the dialect in which it was asked
 abbrev pub first_asked : List SentCall → Option (ℕ × Dialect)
@@ -76,12 +76,17 @@ pub record AwaitsFirst (sent : List SentCall) (bytes : List ℕ) (core : Core) :
   pub asks : asked core number ≡ Some ask
   pub cut : IsCutIn dialect ask bytes
 
+-- no answer to the first call begins with the bytes, if one is out
+abbrev pub IsForeignToFirst : List SentCall → List ℕ → Core → Type 0
+IsForeignToFirst sent bytes core = (number : ℕ) (dialect : Dialect) (ask : Ask) → first_asked sent ≡ Some (number, dialect) → asked core number ≡ Some ask → IsForeignIn dialect ask bytes
+
 -- the first call is settled by its answer, which the bytes begin with, or nothing is done
 abbrev pub SettlesNext : List SentCall → List ℕ → ServedCore → Next → List SentCall → ServedCore → Type 0
 SettlesNext sent bytes core (nexts.Settled client used) sent' core' =
     (answer : Answer) × AnswersFirst sent bytes core.core answer used × SettlesFirst sent core (Answered answer) (Some client) sent' core'
 SettlesNext sent bytes core nexts.More sent' core' = AwaitsFirst sent bytes core.core × (sent' ≡ sent) × (core' ≡ core)
-SettlesNext sent bytes core nexts.Foreign sent' core' = (sent' ≡ sent) × (core' ≡ core)
+SettlesNext sent bytes core nexts.Foreign sent' core' = IsForeignToFirst sent bytes core.core × (sent' ≡ sent) × (core' ≡ core)
+SettlesNext sent bytes core nexts.NoMemory sent' core' = (sent' ≡ sent) × (core' ≡ core)
 
 -- the same call as one that is late
 abbrev pub as_late : SentCall → LateCall
@@ -92,14 +97,21 @@ abbrev pub IsFirstLate : List SentCall → Option LateCall → Type 0
 IsFirstLate [] late = late ≡ None
 IsFirstLate (call ∷ sent) late = late ≡ Some (as_late call)
 
--- so many bytes are the answer to a late call, or none are
+-- so many bytes are the answer to a late call, or none are, or no answer to it begins so
 abbrev pub IsReadLate : LateCall → List ℕ → LateRead → Type 0
 IsReadLate call bytes (lates.Whole used) = (answer : Answer) × SpellsIn call.dialect call.ask bytes answer used
 IsReadLate call bytes lates.More = Unit {0}
-IsReadLate call bytes lates.Foreign = Unit {0}
+IsReadLate call bytes lates.Foreign = IsForeignIn call.dialect call.ask bytes
+IsReadLate call bytes lates.NoMemory = Unit {0}
+
+-- no answer to the first of these late calls begins with the bytes
+abbrev pub IsForeignToLate : List LateCall → List ℕ → Type 0
+IsForeignToLate [] bytes = ⊥
+IsForeignToLate (call ∷ late) bytes = IsForeignIn call.dialect call.ask bytes
 
 -- the bytes begin with the answer to the first of these late calls: both are gone; or nothing has changed
 abbrev pub PassesOver : List LateCall → List ℕ → LateRead → List LateCall → List ℕ → Type 0
 PassesOver late bytes (lates.Whole used) late' bytes' = (call : LateCall) × (late ≡ call ∷ late') × (bytes' ≡ drop used bytes) × ((answer : Answer) × SpellsIn call.dialect call.ask bytes answer used)
 PassesOver late bytes lates.More late' bytes' = (late' ≡ late) × (bytes' ≡ bytes)
-PassesOver late bytes lates.Foreign late' bytes' = (late' ≡ late) × (bytes' ≡ bytes)
+PassesOver late bytes lates.Foreign late' bytes' = (late' ≡ late) × (bytes' ≡ bytes) × IsForeignToLate late bytes
+PassesOver late bytes lates.NoMemory late' bytes' = (late' ≡ late) × (bytes' ≡ bytes)

@@ -50,3 +50,4 @@ abbrev pub with_next : Next → CallTimes → CallTally
 with_next (nexts.Settled client used) times = with_answer (took times.went.items times.came) times.tally
 with_next nexts.More times = times.tally
 with_next nexts.Foreign times = times.tally
+with_next nexts.NoMemory times = times.tally

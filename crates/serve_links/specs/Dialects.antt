@@ -24,6 +24,10 @@ abbrev pub SpellsIn : Dialect → Ask → List ℕ → Answer → ℕ → Type 0
 SpellsIn Classic ask bytes answer used = Spells ask bytes answer used
 SpellsIn Meta ask bytes answer used = SpellsInMeta ask bytes answer used
 
+-- no answer to it begins with these bytes, whatever follows them
+abbrev pub IsForeignIn : Dialect → Ask → List ℕ → Type 0
+IsForeignIn dialect ask bytes = (more : List ℕ) (answer : Answer) (used : ℕ) → ¬ SpellsIn dialect ask (bytes ++ more) answer used
+
 -- the bytes are cut before the end of an answer to it
 abbrev pub IsCutIn : Dialect → Ask → List ℕ → Type 0
 IsCutIn dialect ask bytes = IsCut (asked_in dialect ask) bytes
@@ -47,6 +51,13 @@ flushed_of false = []
 abbrev pub Greets : Greeting → Dialect → List ℕ → Type 0
 Greets greeting dialect bytes = (told : List ℕ) × (bytes ≡ flushed_of greeting.flushes ++ told) × TellsIn greeting.dialect dialect told
 
+-- nothing of that begins with these bytes, whatever follows them: neither a dialect that is told so, nor all that is said
+abbrev pub TellsNone : ServerDialect → List ℕ → Type 0
+TellsNone asked bytes = (more : List ℕ) (dialect : Dialect) (told rest : List ℕ) → bytes ++ more ≡ told ++ rest → ¬ TellsIn asked dialect told
+
+abbrev pub GreetsNone : Greeting → List ℕ → Type 0
+GreetsNone greeting bytes = (more : List ℕ) (dialect : Dialect) (said rest : List ℕ) → bytes ++ more ≡ said ++ rest → ¬ Greets greeting dialect said
+
 -- the same where that is still to come
 abbrev pub AnswersFirst : Option Greeting → Dialect → List ℕ → Type 0
 AnswersFirst None dialect bytes = ⊥
@@ -57,16 +68,16 @@ abbrev pub awaits_flush : Option Greeting → Bool
 awaits_flush None = false
 awaits_flush (Some greeting) = greeting.flushes
 
--- where something is told, the first so many bytes tell it
+-- where something is told, the first so many bytes tell it; what is foreign is no begin of it
 abbrev pub ReadsDialect : ServerDialect → List ℕ → DialectRead → Type 0
 ReadsDialect asked bytes (reads.Told dialect used) = (used ≤ length bytes) × TellsIn asked dialect (take used bytes)
 ReadsDialect asked bytes reads.More = Unit {0}
-ReadsDialect asked bytes reads.Foreign = Unit {0}
+ReadsDialect asked bytes reads.Foreign = TellsNone asked bytes
 
 abbrev pub ReadsGreeting : Greeting → List ℕ → DialectRead → Type 0
 ReadsGreeting greeting bytes (reads.Told dialect used) = (used ≤ length bytes) × Greets greeting dialect (take used bytes)
 ReadsGreeting greeting bytes reads.More = Unit {0}
-ReadsGreeting greeting bytes reads.Foreign = Unit {0}
+ReadsGreeting greeting bytes reads.Foreign = GreetsNone greeting bytes
 
 -- it was told in fewer bytes than these
 abbrev pub IsUsedBelow : ℕ → DialectRead → Type 0

@@ -138,6 +138,7 @@ ReadsAway (Some causes.Unreachable) c h h' = ⊥
 ReadsAway (Some causes.ConnectLate) c h h' = ⊥
 ReadsAway (Some causes.AnswerLate) c h h' = ⊥
 ReadsAway (Some causes.Foreign) c h h' = ⊥
+ReadsAway (Some causes.NoRoom) c h h' = ⊥
 ReadsAway (Some causes.VainReads) c h h' = ⊥
 
 -- the same of its end

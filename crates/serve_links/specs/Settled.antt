@@ -1,16 +1,21 @@
 -- The answers that are settled of the bytes that a link holds, and what is left of them. Source: mcgate's own.
-use Rattle.std.specs.Prelude.{◌≡◌, ℕ, ◌++◌, ◌⊎◌, List, [], ◌∷◌, drop, Some}
+use Rattle.std.specs.Prelude.{◌≡◌, ◌≢◌, ℕ, ◌++◌, ◌⊎◌, List, [], ◌∷◌, drop, Some}
 use Rattle.mc_types.specs.declared.answer.Answer.{Answer}
 use Rattle.mc_types.specs.declared.call.Outcome.TheVariants.{Answered}
 use Rattle.core_accepted.specs.declared.served.ServedCore.{ServedCore}
 use Rattle.serve_links.specs.declared.calls.calls.SentCall.{SentCall}
 use Rattle.serve_links.specs.declared.calls.calls.Next.{Next}
 use Rattle.serve_links.specs.declared.calls.calls.Next.TheVariants as nexts
-use Rattle.serve_links.specs.Calls.{AnswersFirst, AwaitsFirst, SettlesFirst}
+use Rattle.serve_links.specs.Calls.{AnswersFirst, AwaitsFirst, IsForeignToFirst, SettlesFirst}
 
 -- nothing is held, or what is held is cut before the end of the first call's answer
 abbrev pub HoldsNoAnswer : List SentCall → List ℕ → ServedCore → Type 0
 HoldsNoAnswer sent bytes core = (bytes ≡ []) ⊎ AwaitsFirst sent bytes core.core
+
+-- something is held, and it begins no answer to the first call, if one is out
+pub record HoldsForeign (sent : List SentCall) (bytes : List ℕ) (core : ServedCore) : Type 0 where
+  pub some : bytes ≢ []
+  pub foreign : IsForeignToFirst sent bytes core.core
 
 -- the bytes begin with this answer to the first call, as a part of them tells: the call is settled by it, what the answer takes goes, and the core goes on by that alone
 pub record SettlesOne (sent : List SentCall) (bytes : List ℕ) (core : ServedCore) (answer : Answer) (sent' : List SentCall) (bytes' : List ℕ) (core' : ServedCore) : Type 0 where
@@ -45,3 +50,4 @@ abbrev pub used_by : Next → ℕ
 used_by (nexts.Settled client used) = used
 used_by nexts.More = 0
 used_by nexts.Foreign = 0
+used_by nexts.NoMemory = 0

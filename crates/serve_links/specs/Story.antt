@@ -12,6 +12,7 @@ use Rattle.serve_clients.specs.declared.clients.Clients.{Clients}
 use Rattle.serve_clients.specs.Agrees.{EndAgrees, AllAgree}
 use Rattle.serve_clients.specs.Marks.{client_of}
 use Rattle.serve_links.specs.declared.settings.Greeting.{Greeting}
+use Rattle.serve_links.specs.Dialects.{IsForeignIn, GreetsNone}
 use Rattle.serve_links.specs.declared.calls.calls.SentCall.{SentCall}
 use Rattle.serve_links.specs.declared.calls.calls.LateCall.{LateCall}
 use Rattle.serve_links.specs.declared.link.Link.{Link}
@@ -223,14 +224,21 @@ pub record LineLost (at : ℕ) (past : List Step) (h : List Event) (link : Link)
 abbrev pub HasHappened : Event → List Event → Type 0
 HasHappened event h = (later earlier : List Event) × (h ≡ later ++ event ∷ earlier)
 
--- what the wire shows, or what was said, of a connection that is given up for this cause: it has ended, or has failed, or reads were in vain while calls are out there, or late answers were to come, or that to a store, or the end of one that can't be kept. For want of a connection none is given up
+-- these bytes begin nothing that is to come first, whatever follows them: not what a server is to say to what it was asked first, or else no answer to the first of these calls; where neither is to come, they are some
+abbrev pub IsForeign : Option Greeting → List SaidAsk → List ℕ → Type 0
+IsForeign (Some greeting) calls bytes = GreetsNone greeting bytes
+IsForeign None [] bytes = bytes ≢ []
+IsForeign None (call ∷ calls) bytes = IsForeignIn call.1 call.2 bytes
+
+-- what the wire shows, or what was said, of a connection that is given up for this cause: it has ended, or has failed, or what it delivered behind all that told something is foreign, or reads were in vain while calls are out there, or late answers were to come, or that to a store, or the end of one that can't be kept. For want of a connection none is given up
 abbrev pub Shows : Cause → Talk → ℕ → List Event → Type 0
 Shows causes.Unreachable talk c h = ⊥
 Shows causes.ConnectLate talk c h = Unit {0}
 Shows causes.AnswerLate talk c h = (talk.late ≢ []) ⊎ IsStoreFirst talk.out ⊎ (talk.stands ≡ Ending)
 Shows causes.Closed talk c h = HasHappened (ends c) h
 Shows causes.Broken talk c h = HasHappened (fails c) h
-Shows causes.Foreign talk c h = Unit {0}
+Shows causes.Foreign talk c h = (held : List ℕ) × (delivered c h ≡ talk.told ++ held) × IsForeign talk.awaits (talk.late ++ talk.out) held
+Shows causes.NoRoom talk c h = Unit {0}
 Shows causes.VainReads talk c h = talk.out ≢ []
 
 -- the same where it is given up for a cause, if it is
@@ -279,6 +287,10 @@ AreShown (step ∷ steps) h = ShownBy step steps h × AreShown steps h
 pub record LineFails (why : Option Cause) (at : ℕ) (past : List Step) (h : List Event) (link : Link) : Type 0 where
   pub lost : LineLost at past h link
   pub shows : (conn : Conn) → link.conn ≡ Some conn → ShowsWhy why (talk_in past at) conn.number h
+
+-- what the link holds is foreign
+abbrev pub LineIsForeign : Link → Type 0
+LineIsForeign link = IfSome link.conn (λ conn. IsForeign link.awaits_dialect (said_late link.late.items ++ said_asks link.calls.sent.items) conn.held.items)
 
 -- a link agrees, and this call may go there, and wasn't asked yet
 abbrev pub LineCalled : SentCall → (at : ℕ) → List Step → List Event → Link → Type 0

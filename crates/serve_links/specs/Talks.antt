@@ -29,7 +29,7 @@ pub data Standing : Type 0 where
   InUse : Standing
   Ending : Standing
 
--- how it stands once it was given up for a cause, or as that was wanted: what is no answer came, or reads were in vain; otherwise it was closed
+-- how it stands once it was given up for a cause, or as that was wanted: what is no answer came, or there was no room for what came, or reads were in vain; otherwise it was closed
 abbrev pub left_by : Option Cause → Standing
 left_by None = Apart
 left_by (Some causes.Unreachable) = Apart
@@ -38,6 +38,7 @@ left_by (Some causes.AnswerLate) = Apart
 left_by (Some causes.Closed) = Apart
 left_by (Some causes.Broken) = Apart
 left_by (Some causes.Foreign) = Ending
+left_by (Some causes.NoRoom) = Ending
 left_by (Some causes.VainReads) = Ending
 
 -- of a server's connection: how it stands, what was to be sent over it, which bytes that came over it told something, the calls that are out there, the one that was asked first in front, before them those that were late, which have

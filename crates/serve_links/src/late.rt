@@ -7,7 +7,7 @@ ghost use Rattle.core_accepted.specs.declared.served.ServedCore.{ServedCore};
 ghost use Rattle.serve_links.specs.Calls.{PassesOver};
 ghost use Rattle.serve_links.specs.Lateness.{LetsStoresWait};
 ghost use Rattle.serve_links.specs.CoreSteps.{IsOfTurn, IsSending};
-ghost use Rattle.serve_links.specs.Story.{LineGoes};
+ghost use Rattle.serve_links.specs.Story.{LineGoes, LineIsForeign};
 
 use crate::calls::{LateCall, LateRead, LinkCalls};
 use crate::link::Link;
@@ -24,8 +24,10 @@ pub enum LateEnd {
     Over,
     /// More are to come.
     More,
-    /// What is held is no answer to the first call that is late.
+    /// What is held begins no answer to the first call that is late.
     Foreign,
+    /// Memory was refused for reading that.
+    NoMemory,
 }
 
 // The answer to the first of these calls is held no more, where what is held begins with it.
@@ -45,6 +47,7 @@ fn pass_over(late: &mut VecDeque<LateCall>, calls: &mut LinkCalls, conn: &mut Co
         }
         LateRead::More => LateRead::More,
         LateRead::Foreign => LateRead::Foreign,
+        LateRead::NoMemory => LateRead::NoMemory,
     }
 }
 
@@ -72,6 +75,7 @@ impl Link {
     fn throw_first(&mut self) -> LateRead
         requires { self.old.awaits_dialect ≡ None }
         ensures goes { (at : ℕ) (core : ServedCore) (h : List Event) → LineGoes IsOfTurn at core h self.old core h self.new }
+        ensures foreign { result ≡ LateRead.Foreign → LineIsForeign self.new }
         ensures told { self.new.awaits_dialect ≡ None }
     {
         let Some(conn) = self.conn.as_mut() else {
@@ -85,6 +89,7 @@ impl Link {
         requires { self.old.awaits_dialect ≡ None }
         ensures goes { (at : ℕ) (core : ServedCore) (h : List Event) → LineGoes IsOfTurn at core h self.old core h self.new }
         ensures over { result ≡ LateEnd.Over → self.new.late.items ≡ [] }
+        ensures foreign { result ≡ LateEnd.Foreign → LineIsForeign self.new }
         ensures told { self.new.awaits_dialect ≡ None }
     {
         for _ in 0..self.late.len() {
@@ -95,6 +100,7 @@ impl Link {
                     return LateEnd::More;
                 }
                 LateRead::Foreign => return LateEnd::Foreign,
+                LateRead::NoMemory => return LateEnd::NoMemory,
             }
         }
         if self.awaits_late() {

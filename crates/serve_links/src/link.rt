@@ -9,7 +9,7 @@ ghost use Rattle.wire_parts.specs.Sending.{bytes_of};
 ghost use Rattle.serve_links.specs.Dialects.{awaits_flush};
 ghost use Rattle.serve_links.specs.Epochs.{is_retired, with_retired, IsQuiet};
 ghost use Rattle.serve_links.specs.Lines.{dialect_asked, flush_asked, first_asked_of, asks_dialect, awaits_first, first_dialect, greeting_of, KeepsLines, HasNewEnd, OpensBy, Learns, ended_by, DrainsOne, DrainsBy};
-ghost use Rattle.serve_links.specs.Story.{line_of};
+ghost use Rattle.serve_links.specs.Story.{line_of, LineIsForeign};
 ghost use Rattle.serve_links.specs.Shut.{conn_of};
 
 use crate::calls::{LateCall, LinkCalls, SentCall};
@@ -812,7 +812,8 @@ impl Link {
 
     /// What its server says to what it was asked first is taken from its bytes, where that is still to come and whole. Whether it can be that.
     pub fn learn(&mut self) -> bool
-        ensures { Learns result self.old self.new }
+        ensures learns { Learns result self.old self.new }
+        ensures foreign { result ≡ false → LineIsForeign self.new }
     {
         let Some(greeting) = self.awaits_dialect else {
             return true;

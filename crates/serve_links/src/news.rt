@@ -19,21 +19,23 @@ pub enum Cause {
     Closed,
     /// Reading or writing failed.
     Broken,
-    /// The server sent what can't be an answer to the oldest call, or what nothing asked for. It is told, too, where memory was refused
-    /// for reading its answer, or where as much is held of the link as may be.
+    /// The server sent what begins no answer to the oldest call, or what nothing asked for.
     Foreign,
+    /// There was no room for what it sent: memory was refused for reading it, or as much was held of it as may be.
+    NoRoom,
     /// As many reads in a row as were set brought no whole answer.
     VainReads,
 }
 
 /// All causes.
-pub const CAUSES: [Cause; 7] = [
+pub const CAUSES: [Cause; 8] = [
     Cause::Unreachable,
     Cause::ConnectLate,
     Cause::AnswerLate,
     Cause::Closed,
     Cause::Broken,
     Cause::Foreign,
+    Cause::NoRoom,
     Cause::VainReads,
 ];
 
@@ -44,7 +46,7 @@ impl Cause {
         ensures closes { result ≡ false → left_by (Some self) ≡ Apart }
     {
         match self {
-            Cause::Foreign | Cause::VainReads => true,
+            Cause::Foreign | Cause::NoRoom | Cause::VainReads => true,
             Cause::Unreachable
             | Cause::ConnectLate
             | Cause::AnswerLate
@@ -62,6 +64,7 @@ impl Cause {
             Cause::Closed => "closed",
             Cause::Broken => "broken",
             Cause::Foreign => "foreign",
+            Cause::NoRoom => "no_room",
             Cause::VainReads => "vain_reads",
         }
     }
@@ -89,6 +92,7 @@ fn words_of(cause: Cause) -> &'static str {
         Cause::Closed => "it closed the connection",
         Cause::Broken => "reading or writing failed",
         Cause::Foreign => "it sent what is no answer to the oldest call",
+        Cause::NoRoom => "there was no room for what it sent",
         Cause::VainReads => "too many reads brought no whole answer",
     }
 }

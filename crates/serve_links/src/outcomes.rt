@@ -10,7 +10,7 @@ ghost use Rattle.serve_links.specs.Story.{LineGoes};
 ghost use Rattle.core_accepted.specs.declared.served.ServedCore.{ServedCore};
 ghost use Rattle.serve_links.specs.Lateness.{HasLate, LetsStoresWait};
 ghost use Rattle.serve_links.specs.Links.{AllFail, FailsTo, IsDown};
-ghost use Rattle.serve_links.specs.Settled.{HoldsNoAnswer, SettlesSome, SettlesFront, used_by};
+ghost use Rattle.serve_links.specs.Settled.{HoldsNoAnswer, HoldsForeign, SettlesSome, SettlesFront, used_by};
 
 use crate::calls::{LinkCalls, Next, fail_call};
 use crate::link::Link;
@@ -108,13 +108,23 @@ fn fail_all_late(link: &mut Link, core: &mut ServedCore, clients: &mut Clients, 
     }
 }
 
+/// What is left of what a link holds.
+#[derive(Clone, Copy, PartialEq, Eq)]
+pub enum HeldLeft {
+    /// Nothing, or the begin of the next answer.
+    Begun,
+    /// What begins no answer to the next call, or what no call asked for.
+    Foreign,
+    /// What can't be read or kept, as memory was refused for that.
+    NoMemory,
+}
+
 /// What came of the answers that a link holds.
 #[derive(Clone, Copy)]
 pub struct HeldAnswers {
     /// Whether one was settled at least.
     pub has_settled: bool,
-    /// Whether what is left may be the begin of the next one.
-    pub is_kept: bool,
+    pub left: HeldLeft,
     /// How many bytes that one takes, where its first line is there and tells of large data.
     pub awaited: Option<usize>,
 }
@@ -137,6 +147,8 @@ enum HeldStop {
     More,
     // No answer to the next call begins so.
     Foreign,
+    // Memory was refused for reading the next one.
+    NoMemory,
     // The next one has long data, and is there: they are to be shared, and so are those of the ones after it.
     Long,
     // The next one has large data, and is there: it takes so many bytes, if it is spelled as usual.
@@ -150,8 +162,10 @@ enum HeldFront {
     Settled,
     // It isn't whole yet.
     More,
-    // No answer to the first call begins so, or memory was refused for what follows it.
+    // No answer to the first call begins so.
     Foreign,
+    // Memory was refused for reading it, or for what follows it.
+    NoMemory,
 }
 
 // What stands from this place on.
@@ -184,7 +198,8 @@ fn whole_front(from: usize, held: &[u8]) -> Option<usize> {
 
 // What stands in front, if that is an answer to stop at.
 fn front_stop(stops: Stops, held: &[u8]) -> Option<HeldStop>
-    ensures { IfSome result (λ stop. stop ≢ HeldStop.More) }
+    ensures more { IfSome result (λ stop. stop ≢ HeldStop.More) }
+    ensures foreign { IfSome result (λ stop. stop ≢ HeldStop.Foreign) }
 {
     let from = match stops {
         Stops::Never => return None,
@@ -226,6 +241,7 @@ fn settle_in(
 ) -> (usize, HeldStop)
     ensures core { GoesBy IsSettlement core.old core.new }
     ensures left { result.1 ≡ HeldStop.More → HoldsNoAnswer calls.new.sent.items (drop result.0 received.now) core.new }
+    ensures foreign { result.1 ≡ HeldStop.Foreign → HoldsForeign calls.new.sent.items (drop result.0 received.now) core.new }
     ensures settled { SettlesSome calls.old.sent.items received.now core.old calls.new.sent.items (drop result.0 received.now) core.new }
     ensures front { SettlesFront calls.old.sent.items received.now core.old calls.new.sent.items core.new }
     ensures ends { KeepsEnds clients.old clients.new }
@@ -249,11 +265,12 @@ fn settle_in(
             }
             Next::More => return (used, HeldStop::More),
             Next::Foreign => return (used, HeldStop::Foreign),
+            Next::NoMemory => return (used, HeldStop::NoMemory),
         }
     }
     // No answer is empty, so nothing is left here.
     if used < held.len() {
-        return (used, HeldStop::Foreign);
+        return (used, HeldStop::NoMemory);
     }
     (used, HeldStop::More)
 }
@@ -269,6 +286,7 @@ fn settle_here(
 ) -> (usize, HeldStop)
     ensures core { GoesBy IsSettlement core.old core.new }
     ensures left { result.1 ≡ HeldStop.More → HoldsNoAnswer calls.new.sent.items (drop result.0 held.now) core.new }
+    ensures foreign { result.1 ≡ HeldStop.Foreign → HoldsForeign calls.new.sent.items (drop result.0 held.now) core.new }
     ensures settled { SettlesSome calls.old.sent.items held.now core.old calls.new.sent.items (drop result.0 held.now) core.new }
     ensures front { SettlesFront calls.old.sent.items held.now core.old calls.new.sent.items core.new }
     ensures ends { KeepsEnds clients.old clients.new }
@@ -293,6 +311,7 @@ fn settle_cut(
 ) -> (usize, HeldStop)
     ensures core { GoesBy IsSettlement core.old core.new }
     ensures left { result.1 ≡ HeldStop.More → HoldsNoAnswer calls.new.sent.items (drop result.0 front.now) core.new }
+    ensures foreign { result.1 ≡ HeldStop.Foreign → HoldsForeign calls.new.sent.items (drop result.0 front.now) core.new }
     ensures settled { SettlesSome calls.old.sent.items front.now core.old calls.new.sent.items (drop result.0 front.now) core.new }
     ensures front { SettlesFront calls.old.sent.items front.now core.old calls.new.sent.items core.new }
     ensures ends { KeepsEnds clients.old clients.new }
@@ -317,11 +336,15 @@ fn settle_copied(
 ) -> HeldFront
     ensures core { GoesBy IsSettlement core.old core.new }
     ensures left { result ≡ HeldFront.More → HoldsNoAnswer calls.new.sent.items conn.new.held.items core.new }
-    ensures settled { result ≢ HeldFront.Foreign → SettlesSome calls.old.sent.items conn.old.held.items core.old calls.new.sent.items conn.new.held.items core.new }
+    ensures foreign { result ≡ HeldFront.Foreign → HoldsForeign calls.new.sent.items conn.new.held.items core.new }
+    ensures settled { result ≢ HeldFront.NoMemory → SettlesSome calls.old.sent.items conn.old.held.items core.old calls.new.sent.items conn.new.held.items core.new }
     ensures front { SettlesFront calls.old.sent.items conn.old.held.items core.old calls.new.sent.items core.new }
     ensures ends { KeepsEnds clients.old clients.new }
     ensures rest { HoldsAnew conn.old conn.new }
 {
+    if conn.held.is_empty() {
+        return HeldFront::More;
+    }
     let is_get = calls.awaits_get();
     match settle_first(calls, core, &Received::copied(conn.held.as_slice())) {
         Next::Settled { client, used } => {
@@ -332,6 +355,7 @@ fn settle_copied(
         }
         Next::More => HeldFront::More,
         Next::Foreign => HeldFront::Foreign,
+        Next::NoMemory => HeldFront::NoMemory,
     }
 }
 
@@ -347,11 +371,13 @@ fn hold_rest(conn: &mut Conn, front: &Bytes, used: usize) -> bool
 // What was done with the answer after those that were settled from a part that was cut off, of which the rest is held again or not.
 fn front_after(stop: HeldStop, is_kept: bool) -> HeldFront
     ensures stop { result ≡ HeldFront.More → stop ≡ HeldStop.More }
-    ensures kept { result ≢ HeldFront.Foreign → is_kept ≡ true }
+    ensures foreign { result ≡ HeldFront.Foreign → stop ≡ HeldStop.Foreign }
+    ensures kept { result ≢ HeldFront.NoMemory → is_kept ≡ true }
 {
     match stop {
         HeldStop::More if is_kept => HeldFront::More,
-        _ => HeldFront::Foreign,
+        HeldStop::Foreign if is_kept => HeldFront::Foreign,
+        _ => HeldFront::NoMemory,
     }
 }
 
@@ -365,7 +391,8 @@ fn settle_long(
 ) -> (bool, HeldFront)
     ensures core { GoesBy IsSettlement core.old core.new }
     ensures left { result.1 ≡ HeldFront.More → HoldsNoAnswer calls.new.sent.items conn.new.held.items core.new }
-    ensures settled { result.1 ≢ HeldFront.Foreign → SettlesSome calls.old.sent.items conn.old.held.items core.old calls.new.sent.items conn.new.held.items core.new }
+    ensures foreign { result.1 ≡ HeldFront.Foreign → HoldsForeign calls.new.sent.items conn.new.held.items core.new }
+    ensures settled { result.1 ≢ HeldFront.NoMemory → SettlesSome calls.old.sent.items conn.old.held.items core.old calls.new.sent.items conn.new.held.items core.new }
     ensures front { SettlesFront calls.old.sent.items conn.old.held.items core.old calls.new.sent.items core.new }
     ensures ends { KeepsEnds clients.old clients.new }
     ensures rest { HoldsAnew conn.old conn.new }
@@ -420,7 +447,8 @@ fn settle_large(
 ) -> HeldFront
     ensures core { GoesBy IsSettlement core.old core.new }
     ensures left { result ≡ HeldFront.More → HoldsNoAnswer calls.new.sent.items conn.new.held.items core.new }
-    ensures settled { result ≢ HeldFront.Foreign → SettlesSome calls.old.sent.items conn.old.held.items core.old calls.new.sent.items conn.new.held.items core.new }
+    ensures foreign { result ≡ HeldFront.Foreign → HoldsForeign calls.new.sent.items conn.new.held.items core.new }
+    ensures settled { result ≢ HeldFront.NoMemory → SettlesSome calls.old.sent.items conn.old.held.items core.old calls.new.sent.items conn.new.held.items core.new }
     ensures front { SettlesFront calls.old.sent.items conn.old.held.items core.old calls.new.sent.items core.new }
     ensures ends { KeepsEnds clients.old clients.new }
     ensures rest { HoldsAnew conn.old conn.new }
@@ -437,11 +465,11 @@ fn settle_large(
             if is_kept {
                 HeldFront::Settled
             } else {
-                HeldFront::Foreign
+                HeldFront::NoMemory
             }
         }
-        (Next::More, true) => settle_copied(calls, core, clients, is_freed, conn),
-        _ => HeldFront::Foreign,
+        (_, true) => settle_copied(calls, core, clients, is_freed, conn),
+        (_, false) => HeldFront::NoMemory,
     }
 }
 
@@ -454,10 +482,12 @@ fn settle_stop(
     conn: &mut Conn,
     stop: HeldStop,
 ) -> (bool, HeldFront)
-    requires { stop ≡ HeldStop.More → HoldsNoAnswer calls.old.sent.items conn.old.held.items core.old }
+    requires left { stop ≡ HeldStop.More → HoldsNoAnswer calls.old.sent.items conn.old.held.items core.old }
+    requires foreign { stop ≡ HeldStop.Foreign → HoldsForeign calls.old.sent.items conn.old.held.items core.old }
     ensures core { GoesBy IsSettlement core.old core.new }
     ensures left { result.1 ≡ HeldFront.More → HoldsNoAnswer calls.new.sent.items conn.new.held.items core.new }
-    ensures settled { result.1 ≢ HeldFront.Foreign → SettlesSome calls.old.sent.items conn.old.held.items core.old calls.new.sent.items conn.new.held.items core.new }
+    ensures foreign { result.1 ≡ HeldFront.Foreign → HoldsForeign calls.new.sent.items conn.new.held.items core.new }
+    ensures settled { result.1 ≢ HeldFront.NoMemory → SettlesSome calls.old.sent.items conn.old.held.items core.old calls.new.sent.items conn.new.held.items core.new }
     ensures front { SettlesFront calls.old.sent.items conn.old.held.items core.old calls.new.sent.items core.new }
     ensures ends { KeepsEnds clients.old clients.new }
     ensures rest { HoldsAnew conn.old conn.new }
@@ -465,6 +495,7 @@ fn settle_stop(
     match stop {
         HeldStop::More => (false, HeldFront::More),
         HeldStop::Foreign => (false, HeldFront::Foreign),
+        HeldStop::NoMemory => (false, HeldFront::NoMemory),
         HeldStop::Long => settle_long(calls, core, clients, is_freed, conn),
         HeldStop::Large(len) => {
             let front = settle_large(calls, core, clients, is_freed, conn, len);
@@ -484,7 +515,8 @@ fn settle_some(
 ) -> (bool, HeldFront)
     ensures core { GoesBy IsSettlement core.old core.new }
     ensures left { result.1 ≡ HeldFront.More → HoldsNoAnswer calls.new.sent.items conn.new.held.items core.new }
-    ensures settled { result.1 ≢ HeldFront.Foreign → SettlesSome calls.old.sent.items conn.old.held.items core.old calls.new.sent.items conn.new.held.items core.new }
+    ensures foreign { result.1 ≡ HeldFront.Foreign → HoldsForeign calls.new.sent.items conn.new.held.items core.new }
+    ensures settled { result.1 ≢ HeldFront.NoMemory → SettlesSome calls.old.sent.items conn.old.held.items core.old calls.new.sent.items conn.new.held.items core.new }
     ensures front { SettlesFront calls.old.sent.items conn.old.held.items core.old calls.new.sent.items core.new }
     ensures ends { KeepsEnds clients.old clients.new }
     ensures rest { HoldsAnew conn.old conn.new }
@@ -512,18 +544,30 @@ fn stops_for(calls: &mut LinkCalls, conn: &mut Conn) -> Stops
     }
 }
 
-fn told(has_settled: bool, is_kept: bool, held: &[u8]) -> HeldAnswers
-    ensures { result.is_kept ≡ is_kept }
+fn told(has_settled: bool, left: HeldLeft, held: &[u8]) -> HeldAnswers
+    ensures { result.left ≡ left }
 {
     HeldAnswers {
         has_settled,
-        is_kept,
+        left,
         awaited: large_len(SHARED_FROM, held),
     }
 }
 
-/// All whole answers that the link's connection holds are settled, one after another, and are held no more: nothing is left, or the begin of the next one.
-/// Where what is left can't be kept, nothing is said of it, and each answer that was settled was in front all the same. Large data, of [`SHARED_FROM`] bytes or more, share the buffer that they came in. So do long
+// What is left where nothing should be.
+fn left_of(conn: &Conn) -> HeldLeft
+    ensures begun { result ≡ HeldLeft.Begun → conn.now.held.items ≡ [] }
+    ensures known { result ≢ HeldLeft.Foreign }
+{
+    if conn.held.is_empty() {
+        HeldLeft::Begun
+    } else {
+        HeldLeft::NoMemory
+    }
+}
+
+/// All whole answers that the link's connection holds are settled, one after another, and are held no more: nothing is left, or the begin of the next one,
+/// or what begins none. Where what is left can't be read or kept, nothing is said of it, and each answer that was settled was in front all the same. Large data, of [`SHARED_FROM`] bytes or more, share the buffer that they came in. So do long
 /// ones, of [`CUT_FROM`] bytes or more, where 16,384 bytes or more are held and none that shared another buffer before is in use. All others are copied.
 pub fn settle_held(
     calls: &mut LinkCalls,
@@ -533,8 +577,9 @@ pub fn settle_held(
     conn: &mut Conn,
 ) -> HeldAnswers
     ensures core { GoesBy IsSettlement core.old core.new }
-    ensures left { result.is_kept ≡ true → HoldsNoAnswer calls.new.sent.items conn.new.held.items core.new }
-    ensures settled { result.is_kept ≡ true → SettlesSome calls.old.sent.items conn.old.held.items core.old calls.new.sent.items conn.new.held.items core.new }
+    ensures left { result.left ≡ HeldLeft.Begun → HoldsNoAnswer calls.new.sent.items conn.new.held.items core.new }
+    ensures foreign { result.left ≡ HeldLeft.Foreign → HoldsForeign calls.new.sent.items conn.new.held.items core.new }
+    ensures settled { result.left ≢ HeldLeft.NoMemory → SettlesSome calls.old.sent.items conn.old.held.items core.old calls.new.sent.items conn.new.held.items core.new }
     ensures front { SettlesFront calls.old.sent.items conn.old.held.items core.old calls.new.sent.items core.new }
     ensures ends { KeepsEnds clients.old clients.new }
     ensures rest { HoldsAnew conn.old conn.new }
@@ -545,11 +590,25 @@ pub fn settle_held(
         let (others, front) = settle_some(calls, core, clients, is_freed, conn, stops);
         match front {
             HeldFront::Settled => has_settled = true,
-            HeldFront::More => return told(has_settled || others, true, conn.held.as_slice()),
-            HeldFront::Foreign => return told(has_settled || others, false, conn.held.as_slice()),
+            HeldFront::More => {
+                return told(has_settled || others, HeldLeft::Begun, conn.held.as_slice());
+            }
+            HeldFront::Foreign => {
+                return told(
+                    has_settled || others,
+                    HeldLeft::Foreign,
+                    conn.held.as_slice(),
+                );
+            }
+            HeldFront::NoMemory => {
+                return told(
+                    has_settled || others,
+                    HeldLeft::NoMemory,
+                    conn.held.as_slice(),
+                );
+            }
         }
     }
     // Nothing is held here either.
-    let is_kept = conn.held.is_empty();
-    told(has_settled, is_kept, conn.held.as_slice())
+    told(has_settled, left_of(conn), conn.held.as_slice())
 }

@@ -41,12 +41,12 @@ pub struct LinkTally {
     /// How often a call of it was late.
     pub late: u64,
     // How often it failed for each cause.
-    failed: [u64; 7],
+    failed: [u64; 8],
 }
 
 // The place of a cause among all.
 fn cause_place(cause: Cause) -> usize
-    ensures { result < 7 }
+    ensures { result < 8 }
 {
     match cause {
         Cause::Unreachable => 0,
@@ -56,6 +56,7 @@ fn cause_place(cause: Cause) -> usize
         Cause::Foreign => 4,
         Cause::VainReads => 5,
         Cause::AnswerLate => 6,
+        Cause::NoRoom => 7,
     }
 }
 
@@ -136,7 +137,7 @@ impl LinkTally {
         LinkTally {
             stood: 0,
             late: 0,
-            failed: [0; 7],
+            failed: [0; 8],
         }
     }
 

@@ -47,6 +47,7 @@ read_over causes.Unreachable c h k never = absurd never
 read_over causes.ConnectLate c h k never = absurd never
 read_over causes.AnswerLate c h k never = absurd never
 read_over causes.Foreign c h k never = absurd never
+read_over causes.NoRoom c h k never = absurd never
 read_over causes.VainReads c h k never = absurd never
 
 -- it was read, and stands

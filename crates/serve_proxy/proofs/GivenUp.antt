@@ -21,11 +21,12 @@ use Rattle.serve_links.specs.Lateness.{AwaitsLate}
 use Rattle.serve_links.specs.Links.{vain_cause}
 use Rattle.serve_links.specs.CoreSteps.{Step, Opened, NotOpened, Fed, Polled, Stopped, Settled, Gave, Closed, LeftLine, Broke, Loaded, Linked, Asked, Greeted, Spelled, Late, CameLate, Lost, Walks, AreOf, IsOfTurn, IsGivingUp, IsSending, Fails, GoesBy}
 use Rattle.serve_links.specs.Talks.{SaidAsk, IsStoreFirst, talk_in}
-use Rattle.serve_links.specs.Story.{said_asks, said_late, line_of, LineAgrees, LineLost, LineFails, LineGoesFrom, AnEnd, Agrees, AgreesBut, AllGoFrom, ShowsWhy}
+use Rattle.serve_links.specs.Story.{said_asks, said_late, line_of, IsForeign, LineIsForeign, LineAgrees, LineLost, LineFails, LineGoesFrom, AnEnd, Agrees, AgreesBut, AllGoFrom, ShowsWhy}
 use Rattle.serve_links.proofs.LinkGoes.{as_failing, line_between, line_keeps}
+use Rattle.serve_links.proofs.Foreign.{fails_foreign, none_awaited}
 use Rattle.serve_links.proofs.Story.{go_between, all_but, but_all}
 use Rattle.serve_proxy.specs.declared.sockets.Sockets.{Sockets}
-use Rattle.serve_proxy.specs.Ends.{end_of, over_by, over_of, idle_cause, broken_unless, AwaitsLateAt, LineUnless, LineStandsUnless, EndsGoFrom, AgreesUnless, AllGoOn, AllGoUnless}
+use Rattle.serve_proxy.specs.Ends.{end_of, over_by, over_of, idle_cause, broken_unless, AwaitsNothing, AwaitsLateAt, LineUnless, LineStandsUnless, EndsGoFrom, AgreesUnless, AllGoOn, AllGoUnless}
 use Rattle.serve_proxy.proofs.Going.{and_then, stays, line_lends}
 use Rattle.serve_proxy.proofs.Staying.{stay_clients}
 use Rattle.serve_proxy.proofs.Linking.{but_clients}
@@ -58,23 +59,33 @@ pub stands_in_vain :
     (at : ℕ) (h : List Event) (x y : Link) (has_failed : Bool) (cause : Option Cause) → cause ≡ vain_cause has_failed → (has_failed ≡ true → y.calls.sent.items ≢ []) → line_of y ≡ line_of x → LineStandsUnless cause at h h x y
 stands_in_vain at h x y has_failed cause is some same = λ core. vain_goes has_failed cause is some (line_keeps (λ d. untouched d h) same)
 
--- what is no answer came
-pub foreign_goes :
+-- there was no room for what came
+pub no_room_goes :
     {P : ℕ → List Step → List Event → Link → Type 0} {Is : Step → Type 0} {at : ℕ} {a b : ServedCore} {h h' : List Event} {x y : Link} → LineGoesFrom P LineLost Is at a h x b h' y
-    → LineGoesFrom P (LineFails (Some causes.Foreign)) Is at a h x b h' y
-foreign_goes g = line_between (λ past was. was) (λ past was. record { lost = was; shows = λ conn there. tt }) g
+    → LineGoesFrom P (LineFails (Some causes.NoRoom)) Is at a h x b h' y
+no_room_goes g = line_between (λ past was. was) (λ past was. record { lost = was; shows = λ conn there. tt }) g
 
 -- what a read of a link comes to on which nothing is out
-idle_agrees : (what : Got) (at : ℕ) (past : List Step) (h : List Event) (y : Link) → LineUnless (over_by what) at past h y → LineUnless (idle_cause what) at past h y
-idle_agrees got.Bytes at past h y a = as_failing (Some causes.Foreign) at past h y (λ conn there. tt) a
-idle_agrees got.Nothing at past h y a = a
-idle_agrees got.Full at past h y a = as_failing (Some causes.Foreign) at past h y (λ conn there. tt) a
-idle_agrees got.Ended at past h y a = a
-idle_agrees got.Failed at past h y a = a
+idle_agrees :
+    (what : Got) (at : ℕ) (past : List Step) (h : List Event) (y : Link) → (what ≡ got.Bytes → LineIsForeign y) → LineUnless (over_by what) at past h y → LineUnless (idle_cause what) at past h y
+idle_agrees got.Bytes at past h y came a = fails_foreign at past h y (came refl) a
+idle_agrees got.Nothing at past h y came a = a
+idle_agrees got.Full at past h y came a = as_failing (Some causes.NoRoom) at past h y (λ conn there. tt) a
+idle_agrees got.Ended at past h y came a = a
+idle_agrees got.Failed at past h y came a = a
 
-pub idle_stands : (at : ℕ) (h h' : List Event) (x y : Link) (what : Got) (cause : Option Cause) → cause ≡ idle_cause what → LineStandsUnless (over_by what) at h h' x y → LineStandsUnless cause at h h' x y
-idle_stands at h h' x y what cause is s = λ core.
-    subst (λ o. LineGoesFrom LineAgrees (LineUnless o) IsSending at core h x core h' y) (sym is) (line_between (λ past was. was) (λ past was. idle_agrees what at past h' y was) (s core))
+pub idle_stands :
+    (at : ℕ) (h h' : List Event) (x y : Link) (what : Got) (cause : Option Cause) → cause ≡ idle_cause what → (what ≡ got.Bytes → LineIsForeign y) → LineStandsUnless (over_by what) at h h' x y → LineStandsUnless cause at h h' x y
+idle_stands at h h' x y what cause is came s = λ core.
+    subst (λ o. LineGoesFrom LineAgrees (LineUnless o) IsSending at core h x core h' y) (sym is) (line_between (λ past was. was) (λ past was. idle_agrees what at past h' y came was) (s core))
+
+-- what came is held of a link over whose connection nothing is awaited
+pub idle_came : (x y : Link) → AwaitsNothing x → y ≡ record x { conn = y.conn } → IfSome y.conn (λ conn. conn.held.items ≢ []) → LineIsForeign y
+idle_came x y nothing rest some = by y.conn refl some
+  where
+    by : (o : Option Conn) → y.conn ≡ o → IfSome o (λ conn. conn.held.items ≢ []) → LineIsForeign y
+    by None e is = subst (λ (o : Option Conn). IfSome o (λ conn. IsForeign y.awaits_dialect (said_late y.late.items ++ said_asks y.calls.sent.items) conn.held.items)) (sym e) tt
+    by (Some c) e is = none_awaited y c e (ap (λ (z : Link). z.calls.sent.items) rest ∙ nothing.0) (ap (λ (z : Link). z.late.items) rest ∙ nothing.1) (ap (λ (z : Link). z.awaits_dialect) rest ∙ nothing.2) is
 
 -- where it was read, and where it was not
 pub line_some : {h h' : List Event} {x y : Link} (at : ℕ) (v : Option Got) (what : Got) → v ≡ Some what → LineStandsUnless (over_of v) at h h' x y → LineStandsUnless (over_by what) at h h' x y
@@ -163,9 +174,9 @@ unanswered {a = a} at awaits g = go_between (λ past was. failing_at (Some cause
         let late : AwaitsLate link = subst (λ (o : Option Link). IfSome o AwaitsLate) there awaits in
         as_failing (Some causes.AnswerLate) at past a.history link (λ conn is. late_shows at past a.history link conn agrees is late) agrees
 
--- or for what is no answer, or where that is wanted
-pub foreign_at : (at : ℕ) (past : List Step) (x : AnEnd) → Agrees past x → AgreesBut (LineFails (Some causes.Foreign)) at past x
-foreign_at at past x was = failing_at (Some causes.Foreign) at past x (λ link there. as_failing (Some causes.Foreign) at past x.history link (λ conn is. tt) (was.links at link there)) was
+-- or for which there was no room for what came, or where that is wanted
+pub no_room_at : (at : ℕ) (past : List Step) (x : AnEnd) → Agrees past x → AgreesBut (LineFails (Some causes.NoRoom)) at past x
+no_room_at at past x was = failing_at (Some causes.NoRoom) at past x (λ link there. as_failing (Some causes.NoRoom) at past x.history link (λ conn is. tt) (was.links at link there)) was
 
 pub wanted : {Q : List Step → AnEnd → Type 0} {Is : Step → Type 0} {a b : AnEnd} (at : ℕ) → AllGoFrom (AgreesBut (LineFails None) at) Q Is a b → AllGoFrom Agrees Q Is a b
 wanted {a = a} at g = go_between (λ past was. failing_at None at past a (λ link there. as_failing None at past a.history link (λ conn is. tt) (was.links at link there)) was) (λ past was. was) g

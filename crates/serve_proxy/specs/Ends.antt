@@ -65,6 +65,10 @@ AwaitsLateAt at links = IfSome (slice_get links at) AwaitsLate
 abbrev pub AwaitsNoneAt : ℕ → List Link → Type 0
 AwaitsNoneAt at links = IfSome (slice_get links at) (λ link. link.late.items ≡ [])
 
+-- nothing is awaited over a link's connection: no answer, no late one, and nothing that its server says to what it was asked first
+abbrev pub AwaitsNothing : Link → Type 0
+AwaitsNothing link = (link.calls.sent.items ≡ []) × (link.late.items ≡ []) × (link.awaits_dialect ≡ None)
+
 -- where nothing is awaited over a link's connection, neither an answer, nor a late one, nor what its server says to what it was asked first, nothing is held of it: so no byte that came before a call is part of its answer
 abbrev pub HoldsAwaited : Link → Type 0
 HoldsAwaited link = link.calls.sent.items ≡ [] → link.late.items ≡ [] → link.awaits_dialect ≡ None → IfSome link.conn (λ conn. conn.held.items ≡ [])
@@ -108,7 +112,7 @@ over_of (Some what) = over_by what
 abbrev pub idle_cause : Got → Option Cause
 idle_cause got.Bytes = Some causes.Foreign
 idle_cause got.Nothing = None
-idle_cause got.Full = Some causes.Foreign
+idle_cause got.Full = Some causes.NoRoom
 idle_cause got.Ended = Some causes.Closed
 idle_cause got.Failed = Some causes.Broken
 

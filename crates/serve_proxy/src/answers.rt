@@ -1,6 +1,6 @@
 //! Links are read, and whole answers settle the calls that are out.
 
-ghost use Rattle.std.specs.Prelude.{◌≡◌, ℕ, [], None};
+ghost use Rattle.std.specs.Prelude.{◌≡◌, ◌≢◌, ℕ, [], None, Some, IfSome};
 ghost use Rattle.serve_clients.specs.Agrees.{KeepsEnds};
 ghost use Rattle.serve_links.specs.Story.{line_of};
 ghost use Rattle.serve_proxy.specs.Ends.{LineStandsUnless, LineGoesUnless, over_by, over_of, AgreesUnless, Stay, GoAloneUnless, AllFailOn, AllGoOn, AllGoUnless, AllGoFromUnless};
@@ -10,7 +10,7 @@ use crate::failing::fail_link;
 use crate::sockets::Sockets;
 use core_accepted::ServedCore;
 use serve_clients::Clients;
-use serve_links::{Cause, KEPT_ROOM, LateEnd, Link, settle_held, vain};
+use serve_links::{Cause, HeldLeft, KEPT_ROOM, LateEnd, Link, settle_held, vain};
 use serve_wire::Wire;
 use serve_wire::conn::Got;
 
@@ -77,7 +77,7 @@ fn settle_read<W: Wire>(
             learn_and_settle(core, sockets, at)
         }
         Got::Nothing => sockets.read_in_vain(at),
-        Got::Full => Some(Cause::Foreign),
+        Got::Full => Some(Cause::NoRoom),
         Got::Ended => Some(Cause::Closed),
         Got::Failed => Some(Cause::Broken),
     }
@@ -147,6 +147,7 @@ fn settle_after_late(
         LateEnd::Over => settle_all(link, core, clients, is_freed, true, polls),
         LateEnd::More => None,
         LateEnd::Foreign => Some(Cause::Foreign),
+        LateEnd::NoMemory => Some(Cause::NoRoom),
     }
 }
 
@@ -170,10 +171,11 @@ fn settle_all(
     let answers = settle_held(&mut link.calls, core, clients, is_freed, conn);
     link.awaited = answers.awaited;
     let has_failed = link.has_read(has_answered || answers.has_settled, polls);
-    if !answers.is_kept {
-        return Some(Cause::Foreign);
+    match answers.left {
+        HeldLeft::Begun => vain(has_failed),
+        HeldLeft::Foreign => Some(Cause::Foreign),
+        HeldLeft::NoMemory => Some(Cause::NoRoom),
     }
-    vain(has_failed)
 }
 
 impl<W: Wire> Sockets<W> {
@@ -220,6 +222,8 @@ impl<W: Wire> Sockets<W> {
 /// One read of the link, if something may have come over its connection: what it gave. What comes is too much where memory is refused for it.
 pub fn read_line<W: Wire>(link: &mut Link, wire: &mut W) -> Option<Got>
     ensures stands { (at : ℕ) → LineStandsUnless (over_of result) at (W.history wire.old) (W.history wire.new) link.old link.new }
+    ensures came { result ≡ Some Got.Bytes → IfSome link.new.conn (λ conn. conn.held.items ≢ []) }
+    ensures rest { link.new ≡ record link.old { conn = link.new.conn } }
 {
     let room = link.read_room();
     let Some(conn) = link.conn.as_mut() else {

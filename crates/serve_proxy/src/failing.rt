@@ -1,11 +1,11 @@
 //! Links fail: their connections broke, brought what is no answer, or took too long.
 
-ghost use Rattle.std.specs.Prelude.{◌≡◌, ◌⊎◌, ℕ, IsSome};
+ghost use Rattle.std.specs.Prelude.{◌≡◌, ◌⊎◌, ℕ, true, IsSome};
 ghost use Rattle.serve_wire.specs.Events.{time};
 ghost use Rattle.serve_links.specs.Lateness.{HasLateAt, AllLetStoresWait, IsConnectLateAt, IsReadAt};
 ghost use Rattle.serve_links.specs.Links.{IsDownAt, IsClosedAt};
 ghost use Rattle.serve_links.specs.Talks.{Apart, Ending};
-ghost use Rattle.serve_proxy.specs.Ends.{idle_cause, GoAlone, GoAloneUnless, LineStands, AllFailOn, AllGiveUp, AllLeave, AllGoOn};
+ghost use Rattle.serve_proxy.specs.Ends.{idle_cause, AwaitsNothing, GoAlone, GoAloneUnless, LineStands, AllFailOn, AllGiveUp, AllLeave, AllGoOn};
 
 use crate::answers::{read_line, serve_link};
 use crate::calls::fail_waited;
@@ -219,7 +219,9 @@ fn stop_line<W: Wire>(link: &mut Link, wire: &mut W)
 }
 
 // Whether the link's connection stands, nothing is out on it or waits for it, and no late answer is awaited.
-fn is_idle(link: &Link) -> bool {
+fn is_idle(link: &Link) -> bool
+    ensures { result ≡ true → AwaitsNothing link.now }
+{
     let is_awaited = link.awaits_greeting() || link.awaits_late();
     link.is_connected && !is_awaited && link.calls.is_empty() && link.waiting() == 0
 }
@@ -230,7 +232,8 @@ fn idle_fault(got: Got) -> Option<Cause>
 {
     match got {
         Got::Nothing => None,
-        Got::Bytes | Got::Full => Some(Cause::Foreign),
+        Got::Bytes => Some(Cause::Foreign),
+        Got::Full => Some(Cause::NoRoom),
         Got::Ended => Some(Cause::Closed),
         Got::Failed => Some(Cause::Broken),
     }

@@ -108,6 +108,7 @@ fn next_text(alloc: Global, next: Next) -> Result<String, Fail> {
         Next::Settled { client, used } => Ok(format!(in alloc; "client {client} by {used}")?),
         Next::More => Ok("more".to_string(alloc)?),
         Next::Foreign => Ok("foreign".to_string(alloc)?),
+        Next::NoMemory => Ok("no memory".to_string(alloc)?),
     }
 }
 

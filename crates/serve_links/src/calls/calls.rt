@@ -73,8 +73,10 @@ pub enum LateRead {
     Whole(usize),
     /// It isn't whole yet.
     More,
-    /// No answer to it begins so, or memory was refused for it.
+    /// No answer to it begins so.
     Foreign,
+    /// Memory was refused for reading it.
+    NoMemory,
 }
 
 /// What was done with a server's bytes.
@@ -84,8 +86,10 @@ pub enum Next {
     Settled { client: usize, used: usize },
     /// Its answer isn't whole yet.
     More,
-    /// No answer to it begins so, or none is out, or memory was refused for it.
+    /// No answer to it begins so, or none is out.
     Foreign,
+    /// Memory was refused for reading it.
+    NoMemory,
 }
 
 /// The calls of one server that are out, in the order in which they went out.
@@ -213,6 +217,7 @@ fn read_in(
     }
 }
 
+// The same, where memory isn't refused for that, and the ask is one that a client can write.
 #[tactic(auto, using(crate::proofs::CallOrder::read_meta))]
 fn read_for(
     dialect: Dialect,
@@ -221,26 +226,20 @@ fn read_for(
     spares: &mut SpareBodies,
     ask: &Ask,
     received: &Received,
-) -> AnswerRead
-    ensures { IsReadFor dialect ask.now received.now result }
+) -> Option<AnswerRead>
+    ensures { IfSome result (IsReadFor dialect ask.now received.now) }
 {
     if let Some(hit) = hit_in(dialect, ask, received.bytes()) {
-        return match read_hit(alloc, spares, ask, hit, received) {
-            Ok(read) => read,
-            Err(_) => AnswerRead::Foreign,
-        };
+        return read_hit(alloc, spares, ask, hit, received).ok();
     }
     if !is_ask(ask) {
-        return AnswerRead::Foreign;
+        return None;
     }
-    match read_in(dialect, alloc, forms, spares, ask, received) {
-        Ok(read) => read,
-        Err(_) => AnswerRead::Foreign,
-    }
+    read_in(dialect, alloc, forms, spares, ask, received).ok()
 }
 
 // What they say to the core's call of this number.
-#[tactic(auto, using(crate::proofs::CallOrder::read_next))]
+#[tactic(auto, using(crate::proofs::CallOrder::read_next, crate::proofs::CallOrder::read_nothing))]
 fn read_next(
     dialect: Dialect,
     alloc: Global,
@@ -249,11 +248,11 @@ fn read_next(
     core: &ServedCore,
     number: u64,
     received: &Received,
-) -> AnswerRead
-    ensures { IsReadNext dialect core.now.core number received.now result }
+) -> Option<AnswerRead>
+    ensures { IfSome result (IsReadNext dialect core.now.core number received.now) }
 {
     match core.asked(number) {
-        None => AnswerRead::Foreign,
+        None => Some(AnswerRead::Foreign),
         Some(ask) => read_for(dialect, alloc, forms, spares, ask, received),
     }
 }
@@ -428,7 +427,8 @@ impl LinkCalls {
     }
 
     /// The first of the calls that are out is settled by its answer, where the bytes begin with one, in the dialect in which it was
-    /// asked: nothing else is, and the core goes on by that alone. Without one nothing has changed.
+    /// asked: nothing else is, and the core goes on by that alone. Without one nothing has changed: more has to come, or none begins so whatever
+    /// follows, or memory was refused for reading it.
     ///
     /// Of the gets that were asked in the meta dialect the first takes memory for its form, and the first `gets` does, where their answers
     /// aren't hits that are spelled as servers mostly do; later ones are read by the form that is kept. Data are copied, or share the buffer that they came in, as [`Received::data`] says.
@@ -441,7 +441,7 @@ impl LinkCalls {
         let Some((number, dialect)) = self.first_asked() else {
             return Next::Foreign;
         };
-        match read_next(
+        let Some(read) = read_next(
             dialect,
             self.alloc,
             &mut self.forms,
@@ -449,7 +449,10 @@ impl LinkCalls {
             core,
             number,
             received,
-        ) {
+        ) else {
+            return Next::NoMemory;
+        };
+        match read {
             AnswerRead::More => Next::More,
             AnswerRead::Foreign => Next::Foreign,
             AnswerRead::Answer(answer, used) => {
@@ -485,14 +488,16 @@ impl LinkCalls {
         ensures sent { self.new.sent ≡ self.old.sent }
         ensures read { IsReadLate call.now received.now result }
     {
-        let read = read_for(
+        let Some(read) = read_for(
             call.dialect,
             self.alloc,
             &mut self.forms,
             &mut self.spares,
             call.ask.get(),
             received,
-        );
+        ) else {
+            return LateRead::NoMemory;
+        };
         match read {
             AnswerRead::Answer(_answer, used) => LateRead::Whole(used),
             AnswerRead::More => LateRead::More,

@@ -1,6 +1,7 @@
-use Rattle.std.proofs.Common.{ℕ, List, refl, ◌∙◌, subst}
+use Rattle.std.proofs.Common.{ℕ, ◌<◌, List, refl, ◌∙◌, subst}
 use Rattle.mc_types.specs.declared.answer.Answer.{Answer}
-use Rattle.serve_links.specs.Dialects.{SpellsIn}
+use Rattle.serve_links.specs.Dialects.{SpellsIn, IsForeignIn}
+use Rattle.serve_links.proofs.Foreign.{first_none}
 use Rattle.serve_links.proofs.LateGoes.{passed}
 use Rattle.serve_links.proofs.late.pass_over.Goals as goal
 
@@ -12,3 +13,9 @@ returns-in-Whole-clause-passes c =
       c.use_up.ensures.held,
       subst (λ (l : List ℕ). (answer : Answer) × SpellsIn call.dialect call.ask l answer c.in-Whole.used) (c.copied.ensures ∙ c.as_slice.ensures) c.in-Whole.ensures.read,
     )
+
+pub returns-in-Foreign-clause-passes : goal.returns-in-Foreign-clause-passes
+returns-in-Foreign-clause-passes c =
+    let call = c.in-Some.call.now in
+    let none : IsForeignIn call.dialect call.ask c.args.conn.now.held.items = subst (IsForeignIn call.dialect call.ask) (c.copied.ensures ∙ c.as_slice.ensures) c.in-Foreign.ensures.read in
+    (refl, refl, first_none c.args.late.now.items call c.args.conn.now.held.items (subst (λ (n : ℕ). 0 < n) c.args.late.now.ok.0 (c.in-Some.ensures.variant.0 refl)) c.in-Some.ensures.lookup none)

@@ -16,7 +16,7 @@ loop-init c = record {
 pub loop-preserved : goal.loop-preserved
 loop-preserved c = record {
   core = then c.loop.invariant.core c.settle_some-others.ensures.core;
-  settled = both c.loop.invariant.settled (c.settle_some-others.ensures.settled (λ foreign. absurd cc));
+  settled = both c.loop.invariant.settled (c.settle_some-others.ensures.settled (λ lost. absurd cc));
   ends = keeps_twice c.args.clients.now c.loop.clients c.settle_some-others.new.clients c.loop.invariant.ends c.settle_some-others.ensures.ends;
   rest = anew_twice c.args.conn.now c.loop.conn c.settle_some-others.new.conn c.loop.invariant.rest c.settle_some-others.ensures.rest;
 }
@@ -28,7 +28,7 @@ pub returns-in-Foreign-clause-core : goal.returns-in-Foreign-clause-core
 returns-in-Foreign-clause-core c = then c.loop.invariant.core c.settle_some-others.ensures.core
 
 pub returns-in-More-clause-settled : goal.returns-in-More-clause-settled
-returns-in-More-clause-settled c = λ kept. both c.loop.invariant.settled (c.settle_some-others.ensures.settled (λ foreign. absurd cc))
+returns-in-More-clause-settled c = λ kept. both c.loop.invariant.settled (c.settle_some-others.ensures.settled (λ lost. absurd cc))
 
 pub returns-in-More-clause-ends : goal.returns-in-More-clause-ends
 returns-in-More-clause-ends c = keeps_twice c.args.clients.now c.loop.clients c.settle_some-others.new.clients c.loop.invariant.ends c.settle_some-others.ensures.ends
@@ -47,3 +47,18 @@ returns-in-More-clause-front c = front_then c.loop.invariant.settled c.settle_so
 
 pub returns-in-Foreign-clause-front : goal.returns-in-Foreign-clause-front
 returns-in-Foreign-clause-front c = front_then c.loop.invariant.settled c.settle_some-others.ensures.front
+
+pub returns-in-NoMemory-clause-core : goal.returns-in-NoMemory-clause-core
+returns-in-NoMemory-clause-core c = then c.loop.invariant.core c.settle_some-others.ensures.core
+
+pub returns-in-NoMemory-clause-ends : goal.returns-in-NoMemory-clause-ends
+returns-in-NoMemory-clause-ends c = keeps_twice c.args.clients.now c.loop.clients c.settle_some-others.new.clients c.loop.invariant.ends c.settle_some-others.ensures.ends
+
+pub returns-in-NoMemory-clause-rest : goal.returns-in-NoMemory-clause-rest
+returns-in-NoMemory-clause-rest c = anew_twice c.args.conn.now c.loop.conn c.settle_some-others.new.conn c.loop.invariant.rest c.settle_some-others.ensures.rest
+
+pub returns-in-NoMemory-clause-front : goal.returns-in-NoMemory-clause-front
+returns-in-NoMemory-clause-front c = front_then c.loop.invariant.settled c.settle_some-others.ensures.front
+
+pub returns-in-Foreign-clause-settled : goal.returns-in-Foreign-clause-settled
+returns-in-Foreign-clause-settled c = λ kept. both c.loop.invariant.settled (c.settle_some-others.ensures.settled (λ lost. absurd cc))

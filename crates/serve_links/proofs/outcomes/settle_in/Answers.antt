@@ -2,7 +2,7 @@ use Rattle.std.proofs.Common.{ℕ, ◌+◌, ◌-◌, ◌^◌, ◌≤◌, List, l
 use Rattle.std.proofs.lemmas.List.{drop-drop}
 use Rattle.serve_clients.proofs.Agreeing.{keeps_none, keeps_twice}
 use Rattle.serve_links.proofs.Walked.{still, then}
-use Rattle.serve_links.proofs.Leaving.{awaited, none, both, one, drop_few, front_then, front_next}
+use Rattle.serve_links.proofs.Leaving.{awaited, some_held, foreign, none, both, one, drop_few, front_then, front_next}
 use Rattle.serve_links.proofs.outcomes.settle_in.Goals as goal
 
 pub loop-init : goal.loop-init
@@ -35,3 +35,14 @@ returns-in-More-clause-front c = front_then c.loop.invariant.settled (front_next
 
 pub returns-in-Foreign-clause-front : goal.returns-in-Foreign-clause-front
 returns-in-Foreign-clause-front c = front_then c.loop.invariant.settled (front_next c.loop.calls.sent.items (drop c.loop.used c.args.received.now) c.loop.core c.settle_at.result c.settle_at.new.calls.sent.items c.settle_at.new.core c.settle_at.ensures.next)
+
+pub returns-in-Foreign-clause-foreign : goal.returns-in-Foreign-clause-foreign
+returns-in-Foreign-clause-foreign c = λ same.
+    foreign c.loop.calls.sent.items (drop c.loop.used c.args.received.now) c.loop.core c.settle_at.new.calls.sent.items c.settle_at.new.core
+    (λ none. some_held _ (sym c.is_empty.ensures ∙ c.if-is_empty.false) (c.rest_of-rest.ensures ∙ ap (λ (l : List ℕ). drop c.loop.used l) c.bytes-held.ensures ∙ none)) c.in-Foreign.ensures.next
+
+pub returns-in-NoMemory-clause-core : goal.returns-in-NoMemory-clause-core
+returns-in-NoMemory-clause-core c = then c.loop.invariant.core c.settle_at.ensures.core
+
+pub returns-in-NoMemory-clause-front : goal.returns-in-NoMemory-clause-front
+returns-in-NoMemory-clause-front c = front_then c.loop.invariant.settled (front_next c.loop.calls.sent.items (drop c.loop.used c.args.received.now) c.loop.core c.settle_at.result c.settle_at.new.calls.sent.items c.settle_at.new.core c.settle_at.ensures.next)

@@ -10,3 +10,9 @@ returns-in-More-clause-front c = none_front refl refl
 
 pub returns-in-Foreign-clause-front : goal.returns-in-Foreign-clause-front
 returns-in-Foreign-clause-front c = none_front refl refl
+
+pub returns-in-Foreign-clause-settled : goal.returns-in-Foreign-clause-settled
+returns-in-Foreign-clause-settled c = λ came. none refl refl refl
+
+pub returns-in-NoMemory-clause-front : goal.returns-in-NoMemory-clause-front
+returns-in-NoMemory-clause-front c = none_front refl refl

@@ -1,30 +1,53 @@
-use Rattle.std.proofs.Common.{refl, sym, ap}
+use Rattle.std.proofs.Common.{◌≡◌, List, refl, sym, ap, ◌∙◌, subst}
 use Rattle.serve_wire.proofs.Steps.{untouched}
 use Rattle.serve_links.specs.declared.link.Link.{Link}
+use Rattle.serve_links.specs.declared.calls.calls.SentCall.{SentCall}
+use Rattle.serve_links.specs.declared.outcomes.HeldLeft.TheVariants as lefts
+use Rattle.serve_links.specs.Settled.{HoldsForeign}
+use Rattle.serve_links.proofs.Foreign.{line_foreign}
 use Rattle.serve_links.proofs.LinkGoes.{line_keeps}
 use Rattle.serve_proxy.proofs.Linking.{settled, settled_some}
-use Rattle.serve_proxy.proofs.GivenUp.{foreign_goes, vain_goes}
+use Rattle.serve_proxy.proofs.GivenUp.{no_room_goes, vain_goes}
 use Rattle.serve_proxy.proofs.answers.settle_all.Goals as goal
+
+none_lost : lefts.Begun ≡ lefts.NoMemory → ⊥
+none_lost e = cc
+
+foreign_lost : lefts.Foreign ≡ lefts.NoMemory → ⊥
+foreign_lost e = cc
 
 pub returns-in_default : goal.returns-in_default
 returns-in_default c = record { goes = λ at h. line_keeps (λ d. untouched d h) refl; ends = λ j. refl }
 
-pub returns-then-not-answers : goal.returns-then-not-answers
-returns-then-not-answers c =
+pub returns-in-NoMemory : goal.returns-in-NoMemory
+returns-in-NoMemory c =
     let x = c.args.link.now in
     let k = c.in-Some.conn.now in
     let d = c.settle_held-answers.new.conn in
     record {
-      goes = λ at h. foreign_goes (settled_some x c.has_read-has_failed.new.self k d c.settle_held-answers.new.calls.sent.items (sym c.in-Some.ensures.value) c.requires.told c.requires.alone (ap (λ (z : Link). z.conn) c.has_read-has_failed.ensures.rest) (ap (λ (z : Link). z.text.items) c.has_read-has_failed.ensures.rest) (ap (λ (z : Link). z.waiting.items) c.has_read-has_failed.ensures.rest) (ap (λ (z : Link). z.awaits_dialect) c.has_read-has_failed.ensures.rest) (ap (λ (z : Link). z.dialect) c.has_read-has_failed.ensures.rest) (ap (λ (z : Link). z.late.items) c.has_read-has_failed.ensures.rest) (ap (λ (z : Link). z.calls.sent.items) c.has_read-has_failed.ensures.rest) c.settle_held-answers.ensures.rest c.settle_held-answers.ensures.front);
+      goes = λ at h. no_room_goes (settled_some x c.has_read-has_failed.new.self k d c.settle_held-answers.new.calls.sent.items (sym c.in-Some.ensures.value) c.requires.told c.requires.alone (ap (λ (z : Link). z.conn) c.has_read-has_failed.ensures.rest) (ap (λ (z : Link). z.text.items) c.has_read-has_failed.ensures.rest) (ap (λ (z : Link). z.waiting.items) c.has_read-has_failed.ensures.rest) (ap (λ (z : Link). z.awaits_dialect) c.has_read-has_failed.ensures.rest) (ap (λ (z : Link). z.dialect) c.has_read-has_failed.ensures.rest) (ap (λ (z : Link). z.late.items) c.has_read-has_failed.ensures.rest) (ap (λ (z : Link). z.calls.sent.items) c.has_read-has_failed.ensures.rest) c.settle_held-answers.ensures.rest c.settle_held-answers.ensures.front);
       ends = c.settle_held-answers.ensures.ends;
     }
 
-pub returns : goal.returns
-returns c =
+pub returns-in-Begun : goal.returns-in-Begun
+returns-in-Begun c =
     let x = c.args.link.now in
     let k = c.in-Some.conn.now in
     let d = c.settle_held-answers.new.conn in
     record {
-      goes = λ at h. vain_goes c.has_read-has_failed.result c.vain.result c.vain.ensures c.has_read-has_failed.ensures.failed (settled x c.has_read-has_failed.new.self k d c.settle_held-answers.new.calls.sent.items (sym c.in-Some.ensures.value) c.requires.told c.requires.alone (ap (λ (z : Link). z.conn) c.has_read-has_failed.ensures.rest) (ap (λ (z : Link). z.text.items) c.has_read-has_failed.ensures.rest) (ap (λ (z : Link). z.waiting.items) c.has_read-has_failed.ensures.rest) (ap (λ (z : Link). z.awaits_dialect) c.has_read-has_failed.ensures.rest) (ap (λ (z : Link). z.dialect) c.has_read-has_failed.ensures.rest) (ap (λ (z : Link). z.late.items) c.has_read-has_failed.ensures.rest) (ap (λ (z : Link). z.calls.sent.items) c.has_read-has_failed.ensures.rest) c.settle_held-answers.ensures.rest (c.settle_held-answers.ensures.settled c.if-not-answers.false));
+      goes = λ at h. vain_goes c.has_read-has_failed.result c.vain.result c.vain.ensures c.has_read-has_failed.ensures.failed (settled x c.has_read-has_failed.new.self k d c.settle_held-answers.new.calls.sent.items (sym c.in-Some.ensures.value) c.requires.told c.requires.alone (ap (λ (z : Link). z.conn) c.has_read-has_failed.ensures.rest) (ap (λ (z : Link). z.text.items) c.has_read-has_failed.ensures.rest) (ap (λ (z : Link). z.waiting.items) c.has_read-has_failed.ensures.rest) (ap (λ (z : Link). z.awaits_dialect) c.has_read-has_failed.ensures.rest) (ap (λ (z : Link). z.dialect) c.has_read-has_failed.ensures.rest) (ap (λ (z : Link). z.late.items) c.has_read-has_failed.ensures.rest) (ap (λ (z : Link). z.calls.sent.items) c.has_read-has_failed.ensures.rest) c.settle_held-answers.ensures.rest (c.settle_held-answers.ensures.settled (λ lost. absurd (none_lost (sym c.in-Begun.is ∙ lost)))));
+      ends = c.settle_held-answers.ensures.ends;
+    }
+
+pub returns-in-Foreign : goal.returns-in-Foreign
+returns-in-Foreign c =
+    let x = c.args.link.now in
+    let k = c.in-Some.conn.now in
+    let y = c.has_read-has_failed.new.self in
+    let d = c.settle_held-answers.new.conn in
+    let holds : HoldsForeign y.calls.sent.items d.held.items c.settle_held-answers.new.core =
+    subst (λ (l : List SentCall). HoldsForeign l d.held.items c.settle_held-answers.new.core) (sym (ap (λ (z : Link). z.calls.sent.items) c.has_read-has_failed.ensures.rest)) (c.settle_held-answers.ensures.foreign c.in-Foreign.is) in
+    record {
+      goes = λ at h. line_foreign y d (ap (λ (z : Link). z.conn) c.has_read-has_failed.ensures.rest) (ap (λ (z : Link). z.awaits_dialect) c.has_read-has_failed.ensures.rest ∙ c.requires.told) (ap (λ (z : Link). z.late.items) c.has_read-has_failed.ensures.rest ∙ c.requires.alone) holds (settled x c.has_read-has_failed.new.self k d c.settle_held-answers.new.calls.sent.items (sym c.in-Some.ensures.value) c.requires.told c.requires.alone (ap (λ (z : Link). z.conn) c.has_read-has_failed.ensures.rest) (ap (λ (z : Link). z.text.items) c.has_read-has_failed.ensures.rest) (ap (λ (z : Link). z.waiting.items) c.has_read-has_failed.ensures.rest) (ap (λ (z : Link). z.awaits_dialect) c.has_read-has_failed.ensures.rest) (ap (λ (z : Link). z.dialect) c.has_read-has_failed.ensures.rest) (ap (λ (z : Link). z.late.items) c.has_read-has_failed.ensures.rest) (ap (λ (z : Link). z.calls.sent.items) c.has_read-has_failed.ensures.rest) c.settle_held-answers.ensures.rest (c.settle_held-answers.ensures.settled (λ lost. absurd (foreign_lost (sym c.in-Foreign.is ∙ lost)))));
       ends = c.settle_held-answers.ensures.ends;
     }

@@ -4,7 +4,7 @@ use Rattle.serve_links.specs.declared.news.Cause.TheVariants as causes
 use Rattle.serve_links.specs.Story.{Agrees, AgreesBut, LineFails}
 use Rattle.serve_links.proofs.Story.{go_between}
 use Rattle.serve_proxy.proofs.Going.{and_then, failing, stays}
-use Rattle.serve_proxy.proofs.GivenUp.{as_before, foreign_at, given_by}
+use Rattle.serve_proxy.proofs.GivenUp.{as_before, no_room_at, given_by}
 use Rattle.serve_proxy.specs.Ends.{end_of}
 use Rattle.serve_proxy.proofs.answers.settle_read.Goals as goal
 
@@ -17,7 +17,7 @@ returns-in-Nothing g c = record { ends = given_by c.args.at c.args.got got.Nothi
 pub returns-in-Full : goal.returns-in-Full
 returns-in-Full g c =
     let x = end_of g.W.Wire.history c.args.core.now c.args.sockets.now in
-    record { ends = given_by c.args.at c.args.got got.Full c.in-Full.is (go_between {P = Agrees} (λ past was. was) (λ past was. foreign_at c.args.at past x was) (as_before {P = Agrees} {a = x})) }
+    record { ends = given_by c.args.at c.args.got got.Full c.in-Full.is (go_between {P = Agrees} (λ past was. was) (λ past was. no_room_at c.args.at past x was) (as_before {P = Agrees} {a = x})) }
 
 pub returns-in-Ended : goal.returns-in-Ended
 returns-in-Ended g c = record { ends = given_by c.args.at c.args.got got.Ended c.in-Ended.is (as_before {P = AgreesBut (LineFails (Some causes.Closed)) c.args.at} {a = end_of g.W.Wire.history c.args.core.now c.args.sockets.now}) }

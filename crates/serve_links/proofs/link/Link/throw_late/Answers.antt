@@ -21,11 +21,15 @@ pub returns-in-Foreign-clause-goes : goal.returns-in-Foreign-clause-goes
 returns-in-Foreign-clause-goes c = λ at core h. line_then (c.loop.invariant.goes at core h) (c.throw_first.ensures.goes at core h)
 
 pub returns-then-awaits_late : goal.returns-then-awaits_late
-returns-then-awaits_late c = record { goes = c.loop.invariant.goes; over = λ is. absurd cc; told = c.loop.invariant.told }
+returns-then-awaits_late c = record { goes = c.loop.invariant.goes; over = λ is. absurd cc; foreign = λ is. absurd cc; told = c.loop.invariant.told }
 
 pub returns : goal.returns
 returns c = record {
   goes = λ at core h. line_then (c.loop.invariant.goes at core h) (line_keeps (quiet h) (ap line_of c.come_back.ensures));
   over = λ is. ap (λ (z : Link). z.late.items) c.come_back.ensures ∙ c.awaits_late.ensures.none c.if-awaits_late.false;
+  foreign = λ is. absurd cc;
   told = ap (λ (z : Link). z.awaits_dialect) c.come_back.ensures ∙ c.loop.invariant.told;
 }
+
+pub returns-in-NoMemory-clause-goes : goal.returns-in-NoMemory-clause-goes
+returns-in-NoMemory-clause-goes c = λ at core h. line_then (c.loop.invariant.goes at core h) (c.throw_first.ensures.goes at core h)
