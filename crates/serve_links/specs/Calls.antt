@@ -85,7 +85,7 @@ SettlesNext sent bytes core nexts.Foreign sent' core' = (sent' ≡ sent) × (cor
 
 -- the same call as one that is late
 abbrev pub as_late : SentCall → LateCall
-as_late call = record { number = call.ticket.number; dialect = call.dialect; ask = call.ticket.ask }
+as_late call = record { number = call.ticket.number; dialect = call.dialect; since = call.since; ask = call.ticket.ask }
 
 -- it is the first of those that are out, if there is one
 abbrev pub IsFirstLate : List SentCall → Option LateCall → Type 0
