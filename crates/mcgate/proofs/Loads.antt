@@ -46,7 +46,7 @@ begins_on core servable known begun settings sharing tree (Err fault) is has sha
 
 -- nothing has happened
 pub no_conns : (h : List Event) → h ≡ [] → HasNoConns h
-no_conns h none = subst HasNoConns (sym none) (λ conn. (refl, refl))
+no_conns h none = subst HasNoConns (sym none) (λ conn. (refl, refl), refl)
 
 -- its servers were copied
 pub servers_on :

@@ -5,7 +5,7 @@ use Rattle.route_json.specs.Servers.{Addresses}
 use Rattle.route_json.specs.Configuration.{Configuration}
 use Rattle.core_accepted.specs.declared.served.ServedCore.{ServedCore}
 use Rattle.serve_wire.specs.Events.{Event}
-use Rattle.serve_links.specs.CoreSteps.{Step, Opened, NotOpened, Fed, Polled, Stopped, Settled, Gave, Closed, LeftLine, Broke, Loaded, Linked, Asked, Greeted, Spelled, Late, CameLate, Lost, AreOf, IsOfTurn}
+use Rattle.serve_links.specs.CoreSteps.{Step, Opened, NotOpened, Fed, Polled, Stopped, Settled, Gave, Closed, LeftLine, Broke, Ticked, Loaded, Linked, Asked, Greeted, Spelled, Late, CameLate, Lost, AreOf, IsOfTurn}
 use Rattle.serve_links.specs.Story.{AnEnd, AllGo, AllGoFrom}
 use Rattle.serve_proxy.specs.declared.proxy.ProxyEnd.{ProxyEnd}
 use Rattle.serve_proxy.specs.Beginning.{LoadStops}
@@ -36,11 +36,12 @@ of_turn (Settled number outcome) is = tt
 of_turn (Gave client bytes) is = tt
 of_turn (Closed client) is = tt
 of_turn (LeftLine client) is = tt
+of_turn (Ticked now) is = tt
 of_turn (Broke client) is = tt
 of_turn (Linked at dialect) is = tt
-of_turn (Asked at number dialect ask) is = tt
+of_turn (Asked at number dialect ask since) is = tt
 of_turn (Greeted at dialect bytes) is = tt
-of_turn (Late at number) is = tt
+of_turn (Late at number limit now) is = tt
 of_turn (CameLate at number ask answer bytes) is = tt
 of_turn (Spelled at number ask answer bytes) is = tt
 of_turn (Lost at why) is = is

@@ -54,7 +54,7 @@ pub quiet_look_up : {h h' : List Event} (text : List ℕ) → h' ≡ looks_up te
 quiet_look_up {h} text is = λ d. subst (IsUntouched d h) (sym is) (none_looks_up text d h)
 
 pub still_none : {h h' : List Event} → IsQuiet h h' → HasNoConns h → HasNoConns h'
-still_none quiet none = λ conn. ((quiet conn).same_role ∙ (none conn).0, (quiet conn).same_open ∙ (none conn).1)
+still_none quiet none = (λ conn. ((quiet conn).same_role ∙ (none.0 conn).0, (quiet conn).same_open ∙ (none.0 conn).1), (quiet 0).same_time ∙ none.1)
 
 -- on the same wire
 pub looked_as : {W : Type 0} (history : W → List Event) (from : ℕ) (servers : Addresses) (old new : W) → new ≡ old → AreLookedUp from servers (history old) → AreLookedUp from servers (history new)

@@ -7,7 +7,7 @@ use Rattle.route_json.specs.Configuration.{Configuration}
 use Rattle.core_accepted.specs.declared.served.ServedCore.{ServedCore}
 use Rattle.core_accepted.specs.Loading.{IsLoaded}
 use Rattle.serve_wire.specs.Events.{Event}
-use Rattle.serve_links.specs.CoreSteps.{Step, Opened, NotOpened, Fed, Polled, Stopped, Settled, Gave, Closed, LeftLine, Broke, Loaded, Linked, Asked, Greeted, Spelled, Late, CameLate, Lost}
+use Rattle.serve_links.specs.CoreSteps.{Step, Opened, NotOpened, Fed, Polled, Stopped, Settled, Gave, Closed, LeftLine, Broke, Ticked, Loaded, Linked, Asked, Greeted, Spelled, Late, CameLate, Lost}
 use Rattle.serve_links.specs.Story.{AnEnd}
 use Rattle.serve_proxy.specs.declared.proxy.ProxyEnd.{ProxyEnd}
 use Rattle.serve_proxy.specs.Ends.{end_of, AllGrow}
@@ -29,11 +29,12 @@ IsServed (Settled number outcome) = Unit {0}
 IsServed (Gave client bytes) = Unit {0}
 IsServed (Closed client) = Unit {0}
 IsServed (LeftLine client) = Unit {0}
+IsServed (Ticked now) = Unit {0}
 IsServed (Broke client) = Unit {0}
 IsServed (Linked at dialect) = Unit {0}
-IsServed (Asked at number dialect ask) = Unit {0}
+IsServed (Asked at number dialect ask since) = Unit {0}
 IsServed (Greeted at dialect bytes) = Unit {0}
-IsServed (Late at number) = Unit {0}
+IsServed (Late at number limit now) = Unit {0}
 IsServed (CameLate at number ask answer bytes) = Unit {0}
 IsServed (Spelled at number ask answer bytes) = Unit {0}
 IsServed (Lost at why) = IsSome why

@@ -94,8 +94,9 @@ one at (call ∷ calls) bytes a answer sent' rest b s = record {
         → IsNextAnswer number ask answer spelled (talk_in past at)
     next past tells is out off alone = record {
       dialect = call.dialect;
+      since = call.since;
       others = said_asks calls;
-      is_first = out ∙ ap (λ (said : Ask). let first : SaidAsk = (number, call.dialect, said) in first ∷ said_asks calls) (sym (asks_told past a number at call.ticket.ask ask tells is asks));
+      is_first = out ∙ ap (λ (said : Ask). let first : SaidAsk = (number, call.dialect, said, call.since) in first ∷ said_asks calls) (sym (asks_told past a number at call.ticket.ask ask tells is asks));
       none_before = off;
       none_late = alone;
       more = drop s.used s.front;
@@ -103,7 +104,7 @@ one at (call ∷ calls) bytes a answer sent' rest b s = record {
     }
 
     keeps : (past : List Step) → KeepsBut (said_asks (call ∷ [])) past (Settled number (Answered answer) ∷ Spelled at number ask answer spelled ∷ past)
-    keeps past = keeps_settled (Spelled at number ask answer spelled ∷ past) number (Answered answer) call.dialect call.ticket.ask
+    keeps past = keeps_settled (Spelled at number ask answer spelled ∷ past) number (Answered answer) call.dialect call.ticket.ask call.since
 
     settles :
         (past : List Step) → IsOrderly (Spelled at number ask answer spelled ∷ past) → AreCalled past at (said_asks (call ∷ calls)) → (talk_in past at).out ≡ said_asks (call ∷ calls) → MaySettle number (Spelled at number ask answer spelled ∷ past)
@@ -165,7 +166,7 @@ answers_each at [] sent bytes a sent' rest b s = record {
   unlost = tt;
   gone = [];
   parts = sym s.0;
-  keeps = λ past n not. (refl, refl);
+  keeps = λ past n not. (refl, refl, refl);
   walks = s.2;
   spelled = [];
   whole = sym s.1;

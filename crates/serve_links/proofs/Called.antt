@@ -13,7 +13,7 @@ use Rattle.core_proxy.specs.CallsStay.{called, KeepsCalls, GivesCall, EndsCall, 
 use Rattle.core_proxy.proofs.CallsStay.{calls_stay}
 use Rattle.core_accepted.specs.declared.served.ServedCore.{ServedCore}
 use Rattle.core_accepted.specs.Results.{SettleStops, IsSettled}
-use Rattle.serve_links.specs.CoreSteps.{Step, Opened, NotOpened, Fed, Polled, Stopped, Settled, Gave, Closed, LeftLine, Broke, Loaded, Linked, Asked, Greeted, Spelled, Late, CameLate, Lost, Does, Walks}
+use Rattle.serve_links.specs.CoreSteps.{Step, Opened, NotOpened, Fed, Polled, Stopped, Settled, Gave, Closed, LeftLine, Broke, Ticked, Loaded, Linked, Asked, Greeted, Spelled, Late, CameLate, Lost, Does, Walks}
 use Rattle.serve_links.specs.Called.{call_in, TellsCalls, GivesOnce, GiveOnce, WalksTellCalls}
 
 law : CallsStay
@@ -105,13 +105,14 @@ step_goes (Settled number outcome) past old new was does = (settled number outco
 step_goes (Gave client bytes) past old new was does = (keep (Gave client bytes) past new (λ n. refl) (kept past old new was (law.gives old.core new.core client bytes was.stands does.0)), tt)
 step_goes (Closed client) past old new was does = (keep (Closed client) past new (λ n. refl) (kept past old new was (law.closes old.core new.core client was.stands does.1)), tt)
 step_goes (LeftLine client) past old new was does = (keep (LeftLine client) past new (λ n. refl) (kept past old new was (law.leaves old.core new.core client was.stands does.0)), tt)
+step_goes (Ticked now) past old new was does = (keep (Ticked now) past new (λ n. refl) (stayed past old new was does), tt)
 step_goes (Broke client) past old new was does = (keep (Broke client) past new (λ n. refl) (stayed past old new was does), tt)
 step_goes (Loaded configuration generation) past old new was does =
     (keep (Loaded configuration generation) past new (λ n. refl) (kept past old new was (law.reloads old.core new.core configuration.tree was.stands does.reloads)), tt)
 step_goes (Linked at dialect) past old new was does = (keep (Linked at dialect) past new (λ n. refl) (stayed past old new was does), tt)
-step_goes (Asked at number dialect ask) past old new was does = (keep (Asked at number dialect ask) past new (λ n. refl) (stayed past old new was does), tt)
+step_goes (Asked at number dialect ask since) past old new was does = (keep (Asked at number dialect ask since) past new (λ n. refl) (stayed past old new was does), tt)
 step_goes (Greeted at dialect bytes) past old new was does = (keep (Greeted at dialect bytes) past new (λ n. refl) (stayed past old new was does), tt)
-step_goes (Late at number) past old new was does = (keep (Late at number) past new (λ n. refl) (stayed past old new was does), tt)
+step_goes (Late at number limit now) past old new was does = (keep (Late at number limit now) past new (λ n. refl) (stayed past old new was does), tt)
 step_goes (CameLate at number ask answer bytes) past old new was does = (keep (CameLate at number ask answer bytes) past new (λ n. refl) (stayed past old new was does), tt)
 step_goes (Spelled at number ask answer bytes) past old new was does =
     (keep (Spelled at number ask answer bytes) past new (λ n. refl) (stayed past old new was does.0), tt)

@@ -1,5 +1,5 @@
 -- Calls that are out, and those of them that are still to be asked.
-use Rattle.std.proofs.Common.{◌≡◌, ◌≢◌, ℕ, Bool, true, false, if◌then◌else◌, List, [], ◌∷◌, ◌++◌, Option, Some, None, ◌⊎◌, inl, inr, refl, sym, ap, ◌∙◌, subst}
+use Rattle.std.proofs.Common.{◌≡◌, ◌≢◌, ℕ, ◌≤◌, Bool, true, false, if◌then◌else◌, List, [], ◌∷◌, ◌++◌, Option, Some, None, ◌⊎◌, inl, inr, refl, sym, ap, ◌∙◌, subst}
 use Rattle.std.proofs.lemmas.Bool.{cases_Bool, eqb-true, eq-eqb, ne_eqb}
 use Rattle.std.specs.Prelude.{nat_eq}
 use Rattle.mc_types.specs.declared.ask.Ask.{Ask}
@@ -10,8 +10,8 @@ use Rattle.core_proxy.specs.declared.note.Poll.{Poll}
 use Rattle.core_proxy.specs.declared.note.Poll.TheVariants as polls
 use Rattle.serve_wire.proofs.Steps.{equal}
 use Rattle.serve_links.specs.declared.calls.calls.SentCall.{SentCall}
-use Rattle.serve_links.specs.CoreSteps.{Step, Opened, NotOpened, Fed, Polled, Stopped, Settled, Gave, Closed, LeftLine, Broke, Loaded, Linked, Asked, Greeted, Spelled, Late, CameLate, Lost, AreOf}
-use Rattle.serve_links.specs.Called.{call_by, call_in, due_in, IsGivenOnce, GivesOnce, GiveOnce}
+use Rattle.serve_links.specs.CoreSteps.{Step, Opened, NotOpened, Fed, Polled, Stopped, Settled, Gave, Closed, LeftLine, Broke, Ticked, Loaded, Linked, Asked, Greeted, Spelled, Late, CameLate, Lost, AreOf}
+use Rattle.serve_links.specs.Called.{call_by, call_in, due_in, clock_in, given_in, IsGivenOnce, GivesOnce, GiveOnce}
 use Rattle.serve_links.specs.Talks.{SaidAsk, Talk, behind, first_talk, with_ask, greeted, with_answer, turned_late, with_late, given_up, talk_in, IsCalledIn, IsNotAmong, AreDue, AreCalled, MayFollow, IsOrderly, IsOfClients}
 use Rattle.serve_links.specs.Story.{said_asks, StayOut, LeavesCalls}
 
@@ -76,7 +76,7 @@ due_asked false call due is = is
 
 pub due_out : (past : List Step) (n : ℕ) (call : ℕ × Ask) → due_in past n ≡ Some call → call_in past n ≡ Some call
 due_out [] n call is = is
-due_out (Asked at number dialect ask ∷ past) n call is = due_out past n call (due_asked (nat_eq number n) call (due_in past n) is)
+due_out (Asked at number dialect ask since ∷ past) n call is = due_out past n call (due_asked (nat_eq number n) call (due_in past n) is)
 due_out (Polled client poll ∷ past) n call is = due_polled poll n call (due_in past n) (call_in past n) (due_out past n call) is
 due_out (Settled number outcome ∷ past) n call is = due_settled (nat_eq number n) call (due_in past n) (call_in past n) (due_out past n call) is
 due_out (Opened client ∷ past) n call is = due_out past n call is
@@ -86,26 +86,27 @@ due_out (Stopped client fault ∷ past) n call is = due_out past n call is
 due_out (Gave client bytes ∷ past) n call is = due_out past n call is
 due_out (Closed client ∷ past) n call is = due_out past n call is
 due_out (LeftLine client ∷ past) n call is = due_out past n call is
+due_out (Ticked now ∷ past) n call is = due_out past n call is
 due_out (Broke client ∷ past) n call is = due_out past n call is
 due_out (Loaded configuration generation ∷ past) n call is = due_out past n call is
 due_out (Linked at dialect ∷ past) n call is = due_out past n call is
 due_out (Greeted at dialect bytes ∷ past) n call is = due_out past n call is
-due_out (Late at number ∷ past) n call is = due_out past n call is
+due_out (Late at number limit now ∷ past) n call is = due_out past n call is
 due_out (CameLate at number ask answer bytes ∷ past) n call is = due_out past n call is
 due_out (Spelled at number ask answer bytes ∷ past) n call is = due_out past n call is
 due_out (Lost at why ∷ past) n call is = due_out past n call is
 
--- but for these calls all are out that were, and still to be asked that were
+-- but for these calls all are out that were, given out when they were, and still to be asked that were
 abbrev pub KeepsBut : List SaidAsk → List Step → List Step → Type 0
-KeepsBut gone past past' = (n : ℕ) → IsNotAmong n gone → (call_in past' n ≡ call_in past n) × (due_in past' n ≡ due_in past n)
+KeepsBut gone past past' = (n : ℕ) → IsNotAmong n gone → (call_in past' n ≡ call_in past n) × (due_in past' n ≡ due_in past n) × (given_in past' n ≡ given_in past n)
 
 -- the call of this number was settled
-pub keeps_settled : (past : List Step) (number : ℕ) (outcome : Outcome) (dialect : Dialect) (ask : Ask) → KeepsBut ((number, dialect, ask) ∷ []) past (Settled number outcome ∷ past)
-keeps_settled past number outcome dialect ask n not =
-    let other = ne_eqb number n not.0 in (ap (λ b. if b then None else call_in past n) other, ap (λ b. if b then None else due_in past n) other)
+pub keeps_settled : (past : List Step) (number : ℕ) (outcome : Outcome) (dialect : Dialect) (ask : Ask) (since : ℕ) → KeepsBut ((number, dialect, ask, since) ∷ []) past (Settled number outcome ∷ past)
+keeps_settled past number outcome dialect ask since n not =
+    let other = ne_eqb number n not.0 in (ap (λ b. if b then None else call_in past n) other, ap (λ b. if b then None else due_in past n) other, refl)
 
 pub keeps_twice : (first later : List SaidAsk) (a b c : List Step) → KeepsBut first a b → KeepsBut later b c → KeepsBut (first ++ later) a c
-keeps_twice first later a b c f l n not = let x = f n (among_first n first later not) in let y = l n (among_last n first later not) in (y.0 ∙ x.0, y.1 ∙ x.1)
+keeps_twice first later a b c f l n not = let x = f n (among_first n first later not) in let y = l n (among_last n first later not) in (y.0 ∙ x.0, y.1 ∙ x.1, y.2 ∙ x.2)
 
 -- ---- calls that stay out
 
@@ -114,9 +115,14 @@ abbrev AreApart : List SaidAsk → List SaidAsk → Type 0
 AreApart gone [] = Unit {0}
 AreApart gone (said ∷ others) = IsNotAmong said.0 gone × AreApart gone others
 
+-- no later than it was
+as_given : {given given' since : ℕ} → given' ≡ given → given ≤ since → given' ≤ since
+as_given {since = since} same was = subst (λ g. g ≤ since) (sym same) was
+
 due_but : (gone : List SaidAsk) (past past' : List Step) (at : ℕ) (said : List SaidAsk) → KeepsBut gone past past' → AreApart gone said → AreDue past at said → AreDue past' at said
 due_but gone past past' at [] keeps apart due = tt
-due_but gone past past' at (one ∷ said) keeps apart due = ((keeps one.0 apart.0).1 ∙ due.0, due.1, due_but gone past past' at said keeps apart.1 due.2)
+due_but gone past past' at (one ∷ said) keeps apart due =
+    let same = keeps one.0 apart.0 in (same.1 ∙ due.0, due.1, due_but gone past past' at said keeps apart.1 due.2, as_given same.2 due.3)
 
 called_but : (gone : List SaidAsk) (past past' : List Step) (at : ℕ) (said : List SaidAsk) → KeepsBut gone past past' → AreApart gone said → AreCalled past at said → AreCalled past' at said
 called_but gone past past' at [] keeps apart called = tt
@@ -126,7 +132,8 @@ called_but gone past past' at (one ∷ said) keeps apart called =
 -- those of this server
 pub due_stays : (past past' : List Step) (at : ℕ) (said : List SaidAsk) → StayOut at past past' → AreDue past at said → AreDue past' at said
 due_stays past past' at [] stay due = tt
-due_stays past past' at (one ∷ said) stay due = ((stay one.0 one.2 (due_out past one.0 (at, one.2) due.0)).1 ∙ due.0, due.1, due_stays past past' at said stay due.2)
+due_stays past past' at (one ∷ said) stay due =
+    let same = stay one.0 one.2 (due_out past one.0 (at, one.2) due.0) in (same.1 ∙ due.0, due.1, due_stays past past' at said stay due.2, as_given same.2 due.3)
 
 pub called_stays : (past past' : List Step) (at : ℕ) (said : List SaidAsk) → StayOut at past past' → AreCalled past at said → AreCalled past' at said
 called_stays past past' at [] stay called = tt
@@ -134,18 +141,18 @@ called_stays past past' at (one ∷ said) stay called =
     let same = stay one.0 one.2 called.0 in (same.0 ∙ called.0, same.1 ∙ called.1, called.2, called_stays past past' at said stay called.3)
 
 -- where no call was given out, asked or settled
-pub stay_all : (at : ℕ) (past past' : List Step) → ((n : ℕ) → call_in past' n ≡ call_in past n) → ((n : ℕ) → due_in past' n ≡ due_in past n) → StayOut at past past'
-stay_all at past past' calls due = λ n ask is. (calls n, due n)
+pub stay_all : (at : ℕ) (past past' : List Step) → ((n : ℕ) → call_in past' n ≡ call_in past n) → ((n : ℕ) → due_in past' n ≡ due_in past n) → ((n : ℕ) → given_in past' n ≡ given_in past n) → StayOut at past past'
+stay_all at past past' calls due given = λ n ask is. (calls n, due n, given n)
 
 pub leaves_twice : (at : ℕ) (a b c : List Step) → LeavesCalls at a b → LeavesCalls at b c → LeavesCalls at a c
 leaves_twice at a b c first later = λ j other n ask is.
-    let x = first j other n ask is in let y = later j other n ask (x.0 ∙ is) in (y.0 ∙ x.0, y.1 ∙ x.1)
+    let x = first j other n ask is in let y = later j other n ask (x.0 ∙ is) in (y.0 ∙ x.0, y.1 ∙ x.1, y.2 ∙ x.2)
 
 -- ---- lists of such calls
 
 pub said_both : (xs ys : List SentCall) → said_asks (xs ++ ys) ≡ said_asks xs ++ said_asks ys
 said_both [] ys = refl
-said_both (call ∷ xs) ys = ap (λ (l : List SaidAsk). (call.ticket.number, call.dialect, call.ticket.ask) ∷ l) (said_both xs ys)
+said_both (call ∷ xs) ys = ap (λ (l : List SaidAsk). (call.ticket.number, call.dialect, call.ticket.ask, call.since) ∷ l) (said_both xs ys)
 
 due_rest : (past : List Step) (at : ℕ) (first later : List SaidAsk) → AreDue past at (first ++ later) → AreDue past at later
 due_rest past at [] later due = due
@@ -153,7 +160,7 @@ due_rest past at (said ∷ first) later due = due_rest past at first later due.2
 
 due_front : (past : List Step) (at : ℕ) (first later : List SaidAsk) → AreDue past at (first ++ later) → AreDue past at first
 due_front past at [] later due = tt
-due_front past at (said ∷ first) later due = (due.0, among_first said.0 first later due.1, due_front past at first later due.2)
+due_front past at (said ∷ first) later due = (due.0, among_first said.0 first later due.1, due_front past at first later due.2, due.3)
 
 called_rest : (past : List Step) (at : ℕ) (first later : List SaidAsk) → AreCalled past at (first ++ later) → AreCalled past at later
 called_rest past at [] later called = called
@@ -171,9 +178,9 @@ pub called_last : (past : List Step) (at : ℕ) (first later : List SentCall) �
 called_last past at first later called = called_rest past at (said_asks first) (said_asks later) (subst (AreCalled past at) (said_both first later) called)
 
 -- one behind others
-due_more : (past : List Step) (at : ℕ) (said : List SaidAsk) (one : SaidAsk) → AreDue past at said → due_in past one.0 ≡ Some (at, one.2) → IsNotAmong one.0 said → AreDue past at (said ++ one ∷ [])
-due_more past at [] one due is not = (is, tt, tt)
-due_more past at (first ∷ said) one due is not = (due.0, among_both first.0 said (one ∷ []) due.1 (turned not.0, tt), due_more past at said one due.2 is not.1)
+due_more : (past : List Step) (at : ℕ) (said : List SaidAsk) (one : SaidAsk) → AreDue past at said → due_in past one.0 ≡ Some (at, one.2) → IsNotAmong one.0 said → given_in past one.0 ≤ one.3 → AreDue past at (said ++ one ∷ [])
+due_more past at [] one due is not given = (is, tt, tt, given)
+due_more past at (first ∷ said) one due is not given = (due.0, among_both first.0 said (one ∷ []) due.1 (turned not.0, tt), due_more past at said one due.2 is not.1 given, due.3)
 
 called_more :
     (past : List Step) (at : ℕ) (said : List SaidAsk) (one : SaidAsk) → AreCalled past at said → call_in past one.0 ≡ Some (at, one.2) → due_in past one.0 ≡ None → IsNotAmong one.0 said → AreCalled past at (said ++ one ∷ [])
@@ -184,7 +191,7 @@ called_more past at (first ∷ said) one called is none not =
 -- the first of them as the last
 pub due_behind : (past : List Step) (at : ℕ) (calls : List SentCall) (call : SentCall) → AreDue past at (said_asks (call ∷ calls)) → AreDue past at (said_asks (calls ++ call ∷ []))
 due_behind past at calls call due =
-    subst (AreDue past at) (sym (said_both calls (call ∷ []))) (due_more past at (said_asks calls) (call.ticket.number, call.dialect, call.ticket.ask) due.2 due.0 due.1)
+    subst (AreDue past at) (sym (said_both calls (call ∷ []))) (due_more past at (said_asks calls) (call.ticket.number, call.dialect, call.ticket.ask, call.since) due.2 due.0 due.1 due.3)
 
 -- one from among them as the first
 due_between : (past : List Step) (at : ℕ) (before : List SaidAsk) (one : SaidAsk) (after : List SaidAsk) → AreDue past at (before ++ one ∷ after) → AreDue past at (one ∷ (before ++ after))
@@ -192,12 +199,12 @@ due_between past at [] one after due = due
 due_between past at (first ∷ before) one after due =
     let rest = due_between past at before one after due.2 in
     let apart = among_last first.0 before (one ∷ after) due.1 in
-    (rest.0, (turned apart.0, rest.1), (due.0, among_both first.0 before after (among_first first.0 before (one ∷ after) due.1) apart.1, rest.2))
+    (rest.0, (turned apart.0, rest.1), (due.0, among_both first.0 before after (among_first first.0 before (one ∷ after) due.1) apart.1, rest.2, due.3), rest.3)
 
 pub due_taken : (past : List Step) (at : ℕ) (before : List SentCall) (call : SentCall) (after : List SentCall) → AreDue past at (said_asks (before ++ call ∷ after)) → AreDue past at (said_asks (call ∷ (before ++ after)))
 due_taken past at before call after due =
-    subst (λ l. AreDue past at ((call.ticket.number, call.dialect, call.ticket.ask) ∷ l)) (sym (said_both before after))
-    (due_between past at (said_asks before) (call.ticket.number, call.dialect, call.ticket.ask) (said_asks after) (subst (AreDue past at) (said_both before (call ∷ after)) due))
+    subst (λ l. AreDue past at ((call.ticket.number, call.dialect, call.ticket.ask, call.since) ∷ l)) (sym (said_both before after))
+    (due_between past at (said_asks before) (call.ticket.number, call.dialect, call.ticket.ask, call.since) (said_asks after) (subst (AreDue past at) (said_both before (call ∷ after)) due))
 
 -- ---- which calls have two numbers
 
@@ -307,18 +314,18 @@ pub record AskedOne (at : ℕ) (past past' : List Step) (sent : List SentCall) (
 
 pub asked_one :
     (at : ℕ) (past : List Step) (sent : List SentCall) (call : SentCall) (waiting : List SentCall) → AreCalled past at (said_asks sent) → AreDue past at (said_asks (call ∷ waiting))
-    → AskedOne at past (Asked at call.ticket.number call.dialect call.ticket.ask ∷ past) sent call waiting
+    → AskedOne at past (Asked at call.ticket.number call.dialect call.ticket.ask call.since ∷ past) sent call waiting
 asked_one at past sent call waiting called due = record {
   called = subst (AreCalled past' at) (sym (said_both sent (call ∷ []))) (called_more past' at (said_asks sent) said (still (said_asks sent) called) out (ap (λ b. if b then None else due_in past said.0) (equal said.0)) (due_apart past at said.0 (at, said.2) (said_asks sent) due.0 called));
   due = waits (said_asks waiting) due.1 due.2;
-  others = λ j other n ask is. (refl, ap (λ b. if b then None else due_in past n) (ne_eqb said.0 n (apart_servers past said.0 n at j said.2 ask other out is)));
+  others = λ j other n ask is. (refl, ap (λ b. if b then None else due_in past n) (ne_eqb said.0 n (apart_servers past said.0 n at j said.2 ask other out is)), refl);
 }
   where
     said : SaidAsk
-    said = (call.ticket.number, call.dialect, call.ticket.ask)
+    said = (call.ticket.number, call.dialect, call.ticket.ask, call.since)
 
     past' : List Step
-    past' = Asked at call.ticket.number call.dialect call.ticket.ask ∷ past
+    past' = Asked at call.ticket.number call.dialect call.ticket.ask call.since ∷ past
 
     out : call_in past said.0 ≡ Some (at, said.2)
     out = due_out past said.0 (at, said.2) due.0
@@ -333,7 +340,7 @@ asked_one at past sent call waiting called due = record {
 
     waits : (l : List SaidAsk) → IsNotAmong said.0 l → AreDue past at l → AreDue past' at l
     waits [] not d = tt
-    waits (one ∷ l) not d = (ap (λ b. if b then None else due_in past one.0) (ne_eqb said.0 one.0 (turned not.0)) ∙ d.0, d.1, waits l not.1 d.2)
+    waits (one ∷ l) not d = (ap (λ b. if b then None else due_in past one.0) (ne_eqb said.0 one.0 (turned not.0)) ∙ d.0, d.1, waits l not.1 d.2, d.3)
 
 -- ---- calls that are given out
 
@@ -341,22 +348,22 @@ asked_one at past sent call waiting called due = record {
 pub stay_polled : (at client : ℕ) (poll : Poll) (past : List Step) → IsGivenOnce poll past → StayOut at past (Polled client poll ∷ past)
 stay_polled at client (polls.Call ticket) past once = λ n ask is.
     let other = ne_eqb ticket.number n (turned (apart_by (call_in past) n ticket.number (at, ask) is once)) in
-    (ap (λ b. if b then Some (ticket.server, ticket.ask) else call_in past n) other, ap (λ b. if b then Some (ticket.server, ticket.ask) else due_in past n) other)
-stay_polled at client polls.Idle past once = λ n ask is. (refl, refl)
-stay_polled at client polls.Own past once = λ n ask is. (refl, refl)
-stay_polled at client polls.Refused past once = λ n ask is. (refl, refl)
-stay_polled at client polls.Waiting past once = λ n ask is. (refl, refl)
-stay_polled at client polls.Queued past once = λ n ask is. (refl, refl)
-stay_polled at client polls.Busy past once = λ n ask is. (refl, refl)
-stay_polled at client (polls.Did note) past once = λ n ask is. (refl, refl)
+    (ap (λ b. if b then Some (ticket.server, ticket.ask) else call_in past n) other, ap (λ b. if b then Some (ticket.server, ticket.ask) else due_in past n) other, ap (λ b. if b then clock_in past else given_in past n) other)
+stay_polled at client polls.Idle past once = λ n ask is. (refl, refl, refl)
+stay_polled at client polls.Own past once = λ n ask is. (refl, refl, refl)
+stay_polled at client polls.Refused past once = λ n ask is. (refl, refl, refl)
+stay_polled at client polls.Waiting past once = λ n ask is. (refl, refl, refl)
+stay_polled at client polls.Queued past once = λ n ask is. (refl, refl, refl)
+stay_polled at client polls.Busy past once = λ n ask is. (refl, refl, refl)
+stay_polled at client (polls.Did note) past once = λ n ask is. (refl, refl, refl)
 
 -- ---- what servers have out
 
 -- where nothing of this changes
-same_out : (past past' : List Step) (at : ℕ) → ((n : ℕ) → call_in past' n ≡ call_in past n) → ((n : ℕ) → due_in past' n ≡ due_in past n) → (talk_in past' at).out ≡ (talk_in past at).out → AreCalled past at (talk_in past at).out
+same_out : (past past' : List Step) (at : ℕ) → ((n : ℕ) → call_in past' n ≡ call_in past n) → ((n : ℕ) → due_in past' n ≡ due_in past n) → ((n : ℕ) → given_in past' n ≡ given_in past n) → (talk_in past' at).out ≡ (talk_in past at).out → AreCalled past at (talk_in past at).out
     → AreCalled past' at (talk_in past' at).out
-same_out past past' at calls due out was =
-    subst (AreCalled past' at) (sym out) (called_stays past past' at (talk_in past at).out (stay_all at past past' calls due) was)
+same_out past past' at calls due given out was =
+    subst (AreCalled past' at) (sym out) (called_stays past past' at (talk_in past at).out (stay_all at past past' calls due given) was)
 
 -- or the first is out no more, or none is
 abbrev IsLess : List SaidAsk → List SaidAsk → Type 0
@@ -366,12 +373,12 @@ called_behind : (past : List Step) (at : ℕ) (l : List SaidAsk) → AreCalled p
 called_behind past at [] are = tt
 called_behind past at (one ∷ l) are = are.3
 
-less_out : (past past' : List Step) (at : ℕ) → ((n : ℕ) → call_in past' n ≡ call_in past n) → ((n : ℕ) → due_in past' n ≡ due_in past n) → IsLess (talk_in past at).out (talk_in past' at).out → AreCalled past at (talk_in past at).out
+less_out : (past past' : List Step) (at : ℕ) → ((n : ℕ) → call_in past' n ≡ call_in past n) → ((n : ℕ) → due_in past' n ≡ due_in past n) → ((n : ℕ) → given_in past' n ≡ given_in past n) → IsLess (talk_in past at).out (talk_in past' at).out → AreCalled past at (talk_in past at).out
     → AreCalled past' at (talk_in past' at).out
-less_out past past' at calls due (inl same) was = same_out past past' at calls due same was
-less_out past past' at calls due (inr (inl one)) was =
-    subst (AreCalled past' at) (sym one) (called_stays past past' at (behind (talk_in past at).out) (stay_all at past past' calls due) (called_behind past at (talk_in past at).out was))
-less_out past past' at calls due (inr (inr none)) was = subst (AreCalled past' at) (sym none) tt
+less_out past past' at calls due given (inl same) was = same_out past past' at calls due given same was
+less_out past past' at calls due given (inr (inl one)) was =
+    subst (AreCalled past' at) (sym one) (called_stays past past' at (behind (talk_in past at).out) (stay_all at past past' calls due given) (called_behind past at (talk_in past at).out was))
+less_out past past' at calls due given (inr (inr none)) was = subst (AreCalled past' at) (sym none) tt
 
 -- by whether a step tells of this server
 out_by : (b : Bool) (t t' : Talk) → IsLess t.out t'.out → IsLess t.out (if b then t' else t).out
@@ -380,11 +387,12 @@ out_by false t t' less = inl refl
 
 -- one more is, where it was still to be asked
 asked_out :
-    (past : List Step) (at i number : ℕ) (dialect : Dialect) (ask : Ask) → due_in past number ≡ Some (i, ask) → AreCalled past at (talk_in past at).out → AreCalled (Asked i number dialect ask ∷ past) at (talk_in (Asked i number dialect ask ∷ past) at).out
-asked_out past at i number dialect ask due was = elim (cases_Bool (nat_eq i at)) [ inl e ↦ mine (eqb-true i at e) e | inr e ↦ other e ]
+    (past : List Step) (at i number : ℕ) (dialect : Dialect) (ask : Ask) (since : ℕ) → due_in past number ≡ Some (i, ask) → AreCalled past at (talk_in past at).out
+    → AreCalled (Asked i number dialect ask since ∷ past) at (talk_in (Asked i number dialect ask since ∷ past) at).out
+asked_out past at i number dialect ask since due was = elim (cases_Bool (nat_eq i at)) [ inl e ↦ mine (eqb-true i at e) e | inr e ↦ other e ]
   where
     step : Step
-    step = Asked i number dialect ask
+    step = Asked i number dialect ask since
 
     none_by : (b : Bool) (x : Option (ℕ × Ask)) → x ≡ None → (if b then None else x) ≡ None
     none_by true x e = refl
@@ -397,25 +405,25 @@ asked_out past at i number dialect ask due was = elim (cases_Bool (nat_eq i at))
     mine : i ≡ at → nat_eq i at ≡ true → AreCalled (step ∷ past) at (talk_in (step ∷ past) at).out
     mine same e =
         let here : due_in past number ≡ Some (at, ask) = subst (λ k. due_in past number ≡ Some (k, ask)) same due in
-        subst (AreCalled (step ∷ past) at) (sym (ap (λ b. (if b then with_ask number dialect ask (talk_in past at) else talk_in past at).out) e))
-        (called_more (step ∷ past) at (talk_in past at).out (number, dialect, ask) (still (talk_in past at).out was) (due_out past number (at, ask) here) (ap (λ b. if b then None else due_in past number) (equal number)) (due_apart past at number (at, ask) (talk_in past at).out here was))
+        subst (AreCalled (step ∷ past) at) (sym (ap (λ b. (if b then with_ask number dialect ask since (talk_in past at) else talk_in past at).out) e))
+        (called_more (step ∷ past) at (talk_in past at).out (number, dialect, ask, since) (still (talk_in past at).out was) (due_out past number (at, ask) here) (ap (λ b. if b then None else due_in past number) (equal number)) (due_apart past at number (at, ask) (talk_in past at).out here was))
 
     other : nat_eq i at ≡ false → AreCalled (step ∷ past) at (talk_in (step ∷ past) at).out
-    other e = subst (AreCalled (step ∷ past) at) (sym (ap (λ b. (if b then with_ask number dialect ask (talk_in past at) else talk_in past at).out) e)) (still (talk_in past at).out was)
+    other e = subst (AreCalled (step ∷ past) at) (sym (ap (λ b. (if b then with_ask number dialect ask since (talk_in past at) else talk_in past at).out) e)) (still (talk_in past at).out was)
 
 -- each call that a server has out is out in the core, and asks there what was asked
 pub out_called : (past : List Step) (at : ℕ) → IsOrderly past → AreCalled past at (talk_in past at).out
 out_called [] at o = tt
-out_called (Linked i dialect ∷ past) at o = less_out past (Linked i dialect ∷ past) at (λ n. refl) (λ n. refl) (out_by (nat_eq i at) (talk_in past at) (first_talk dialect) (inr (inr refl))) (out_called past at o.1)
-out_called (Asked i number dialect ask ∷ past) at o = asked_out past at i number dialect ask o.0.1 (out_called past at o.1)
+out_called (Linked i dialect ∷ past) at o = less_out past (Linked i dialect ∷ past) at (λ n. refl) (λ n. refl) (λ n. refl) (out_by (nat_eq i at) (talk_in past at) (first_talk dialect) (inr (inr refl))) (out_called past at o.1)
+out_called (Asked i number dialect ask since ∷ past) at o = asked_out past at i number dialect ask since o.0.1 (out_called past at o.1)
 out_called (Greeted i dialect bytes ∷ past) at o =
-    less_out past (Greeted i dialect bytes ∷ past) at (λ n. refl) (λ n. refl) (out_by (nat_eq i at) (talk_in past at) (greeted dialect bytes (talk_in past at)) (inl refl)) (out_called past at o.1)
+    less_out past (Greeted i dialect bytes ∷ past) at (λ n. refl) (λ n. refl) (λ n. refl) (out_by (nat_eq i at) (talk_in past at) (greeted dialect bytes (talk_in past at)) (inl refl)) (out_called past at o.1)
 out_called (Spelled i number ask answer bytes ∷ past) at o =
-    less_out past (Spelled i number ask answer bytes ∷ past) at (λ n. refl) (λ n. refl) (out_by (nat_eq i at) (talk_in past at) (with_answer bytes (talk_in past at)) (inr (inl refl))) (out_called past at o.1)
-out_called (Late i number ∷ past) at o = less_out past (Late i number ∷ past) at (λ n. refl) (λ n. refl) (out_by (nat_eq i at) (talk_in past at) (turned_late (talk_in past at)) (inr (inl refl))) (out_called past at o.1)
+    less_out past (Spelled i number ask answer bytes ∷ past) at (λ n. refl) (λ n. refl) (λ n. refl) (out_by (nat_eq i at) (talk_in past at) (with_answer bytes (talk_in past at)) (inr (inl refl))) (out_called past at o.1)
+out_called (Late i number limit now ∷ past) at o = less_out past (Late i number limit now ∷ past) at (λ n. refl) (λ n. refl) (λ n. refl) (out_by (nat_eq i at) (talk_in past at) (turned_late (talk_in past at)) (inr (inl refl))) (out_called past at o.1)
 out_called (CameLate i number ask answer bytes ∷ past) at o =
-    less_out past (CameLate i number ask answer bytes ∷ past) at (λ n. refl) (λ n. refl) (out_by (nat_eq i at) (talk_in past at) (with_late bytes (talk_in past at)) (inl refl)) (out_called past at o.1)
-out_called (Lost i why ∷ past) at o = less_out past (Lost i why ∷ past) at (λ n. refl) (λ n. refl) (out_by (nat_eq i at) (talk_in past at) (given_up why (talk_in past at)) (inr (inr refl))) (out_called past at o.1)
+    less_out past (CameLate i number ask answer bytes ∷ past) at (λ n. refl) (λ n. refl) (λ n. refl) (out_by (nat_eq i at) (talk_in past at) (with_late bytes (talk_in past at)) (inl refl)) (out_called past at o.1)
+out_called (Lost i why ∷ past) at o = less_out past (Lost i why ∷ past) at (λ n. refl) (λ n. refl) (λ n. refl) (out_by (nat_eq i at) (talk_in past at) (given_up why (talk_in past at)) (inr (inr refl))) (out_called past at o.1)
 out_called (Settled number outcome ∷ past) at o = still (talk_in past at).out (o.0.0.nowhere at) (out_called past at o.1)
   where
     still : (l : List SaidAsk) → IsNotAmong number l → AreCalled past at l → AreCalled (Settled number outcome ∷ past) at l
@@ -424,15 +432,16 @@ out_called (Settled number outcome ∷ past) at o = still (talk_in past at).out 
         let other = ne_eqb number one.0 (turned not.0) in
         (ap (λ b. if b then None else call_in past one.0) other ∙ c.0, ap (λ b. if b then None else due_in past one.0) other ∙ c.1, c.2, still l not.1 c.3)
 out_called (Polled client poll ∷ past) at o = called_stays past (Polled client poll ∷ past) at (talk_in past at).out (stay_polled at client poll past o.0) (out_called past at o.1)
-out_called (Opened client ∷ past) at o = same_out past (Opened client ∷ past) at (λ n. refl) (λ n. refl) refl (out_called past at o.1)
-out_called (NotOpened fault ∷ past) at o = same_out past (NotOpened fault ∷ past) at (λ n. refl) (λ n. refl) refl (out_called past at o.1)
-out_called (Fed client piece ∷ past) at o = same_out past (Fed client piece ∷ past) at (λ n. refl) (λ n. refl) refl (out_called past at o.1)
-out_called (Stopped client fault ∷ past) at o = same_out past (Stopped client fault ∷ past) at (λ n. refl) (λ n. refl) refl (out_called past at o.1)
-out_called (Gave client bytes ∷ past) at o = same_out past (Gave client bytes ∷ past) at (λ n. refl) (λ n. refl) refl (out_called past at o.1)
-out_called (Closed client ∷ past) at o = same_out past (Closed client ∷ past) at (λ n. refl) (λ n. refl) refl (out_called past at o.1)
-out_called (LeftLine client ∷ past) at o = same_out past (LeftLine client ∷ past) at (λ n. refl) (λ n. refl) refl (out_called past at o.1)
-out_called (Broke client ∷ past) at o = same_out past (Broke client ∷ past) at (λ n. refl) (λ n. refl) refl (out_called past at o.1)
-out_called (Loaded configuration generation ∷ past) at o = same_out past (Loaded configuration generation ∷ past) at (λ n. refl) (λ n. refl) refl (out_called past at o.1)
+out_called (Opened client ∷ past) at o = same_out past (Opened client ∷ past) at (λ n. refl) (λ n. refl) (λ n. refl) refl (out_called past at o.1)
+out_called (NotOpened fault ∷ past) at o = same_out past (NotOpened fault ∷ past) at (λ n. refl) (λ n. refl) (λ n. refl) refl (out_called past at o.1)
+out_called (Fed client piece ∷ past) at o = same_out past (Fed client piece ∷ past) at (λ n. refl) (λ n. refl) (λ n. refl) refl (out_called past at o.1)
+out_called (Stopped client fault ∷ past) at o = same_out past (Stopped client fault ∷ past) at (λ n. refl) (λ n. refl) (λ n. refl) refl (out_called past at o.1)
+out_called (Gave client bytes ∷ past) at o = same_out past (Gave client bytes ∷ past) at (λ n. refl) (λ n. refl) (λ n. refl) refl (out_called past at o.1)
+out_called (Closed client ∷ past) at o = same_out past (Closed client ∷ past) at (λ n. refl) (λ n. refl) (λ n. refl) refl (out_called past at o.1)
+out_called (LeftLine client ∷ past) at o = same_out past (LeftLine client ∷ past) at (λ n. refl) (λ n. refl) (λ n. refl) refl (out_called past at o.1)
+out_called (Ticked now ∷ past) at o = same_out past (Ticked now ∷ past) at (λ n. refl) (λ n. refl) (λ n. refl) refl (out_called past at o.1)
+out_called (Broke client ∷ past) at o = same_out past (Broke client ∷ past) at (λ n. refl) (λ n. refl) (λ n. refl) refl (out_called past at o.1)
+out_called (Loaded configuration generation ∷ past) at o = same_out past (Loaded configuration generation ∷ past) at (λ n. refl) (λ n. refl) (λ n. refl) refl (out_called past at o.1)
 
 -- so no server has a call out that is still to be asked
 pub due_nowhere : (past : List Step) (n : ℕ) (call : ℕ × Ask) → IsOrderly past → due_in past n ≡ Some call → (j : ℕ) → IsNotAmong n (talk_in past j).out
@@ -446,27 +455,28 @@ own_nowhere past at n ask o is not j = elim (cases_Bool (nat_eq j at)) [ inl e �
 
 -- all calls that were out stay so
 pub clients_stay : (at : ℕ) (steps : List Step) → AreOf IsOfClients steps → (past : List Step) → GiveOnce steps past → StayOut at past (steps ++ past)
-clients_stay at [] kinds past once = λ n ask is. (refl, refl)
+clients_stay at [] kinds past once = λ n ask is. (refl, refl, refl)
 clients_stay at (step ∷ steps) kinds past once = λ n ask is.
     let before = clients_stay at steps kinds.1 past once.1 n ask is in
-    let last = by step kinds.0 (steps ++ past) once.0 n ask (before.0 ∙ is) in (last.0 ∙ before.0, last.1 ∙ before.1)
+    let last = by step kinds.0 (steps ++ past) once.0 n ask (before.0 ∙ is) in (last.0 ∙ before.0, last.1 ∙ before.1, last.2 ∙ before.2)
   where
     by : (s : Step) → IsOfClients s → (before : List Step) → GivesOnce s before → StayOut at before (s ∷ before)
     by (Polled client poll) is before once = stay_polled at client poll before once
-    by (Opened client) is before once = λ n ask out. (refl, refl)
-    by (NotOpened fault) is before once = λ n ask out. (refl, refl)
-    by (Fed client piece) is before once = λ n ask out. (refl, refl)
-    by (Stopped client fault) is before once = λ n ask out. (refl, refl)
-    by (Gave client bytes) is before once = λ n ask out. (refl, refl)
-    by (Closed client) is before once = λ n ask out. (refl, refl)
-    by (LeftLine client) is before once = λ n ask out. (refl, refl)
-    by (Broke client) is before once = λ n ask out. (refl, refl)
-    by (Loaded configuration generation) is before once = λ n ask out. (refl, refl)
+    by (Opened client) is before once = λ n ask out. (refl, refl, refl)
+    by (NotOpened fault) is before once = λ n ask out. (refl, refl, refl)
+    by (Fed client piece) is before once = λ n ask out. (refl, refl, refl)
+    by (Stopped client fault) is before once = λ n ask out. (refl, refl, refl)
+    by (Gave client bytes) is before once = λ n ask out. (refl, refl, refl)
+    by (Closed client) is before once = λ n ask out. (refl, refl, refl)
+    by (LeftLine client) is before once = λ n ask out. (refl, refl, refl)
+    by (Ticked now) is before once = absurd is
+    by (Broke client) is before once = λ n ask out. (refl, refl, refl)
+    by (Loaded configuration generation) is before once = λ n ask out. (refl, refl, refl)
     by (Settled number outcome) is before once = absurd is
     by (Linked i dialect) is before once = absurd is
-    by (Asked i number dialect ask) is before once = absurd is
+    by (Asked i number dialect ask since) is before once = absurd is
     by (Greeted i dialect bytes) is before once = absurd is
-    by (Late i number) is before once = absurd is
+    by (Late i number limit now) is before once = absurd is
     by (CameLate i number ask answer bytes) is before once = absurd is
     by (Spelled i number ask answer bytes) is before once = absurd is
     by (Lost i why) is before once = absurd is
@@ -496,7 +506,7 @@ given_after (Polled c poll) past virtual ticket real may was = by poll real
 given_after (Settled number outcome) past virtual ticket real may was =
     let n = ticket.number in let apart = ne_eqb number n (apart_by (call_in virtual) number n may.0.call may.0.is_out was.1) in
     (ap (λ b. if b then None else due_in past n) apart ∙ was.0, ap (λ b. if b then None else call_in virtual n) apart ∙ was.1)
-given_after (Asked i number dialect ask) past virtual ticket real may was =
+given_after (Asked i number dialect ask since) past virtual ticket real may was =
     let n = ticket.number in let apart = ne_eqb number n (apart_by (call_in virtual) number n (i, ask) (due_out virtual number (i, ask) may.1) was.1) in (ap (λ b. if b then None else due_in past n) apart ∙ was.0, was.1)
 given_after (Opened c) past virtual ticket real may was = was
 given_after (NotOpened fault) past virtual ticket real may was = was
@@ -505,11 +515,12 @@ given_after (Stopped c fault) past virtual ticket real may was = was
 given_after (Gave c bytes) past virtual ticket real may was = was
 given_after (Closed c) past virtual ticket real may was = was
 given_after (LeftLine c) past virtual ticket real may was = was
+given_after (Ticked now) past virtual ticket real may was = was
 given_after (Broke c) past virtual ticket real may was = was
 given_after (Loaded configuration generation) past virtual ticket real may was = was
 given_after (Linked i dialect) past virtual ticket real may was = was
 given_after (Greeted i dialect bytes) past virtual ticket real may was = was
-given_after (Late i number) past virtual ticket real may was = was
+given_after (Late i number limit now) past virtual ticket real may was = was
 given_after (CameLate i number ask answer bytes) past virtual ticket real may was = was
 given_after (Spelled i number ask answer bytes) past virtual ticket real may was = was
 given_after (Lost i why) past virtual ticket real may was = was

@@ -30,7 +30,7 @@ use Rattle.core_accepted.specs.Pipes.{Sends, moments_of, behind_first, after_end
 use Rattle.core_accepted.specs.Parts.{AreInOrder}
 use Rattle.core_accepted.specs.LateCores.{only_line}
 use Rattle.serve_links.specs.declared.settings.Greeting.{Greeting}
-use Rattle.serve_links.specs.CoreSteps.{Step, Opened, NotOpened, Fed, Polled, Stopped, Settled, Gave, Closed, LeftLine, Broke, Loaded, Linked, Asked, Greeted, Spelled, Late, CameLate, Lost, Walks}
+use Rattle.serve_links.specs.CoreSteps.{Step, Opened, NotOpened, Fed, Polled, Stopped, Settled, Gave, Closed, LeftLine, Broke, Ticked, Loaded, Linked, Asked, Greeted, Spelled, Late, CameLate, Lost, Walks}
 use Rattle.serve_links.specs.Called.{TellsCalls}
 use Rattle.serve_links.specs.Talks.{Standing, Apart, InUse, Ending, left_by, Talk, first_talk, with_ask, greeted, with_answer, turned_late, with_late, given_up, talk_in, MayFollow, IsOrderly}
 use Rattle.serve_links.specs.InOrder.{Move, OfProxy, OfServer, walk_of, log_of, with_commands, moments_in, out_origin, sent_over, left_with, queued_at, changed_in, conns_by, conns_after, conns_in, MayApply, AreApplied, LeadAlong, with_moves, closed_if, with_step, as_pipes, ConnectionsAreInOrder}
@@ -93,11 +93,11 @@ step_keeps :
     → Keeps (talk_in past i).stands conns (pipe_of only_line steps 0 i) → Keeps (talk_in (step ∷ past) i).stands (conns_by step log i conns) (pipe_of only_line (with_step step log steps) 0 i)
 step_keeps (Linked at greeting) past log i conns steps may was =
     linked (nat_eq at i) (talk_in past i) conns (pipe_of only_line steps 0 i) greeting (λ same. was.0 (subst (λ j. (talk_in past j).stands ≡ Apart) (eqb-true at i same) may)) was
-step_keeps (Asked at number spoken ask) past log i conns steps may was =
-    asked (nat_eq at i) (talk_in past i) (with_ask number spoken ask (talk_in past i)) conns (pipe_of only_line steps 0 i) (record { number = number; ask = ask; origin = out_origin log at number }) refl was
+step_keeps (Asked at number spoken ask since) past log i conns steps may was =
+    asked (nat_eq at i) (talk_in past i) (with_ask number spoken ask since (talk_in past i)) conns (pipe_of only_line steps 0 i) (record { number = number; ask = ask; origin = out_origin log at number }) refl was
 step_keeps (Lost at why) past log i conns steps may was = lost (left_by why) at i (talk_in past i) (given_up why (talk_in past i)) conns steps refl was
 step_keeps (Greeted at spoken bytes) past log i conns steps may was = stays (nat_eq at i) (talk_in past i) (greeted spoken bytes (talk_in past i)) conns (pipe_of only_line steps 0 i) refl was
-step_keeps (Late at number) past log i conns steps may was = stays (nat_eq at i) (talk_in past i) (turned_late (talk_in past i)) conns (pipe_of only_line steps 0 i) refl was
+step_keeps (Late at number limit now) past log i conns steps may was = stays (nat_eq at i) (talk_in past i) (turned_late (talk_in past i)) conns (pipe_of only_line steps 0 i) refl was
 step_keeps (CameLate at number ask answer bytes) past log i conns steps may was = stays (nat_eq at i) (talk_in past i) (with_late bytes (talk_in past i)) conns (pipe_of only_line steps 0 i) refl was
 step_keeps (Spelled at number ask answer bytes) past log i conns steps may was = stays (nat_eq at i) (talk_in past i) (with_answer bytes (talk_in past i)) conns (pipe_of only_line steps 0 i) refl was
 step_keeps (Opened client) past log i conns steps may was = was
@@ -109,6 +109,7 @@ step_keeps (Settled number outcome) past log i conns steps may was = was
 step_keeps (Gave client bytes) past log i conns steps may was = was
 step_keeps (Closed client) past log i conns steps may was = was
 step_keeps (LeftLine client) past log i conns steps may was = was
+step_keeps (Ticked now) past log i conns steps may was = was
 step_keeps (Broke client) past log i conns steps may was = was
 step_keeps (Loaded configuration generation) past log i conns steps may was = was
 
@@ -213,7 +214,7 @@ moments_ended Ending at steps = refl
 moments_step : (step : Step) (log : List (Entry dialect)) (steps : List pipes.PipeStep) → moments_of (with_step step log steps) ≡ moments_of steps
 moments_step (Lost at why) log steps = moments_ended (left_by why) at steps
 moments_step (Linked at greeting) log steps = refl
-moments_step (Asked at number spoken ask) log steps = refl
+moments_step (Asked at number spoken ask since) log steps = refl
 moments_step (Opened client) log steps = refl
 moments_step (NotOpened fault) log steps = refl
 moments_step (Fed client piece) log steps = refl
@@ -223,10 +224,11 @@ moments_step (Settled number outcome) log steps = refl
 moments_step (Gave client bytes) log steps = refl
 moments_step (Closed client) log steps = refl
 moments_step (LeftLine client) log steps = refl
+moments_step (Ticked now) log steps = refl
 moments_step (Broke client) log steps = refl
 moments_step (Loaded configuration generation) log steps = refl
 moments_step (Greeted at spoken bytes) log steps = refl
-moments_step (Late at number) log steps = refl
+moments_step (Late at number limit now) log steps = refl
 moments_step (CameLate at number ask answer bytes) log steps = refl
 moments_step (Spelled at number ask answer bytes) log steps = refl
 
@@ -357,7 +359,7 @@ module _ (first : ServedCore) (believes : ℕ → List ℕ → Option Item) (tel
   order_step :
       (step : Step) (past : List Move) (mid : ServedCore) → LeadAlong believes past first mid → AreApplied past → MayFollow step (walk_of past) → AreInOrder only_line (as_pipes past)
       → AreInOrder only_line (with_step step (log_of past) (as_pipes past))
-  order_step (Asked at number spoken ask) past mid leads applied may order =
+  order_step (Asked at number spoken ask since) past mid leads applied may order =
       let way = call_way mid believes (log_of past) (led_along past mid leads) number at ask ((tells_along past mid leads).calls number (at, ask) (due_out (walk_of past) number (at, ask) may.1)) in
       ((way.0, ap (λ (l : List Moment). under_way (seen l) number) (same_moments past) ∙ same_way past applied number ∙ way.1, way.2), order)
   order_step (Lost at why) past mid leads applied may order = order_ended (left_by why) at (as_pipes past) order
@@ -371,10 +373,11 @@ module _ (first : ServedCore) (believes : ℕ → List ℕ → Option Item) (tel
   order_step (Gave client bytes) past mid leads applied may order = order
   order_step (Closed client) past mid leads applied may order = order
   order_step (LeftLine client) past mid leads applied may order = order
+  order_step (Ticked now) past mid leads applied may order = order
   order_step (Broke client) past mid leads applied may order = order
   order_step (Loaded configuration generation) past mid leads applied may order = order
   order_step (Greeted at spoken bytes) past mid leads applied may order = order
-  order_step (Late at number) past mid leads applied may order = order
+  order_step (Late at number limit now) past mid leads applied may order = order
   order_step (CameLate at number ask answer bytes) past mid leads applied may order = order
   order_step (Spelled at number ask answer bytes) past mid leads applied may order = order
 

@@ -1,14 +1,14 @@
 -- Calls that are late, and their answers, as steps of a walk with which a link goes on to agree.
-use Rattle.std.proofs.Common.{◌≡◌, ℕ, ◌<◌, Bool, true, false, if◌then◌else◌, List, [], ◌∷◌, ◌++◌, take, drop, Option, Some, None, inr, refl, sym, ap, ◌∙◌, subst, append_assoc}
+use Rattle.std.proofs.Common.{◌≡◌, ℕ, ◌+◌, ◌<◌, zero, suc, length, get_or, ◌⊎◌, arith, inl, Bool, true, false, if◌then◌else◌, List, [], ◌∷◌, ◌++◌, take, drop, Option, Some, None, inr, refl, sym, ap, ◌∙◌, subst, append_assoc}
 use Rattle.std.proofs.lemmas.List.{take-append-drop}
 use Rattle.std.proofs.lemmas.List.Elements.{All-nil, All-cons, All-append}
-use Rattle.std.specs.Prelude.{◌&&◌, is_some, slice_index_or}
+use Rattle.std.specs.Prelude.{◌&&◌, is_some, slice_index_or, Any}
 use Rattle.std.specs.Option.{option_map, option_to_list}
 use Rattle.mc_types.specs.declared.ask.Dialect.{Dialect}
 use Rattle.mc_types.specs.declared.answer.Answer.{Answer}
 use Rattle.mc_types.specs.declared.call.Outcome.TheVariants.{Failed}
 use Rattle.wire_parts.specs.Sending.{bytes_of}
-use Rattle.serve_wire.specs.Events.{Event, is_over}
+use Rattle.serve_wire.specs.Events.{Event, is_over, time}
 use Rattle.serve_wire.specs.declared.conn.conn.Conn.{Conn}
 use Rattle.serve_wire.proofs.Steps.{equal}
 use Rattle.core_accepted.specs.declared.served.ServedCore.{ServedCore}
@@ -22,10 +22,10 @@ use Rattle.serve_links.specs.declared.settings.Greeting.{Greeting}
 use Rattle.serve_links.specs.declared.settings.LinkLimits.{LinkLimits}
 use Rattle.serve_links.specs.declared.link.Link.{Link}
 use Rattle.serve_links.specs.Calls.{stores_first, SparesStores, as_late, IsFirstLate, PassesOver, SettlesFirst}
-use Rattle.serve_links.specs.Lateness.{awaits_store, LetsStoresWait}
+use Rattle.serve_links.specs.Lateness.{IsLate, HasLate, HasOneLate, awaits_store, LetsStoresWait}
 use Rattle.serve_links.specs.CoreSteps.{Step, Settled, Late, CameLate, IsOfTurn, IsSending}
 use Rattle.serve_links.specs.Dialects.{SpellsIn}
-use Rattle.serve_links.specs.Talks.{SaidAsk, Talk, behind, first_of, turned_late, with_late, talk_in, IsNotAmong, AreDue, AreCalled, MaySettle, IsOrderly, IsFirstOut, IsNextLate}
+use Rattle.serve_links.specs.Talks.{SaidAsk, Talk, HasWaited, behind, first_of, turned_late, with_late, talk_in, IsNotAmong, AreDue, AreCalled, MaySettle, IsOrderly, IsFirstOut, IsNextLate}
 use Rattle.serve_links.specs.Story.{said_asks, said_late, MayAllGo, TalkAgrees, LineAgrees, LineGoes, LineState, line_of}
 use Rattle.serve_links.proofs.Talking.{calls_later}
 use Rattle.serve_links.proofs.Due.{due_stays, called_stays, keeps_settled, SentGone, sent_gone, own_nowhere}
@@ -61,9 +61,9 @@ pub passed :
     → old ≡ call ∷ new
 passed old new call r within value lookup items = items ∙ ap (λ (o : Option LateCall). option_to_list o ++ new) (value call within ∙ ap (λ (z : LateCall). Some z) (sym lookup))
 
-one_late : (calls : List LateCall) (call : LateCall) → said_late (calls ++ call ∷ []) ≡ said_late calls ++ (call.number, call.dialect, call.ask) ∷ []
-one_late [] call = refl
-one_late (first ∷ calls) call = ap (λ (l : List SaidAsk). (first.number, first.dialect, first.ask) ∷ l) (one_late calls call)
+one_more_late : (calls : List LateCall) (call : LateCall) → said_late (calls ++ call ∷ []) ≡ said_late calls ++ (call.number, call.dialect, call.ask, call.since) ∷ []
+one_more_late [] call = refl
+one_more_late (first ∷ calls) call = ap (λ (l : List SaidAsk). (first.number, first.dialect, first.ask, first.since) ∷ l) (one_more_late calls call)
 
 -- ---- stores that are awaited
 
@@ -103,6 +103,51 @@ waits_first x y call core core' client none limits first settles = record {
   stores = spares_first x.limits.stores_wait x.calls.sent.items y.calls.sent.items call core core' client none first settles;
 }
 
+-- ---- calls that have waited too long
+
+waited_last : (limit now : ℕ) (first later : List SaidAsk) → HasWaited limit now later → HasWaited limit now (first ++ later)
+waited_last limit now [] later has = has
+waited_last limit now (said ∷ first) later has = inr (waited_last limit now first later has)
+
+waited_of : (limit now : ℕ) (calls : List SentCall) → Any (IsLate limit now) calls → HasWaited limit now (said_asks calls)
+waited_of limit now [] any = absurd (omega (arith, any.2))
+waited_of limit now (call ∷ calls) any = by any.0 any.2 any.3
+  where
+    by : (i : ℕ) → i < length (call ∷ calls) → get_or (call ∷ calls) i any.1 ≡ any.1 → HasWaited limit now (said_asks (call ∷ calls))
+    by zero within is = inl (subst (IsLate limit now) (sym is) any.4)
+    by (suc i) within is = inr (waited_of limit now calls (i, any.1, omega (arith, within), is, any.4))
+
+-- one of those that are out has
+pub one_late : (now : ℕ) (x : Link) → HasLate now x → HasOneLate now x
+one_late now x has = waited_last x.limits.call_ms now (said_late x.late.items) (said_asks x.calls.sent.items) (waited_of x.limits.call_ms now x.calls.sent.items has)
+
+-- so it is with the same late calls in another list
+pub late_same : (now : ℕ) (x : Link) (y : Link) → y.late.items ≡ x.late.items → HasOneLate now x → HasOneLate now (record x { late = y.late })
+late_same now x y late has = subst (λ (l : List LateCall). HasWaited x.limits.call_ms now (said_late l ++ said_asks x.calls.sent.items)) (sym late) has
+
+-- and so it is where nothing else of the link has changed
+pub late_turned : (now : ℕ) (x y : Link) → y ≡ record x { late_since = y.late_since; tally = y.tally; news = y.news; was_down = y.was_down } → HasOneLate now x → HasOneLate now y
+late_turned now x y is has = subst (HasOneLate now) (sym is) has
+
+-- so it is once the first of those has failed
+pub late_still :
+    (now : ℕ) (x y : Link) (call : LateCall) (core core' : ServedCore) (client : Option ℕ) → y.limits ≡ x.limits → IsFirstLate x.calls.sent.items (Some call) → y.late.items ≡ x.late.items ++ call ∷ []
+    → SettlesFirst x.calls.sent.items core Failed client y.calls.sent.items core' → HasOneLate now x → HasOneLate now y
+late_still now x y call core core' client limits first late settles has = subst (λ (l : LinkLimits). HasWaited l.call_ms now (said_late y.late.items ++ said_asks y.calls.sent.items)) (sym limits) (subst (HasWaited x.limits.call_ms now) (same x.calls.sent.items refl first settles) has)
+  where
+    some_none : {z : LateCall} → Some z ≡ None → ⊥
+    some_none e = cc
+
+    same_call : {z w : LateCall} → Some z ≡ Some w → z ≡ w
+    same_call e = cc
+
+    same : (sent : List SentCall) → x.calls.sent.items ≡ sent → IsFirstLate sent (Some call) → SettlesFirst sent core Failed client y.calls.sent.items core' → said_late x.late.items ++ said_asks x.calls.sent.items ≡ said_late y.late.items ++ said_asks y.calls.sent.items
+    same [] e is did = absurd (some_none is)
+    same (one ∷ rest) e is did =
+        ap (λ (l : List SentCall). said_late x.late.items ++ said_asks l) e ∙ sym (append_assoc (said_late x.late.items) ((one.ticket.number, one.dialect, one.ticket.ask, one.since) ∷ []) (said_asks rest))
+        ∙ ap (λ (l : List SaidAsk). l ++ said_asks rest) (sym (ap said_late late ∙ one_more_late x.late.items call ∙ ap (λ (z : LateCall). said_late x.late.items ++ (z.number, z.dialect, z.ask, z.since) ∷ []) (same_call is)))
+        ∙ ap (λ (l : List SentCall). said_late y.late.items ++ said_asks l) (sym did.1)
+
 -- ---- a call that is late
 
 talk_turns :
@@ -123,46 +168,54 @@ talk_turns h at text t c held unsent first rest late awaits dialect was = record
 turns :
     {at : ℕ} {core core' : ServedCore} {h : List Event} (x y : Link) (c : Conn) (call : SentCall) (rest : List SentCall) → x.conn ≡ Some c → y.conn ≡ x.conn → y.draining ≡ x.draining → y.text.items ≡ x.text.items → y.waiting.items ≡ x.waiting.items
     → y.awaits_dialect ≡ x.awaits_dialect → y.dialect ≡ x.dialect → x.calls.sent.items ≡ call ∷ rest → y.calls.sent.items ≡ rest → y.late.items ≡ x.late.items ++ as_late call ∷ []
-    → IsSettled core call.ticket.number Failed core' → LineGoes IsSending at core h x core' h y
-turns {at} {core} {core'} {h} x y c call rest was same draining text waiting awaits speaks sent left late settled = record {
+    → IsSettled core call.ticket.number Failed core' → HasOneLate (time h) x → LineGoes IsSending at core h x core' h y
+turns {at} {core} {core'} {h} x y c call rest was same draining text waiting awaits speaks sent left late settled waited = record {
   steps = steps;
   kinds = (refl, (tt, tt));
   own = (tt, (refl, tt));
   walks = (core, (core, refl, refl), settled);
-  agrees = λ past o tells a. let late_now : IsOrderly (Late at call.ticket.number ∷ past) = (first past a, o) in (((settles past a late_now, tt), late_now), agreed past a, all_kept (1, at) h h (quiet h), (others past a).others);
-  shown = λ past o tells a shown. shown_later steps past h h (tt, (tt, tt)) (none_since h) shown;
+  agrees = λ past o tells a. let late_now : IsOrderly (step ∷ past) = ((first past a, has_waited past a), o) in (((settles past a late_now, tt), late_now), agreed past a, all_kept (1, at) h h (quiet h), (others past a).others);
+  shown = λ past o tells a shown. (tt, ((h, none_since h, refl), shown));
   shut = shut_still (quiet h) (conns_same x y same draining);
   text = text;
 }
   where
+    step : Step
+    step = Late at call.ticket.number x.limits.call_ms (time h)
+
     steps : List Step
-    steps = Settled call.ticket.number Failed ∷ Late at call.ticket.number ∷ []
+    steps = Settled call.ticket.number Failed ∷ step ∷ []
+
+    has_waited : (past : List Step) → LineAgrees at past h x → HasWaited x.limits.call_ms (time h) ((talk_in past at).late ++ (talk_in past at).out)
+    has_waited past a =
+        subst (λ (l : List SaidAsk). HasWaited x.limits.call_ms (time h) (l ++ (talk_in past at).out)) (sym (a.conn c was).late_is)
+        (subst (λ (l : List SaidAsk). HasWaited x.limits.call_ms (time h) (said_late x.late.items ++ l)) (sym (a.conn c was).out_is) waited)
 
     first : (past : List Step) → LineAgrees at past h x → IsFirstOut call.ticket.number (talk_in past at)
-    first past a = record { dialect = call.dialect; ask = call.ticket.ask; others = said_asks rest; is_first = (a.conn c was).out_is ∙ ap said_asks sent }
+    first past a = record { dialect = call.dialect; ask = call.ticket.ask; since = call.since; others = said_asks rest; is_first = (a.conn c was).out_is ∙ ap said_asks sent }
 
     called : (past : List Step) → LineAgrees at past h x → AreCalled past at (said_asks (call ∷ rest))
     called past a = subst (λ (l : List SentCall). AreCalled past at (said_asks l)) sent a.called
 
-    settles : (past : List Step) → LineAgrees at past h x → IsOrderly (Late at call.ticket.number ∷ past) → MaySettle call.ticket.number (Late at call.ticket.number ∷ past)
+    settles : (past : List Step) → LineAgrees at past h x → IsOrderly (step ∷ past) → MaySettle call.ticket.number (step ∷ past)
     settles past a o =
-        let left : (talk_in (Late at call.ticket.number ∷ past) at).out ≡ said_asks rest =
+        let left : (talk_in (step ∷ past) at).out ≡ said_asks rest =
         ap (λ b. (if b then turned_late (talk_in past at) else talk_in past at).out) (equal at) ∙ ap behind ((a.conn c was).out_is ∙ ap said_asks sent) in
         record {
           call = (at, call.ticket.ask);
           is_out = (called past a).0;
-          nowhere = own_nowhere (Late at call.ticket.number ∷ past) at call.ticket.number call.ticket.ask o (called past a).0 (subst (IsNotAmong call.ticket.number) (sym left) (called past a).2);
+          nowhere = own_nowhere (step ∷ past) at call.ticket.number call.ticket.ask o (called past a).0 (subst (IsNotAmong call.ticket.number) (sym left) (called past a).2);
         }
 
     others : (past : List Step) → LineAgrees at past h x → SentGone at past (steps ++ past) rest x.waiting.items
-    others past a = sent_gone at past (steps ++ past) (call ∷ []) rest x.waiting.items (keeps_settled (Late at call.ticket.number ∷ past) call.ticket.number Failed call.dialect call.ticket.ask) (called past a) a.due
+    others past a = sent_gone at past (steps ++ past) (call ∷ []) rest x.waiting.items (keeps_settled (step ∷ past) call.ticket.number Failed call.dialect call.ticket.ask call.since) (called past a) a.due
 
     agreed : (past : List Step) → LineAgrees at past h x → LineAgrees at (steps ++ past) h y
     agreed past a =
         let talk = ap (λ b. if b then turned_late (talk_in past at) else talk_in past at) (equal at) in
         let before = talk_as refl refl refl refl refl (sym (ap said_asks sent)) refl refl refl (a.conn c was) in
-        let now = talk_turns h at x.text.items (talk_in past at) c.number c.held.items (bytes_of c.unsent) (call.ticket.number, call.dialect, call.ticket.ask) (said_asks rest) (said_late x.late.items) x.awaits_dialect x.dialect before in
-        has_conn at (steps ++ past) h y c (same ∙ was) (talk_as text talk refl refl refl (ap said_asks left) awaits speaks (ap said_late late ∙ one_late x.late.items (as_late call)) now) (a.goes_on c was)
+        let now = talk_turns h at x.text.items (talk_in past at) c.number c.held.items (bytes_of c.unsent) (call.ticket.number, call.dialect, call.ticket.ask, call.since) (said_asks rest) (said_late x.late.items) x.awaits_dialect x.dialect before in
+        has_conn at (steps ++ past) h y c (same ∙ was) (talk_as text talk refl refl refl (ap said_asks left) awaits speaks (ap said_late late ∙ one_more_late x.late.items (as_late call)) now) (a.goes_on c was)
         (calls_later steps past at y.waiting.items (subst (λ w. MayAllGo past at w) (sym waiting) a.waiting))
         (subst (λ w. AreDue (steps ++ past) at (said_asks w)) (sym waiting) (others past a).due) (subst (λ (l : List SentCall). AreCalled (steps ++ past) at (said_asks l)) (sym left) (others past a).called)
 
@@ -170,8 +223,8 @@ turns {at} {core} {core'} {h} x y c call rest was same draining text waiting awa
 pub line_turns :
     {at : ℕ} {core core' : ServedCore} {h : List Event} (x y : Link) (c : Conn) (call : LateCall) (client : Option ℕ) → x.conn ≡ Some c → y.conn ≡ x.conn → y.draining ≡ x.draining → y.text.items ≡ x.text.items → y.waiting.items ≡ x.waiting.items
     → y.awaits_dialect ≡ x.awaits_dialect → y.dialect ≡ x.dialect → IsFirstLate x.calls.sent.items (Some call) → y.late.items ≡ x.late.items ++ call ∷ []
-    → SettlesFirst x.calls.sent.items core Failed client y.calls.sent.items core' → LineGoes IsSending at core h x core' h y
-line_turns {at} {core} {core'} {h} x y c call client was same draining text waiting awaits speaks first late settles = by x.calls.sent.items refl first settles
+    → SettlesFirst x.calls.sent.items core Failed client y.calls.sent.items core' → HasOneLate (time h) x → LineGoes IsSending at core h x core' h y
+line_turns {at} {core} {core'} {h} x y c call client was same draining text waiting awaits speaks first late settles waited = by x.calls.sent.items refl first settles
   where
     some_none : {z : LateCall} → Some z ≡ None → ⊥
     some_none e = cc
@@ -182,7 +235,7 @@ line_turns {at} {core} {core'} {h} x y c call client was same draining text wait
     by : (sent : List SentCall) → x.calls.sent.items ≡ sent → IsFirstLate sent (Some call) → SettlesFirst sent core Failed client y.calls.sent.items core' → LineGoes IsSending at core h x core' h y
     by [] e is did = absurd (some_none is)
     by (one ∷ rest) e is did =
-        turns x y c one rest was same draining text waiting awaits speaks e did.1 (late ∙ ap (λ (z : LateCall). x.late.items ++ z ∷ []) (same_call is)) did.2
+        turns x y c one rest was same draining text waiting awaits speaks e did.1 (late ∙ ap (λ (z : LateCall). x.late.items ++ z ∷ []) (same_call is)) did.2 waited
 
 -- ---- its answer
 
@@ -210,7 +263,7 @@ line_throws {at} {core} {h} x y c d call rest answer used was is off text waitin
   kinds = (tt, tt);
   own = (refl, tt);
   walks = (core, refl, refl);
-  agrees = λ past o tells a. ((next past a, o), agreed past a, all_kept (1, at) h h (quiet h), λ j other n ask is. (refl, refl));
+  agrees = λ past o tells a. ((next past a, o), agreed past a, all_kept (1, at) h h (quiet h), λ j other n ask is. (refl, refl, refl));
   shown = λ past o tells a shown. shown_later (step ∷ []) past h h (tt, tt) (none_since h) shown;
   shut = shut_still (quiet h) (conn_is y d is ∙ ap (λ n. Some n) number ∙ sym (conn_is x c was));
   text = text;
@@ -228,6 +281,7 @@ line_throws {at} {core} {h} x y c d call rest answer used was is off text waitin
     next : (past : List Step) → LineAgrees at past h x → IsNextLate call.number call.ask answer spelled (talk_in past at)
     next past a = record {
       dialect = call.dialect;
+      since = call.since;
       others = said_late rest;
       is_first = (a.conn c was).late_is ∙ ap said_late late;
       none_before = (a.conn c was).awaits_is ∙ off;
@@ -239,11 +293,11 @@ line_throws {at} {core} {h} x y c d call rest answer used was is off text waitin
     agreed past a =
         let talk = ap (λ b. if b then with_late spelled (talk_in past at) else talk_in past at) (equal at) in
         let before = talk_as refl refl refl whole refl refl refl refl (sym (ap said_late late)) (a.conn c was) in
-        let now = talk_throws h at x.text.items (talk_in past at) c.number spelled d.held.items (bytes_of c.unsent) (said_asks x.calls.sent.items) (call.number, call.dialect, call.ask) (said_late rest) x.awaits_dialect x.dialect before in
+        let now = talk_throws h at x.text.items (talk_in past at) c.number spelled d.held.items (bytes_of c.unsent) (said_asks x.calls.sent.items) (call.number, call.dialect, call.ask, call.since) (said_late rest) x.awaits_dialect x.dialect before in
         has_conn at (step ∷ past) h y d is (talk_as text talk number refl unsent (ap said_asks sent) awaits speaks (ap said_late left) now) (ap (λ n. is_over n h) number ∙ a.goes_on c was)
         (calls_later (step ∷ []) past at y.waiting.items (subst (λ w. MayAllGo past at w) (sym waiting) a.waiting))
-        (due_stays past (step ∷ past) at (said_asks y.waiting.items) (λ n ask is. (refl, refl)) (subst (λ w. AreDue past at (said_asks w)) (sym waiting) a.due))
-        (called_stays past (step ∷ past) at (said_asks y.calls.sent.items) (λ n ask is. (refl, refl)) (subst (λ (l : List SentCall). AreCalled past at (said_asks l)) (sym sent) a.called))
+        (due_stays past (step ∷ past) at (said_asks y.waiting.items) (λ n ask is. (refl, refl, refl)) (subst (λ w. AreDue past at (said_asks w)) (sym waiting) a.due))
+        (called_stays past (step ∷ past) at (said_asks y.calls.sent.items) (λ n ask is. (refl, refl, refl)) (subst (λ (l : List SentCall). AreCalled past at (said_asks l)) (sym sent) a.called))
 
 -- or it isn't there
 passes_none :

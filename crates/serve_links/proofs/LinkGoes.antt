@@ -12,7 +12,7 @@ use Rattle.serve_wire.specs.Flow.{ReadsOn, SendsOn, Stands}
 use Rattle.serve_wire.specs.Calls.{Closes}
 use Rattle.serve_wire.specs.Agreement.{Extends, IsUntouched, TouchesOnly}
 use Rattle.serve_wire.specs.declared.conn.conn.Conn.{Conn}
-use Rattle.serve_wire.proofs.Steps.{only_after, equal, new_apart, untouched, untouched_twice, only_twice, only_connects, address_begins}
+use Rattle.serve_wire.proofs.Steps.{only_after, only_time, equal, new_apart, untouched, untouched_twice, only_twice, only_connects, address_begins}
 use Rattle.serve_wire.proofs.Touching.{only_closed}
 use Rattle.core_accepted.specs.declared.served.ServedCore.{ServedCore}
 use Rattle.serve_links.specs.declared.calls.calls.SentCall.{SentCall}
@@ -22,7 +22,7 @@ use Rattle.serve_links.specs.declared.link.Opening.{Opening}
 use Rattle.serve_links.specs.declared.link.Opening.TheVariants as opening
 use Rattle.serve_links.specs.declared.link.Link.{Link}
 use Rattle.serve_links.specs.declared.news.Cause.{Cause}
-use Rattle.serve_links.specs.CoreSteps.{Step, Opened, NotOpened, Fed, Polled, Stopped, Settled, Gave, Closed, LeftLine, Broke, Loaded, Linked, Asked, Greeted, Spelled, Late, CameLate, Lost, AreOf, IsOfTurn, IsFailure, IsGivingUp, IsSending, Fails}
+use Rattle.serve_links.specs.CoreSteps.{Step, Opened, NotOpened, Fed, Polled, Stopped, Settled, Gave, Closed, LeftLine, Broke, Ticked, Loaded, Linked, Asked, Greeted, Spelled, Late, CameLate, Lost, AreOf, IsOfTurn, IsFailure, IsGivingUp, IsSending, Fails}
 use Rattle.serve_links.specs.Dialects.{asked_in, AnswersFirst, awaits_flush}
 use Rattle.serve_links.specs.Lines.{first_asked_of, awaits_first, first_dialect, greeting_of, SameLine, KeepsLines, IsNewEnd, HasNewEnd, OpensBy, TakesGreeting, HasLearnt, Learns}
 use Rattle.serve_links.specs.Links.{FailsTo}
@@ -53,13 +53,14 @@ pub keeps_by : (c : ℕ) (its : ℕ × ℕ) (h h' : List Event) → ((p : ℕ ×
 keeps_by c its h h' was now only = record {
   were = λ d p of_d other. elim (cases_Bool (nat_eq c d)) [ inl e ↦ absurd (other (was p (ap (λ n. role n h) (eqb-true c d e) ∙ of_d))) | inr e ↦ only d e ];
   are = λ d other. elim (cases_Bool (nat_eq c d)) [ inl e ↦ absurd (other (ap (λ n. role n h') (sym (eqb-true c d e)) ∙ now)) | inr e ↦ only d e ];
+  clock = only_time c h h' only;
 }
 
 pub keeps_others : (c : ℕ) (its : ℕ × ℕ) (h h' : List Event) → role c h ≡ Some its → role c h' ≡ role c h → TouchesOnly c h h' → KeepsOthers its h h'
 keeps_others c its h h' of_c same only = keeps_by c its h h' (λ p was. same_some (sym was ∙ of_c)) (same ∙ of_c) only
 
 pub all_kept : (its : ℕ × ℕ) (h h' : List Event) → ((d : ℕ) → IsUntouched d h h') → KeepsOthers its h h'
-all_kept its h h' quiet = record { were = λ d p of_d other. quiet d; are = λ d other. quiet d }
+all_kept its h h' quiet = record { were = λ d p of_d other. quiet d; are = λ d other. quiet d; clock = (quiet 0).same_time }
 
 pub quiet : (h : List Event) (d : ℕ) → IsUntouched d h h
 quiet h d = untouched d h
@@ -100,7 +101,7 @@ as_failing why at past h x shows a = record { lost = as_lost at past h x a; show
 pub line_moves :
     {Before After : ℕ → List Step → List Event → Link → Type 0} {Is : Step → Type 0} {at : ℕ} {a b : ServedCore} {h h' : List Event} {x y : Link} → b ≡ a → Extends h h' → StaysShut at h x h' y → y.text.items ≡ x.text.items
     → ((past : List Step) → Before at past h x → After at past h' y × KeepsOthers (1, at) h h') → LineGoesFrom Before After Is at a h x b h' y
-line_moves {h = h} {h' = h'} same more shut text moves = record { steps = []; kinds = tt; own = tt; walks = same; agrees = λ past o tells was. let m = moves past was in (o, m.0, m.1, λ j other n ask is. (refl, refl)); shown = λ past o tells was shown. shown_since past h h' more shown; shut = shut; text = text }
+line_moves {h = h} {h' = h'} same more shut text moves = record { steps = []; kinds = tt; own = tt; walks = same; agrees = λ past o tells was. let m = moves past was in (o, m.0, m.1, λ j other n ask is. (refl, refl, refl)); shown = λ past o tells was shown. shown_since past h h' more shown; shut = shut; text = text }
 
 -- what is wanted before is there, and what is there after is more than is wanted
 pub line_between :
@@ -122,6 +123,7 @@ others_twice : (its : ℕ × ℕ) (h h' h'' : List Event) → KeepsOthers its h 
 others_twice its h h' h'' first later = record {
   were = λ d p was other. let s = first.were d p was other in untouched_twice d h h' h'' s (later.were d p (s.same_role ∙ was) other);
   are = λ d other. let s = later.are d other in untouched_twice d h h' h'' (first.are d (λ is. other (s.same_role ∙ is))) s;
+  clock = later.clock ∙ first.clock;
 }
 
 -- one after another
@@ -190,7 +192,7 @@ pub line_keeps :
     {Is : Step → Type 0} {at : ℕ} {core : ServedCore} {h h' : List Event} {x y : Link} → ((d : ℕ) → IsUntouched d h h') → line_of y ≡ line_of x → LineGoes Is at core h x core h' y
 line_keeps {at = at} {h = h} {h' = h'} {x = x} {y = y} still same =
     line_moves refl (still 0).after (shut_still still (same_conn x y same)) (ap (λ (s : LineState). s.0) same)
-    (λ past a. (same_line at past h' x y same (line_stays h h' at [] past x (λ c of_c. still c) refl (λ n ask is. (refl, refl)) a), all_kept (1, at) h h' still))
+    (λ past a. (same_line at past h' x y same (line_stays h h' at [] past x (λ c of_c. still c) refl (λ n ask is. (refl, refl, refl)) a), all_kept (1, at) h h' still))
 
 -- of eight parts
 pub of_eight :
@@ -352,7 +354,7 @@ begins at core h h' x y dialect number new noted has = record {
   kinds = (tt, tt);
   own = (refl, tt);
   walks = (core, refl, refl);
-  agrees = λ past o tells a. ((subst (λ (d : Option Conn). Unused h at x.text.items (talk_in past at) (option_map (λ (z : Conn). z.number) d)) has.none_draining (a.unused has.none_there), o), by past a y.conn refl has.conn, keeps_by number (1, at) h h' (new_own number (1, at) h new.no_role) (ap (role number) noted ∙ ap (λ b. if b then Some (1, at) else role number h) (equal number)) only, λ j other n ask is. (refl, refl));
+  agrees = λ past o tells a. ((subst (λ (d : Option Conn). Unused h at x.text.items (talk_in past at) (option_map (λ (z : Conn). z.number) d)) has.none_draining (a.unused has.none_there), o), by past a y.conn refl has.conn, keeps_by number (1, at) h h' (new_own number (1, at) h new.no_role) (ap (role number) noted ∙ ap (λ b. if b then Some (1, at) else role number h) (equal number)) only, λ j other n ask is. (refl, refl, refl));
   shown = λ past o tells a shown. shown_later (Linked at dialect ∷ []) past h h' (tt, tt) (connects number at x.text.items ∷ [], noted) shown;
   shut = shut_begun number only (conn_drains x has.none_there ∙ ap (option_map (λ (z : Conn). z.number)) has.none_draining) (ap (λ o. first_some o (drain_of y)) (has_number y.conn has.conn));
   text = ap (λ t. t.items) has.text;
@@ -374,7 +376,7 @@ begins at core h h' x y dialect number new noted has = record {
         has_conn at (Linked at dialect ∷ past) h' y d e (talk_as (ap (λ t. t.items) has.text) talk end.0 end.1 end.2 none has.awaits has.speaks (ap said_late has.none_late) first)
         (ap (λ n. is_over n h') end.0 ∙ ap (is_over number) noted ∙ new.goes_on)
         (calls_later (Linked at dialect ∷ []) past at y.waiting.items (subst (λ w. MayAllGo past at w) (sym (ap (λ w. w.items) has.waiting)) a.waiting))
-        (due_stays past (Linked at dialect ∷ past) at (said_asks y.waiting.items) (λ n ask is. (refl, refl)) (subst (λ w. AreDue past at (said_asks w)) (sym (ap (λ w. w.items) has.waiting)) a.due))
+        (due_stays past (Linked at dialect ∷ past) at (said_asks y.waiting.items) (λ n ask is. (refl, refl, refl)) (subst (λ w. AreDue past at (said_asks w)) (sym (ap (λ w. w.items) has.waiting)) a.due))
         (subst (λ l. AreCalled (Linked at dialect ∷ past) at l) (sym none) tt)
 
 -- one was begun, and closed
@@ -384,7 +386,7 @@ begins_in_vain at core h h' x y number new closed keeps =
     let same = keeps_line x y keeps in
     let only = only_twice number h (connects number at x.text.items ∷ h) h' (only_connects number at x.text.items h) (only_closed number (connects number at x.text.items ∷ h) h' closed) in
     line_moves refl (only_after number h h' only) (shut_in_vain number only (closed_shut number (connects number at x.text.items ∷ h) h' closed) (same_conn x y same)) (ap (λ t. t.items) keeps.text) (λ past a. (
-      same_line at past h' x y same (line_stays h h' at [] past x (λ c of_c. only c (new_apart number c h (1, at) of_c new.no_role)) refl (λ n ask is. (refl, refl)) a),
+      same_line at past h' x y same (line_stays h h' at [] past x (λ c of_c. only c (new_apart number c h (1, at) of_c new.no_role)) refl (λ n ask is. (refl, refl, refl)) a),
       keeps_by number (1, at) h h' (new_own number (1, at) h new.no_role) (closed_role number (connects number at x.text.items ∷ h) h' closed ∙ ap (λ b. if b then Some (1, at) else role number h) (equal number)) only,
     ))
 
@@ -425,7 +427,7 @@ line_learns {at} {core} {h} x y can l = by l.told
       kinds = (tt, tt);
       own = (refl, tt);
       walks = (core, refl, refl);
-      agrees = λ past o tells a. ((subst (λ o. AnswersFirst o y.dialect takes.0) (sym (a.conn c was).awaits_is) takes.2, o), agreed past a, all_kept (1, at) h h (quiet h), λ j other n ask is. (refl, refl));
+      agrees = λ past o tells a. ((subst (λ o. AnswersFirst o y.dialect takes.0) (sym (a.conn c was).awaits_is) takes.2, o), agreed past a, all_kept (1, at) h h (quiet h), λ j other n ask is. (refl, refl, refl));
       shown = λ past o tells a shown. shown_later (step ∷ []) past h h (tt, tt) (none_since h) shown;
       shut = shut_still (quiet h) (conn_is y d is ∙ ap (λ (z : Conn). Some z.number) takes.3 ∙ sym (conn_is x c was));
       text = ap (λ (z : Link). z.text.items) learnt.rest;
@@ -443,8 +445,8 @@ line_learns {at} {core} {h} x y can l = by l.told
             (talk_as (ap (λ (z : Link). z.text.items) learnt.rest) talk (ap (λ (z : Conn). z.number) takes.3) refl (ap (λ (z : Conn). bytes_of z.unsent) takes.3) (ap (λ (z : Link). said_asks z.calls.sent.items) learnt.rest) learnt.told refl (ap (λ (z : Link). said_late z.late.items) learnt.rest) now)
             (ap (λ (z : Conn). is_over z.number h) takes.3 ∙ a.goes_on c was)
             (calls_later (step ∷ []) past at y.waiting.items (subst (λ w. MayAllGo past at w) (sym (ap (λ (z : Link). z.waiting.items) learnt.rest)) a.waiting))
-            (due_stays past (step ∷ past) at (said_asks y.waiting.items) (λ n ask is. (refl, refl)) (subst (λ w. AreDue past at (said_asks w)) (sym (ap (λ (z : Link). z.waiting.items) learnt.rest)) a.due))
-            (called_stays past (step ∷ past) at (said_asks y.calls.sent.items) (λ n ask is. (refl, refl)) (subst (λ l. AreCalled past at l) (sym (ap (λ (z : Link). said_asks z.calls.sent.items) learnt.rest)) a.called))
+            (due_stays past (step ∷ past) at (said_asks y.waiting.items) (λ n ask is. (refl, refl, refl)) (subst (λ w. AreDue past at (said_asks w)) (sym (ap (λ (z : Link). z.waiting.items) learnt.rest)) a.due))
+            (called_stays past (step ∷ past) at (said_asks y.calls.sent.items) (λ n ask is. (refl, refl, refl)) (subst (λ l. AreCalled past at l) (sym (ap (λ (z : Link). said_asks z.calls.sent.items) learnt.rest)) a.called))
 
     by_conns : (o p : Option Conn) → x.conn ≡ o → y.conn ≡ p → TakesGreeting x.awaits_dialect y.dialect o p → HasLearnt x y → LineGoes IsOfTurn at core h x core h y
     by_conns None p was is takes learnt = absurd takes
@@ -457,20 +459,20 @@ line_learns {at} {core} {h} x y can l = by l.told
 
 -- ---- calls
 
-one_said : (calls : List SentCall) (call : SentCall) → said_asks (calls ++ call ∷ []) ≡ said_asks calls ++ (call.ticket.number, call.dialect, call.ticket.ask) ∷ []
+one_said : (calls : List SentCall) (call : SentCall) → said_asks (calls ++ call ∷ []) ≡ said_asks calls ++ (call.ticket.number, call.dialect, call.ticket.ask, call.since) ∷ []
 one_said [] call = refl
-one_said (first ∷ calls) call = ap (λ (l : List SaidAsk). (first.ticket.number, first.dialect, first.ticket.ask) ∷ l) (one_said calls call)
+one_said (first ∷ calls) call = ap (λ (l : List SaidAsk). (first.ticket.number, first.dialect, first.ticket.ask, first.since) ∷ l) (one_said calls call)
 
 talk_asks :
-    (h : List Event) (at : ℕ) (text : List ℕ) (t : Talk) (c : ℕ) (held unsent : List ℕ) (out : List SaidAsk) (awaits : Option Greeting) (speaks : Dialect) (number : ℕ) (dialect : Dialect) (ask : Ask) {late : List SaidAsk}
+    (h : List Event) (at : ℕ) (text : List ℕ) (t : Talk) (c : ℕ) (held unsent : List ℕ) (out : List SaidAsk) (awaits : Option Greeting) (speaks : Dialect) (number : ℕ) (dialect : Dialect) (ask : Ask) (since : ℕ) {late : List SaidAsk}
     → TalkAgrees h at text t c held unsent out awaits speaks late
-    → TalkAgrees h at text (with_ask number dialect ask t) c held (unsent ++ spelling_of (asked_in dialect ask)) (out ++ (number, dialect, ask) ∷ []) awaits speaks late
-talk_asks h at text t c held unsent out awaits speaks number dialect ask was = record {
+    → TalkAgrees h at text (with_ask number dialect ask since t) c held (unsent ++ spelling_of (asked_in dialect ask)) (out ++ (number, dialect, ask, since) ∷ []) awaits speaks late
+talk_asks h at text t c held unsent out awaits speaks number dialect ask since was = record {
   is_to = was.is_to;
   address = was.address;
   sent_is = ap (λ l. l ++ spelling_of (asked_in dialect ask)) was.sent_is ∙ append_assoc (taken c h) unsent (spelling_of (asked_in dialect ask));
   told_is = was.told_is;
-  out_is = ap (λ (l : List SaidAsk). l ++ (number, dialect, ask) ∷ []) was.out_is;
+  out_is = ap (λ (l : List SaidAsk). l ++ (number, dialect, ask, since) ∷ []) was.out_is;
   awaits_is = was.awaits_is;
   dialect_is = was.dialect_is;
   late_is = was.late_is;
@@ -488,19 +490,19 @@ line_asks {at} {core} {h} x y c d call was is same alone ready more unsent = rec
   walks = (core, refl, refl);
   agrees = λ past o tells a.
       let one = asked_one at past x.calls.sent.items call x.waiting.items a.0.called a.2 in
-      (((a.1, a.2.0, (a.0.conn c was).late_is ∙ ap said_late alone, ap awaits_flush (a.0.conn c was).awaits_is ∙ ready), o), agreed past a.0 one, all_kept (1, at) h h (quiet h), one.others);
+      (((a.1, a.2.0, (a.0.conn c was).late_is ∙ ap said_late alone, ap awaits_flush (a.0.conn c was).awaits_is ∙ ready, a.2.3), o), agreed past a.0 one, all_kept (1, at) h h (quiet h), one.others);
   shown = λ past o tells a shown. shown_later (step ∷ []) past h h (tt, tt) (none_since h) shown;
   shut = shut_still (quiet h) (ap conn_of is ∙ ap (λ (z : Conn). Some z.number) same ∙ sym (conn_is x c was));
   text = ap (λ (z : Link). z.text.items) is;
 }
   where
     step : Step
-    step = Asked at call.ticket.number call.dialect call.ticket.ask
+    step = Asked at call.ticket.number call.dialect call.ticket.ask call.since
 
     agreed : (past : List Step) → LineAgrees at past h x → AskedOne at past (step ∷ past) x.calls.sent.items call x.waiting.items → LineAgrees at (step ∷ past) h y
     agreed past a one =
-        let talk = ap (λ b. if b then with_ask call.ticket.number call.dialect call.ticket.ask (talk_in past at) else talk_in past at) (equal at) in
-        let now = talk_asks h at x.text.items (talk_in past at) c.number c.held.items (bytes_of c.unsent) (said_asks x.calls.sent.items) x.awaits_dialect x.dialect call.ticket.number call.dialect call.ticket.ask (a.conn c was) in
+        let talk = ap (λ b. if b then with_ask call.ticket.number call.dialect call.ticket.ask call.since (talk_in past at) else talk_in past at) (equal at) in
+        let now = talk_asks h at x.text.items (talk_in past at) c.number c.held.items (bytes_of c.unsent) (said_asks x.calls.sent.items) x.awaits_dialect x.dialect call.ticket.number call.dialect call.ticket.ask call.since (a.conn c was) in
         has_conn at (step ∷ past) h y d (ap (λ (z : Link). z.conn) is)
         (talk_as (ap (λ (z : Link). z.text.items) is) talk (ap (λ (z : Conn). z.number) same) (ap (λ (z : Conn). z.held.items) same) unsent (ap said_asks more ∙ one_said x.calls.sent.items call) (ap (λ (z : Link). z.awaits_dialect) is) (ap (λ (z : Link). z.dialect) is) (ap (λ (z : Link). said_late z.late.items) is) now)
         (ap (λ (z : Conn). is_over z.number h) same ∙ a.goes_on c was)
@@ -645,7 +647,7 @@ gives_up {at} {core} {h} {h'} why x y c e only same_role closed text waiting sen
   kinds = (refl, tt);
   own = (refl, tt);
   walks = (core, refl, refl);
-  agrees = λ past o tells a. ((tt, o), left past a, keeps_others c.number (1, at) h h' (a.lost.conn c e).1.is_to same_role only, λ j other n ask is. (refl, refl));
+  agrees = λ past o tells a. ((tt, o), left past a, keeps_others c.number (1, at) h h' (a.lost.conn c e).1.is_to same_role only, λ j other n ask is. (refl, refl, refl));
   shown = λ past o tells a shown. (was_shown past a, shown_since past h h' (only_after c.number h h' only) shown);
   shut = shut;
   text = text;
@@ -657,8 +659,8 @@ gives_up {at} {core} {h} {h'} why x y c e only same_role closed text waiting sen
     left : (past : List Step) → LineFails why at past h x → LineAgrees at (Lost at why ∷ past) h' y
     left past a =
         has_none at (Lost at why ∷ past) h' y closed (calls_later (Lost at why ∷ []) past at y.waiting.items (subst (λ w. MayAllGo past at w) (sym waiting) a.lost.waiting))
-        (due_stays past (Lost at why ∷ past) at (said_asks y.waiting.items) (λ n ask is. (refl, refl)) (subst (λ w. AreDue past at (said_asks w)) (sym waiting) a.lost.due)) (ap (λ (t : Talk). t.out) (talk past)) (unused past a)
-        (called_stays past (Lost at why ∷ past) at (said_asks y.calls.sent.items) (λ n ask is. (refl, refl)) (subst (λ (l : List SentCall). AreCalled past at (said_asks l)) (sym sent) a.lost.called))
+        (due_stays past (Lost at why ∷ past) at (said_asks y.waiting.items) (λ n ask is. (refl, refl, refl)) (subst (λ w. AreDue past at (said_asks w)) (sym waiting) a.lost.due)) (ap (λ (t : Talk). t.out) (talk past)) (unused past a)
+        (called_stays past (Lost at why ∷ past) at (said_asks y.calls.sent.items) (λ n ask is. (refl, refl, refl)) (subst (λ (l : List SentCall). AreCalled past at (said_asks l)) (sym sent) a.lost.called))
 
     was_shown : (past : List Step) → LineFails why at past h x → WasShown why at past h'
     was_shown past a = let t = (a.lost.conn c e).1 in record {
@@ -767,7 +769,7 @@ line_ends {Is} {at} {core} {h} {k} {h'} why kind apart x y c none was is r shows
   kinds = (kind, tt);
   own = (refl, tt);
   walks = (core, refl, refl);
-  agrees = λ past o tells a. ((tt, o), left past a, keeps_others c.number (1, at) h h' (before past a).3.is_to (closed_role c.number k h' closes_it ∙ r.same_role) only, λ j other n ask is. (refl, refl));
+  agrees = λ past o tells a. ((tt, o), left past a, keeps_others c.number (1, at) h h' (before past a).3.is_to (closed_role c.number k h' closes_it ∙ r.same_role) only, λ j other n ask is. (refl, refl, refl));
   shown = λ past o tells a shown. (was_shown past a, shown_since past h h' (only_after c.number h h' only) shown);
   shut = shut_closed c.number only (closed_shut c.number k h' closes_it) (conn_drains x none ∙ ap (option_map (λ (z : Conn). z.number)) was);
   text = ap (λ (z : Link). z.text.items) is;
@@ -786,10 +788,10 @@ line_ends {Is} {at} {core} {h} {k} {h'} why kind apart x y c none was is r shows
     left past a =
         has_none at (Lost at why ∷ past) h' y (ap (λ (z : Link). z.conn) is ∙ none)
         (calls_later (Lost at why ∷ []) past at y.waiting.items (subst (λ w. MayAllGo past at w) (sym (ap (λ (z : Link). z.waiting.items) is)) a.waiting))
-        (due_stays past (Lost at why ∷ past) at (said_asks y.waiting.items) (λ n ask is. (refl, refl)) (subst (λ w. AreDue past at (said_asks w)) (sym (ap (λ (z : Link). z.waiting.items) is)) a.due))
+        (due_stays past (Lost at why ∷ past) at (said_asks y.waiting.items) (λ n ask is. (refl, refl, refl)) (subst (λ w. AreDue past at (said_asks w)) (sym (ap (λ (z : Link). z.waiting.items) is)) a.due))
         (ap (λ (t : Talk). t.out) (talk past))
         (subst (Unused h' at y.text.items (talk_in (Lost at why ∷ past) at)) (sym (ap drain_of is)) (ap (λ (t : Talk). t.stands) (talk past) ∙ apart))
-        (called_stays past (Lost at why ∷ past) at (said_asks y.calls.sent.items) (λ n ask is. (refl, refl)) (subst (λ l. AreCalled past at l) (sym (ap (λ (z : Link). said_asks z.calls.sent.items) is)) a.called))
+        (called_stays past (Lost at why ∷ past) at (said_asks y.calls.sent.items) (λ n ask is. (refl, refl, refl)) (subst (λ l. AreCalled past at l) (sym (ap (λ (z : Link). said_asks z.calls.sent.items) is)) a.called))
 
     was_shown : (past : List Step) → LineAgrees at past h x → WasShown why at past h'
     was_shown past a =
@@ -846,12 +848,13 @@ failed_own at (Stopped client fault ∷ steps) kinds = absurd kinds.0
 failed_own at (Gave client bytes ∷ steps) kinds = absurd kinds.0
 failed_own at (Closed client ∷ steps) kinds = absurd kinds.0
 failed_own at (LeftLine client ∷ steps) kinds = absurd kinds.0
+failed_own at (Ticked now ∷ steps) kinds = absurd kinds.0
 failed_own at (Broke client ∷ steps) kinds = absurd kinds.0
 failed_own at (Loaded configuration generation ∷ steps) kinds = absurd kinds.0
 failed_own at (Linked a dialect ∷ steps) kinds = absurd kinds.0
-failed_own at (Asked a number dialect ask ∷ steps) kinds = absurd kinds.0
+failed_own at (Asked a number dialect ask since ∷ steps) kinds = absurd kinds.0
 failed_own at (Greeted a dialect bytes ∷ steps) kinds = absurd kinds.0
-failed_own at (Late a number ∷ steps) kinds = absurd kinds.0
+failed_own at (Late a number limit now ∷ steps) kinds = absurd kinds.0
 failed_own at (CameLate a number ask answer bytes ∷ steps) kinds = absurd kinds.0
 failed_own at (Spelled a number ask answer bytes ∷ steps) kinds = absurd kinds.0
 failed_own at (Lost a why ∷ steps) kinds = absurd kinds.0
@@ -871,12 +874,13 @@ failed_giving why (step ∷ steps) kinds = (gives step kinds.0, failed_giving wh
     gives (Gave client bytes) is = absurd is
     gives (Closed client) is = absurd is
     gives (LeftLine client) is = absurd is
+    gives (Ticked now) is = absurd is
     gives (Broke client) is = absurd is
     gives (Loaded configuration generation) is = absurd is
     gives (Linked a dialect) is = absurd is
-    gives (Asked a number dialect ask) is = absurd is
+    gives (Asked a number dialect ask since) is = absurd is
     gives (Greeted a dialect bytes) is = absurd is
-    gives (Late a number) is = absurd is
+    gives (Late a number limit now) is = absurd is
     gives (CameLate a number ask answer bytes) is = absurd is
     gives (Spelled a number ask answer bytes) is = absurd is
     gives (Lost a cause) is = absurd is

@@ -4,11 +4,11 @@ use Rattle.serve_wire.specs.Events.{Event}
 use Rattle.serve_wire.specs.Agreement.{Extends}
 use Rattle.serve_wire.proofs.Steps.{extends_twice}
 use Rattle.serve_links.specs.declared.news.Cause.{Cause}
-use Rattle.serve_links.specs.CoreSteps.{Step, Opened, NotOpened, Fed, Polled, Stopped, Settled, Gave, Closed, LeftLine, Broke, Loaded, Linked, Asked, Greeted, Spelled, Late, CameLate, Lost, AreOf}
+use Rattle.serve_links.specs.CoreSteps.{Step, Opened, NotOpened, Fed, Polled, Stopped, Settled, Gave, Closed, LeftLine, Broke, Ticked, Loaded, Linked, Asked, Greeted, Spelled, Late, CameLate, Lost, AreOf}
 use Rattle.serve_links.specs.Story.{WasShown, ShownBy, AreShown}
 use Rattle.serve_links.proofs.Talking.{IsPlain}
 
--- no server's connection is given up
+-- no server's connection is given up, and no call is late
 abbrev pub IsUnlost : Step → Type 0
 IsUnlost (Lost at why) = ⊥
 IsUnlost (Opened client) = Unit {0}
@@ -20,12 +20,13 @@ IsUnlost (Settled number outcome) = Unit {0}
 IsUnlost (Gave client bytes) = Unit {0}
 IsUnlost (Closed client) = Unit {0}
 IsUnlost (LeftLine client) = Unit {0}
+IsUnlost (Ticked now) = Unit {0}
 IsUnlost (Broke client) = Unit {0}
 IsUnlost (Loaded configuration generation) = Unit {0}
 IsUnlost (Linked at dialect) = Unit {0}
-IsUnlost (Asked at number dialect ask) = Unit {0}
+IsUnlost (Asked at number dialect ask since) = Unit {0}
 IsUnlost (Greeted at dialect bytes) = Unit {0}
-IsUnlost (Late at number) = Unit {0}
+IsUnlost (Late at number limit now) = ⊥
 IsUnlost (CameLate at number ask answer bytes) = Unit {0}
 IsUnlost (Spelled at number ask answer bytes) = Unit {0}
 
@@ -44,12 +45,13 @@ plain_unlost (step ∷ steps) kinds = (unlost step kinds.0, plain_unlost steps k
     unlost (Gave client bytes) is = tt
     unlost (Closed client) is = tt
     unlost (LeftLine client) is = tt
+    unlost (Ticked now) is = tt
     unlost (Broke client) is = tt
     unlost (Loaded configuration generation) is = tt
     unlost (Linked at dialect) is = absurd is
-    unlost (Asked at number dialect ask) is = absurd is
+    unlost (Asked at number dialect ask since) is = absurd is
     unlost (Greeted at dialect bytes) is = absurd is
-    unlost (Late at number) is = absurd is
+    unlost (Late at number limit now) is = absurd is
     unlost (CameLate at number ask answer bytes) is = absurd is
     unlost (Spelled at number ask answer bytes) is = absurd is
 
@@ -85,12 +87,13 @@ shown_since (step ∷ steps) h h' more shown = (by step shown.0, shown_since ste
     by (Gave client bytes) was = tt
     by (Closed client) was = tt
     by (LeftLine client) was = tt
+    by (Ticked now) was = tt
     by (Broke client) was = tt
     by (Loaded configuration generation) was = tt
     by (Linked at dialect) was = tt
-    by (Asked at number dialect ask) was = tt
+    by (Asked at number dialect ask since) was = tt
     by (Greeted at dialect bytes) was = tt
-    by (Late at number) was = tt
+    by (Late at number limit now) was = (was.0, extends_twice was.0 h h' was.1 more, was.2)
     by (CameLate at number ask answer bytes) was = tt
     by (Spelled at number ask answer bytes) was = tt
 
@@ -110,11 +113,12 @@ shown_later (step ∷ steps) past h h' kinds more shown = (by step kinds.0, show
     by (Gave client bytes) is = tt
     by (Closed client) is = tt
     by (LeftLine client) is = tt
+    by (Ticked now) is = tt
     by (Broke client) is = tt
     by (Loaded configuration generation) is = tt
     by (Linked at dialect) is = tt
-    by (Asked at number dialect ask) is = tt
+    by (Asked at number dialect ask since) is = tt
     by (Greeted at dialect bytes) is = tt
-    by (Late at number) is = tt
+    by (Late at number limit now) is = absurd is
     by (CameLate at number ask answer bytes) is = tt
     by (Spelled at number ask answer bytes) is = tt

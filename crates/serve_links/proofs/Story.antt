@@ -9,7 +9,7 @@ use Rattle.wire_parts.specs.Sending.{bytes_of}
 use Rattle.serve_wire.specs.Events.{Event, role, delivered, taken}
 use Rattle.serve_wire.specs.Agreement.{ClientLost, IsUntouched}
 use Rattle.serve_wire.specs.declared.conn.conn.Conn.{Conn}
-use Rattle.serve_wire.proofs.Steps.{apart, only_after}
+use Rattle.serve_wire.proofs.Steps.{apart, only_after, only_time}
 use Rattle.core_proxy.specs.declared.note.Poll.TheVariants as polls
 use Rattle.serve_clients.specs.declared.clients.Client.{Client}
 use Rattle.serve_clients.specs.declared.clients.Clients.{Clients}
@@ -18,12 +18,12 @@ use Rattle.serve_clients.proofs.Agreeing.{its, state_stays, client_lost}
 use Rattle.serve_clients.specs.Marks.{client_of}
 use Rattle.serve_links.specs.declared.settings.Greeting.{Greeting}
 use Rattle.serve_links.specs.declared.link.Link.{Link}
-use Rattle.serve_links.specs.CoreSteps.{Step, Closed, Opened, Polled, AreOf}
+use Rattle.serve_links.specs.CoreSteps.{Step, Closed, Opened, Polled, AreOf, IsSending}
 use Rattle.serve_links.specs.Talks.{SaidAsk, Talk, Apart, talk_in, AreDue, AreCalled}
 use Rattle.serve_links.specs.Story.{fed_in, gave_in, is_open_in, is_broken_in, AgreesWith, IsTold, AreTold, TellsNone, TookAll, EndsBy, IsGone, HasOrHad, TalkAgrees, Unused, said_asks, StayOut, LineAgrees, LinesAgree, texts_of, OneGoes, LineGoesFrom, LineGoes, AnEnd, Agrees, AgreesBut, AgreesCalled, AllGoFrom, AllGo, StoriesGoOn}
 use Rattle.serve_links.specs.Called.{TellsCalls, GiveOnce}
 use Rattle.serve_links.proofs.Called.{walks_tell_calls}
-use Rattle.serve_links.proofs.Talking.{calls_later, IsPlain, clients_plain, plain_talk, clients_orderly, server_tells_none, talk_elsewhere}
+use Rattle.serve_links.proofs.Talking.{calls_later, IsPlain, clients_plain, plain_talk, clients_orderly, clients_clock, server_tells_none, server_clock, sending_clock, sending_given, talk_elsewhere}
 use Rattle.serve_links.proofs.Due.{due_stays, called_stays, clients_stay}
 use Rattle.serve_links.proofs.Showing.{plain_unlost, shown_later}
 use Rattle.serve_links.specs.Shut.{drain_of, conn_of, link_conn, IsShutBut, AreShut}
@@ -316,6 +316,7 @@ one_agrees {Is} id old new x y was is others links g = agree
       shown = shown_later g.steps past h h' (plain_unlost g.steps plain) (only_after x.conn.number h h' g.only) a.shown;
       unlinked = λ at none. unlinked_stays (plain_talk g.steps plain past at) (a.unlinked at (ap (λ (ls : List Link). slice_get ls at) (sym links) ∙ none));
       shut = shut past a;
+      clock = clients_clock g.steps g.own past ∙ a.clock ∙ sym (only_time x.conn.number h h' g.only);
     }
 
 pub one_of_all :
@@ -376,24 +377,25 @@ line_among {Before} {After} {Is} at old new x y was is others texts clients_are 
       unlinked = unlinked past a;
       shut = shut_line at goes.2 (λ was_shut. subst (λ o. IsShutBut (1, at) o h') (sym (at_conn new.links y is)) (g.shut (subst (λ o. IsShutBut (1, at) o h) (at_conn old.links x was) was_shut)))
           (λ j e. ap (λ o. option_flatten (option_map conn_of o)) (others j e)) (λ j. ap (option_map (λ (z : Client). z.conn.number)) (clients_are j)) a.shut;
+      clock = server_clock at g.steps g.own past ∙ a.clock ∙ sym goes.2.clock;
     }
 
 -- where the link at one place agrees like the others, all agree
 pub but_all : (at : ℕ) (past : List Step) (x : AnEnd) → AgreesBut LineAgrees at past x → Agrees past x
-but_all at past x a = record { orderly = a.orderly; calls = a.calls; clients = a.clients; told = a.told; links = λ j link there. elim (cases_Bool (nat_eq at j)) [ inl e ↦ mine j link there (eqb-true at j e) | inr e ↦ a.links j link e there ]; gone = a.gone; shown = a.shown; unlinked = a.unlinked; shut = a.shut }
+but_all at past x a = record { orderly = a.orderly; calls = a.calls; clients = a.clients; told = a.told; links = λ j link there. elim (cases_Bool (nat_eq at j)) [ inl e ↦ mine j link there (eqb-true at j e) | inr e ↦ a.links j link e there ]; gone = a.gone; shown = a.shown; unlinked = a.unlinked; shut = a.shut; clock = a.clock }
   where
     mine : (j : ℕ) (link : Link) → slice_get x.links j ≡ Some link → at ≡ j → LineAgrees j past x.history link
     mine j link there e = subst (λ k. LineAgrees k past x.history link) e (a.this link (ap (slice_get x.links) e ∙ there))
 
 -- and where none is there
 pub but_none : {This : ℕ → List Step → List Event → Link → Type 0} (at : ℕ) (past : List Step) (x : AnEnd) → slice_get x.links at ≡ None → AgreesBut This at past x → Agrees past x
-but_none at past x none a = record { orderly = a.orderly; calls = a.calls; clients = a.clients; told = a.told; links = λ j link there. elim (cases_Bool (nat_eq at j)) [ inl e ↦ absurd (nobody (sym none ∙ ap (slice_get x.links) (eqb-true at j e) ∙ there)) | inr e ↦ a.links j link e there ]; gone = a.gone; shown = a.shown; unlinked = a.unlinked; shut = a.shut }
+but_none at past x none a = record { orderly = a.orderly; calls = a.calls; clients = a.clients; told = a.told; links = λ j link there. elim (cases_Bool (nat_eq at j)) [ inl e ↦ absurd (nobody (sym none ∙ ap (slice_get x.links) (eqb-true at j e) ∙ there)) | inr e ↦ a.links j link e there ]; gone = a.gone; shown = a.shown; unlinked = a.unlinked; shut = a.shut; clock = a.clock }
   where
     nobody : {link : Link} → None ≡ Some link → ⊥
     nobody e = cc
 
 pub all_but : (at : ℕ) (past : List Step) (x : AnEnd) → Agrees past x → AgreesBut LineAgrees at past x
-all_but at past x a = record { orderly = a.orderly; calls = a.calls; clients = a.clients; told = a.told; links = λ j link e there. a.links j link there; this = λ link there. a.links at link there; gone = a.gone; shown = a.shown; unlinked = a.unlinked; shut = a.shut }
+all_but at past x a = record { orderly = a.orderly; calls = a.calls; clients = a.clients; told = a.told; links = λ j link e there. a.links j link there; this = λ link there. a.links at link there; gone = a.gone; shown = a.shown; unlinked = a.unlinked; shut = a.shut; clock = a.clock }
 
 -- what is wanted before is there, and what is there after is more than is wanted
 pub go_between :
@@ -427,7 +429,7 @@ pub all_then : {Is : Step → Type 0} (a b c : AnEnd) → AllGo Is a b → AllGo
 all_then a b c g k = from_then a b c g k
 
 -- what the core gave out for a server stays so, and all would agree if it hadn't
-pub still_called : {Is : Step → Type 0} {a b : AnEnd} (number at : ℕ) (ask : Ask) → AllGo Is a b → AllGoFrom (AgreesCalled number at ask) (AgreesCalled number at ask) Is a b
+pub still_called : {a b : AnEnd} (number at : ℕ) (ask : Ask) → AllGo IsSending a b → AllGoFrom (AgreesCalled number at ask) (AgreesCalled number at ask) IsSending a b
 still_called {a = a} {b = b} number at ask g = record {
   steps = g.steps;
   kinds = g.kinds;
@@ -445,6 +447,7 @@ still_called {a = a} {b = b} number at ask g = record {
       was = ap (λ l. g.steps ++ l) call.was ∙ sym (append_assoc g.steps call.later (Polled call.client (polls.Call call.ticket) ∷ call.earlier));
     },
     subst (λ l. Agrees l b) (sym (append_assoc g.steps call.later call.earlier)) (g.agree (call.later ++ call.earlier) was.2),
+    sending_given g.steps g.kinds past number ∙ was.3 ∙ sym (sending_clock g.steps g.kinds past),
   );
   texts = g.texts;
 }

@@ -5,13 +5,13 @@ use Rattle.mc_types.specs.declared.ask.Ask.{Ask}
 use Rattle.mc_types.specs.declared.call.Outcome.TheVariants.{Failed}
 use Rattle.core_proxy.specs.declared.note.Poll.TheVariants as polls
 use Rattle.serve_links.specs.declared.calls.calls.SentCall.{SentCall}
-use Rattle.serve_links.specs.CoreSteps.{Step, Opened, NotOpened, Fed, Polled, Stopped, Settled, Gave, Closed, LeftLine, Broke, Loaded, Linked, Asked, Greeted, Spelled, Late, CameLate, Lost, AreOf}
+use Rattle.serve_links.specs.CoreSteps.{Step, Opened, NotOpened, Fed, Polled, Stopped, Settled, Gave, Closed, LeftLine, Broke, Ticked, Loaded, Linked, Asked, Greeted, Spelled, Late, CameLate, Lost, AreOf}
 use Rattle.serve_links.specs.Talks.{SaidAsk, first_talk, with_ask, greeted, with_answer, turned_late, with_late, given_up, talk_in, IsCalledIn, IsNotAmong, AreDue, AreCalled, MaySettle, MayFollow, IsOrderly, IsOfClients, IsOfServer}
 use Rattle.serve_links.specs.Story.{TellsNone, MayGo, MayAllGo, said_asks}
-use Rattle.serve_links.specs.Called.{call_in, GivesOnce, GiveOnce}
+use Rattle.serve_links.specs.Called.{call_in, clock_in, given_in, GivesOnce, GiveOnce}
 use Rattle.serve_links.proofs.Due.{turned, among_first, said_both, due_out, KeepsBut, keeps_settled, own_nowhere}
 use Rattle.serve_links.specs.Links.{AllFail}
-use Rattle.serve_links.specs.CoreSteps.{Walks, IsFailure}
+use Rattle.serve_links.specs.CoreSteps.{Walks, IsFailure, IsSending}
 use Rattle.core_accepted.specs.declared.served.ServedCore.{ServedCore}
 use Rattle.core_accepted.specs.Results.{IsSettled}
 use Rattle.serve_links.proofs.Walked.{walked, of_both}
@@ -53,12 +53,13 @@ IsPlain (Stopped client fault) = Unit {0}
 IsPlain (Gave client bytes) = Unit {0}
 IsPlain (Closed client) = Unit {0}
 IsPlain (LeftLine client) = Unit {0}
+IsPlain (Ticked now) = Unit {0}
 IsPlain (Broke client) = Unit {0}
 IsPlain (Loaded configuration generation) = Unit {0}
 IsPlain (Linked at dialect) = ⊥
-IsPlain (Asked at number dialect ask) = ⊥
+IsPlain (Asked at number dialect ask since) = ⊥
 IsPlain (Greeted at dialect bytes) = ⊥
-IsPlain (Late at number) = ⊥
+IsPlain (Late at number limit now) = ⊥
 IsPlain (CameLate at number ask answer bytes) = ⊥
 IsPlain (Spelled at number ask answer bytes) = ⊥
 IsPlain (Lost at why) = ⊥
@@ -77,12 +78,13 @@ clients_plain (step ∷ steps) kinds = (plain step kinds.0, clients_plain steps 
     plain (Gave client bytes) is = tt
     plain (Closed client) is = tt
     plain (LeftLine client) is = tt
+    plain (Ticked now) is = tt
     plain (Broke client) is = tt
     plain (Loaded configuration generation) is = tt
     plain (Linked at dialect) is = is
-    plain (Asked at number dialect ask) is = is
+    plain (Asked at number dialect ask since) is = is
     plain (Greeted at dialect bytes) is = is
-    plain (Late at number) is = is
+    plain (Late at number limit now) is = is
     plain (CameLate at number ask answer bytes) is = is
     plain (Spelled at number ask answer bytes) is = is
     plain (Lost at why) is = is
@@ -99,12 +101,13 @@ plain_talk (Stopped client fault ∷ steps) kinds past j = plain_talk steps kind
 plain_talk (Gave client bytes ∷ steps) kinds past j = plain_talk steps kinds.1 past j
 plain_talk (Closed client ∷ steps) kinds past j = plain_talk steps kinds.1 past j
 plain_talk (LeftLine client ∷ steps) kinds past j = plain_talk steps kinds.1 past j
+plain_talk (Ticked now ∷ steps) kinds past j = plain_talk steps kinds.1 past j
 plain_talk (Broke client ∷ steps) kinds past j = plain_talk steps kinds.1 past j
 plain_talk (Loaded configuration generation ∷ steps) kinds past j = plain_talk steps kinds.1 past j
 plain_talk (Linked at dialect ∷ steps) kinds past j = absurd kinds.0
-plain_talk (Asked at number dialect ask ∷ steps) kinds past j = absurd kinds.0
+plain_talk (Asked at number dialect ask since ∷ steps) kinds past j = absurd kinds.0
 plain_talk (Greeted at dialect bytes ∷ steps) kinds past j = absurd kinds.0
-plain_talk (Late at number ∷ steps) kinds past j = absurd kinds.0
+plain_talk (Late at number limit now ∷ steps) kinds past j = absurd kinds.0
 plain_talk (CameLate at number ask answer bytes ∷ steps) kinds past j = absurd kinds.0
 plain_talk (Spelled at number ask answer bytes ∷ steps) kinds past j = absurd kinds.0
 plain_talk (Lost at why ∷ steps) kinds past j = absurd kinds.0
@@ -123,13 +126,14 @@ clients_orderly (step ∷ steps) kinds past once o = (follows step (steps ++ pas
     follows (Gave client bytes) before is once = tt
     follows (Closed client) before is once = tt
     follows (LeftLine client) before is once = tt
+    follows (Ticked now) before is once = tt
     follows (Broke client) before is once = tt
     follows (Loaded configuration generation) before is once = tt
     follows (Settled number outcome) before is once = absurd is
     follows (Linked at dialect) before is once = absurd is
-    follows (Asked at number dialect ask) before is once = absurd is
+    follows (Asked at number dialect ask since) before is once = absurd is
     follows (Greeted at dialect bytes) before is once = absurd is
-    follows (Late at number) before is once = absurd is
+    follows (Late at number limit now) before is once = absurd is
     follows (CameLate at number ask answer bytes) before is once = absurd is
     follows (Spelled at number ask answer bytes) before is once = absurd is
     follows (Lost at why) before is once = absurd is
@@ -181,17 +185,17 @@ fails_before at call calls a mid b is rest = record {
 
     keeps : (past : List Step) → KeepsBut (said_asks (call ∷ calls)) past (rest.steps ++ step ∷ past)
     keeps past = λ n not.
-        let first = keeps_settled past number Failed call.dialect call.ticket.ask n (not.0, tt) in let later = rest.keeps (step ∷ past) n not.1 in (later.0 ∙ first.0, later.1 ∙ first.1)
+        let first = keeps_settled past number Failed call.dialect call.ticket.ask call.since n (not.0, tt) in let later = rest.keeps (step ∷ past) n not.1 in (later.0 ∙ first.0, later.1 ∙ first.1, later.2 ∙ first.2)
 
     settles : (past : List Step) → call_in past number ≡ Some (at, call.ticket.ask) → (talk_in past at).out ≡ [] → IsOrderly past → MaySettle number past
     settles past out none o = record { call = (at, call.ticket.ask); is_out = out; nowhere = own_nowhere past at number call.ticket.ask o out (subst (IsNotAmong number) (sym none) tt) }
 
     still : (past : List Step) (l : List SaidAsk) → IsNotAmong number l → AreOut past at l → AreOut (step ∷ past) at l
     still past [] not out = tt
-    still past (one ∷ l) not out = ((keeps_settled past number Failed call.dialect call.ticket.ask one.0 (turned not.0, tt)).0 ∙ out.0, out.1, still past l not.1 out.2)
+    still past (one ∷ l) not out = ((keeps_settled past number Failed call.dialect call.ticket.ask call.since one.0 (turned not.0, tt)).0 ∙ out.0, out.1, still past l not.1 out.2)
 
 pub fail_in_order : (at : ℕ) (calls : List SentCall) (a b : ServedCore) → AllFail calls a b → FailsInOrder at calls a b
-fail_in_order at [] a b all = record { steps = []; kinds = tt; walks = all; keeps = λ past n not. (refl, refl); orderly = λ past out none o. o }
+fail_in_order at [] a b all = record { steps = []; kinds = tt; walks = all; keeps = λ past n not. (refl, refl, refl); orderly = λ past out none o. o }
 fail_in_order at (call ∷ calls) a b all = fails_before at call calls a all.0 b all.1 (fail_in_order at calls all.0 b all.2)
 
 -- ---- steps of one server
@@ -201,9 +205,9 @@ pub server_tells_none : (at : ℕ) (steps : List Step) → AreOf (IsOfServer at)
 server_tells_none at [] own past j = (refl, refl, refl, refl)
 server_tells_none at (Settled number outcome ∷ steps) own past j = server_tells_none at steps own.1 past j
 server_tells_none at (Linked a dialect ∷ steps) own past j = server_tells_none at steps own.1 past j
-server_tells_none at (Asked a number dialect ask ∷ steps) own past j = server_tells_none at steps own.1 past j
+server_tells_none at (Asked a number dialect ask since ∷ steps) own past j = server_tells_none at steps own.1 past j
 server_tells_none at (Greeted a dialect bytes ∷ steps) own past j = server_tells_none at steps own.1 past j
-server_tells_none at (Late a number ∷ steps) own past j = server_tells_none at steps own.1 past j
+server_tells_none at (Late a number limit now ∷ steps) own past j = server_tells_none at steps own.1 past j
 server_tells_none at (CameLate a number ask answer bytes ∷ steps) own past j = server_tells_none at steps own.1 past j
 server_tells_none at (Spelled a number ask answer bytes ∷ steps) own past j = server_tells_none at steps own.1 past j
 server_tells_none at (Lost a why ∷ steps) own past j = server_tells_none at steps own.1 past j
@@ -215,6 +219,7 @@ server_tells_none at (Stopped client fault ∷ steps) own past j = absurd own.0
 server_tells_none at (Gave client bytes ∷ steps) own past j = absurd own.0
 server_tells_none at (Closed client ∷ steps) own past j = absurd own.0
 server_tells_none at (LeftLine client ∷ steps) own past j = absurd own.0
+server_tells_none at (Ticked now ∷ steps) own past j = absurd own.0
 server_tells_none at (Broke client ∷ steps) own past j = absurd own.0
 server_tells_none at (Loaded configuration generation ∷ steps) own past j = absurd own.0
 
@@ -224,13 +229,13 @@ talk_elsewhere at [] own past j other = refl
 talk_elsewhere at (Settled number outcome ∷ steps) own past j other = talk_elsewhere at steps own.1 past j other
 talk_elsewhere at (Linked a dialect ∷ steps) own past j other =
     ap (λ b. if b then first_talk dialect else talk_in (steps ++ past) j) (ap (λ n. nat_eq n j) own.0 ∙ other) ∙ talk_elsewhere at steps own.1 past j other
-talk_elsewhere at (Asked a number dialect ask ∷ steps) own past j other =
-    ap (λ b. if b then with_ask number dialect ask (talk_in (steps ++ past) j) else talk_in (steps ++ past) j) (ap (λ n. nat_eq n j) own.0 ∙ other) ∙ talk_elsewhere at steps own.1 past j other
+talk_elsewhere at (Asked a number dialect ask since ∷ steps) own past j other =
+    ap (λ b. if b then with_ask number dialect ask since (talk_in (steps ++ past) j) else talk_in (steps ++ past) j) (ap (λ n. nat_eq n j) own.0 ∙ other) ∙ talk_elsewhere at steps own.1 past j other
 talk_elsewhere at (Greeted a dialect bytes ∷ steps) own past j other =
     ap (λ b. if b then greeted dialect bytes (talk_in (steps ++ past) j) else talk_in (steps ++ past) j) (ap (λ n. nat_eq n j) own.0 ∙ other) ∙ talk_elsewhere at steps own.1 past j other
 talk_elsewhere at (Spelled a number ask answer bytes ∷ steps) own past j other =
     ap (λ b. if b then with_answer bytes (talk_in (steps ++ past) j) else talk_in (steps ++ past) j) (ap (λ n. nat_eq n j) own.0 ∙ other) ∙ talk_elsewhere at steps own.1 past j other
-talk_elsewhere at (Late a number ∷ steps) own past j other =
+talk_elsewhere at (Late a number limit now ∷ steps) own past j other =
     ap (λ b. if b then turned_late (talk_in (steps ++ past) j) else talk_in (steps ++ past) j) (ap (λ n. nat_eq n j) own.0 ∙ other) ∙ talk_elsewhere at steps own.1 past j other
 talk_elsewhere at (CameLate a number ask answer bytes ∷ steps) own past j other =
     ap (λ b. if b then with_late bytes (talk_in (steps ++ past) j) else talk_in (steps ++ past) j) (ap (λ n. nat_eq n j) own.0 ∙ other) ∙ talk_elsewhere at steps own.1 past j other
@@ -244,5 +249,100 @@ talk_elsewhere at (Stopped client fault ∷ steps) own past j other = absurd own
 talk_elsewhere at (Gave client bytes ∷ steps) own past j other = absurd own.0
 talk_elsewhere at (Closed client ∷ steps) own past j other = absurd own.0
 talk_elsewhere at (LeftLine client ∷ steps) own past j other = absurd own.0
+talk_elsewhere at (Ticked now ∷ steps) own past j other = absurd own.0
 talk_elsewhere at (Broke client ∷ steps) own past j other = absurd own.0
 talk_elsewhere at (Loaded configuration generation ∷ steps) own past j other = absurd own.0
+
+-- ---- the clock
+
+-- by steps of clients it isn't looked at
+pub clients_clock : (steps : List Step) → AreOf IsOfClients steps → (past : List Step) → clock_in (steps ++ past) ≡ clock_in past
+clients_clock [] own past = refl
+clients_clock (Settled number outcome ∷ steps) own past = absurd own.0
+clients_clock (Opened client ∷ steps) own past = clients_clock steps own.1 past
+clients_clock (NotOpened fault ∷ steps) own past = clients_clock steps own.1 past
+clients_clock (Fed client piece ∷ steps) own past = clients_clock steps own.1 past
+clients_clock (Polled client poll ∷ steps) own past = clients_clock steps own.1 past
+clients_clock (Stopped client fault ∷ steps) own past = clients_clock steps own.1 past
+clients_clock (Gave client bytes ∷ steps) own past = clients_clock steps own.1 past
+clients_clock (Closed client ∷ steps) own past = clients_clock steps own.1 past
+clients_clock (LeftLine client ∷ steps) own past = clients_clock steps own.1 past
+clients_clock (Ticked now ∷ steps) own past = absurd own.0
+clients_clock (Broke client ∷ steps) own past = clients_clock steps own.1 past
+clients_clock (Loaded configuration generation ∷ steps) own past = clients_clock steps own.1 past
+clients_clock (Linked at dialect ∷ steps) own past = absurd own.0
+clients_clock (Asked at number dialect ask since ∷ steps) own past = absurd own.0
+clients_clock (Greeted at dialect bytes ∷ steps) own past = absurd own.0
+clients_clock (Late at number limit now ∷ steps) own past = absurd own.0
+clients_clock (CameLate at number ask answer bytes ∷ steps) own past = absurd own.0
+clients_clock (Spelled at number ask answer bytes ∷ steps) own past = absurd own.0
+clients_clock (Lost at why ∷ steps) own past = absurd own.0
+
+-- nor by those of one server
+pub server_clock : (at : ℕ) (steps : List Step) → AreOf (IsOfServer at) steps → (past : List Step) → clock_in (steps ++ past) ≡ clock_in past
+server_clock at [] own past = refl
+server_clock at (Settled number outcome ∷ steps) own past = server_clock at steps own.1 past
+server_clock at (Opened client ∷ steps) own past = absurd own.0
+server_clock at (NotOpened fault ∷ steps) own past = absurd own.0
+server_clock at (Fed client piece ∷ steps) own past = absurd own.0
+server_clock at (Polled client poll ∷ steps) own past = absurd own.0
+server_clock at (Stopped client fault ∷ steps) own past = absurd own.0
+server_clock at (Gave client bytes ∷ steps) own past = absurd own.0
+server_clock at (Closed client ∷ steps) own past = absurd own.0
+server_clock at (LeftLine client ∷ steps) own past = absurd own.0
+server_clock at (Ticked now ∷ steps) own past = absurd own.0
+server_clock at (Broke client ∷ steps) own past = absurd own.0
+server_clock at (Loaded configuration generation ∷ steps) own past = absurd own.0
+server_clock at (Linked a dialect ∷ steps) own past = server_clock at steps own.1 past
+server_clock at (Asked a number dialect ask since ∷ steps) own past = server_clock at steps own.1 past
+server_clock at (Greeted a dialect bytes ∷ steps) own past = server_clock at steps own.1 past
+server_clock at (Late a number limit now ∷ steps) own past = server_clock at steps own.1 past
+server_clock at (CameLate a number ask answer bytes ∷ steps) own past = server_clock at steps own.1 past
+server_clock at (Spelled a number ask answer bytes ∷ steps) own past = server_clock at steps own.1 past
+server_clock at (Lost a why ∷ steps) own past = server_clock at steps own.1 past
+
+-- nor as calls are sent
+pub sending_clock : (steps : List Step) → AreOf IsSending steps → (past : List Step) → clock_in (steps ++ past) ≡ clock_in past
+sending_clock [] kinds past = refl
+sending_clock (Settled number outcome ∷ steps) kinds past = sending_clock steps kinds.1 past
+sending_clock (Opened client ∷ steps) kinds past = absurd kinds.0
+sending_clock (NotOpened fault ∷ steps) kinds past = absurd kinds.0
+sending_clock (Fed client piece ∷ steps) kinds past = absurd kinds.0
+sending_clock (Polled client poll ∷ steps) kinds past = absurd kinds.0
+sending_clock (Stopped client fault ∷ steps) kinds past = absurd kinds.0
+sending_clock (Gave client bytes ∷ steps) kinds past = absurd kinds.0
+sending_clock (Closed client ∷ steps) kinds past = absurd kinds.0
+sending_clock (LeftLine client ∷ steps) kinds past = absurd kinds.0
+sending_clock (Ticked now ∷ steps) kinds past = absurd kinds.0
+sending_clock (Broke client ∷ steps) kinds past = absurd kinds.0
+sending_clock (Loaded configuration generation ∷ steps) kinds past = absurd kinds.0
+sending_clock (Linked at dialect ∷ steps) kinds past = sending_clock steps kinds.1 past
+sending_clock (Asked at number dialect ask since ∷ steps) kinds past = sending_clock steps kinds.1 past
+sending_clock (Greeted at dialect bytes ∷ steps) kinds past = absurd kinds.0
+sending_clock (Late at number limit now ∷ steps) kinds past = sending_clock steps kinds.1 past
+sending_clock (CameLate at number ask answer bytes ∷ steps) kinds past = absurd kinds.0
+sending_clock (Spelled at number ask answer bytes ∷ steps) kinds past = absurd kinds.0
+sending_clock (Lost at why ∷ steps) kinds past = sending_clock steps kinds.1 past
+
+-- and none is given out by that
+pub sending_given : (steps : List Step) → AreOf IsSending steps → (past : List Step) (n : ℕ) → given_in (steps ++ past) n ≡ given_in past n
+sending_given [] kinds past n = refl
+sending_given (Settled number outcome ∷ steps) kinds past n = sending_given steps kinds.1 past n
+sending_given (Opened client ∷ steps) kinds past n = absurd kinds.0
+sending_given (NotOpened fault ∷ steps) kinds past n = absurd kinds.0
+sending_given (Fed client piece ∷ steps) kinds past n = absurd kinds.0
+sending_given (Polled client poll ∷ steps) kinds past n = absurd kinds.0
+sending_given (Stopped client fault ∷ steps) kinds past n = absurd kinds.0
+sending_given (Gave client bytes ∷ steps) kinds past n = absurd kinds.0
+sending_given (Closed client ∷ steps) kinds past n = absurd kinds.0
+sending_given (LeftLine client ∷ steps) kinds past n = absurd kinds.0
+sending_given (Ticked now ∷ steps) kinds past n = absurd kinds.0
+sending_given (Broke client ∷ steps) kinds past n = absurd kinds.0
+sending_given (Loaded configuration generation ∷ steps) kinds past n = absurd kinds.0
+sending_given (Linked at dialect ∷ steps) kinds past n = sending_given steps kinds.1 past n
+sending_given (Asked at number dialect ask since ∷ steps) kinds past n = sending_given steps kinds.1 past n
+sending_given (Greeted at dialect bytes ∷ steps) kinds past n = absurd kinds.0
+sending_given (Late at number limit now ∷ steps) kinds past n = sending_given steps kinds.1 past n
+sending_given (CameLate at number ask answer bytes ∷ steps) kinds past n = absurd kinds.0
+sending_given (Spelled at number ask answer bytes ∷ steps) kinds past n = absurd kinds.0
+sending_given (Lost at why ∷ steps) kinds past n = sending_given steps kinds.1 past n

@@ -24,7 +24,7 @@ use Rattle.core_accepted.specs.Known.{Known, more}
 use Rattle.core_accepted.specs.Loading.{IsLoaded}
 use Rattle.serve_links.specs.Calls.{SettlesFirst, SettlesNext}
 use Rattle.serve_links.specs.CoreSteps.{WalksKeepSince}
-use Rattle.serve_links.specs.CoreSteps.{Step, Opened, NotOpened, Fed, Polled, Stopped, Settled, Gave, Closed, LeftLine, Broke, Loaded, Linked, Asked, Greeted, Spelled, Late, CameLate, Lost, Does, Walks, AreOf, GoesBy, IsOfTurn, IsSettlement, IsFailure, GoesOn, Fails, WalksKeep}
+use Rattle.serve_links.specs.CoreSteps.{Step, Opened, NotOpened, Fed, Polled, Stopped, Settled, Gave, Closed, LeftLine, Broke, Ticked, Loaded, Linked, Asked, Greeted, Spelled, Late, CameLate, Lost, Does, Walks, AreOf, GoesBy, IsOfTurn, IsSettlement, IsFailure, GoesOn, Fails, WalksKeep}
 
 pub walked : (later first : List Step) (a b c : ServedCore) → Walks first a b → Walks later b c → Walks (later ++ first) a c
 walked [] first a b c w v = subst (λ x. Walks first a x) (sym v) w
@@ -81,12 +81,13 @@ each_of_turn (step ∷ steps) each = (of_turn step each.0, each_of_turn steps ea
     of_turn (Gave client bytes) is = tt
     of_turn (Closed client) is = tt
     of_turn (LeftLine client) is = tt
+    of_turn (Ticked now) is = tt
     of_turn (Broke client) is = tt
     of_turn (Loaded configuration generation) is = is
     of_turn (Linked at dialect) is = tt
-    of_turn (Asked at number dialect ask) is = tt
+    of_turn (Asked at number dialect ask since) is = tt
     of_turn (Greeted at dialect bytes) is = tt
-    of_turn (Late at number) is = tt
+    of_turn (Late at number limit now) is = tt
     of_turn (CameLate at number ask answer bytes) is = tt
     of_turn (Spelled at number ask answer bytes) is = tt
     of_turn (Lost at why) is = absurd is
@@ -109,12 +110,13 @@ each_settled (step ∷ steps) each = (of_turn step each.0, each_settled steps ea
     of_turn (Gave client bytes) is = tt
     of_turn (Closed client) is = tt
     of_turn (LeftLine client) is = tt
+    of_turn (Ticked now) is = tt
     of_turn (Broke client) is = tt
     of_turn (Loaded configuration generation) is = is
     of_turn (Linked at dialect) is = tt
-    of_turn (Asked at number dialect ask) is = tt
+    of_turn (Asked at number dialect ask since) is = tt
     of_turn (Greeted at dialect bytes) is = tt
-    of_turn (Late at number) is = tt
+    of_turn (Late at number limit now) is = tt
     of_turn (CameLate at number ask answer bytes) is = tt
     of_turn (Spelled at number ask answer bytes) is = tt
     of_turn (Lost at why) is = absurd is
@@ -221,12 +223,13 @@ does_keep (Settled number outcome) a b does = settled_keeps number outcome a b d
 does_keep (Gave client bytes) a b does = by_word a b does.1.word
 does_keep (Closed client) a b does = by_word a b does.2.word
 does_keep (LeftLine client) a b does = by_word a b does.1.word
+does_keep (Ticked now) a b does = as_it_was a b does
 does_keep (Broke client) a b does = as_it_was a b does
 does_keep (Loaded configuration generation) a b does = loaded_keeps configuration generation a b does
 does_keep (Linked at dialect) a b does = as_it_was a b does
-does_keep (Asked at number dialect ask) a b does = as_it_was a b does
+does_keep (Asked at number dialect ask since) a b does = as_it_was a b does
 does_keep (Greeted at dialect bytes) a b does = as_it_was a b does
-does_keep (Late at number) a b does = as_it_was a b does
+does_keep (Late at number limit now) a b does = as_it_was a b does
 does_keep (CameLate at number ask answer bytes) a b does = as_it_was a b does
 does_keep (Spelled at number ask answer bytes) a b does = as_it_was a b does.0
 does_keep (Lost at why) a b does = as_it_was a b does

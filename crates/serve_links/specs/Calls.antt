@@ -90,7 +90,7 @@ SettlesNext sent bytes core nexts.NoMemory sent' core' = (sent' ≡ sent) × (co
 
 -- the same call as one that is late
 abbrev pub as_late : SentCall → LateCall
-as_late call = record { number = call.ticket.number; dialect = call.dialect; ask = call.ticket.ask }
+as_late call = record { number = call.ticket.number; dialect = call.dialect; since = call.since; ask = call.ticket.ask }
 
 -- it is the first of those that are out, if there is one
 abbrev pub IsFirstLate : List SentCall → Option LateCall → Type 0

@@ -23,8 +23,8 @@ use Rattle.core_accepted.specs.Tallies.{with_client, with_refusal}
 use Rattle.serve_links.specs.declared.settings.Greeting.{Greeting}
 use Rattle.serve_links.specs.declared.news.Cause.{Cause}
 
--- one call of a core that changes it, and what came of it; or what was done at a connection, which changes no core: a client was broken off, as its connection failed or memory was refused for its bytes; or at a
--- server's a new one was begun, a call's ask is to be sent, what the server told of its dialects was taken from its bytes, they spell the answer to a call, a call that is out there is late, they spell the answer to such a call, or it was given up, for a cause, or as that was wanted
+-- one call of a core that changes it, and what came of it; or what changes no core: the clock was looked at, and showed so many milliseconds; a client was broken off, as its connection failed or memory was refused for its bytes; or at a
+-- server's connection a new one was begun, a call's ask is to be sent, whose time counts since then, what the server told of its dialects was taken from its bytes, they spell the answer to a call, a call that is out there is late, by this limit at this time, they spell the answer to such a call, or it was given up, for a cause, or as that was wanted
 pub data Step : Type 0 where
   Opened : (client : ℕ) → Step
   NotOpened : (fault : CoreFault) → Step
@@ -36,12 +36,13 @@ pub data Step : Type 0 where
   Closed : (client : ℕ) → Step
   LeftLine : (client : ℕ) → Step
   Broke : (client : ℕ) → Step
+  Ticked : (now : ℕ) → Step
   Loaded : (configuration : Configuration) (generation : ℕ) → Step
   Linked : (at : ℕ) (dialect : Greeting) → Step
-  Asked : (at number : ℕ) (dialect : Dialect) (ask : Ask) → Step
+  Asked : (at number : ℕ) (dialect : Dialect) (ask : Ask) (since : ℕ) → Step
   Greeted : (at : ℕ) (dialect : Dialect) (bytes : List ℕ) → Step
   Spelled : (at number : ℕ) (ask : Ask) (answer : Answer) (bytes : List ℕ) → Step
-  Late : (at number : ℕ) → Step
+  Late : (at number limit now : ℕ) → Step
   CameLate : (at number : ℕ) (ask : Ask) (answer : Answer) (bytes : List ℕ) → Step
   Lost : (at : ℕ) (why : Option Cause) → Step
 
@@ -59,12 +60,13 @@ Does (Settled number outcome) old new = IsSettled old number outcome new
 Does (Gave client bytes) old new = Gives old.core client bytes new.core × LogsGoBy old (λ entries. entries ≡ log.Gives client bytes ∷ []) new
 Does (Closed client) old new = CanClose old.core client × Closes old.core client new.core × LogsGoBy old (λ entries. entries ≡ log.Resets client ∷ []) new
 Does (LeftLine client) old new = LeavesLine old.core client new.core × LogsGoBy old (λ entries. entries ≡ []) new
+Does (Ticked now) old new = new ≡ old
 Does (Broke client) old new = new ≡ old
 Does (Loaded configuration generation) old new = IsLoaded old configuration generation new
 Does (Linked at dialect) old new = new ≡ old
-Does (Asked at number dialect ask) old new = new ≡ old
+Does (Asked at number dialect ask since) old new = new ≡ old
 Does (Greeted at dialect bytes) old new = new ≡ old
-Does (Late at number) old new = new ≡ old
+Does (Late at number limit now) old new = new ≡ old
 Does (CameLate at number ask answer bytes) old new = new ≡ old
 Does (Spelled at number ask answer bytes) old new = (new ≡ old) × (of_calls.asked old.core number ≡ Some ask)
 Does (Lost at why) old new = new ≡ old
@@ -101,11 +103,12 @@ IsOfTurn (Settled number outcome) = Unit {0}
 IsOfTurn (Gave client bytes) = Unit {0}
 IsOfTurn (Closed client) = Unit {0}
 IsOfTurn (LeftLine client) = Unit {0}
+IsOfTurn (Ticked now) = Unit {0}
 IsOfTurn (Broke client) = Unit {0}
 IsOfTurn (Linked at dialect) = Unit {0}
-IsOfTurn (Asked at number dialect ask) = Unit {0}
+IsOfTurn (Asked at number dialect ask since) = Unit {0}
 IsOfTurn (Greeted at dialect bytes) = Unit {0}
-IsOfTurn (Late at number) = Unit {0}
+IsOfTurn (Late at number limit now) = Unit {0}
 IsOfTurn (CameLate at number ask answer bytes) = Unit {0}
 IsOfTurn (Spelled at number ask answer bytes) = Unit {0}
 IsOfTurn (Lost at why) = IsSome why
@@ -121,12 +124,13 @@ IsSettlement (Stopped client fault) = ⊥
 IsSettlement (Gave client bytes) = ⊥
 IsSettlement (Closed client) = ⊥
 IsSettlement (LeftLine client) = ⊥
+IsSettlement (Ticked now) = ⊥
 IsSettlement (Broke client) = ⊥
 IsSettlement (Loaded configuration generation) = ⊥
 IsSettlement (Linked at dialect) = ⊥
-IsSettlement (Asked at number dialect ask) = ⊥
+IsSettlement (Asked at number dialect ask since) = ⊥
 IsSettlement (Greeted at dialect bytes) = ⊥
-IsSettlement (Late at number) = ⊥
+IsSettlement (Late at number limit now) = ⊥
 IsSettlement (CameLate at number ask answer bytes) = ⊥
 IsSettlement (Spelled at number ask answer bytes) = ⊥
 IsSettlement (Lost at why) = ⊥
@@ -142,12 +146,13 @@ IsFailure (Stopped client fault) = ⊥
 IsFailure (Gave client bytes) = ⊥
 IsFailure (Closed client) = ⊥
 IsFailure (LeftLine client) = ⊥
+IsFailure (Ticked now) = ⊥
 IsFailure (Broke client) = ⊥
 IsFailure (Loaded configuration generation) = ⊥
 IsFailure (Linked at dialect) = ⊥
-IsFailure (Asked at number dialect ask) = ⊥
+IsFailure (Asked at number dialect ask since) = ⊥
 IsFailure (Greeted at dialect bytes) = ⊥
-IsFailure (Late at number) = ⊥
+IsFailure (Late at number limit now) = ⊥
 IsFailure (CameLate at number ask answer bytes) = ⊥
 IsFailure (Spelled at number ask answer bytes) = ⊥
 IsFailure (Lost at why) = ⊥
@@ -156,7 +161,7 @@ IsFailure (Lost at why) = ⊥
 abbrev pub IsSending : Step → Type 0
 IsSending (Settled number outcome) = outcome ≡ Failed
 IsSending (Linked at dialect) = Unit {0}
-IsSending (Asked at number dialect ask) = Unit {0}
+IsSending (Asked at number dialect ask since) = Unit {0}
 IsSending (Opened client) = ⊥
 IsSending (NotOpened fault) = ⊥
 IsSending (Fed client piece) = ⊥
@@ -165,10 +170,11 @@ IsSending (Stopped client fault) = ⊥
 IsSending (Gave client bytes) = ⊥
 IsSending (Closed client) = ⊥
 IsSending (LeftLine client) = ⊥
+IsSending (Ticked now) = ⊥
 IsSending (Broke client) = ⊥
 IsSending (Loaded configuration generation) = ⊥
 IsSending (Greeted at dialect bytes) = ⊥
-IsSending (Late at number) = Unit {0}
+IsSending (Late at number limit now) = Unit {0}
 IsSending (CameLate at number ask answer bytes) = ⊥
 IsSending (Spelled at number ask answer bytes) = ⊥
 IsSending (Lost at why) = IsSome why
@@ -185,12 +191,13 @@ IsGivingUp why (Stopped client fault) = ⊥
 IsGivingUp why (Gave client bytes) = ⊥
 IsGivingUp why (Closed client) = ⊥
 IsGivingUp why (LeftLine client) = ⊥
+IsGivingUp why (Ticked now) = ⊥
 IsGivingUp why (Broke client) = ⊥
 IsGivingUp why (Loaded configuration generation) = ⊥
 IsGivingUp why (Linked at dialect) = ⊥
-IsGivingUp why (Asked at number dialect ask) = ⊥
+IsGivingUp why (Asked at number dialect ask since) = ⊥
 IsGivingUp why (Greeted at dialect bytes) = ⊥
-IsGivingUp why (Late at number) = ⊥
+IsGivingUp why (Late at number limit now) = ⊥
 IsGivingUp why (CameLate at number ask answer bytes) = ⊥
 IsGivingUp why (Spelled at number ask answer bytes) = ⊥
 

@@ -16,7 +16,7 @@ use Rattle.core_accepted.specs.Pipes as pipes
 use Rattle.core_accepted.specs.Pipes.{Sends, Moves, Closes, moments_of, behind_first, after_end, IsFirstIn, IsInTurn}
 use Rattle.core_accepted.specs.Parts.{Serves, AreInOrder}
 use Rattle.core_accepted.specs.LateCores.{only_line, EveryLateRunIsFresh}
-use Rattle.serve_links.specs.CoreSteps.{Step, Opened, NotOpened, Fed, Polled, Stopped, Settled, Gave, Closed, LeftLine, Broke, Loaded, Linked, Asked, Greeted, Spelled, Late, CameLate, Lost, Does}
+use Rattle.serve_links.specs.CoreSteps.{Step, Opened, NotOpened, Fed, Polled, Stopped, Settled, Gave, Closed, LeftLine, Broke, Ticked, Loaded, Linked, Asked, Greeted, Spelled, Late, CameLate, Lost, Does}
 use Rattle.serve_links.specs.Called.{TellsCalls}
 use Rattle.serve_links.specs.Talks.{Standing, Apart, InUse, Ending, left_by, IsOrderly}
 
@@ -90,7 +90,7 @@ changed_in change (calls ∷ others) (suc place) = calls ∷ changed_in change o
 -- what a step of the proxy makes of the connections to a server, where its log so far is this: one is begun, whether or not another is there; a call is sent; or one is given up
 abbrev pub conns_by : Step → List (Entry dialect) → ℕ → List (List Ticket) → List (List Ticket)
 conns_by (Linked at greeting) log s conns = if nat_eq at s then [] ∷ conns else conns
-conns_by (Asked at number spoken ask) log s conns = if nat_eq at s then sent_over (record { number = number; ask = ask; origin = out_origin log at number }) conns else conns
+conns_by (Asked at number spoken ask since) log s conns = if nat_eq at s then sent_over (record { number = number; ask = ask; origin = out_origin log at number }) conns else conns
 conns_by (Lost at why) log s conns = if nat_eq at s then left_with (left_by why) conns else conns
 conns_by (Opened client) log s conns = conns
 conns_by (NotOpened fault) log s conns = conns
@@ -101,10 +101,11 @@ conns_by (Settled number outcome) log s conns = conns
 conns_by (Gave client bytes) log s conns = conns
 conns_by (Closed client) log s conns = conns
 conns_by (LeftLine client) log s conns = conns
+conns_by (Ticked now) log s conns = conns
 conns_by (Broke client) log s conns = conns
 conns_by (Loaded configuration generation) log s conns = conns
 conns_by (Greeted at spoken bytes) log s conns = conns
-conns_by (Late at number) log s conns = conns
+conns_by (Late at number limit now) log s conns = conns
 conns_by (CameLate at number ask answer bytes) log s conns = conns
 conns_by (Spelled at number ask answer bytes) log s conns = conns
 
@@ -180,7 +181,7 @@ closed_if Ending at steps = steps
 -- and a step of the proxy as one of these: what it asks is sent, and what stands in a connection is gone once that is closed, or another takes its place
 abbrev pub with_step : Step → List (Entry dialect) → List pipes.PipeStep → List pipes.PipeStep
 with_step (Linked at greeting) log steps = Closes 0 at ∷ steps
-with_step (Asked at number spoken ask) log steps = Sends number at ask (out_origin log at number) ∷ steps
+with_step (Asked at number spoken ask since) log steps = Sends number at ask (out_origin log at number) ∷ steps
 with_step (Lost at why) log steps = closed_if (left_by why) at steps
 with_step (Opened client) log steps = steps
 with_step (NotOpened fault) log steps = steps
@@ -191,10 +192,11 @@ with_step (Settled number outcome) log steps = steps
 with_step (Gave client bytes) log steps = steps
 with_step (Closed client) log steps = steps
 with_step (LeftLine client) log steps = steps
+with_step (Ticked now) log steps = steps
 with_step (Broke client) log steps = steps
 with_step (Loaded configuration generation) log steps = steps
 with_step (Greeted at spoken bytes) log steps = steps
-with_step (Late at number) log steps = steps
+with_step (Late at number limit now) log steps = steps
 with_step (CameLate at number ask answer bytes) log steps = steps
 with_step (Spelled at number ask answer bytes) log steps = steps
 

@@ -1,5 +1,5 @@
 -- What is late by a clock. Source: mcgate's own.
-use Rattle.std.specs.Prelude.{◌≡◌, ◌≢◌, ◌⊎◌, ◌&&◌, ℕ, Bool, true, false, ◌+◌, ◌<◌, ◌≤◌, List, [], Option, Some, None, slice_get}
+use Rattle.std.specs.Prelude.{◌≡◌, ◌≢◌, ◌⊎◌, ◌&&◌, ℕ, Bool, true, false, ◌+◌, ◌<◌, ◌≤◌, List, [], ◌++◌, Option, Some, None, slice_get}
 use Rattle.std.specs.List.{Any}
 use Rattle.serve_wire.specs.declared.conn.conn.Conn.{Conn}
 use Rattle.serve_links.specs.declared.calls.calls.SentCall.{SentCall}
@@ -8,6 +8,8 @@ use Rattle.serve_links.specs.declared.settings.LinkLimits.{LinkLimits}
 use Rattle.serve_links.specs.declared.settings.Settings.{Settings}
 use Rattle.serve_links.specs.Calls.{stores_first, SparesStores}
 use Rattle.serve_links.specs.Dialects.{awaits_flush}
+use Rattle.serve_links.specs.Talks.{HasWaited}
+use Rattle.serve_links.specs.Story.{said_asks, said_late}
 
 -- a call began more than so many milliseconds before a clock showed this
 abbrev pub IsLate : (most now : ℕ) → SentCall → Type 0
@@ -20,6 +22,10 @@ usual_limits settings = record { call_ms = settings.call_ms; connect_ms = settin
 -- one of the calls that are out began longer before than its server's limit
 abbrev pub HasLate : (now : ℕ) → Link → Type 0
 HasLate now link = Any (IsLate link.limits.call_ms now) link.calls.sent.items
+
+-- one of them, or of those that have failed so already, has waited for longer than that
+abbrev pub HasOneLate : (now : ℕ) → Link → Type 0
+HasOneLate now link = HasWaited link.limits.call_ms now (said_late link.late.items ++ said_asks link.calls.sent.items)
 
 -- whether stores are awaited however long they take, and one is the first of the calls that are out
 abbrev pub awaits_store : Link → Bool

@@ -3,7 +3,7 @@ use Rattle.std.specs.Prelude.{◌≡◌, ◌≢◌, ℕ, IfSome, Bool, true, fal
 use Rattle.mc_types.specs.declared.ask.Ask.{Ask}
 use Rattle.mc_types.specs.declared.ask.Dialect.{Dialect}
 use Rattle.wire_parts.specs.Sending.{bytes_of}
-use Rattle.serve_wire.specs.Events.{Event, ends, fails, role, delivered, taken, is_over}
+use Rattle.serve_wire.specs.Events.{Event, ends, fails, role, delivered, taken, is_over, time}
 use Rattle.serve_wire.specs.Agreement.{Extends, AddressAgrees, IsUntouched, ClientLost, TouchesOnly}
 use Rattle.serve_wire.specs.declared.conn.conn.Conn.{Conn}
 use Rattle.core_accepted.specs.declared.served.ServedCore.{ServedCore}
@@ -18,9 +18,9 @@ use Rattle.serve_links.specs.declared.calls.calls.LateCall.{LateCall}
 use Rattle.serve_links.specs.declared.link.Link.{Link}
 use Rattle.serve_links.specs.declared.news.Cause.{Cause}
 use Rattle.serve_links.specs.declared.news.Cause.TheVariants as causes
-use Rattle.serve_links.specs.CoreSteps.{Step, Opened, NotOpened, Fed, Polled, Stopped, Settled, Gave, Closed, LeftLine, Broke, Loaded, Linked, Asked, Greeted, Spelled, Late, CameLate, Lost, Walks, AreOf}
+use Rattle.serve_links.specs.CoreSteps.{Step, Opened, NotOpened, Fed, Polled, Stopped, Settled, Gave, Closed, LeftLine, Broke, Ticked, Loaded, Linked, Asked, Greeted, Spelled, Late, CameLate, Lost, Walks, AreOf}
 use Rattle.serve_links.specs.Shut.{drain_of, AreShut, StaysShut}
-use Rattle.serve_links.specs.Called.{call_in, due_in, TellsCalls}
+use Rattle.serve_links.specs.Called.{call_in, due_in, clock_in, given_in, TellsCalls}
 use Rattle.serve_links.specs.Talks.{SaidAsk, Talk, Apart, Ending, talk_in, IsCalledIn, MayBeAsked, IsStoreFirst, IsNotAmong, AreDue, AreCalled, IsOrderly, IsOfClients, IsOfServer}
 use Rattle.std.specs.Option.{option_map}
 
@@ -36,12 +36,13 @@ fed_in (Settled number outcome ∷ steps) i = fed_in steps i
 fed_in (Gave client bytes ∷ steps) i = fed_in steps i
 fed_in (Closed client ∷ steps) i = fed_in steps i
 fed_in (LeftLine client ∷ steps) i = fed_in steps i
+fed_in (Ticked now ∷ steps) i = fed_in steps i
 fed_in (Broke client ∷ steps) i = fed_in steps i
 fed_in (Loaded configuration generation ∷ steps) i = fed_in steps i
 fed_in (Linked at dialect ∷ steps) i = fed_in steps i
-fed_in (Asked at number dialect ask ∷ steps) i = fed_in steps i
+fed_in (Asked at number dialect ask since ∷ steps) i = fed_in steps i
 fed_in (Greeted at dialect bytes ∷ steps) i = fed_in steps i
-fed_in (Late at number ∷ steps) i = fed_in steps i
+fed_in (Late at number limit now ∷ steps) i = fed_in steps i
 fed_in (CameLate at number ask answer bytes ∷ steps) i = fed_in steps i
 fed_in (Spelled at number ask answer bytes ∷ steps) i = fed_in steps i
 fed_in (Lost at why ∷ steps) i = fed_in steps i
@@ -58,12 +59,13 @@ gave_in (Settled number outcome ∷ steps) i = gave_in steps i
 gave_in (Gave client bytes ∷ steps) i = if nat_eq client i then gave_in steps i ++ bytes else gave_in steps i
 gave_in (Closed client ∷ steps) i = gave_in steps i
 gave_in (LeftLine client ∷ steps) i = gave_in steps i
+gave_in (Ticked now ∷ steps) i = gave_in steps i
 gave_in (Broke client ∷ steps) i = gave_in steps i
 gave_in (Loaded configuration generation ∷ steps) i = gave_in steps i
 gave_in (Linked at dialect ∷ steps) i = gave_in steps i
-gave_in (Asked at number dialect ask ∷ steps) i = gave_in steps i
+gave_in (Asked at number dialect ask since ∷ steps) i = gave_in steps i
 gave_in (Greeted at dialect bytes ∷ steps) i = gave_in steps i
-gave_in (Late at number ∷ steps) i = gave_in steps i
+gave_in (Late at number limit now ∷ steps) i = gave_in steps i
 gave_in (CameLate at number ask answer bytes ∷ steps) i = gave_in steps i
 gave_in (Spelled at number ask answer bytes ∷ steps) i = gave_in steps i
 gave_in (Lost at why ∷ steps) i = gave_in steps i
@@ -80,12 +82,13 @@ is_open_in (Settled number outcome ∷ steps) i = is_open_in steps i
 is_open_in (Gave client bytes ∷ steps) i = is_open_in steps i
 is_open_in (Closed client ∷ steps) i = if nat_eq client i then false else is_open_in steps i
 is_open_in (LeftLine client ∷ steps) i = is_open_in steps i
+is_open_in (Ticked now ∷ steps) i = is_open_in steps i
 is_open_in (Broke client ∷ steps) i = is_open_in steps i
 is_open_in (Loaded configuration generation ∷ steps) i = is_open_in steps i
 is_open_in (Linked at dialect ∷ steps) i = is_open_in steps i
-is_open_in (Asked at number dialect ask ∷ steps) i = is_open_in steps i
+is_open_in (Asked at number dialect ask since ∷ steps) i = is_open_in steps i
 is_open_in (Greeted at dialect bytes ∷ steps) i = is_open_in steps i
-is_open_in (Late at number ∷ steps) i = is_open_in steps i
+is_open_in (Late at number limit now ∷ steps) i = is_open_in steps i
 is_open_in (CameLate at number ask answer bytes ∷ steps) i = is_open_in steps i
 is_open_in (Spelled at number ask answer bytes ∷ steps) i = is_open_in steps i
 is_open_in (Lost at why ∷ steps) i = is_open_in steps i
@@ -102,12 +105,13 @@ is_broken_in (Settled number outcome ∷ steps) i = is_broken_in steps i
 is_broken_in (Gave client bytes ∷ steps) i = is_broken_in steps i
 is_broken_in (Closed client ∷ steps) i = is_broken_in steps i
 is_broken_in (LeftLine client ∷ steps) i = is_broken_in steps i
+is_broken_in (Ticked now ∷ steps) i = is_broken_in steps i
 is_broken_in (Broke client ∷ steps) i = if nat_eq client i then true else is_broken_in steps i
 is_broken_in (Loaded configuration generation ∷ steps) i = is_broken_in steps i
 is_broken_in (Linked at dialect ∷ steps) i = is_broken_in steps i
-is_broken_in (Asked at number dialect ask ∷ steps) i = is_broken_in steps i
+is_broken_in (Asked at number dialect ask since ∷ steps) i = is_broken_in steps i
 is_broken_in (Greeted at dialect bytes ∷ steps) i = is_broken_in steps i
-is_broken_in (Late at number ∷ steps) i = is_broken_in steps i
+is_broken_in (Late at number limit now ∷ steps) i = is_broken_in steps i
 is_broken_in (CameLate at number ask answer bytes ∷ steps) i = is_broken_in steps i
 is_broken_in (Spelled at number ask answer bytes ∷ steps) i = is_broken_in steps i
 is_broken_in (Lost at why ∷ steps) i = is_broken_in steps i
@@ -165,11 +169,11 @@ HasOrHad past h clients id conn = (option_map (λ x. x.conn.number) (client_of c
 
 -- calls, as a walk has them
 abbrev pub said_asks : List SentCall → List SaidAsk
-said_asks calls = each (λ call. (call.ticket.number, call.dialect, call.ticket.ask)) calls
+said_asks calls = each (λ call. (call.ticket.number, call.dialect, call.ticket.ask, call.since)) calls
 
 -- late ones, as a walk has them
 abbrev pub said_late : List LateCall → List SaidAsk
-said_late calls = each (λ call. (call.number, call.dialect, call.ask)) calls
+said_late calls = each (λ call. (call.number, call.dialect, call.ask, call.since)) calls
 
 -- the core gave out this call for this server, and it may be asked in its dialect
 abbrev pub MayGo : List Step → ℕ → SentCall → Type 0
@@ -257,7 +261,11 @@ pub record WasShown (why : Option Cause) (at : ℕ) (past : List Step) (h : List
   pub agrees : TalkAgrees before at text (talk_in past at) conn held unsent (talk_in past at).out (talk_in past at).awaits (talk_in past at).dialect (talk_in past at).late
   pub shows : ShowsWhy why (talk_in past at) conn before
 
--- so it is with a step by which one is given up
+-- the wire's clock showed this time
+abbrev pub HasShown : ℕ → List Event → Type 0
+HasShown now h = (before : List Event) × Extends before h × (time before ≡ now)
+
+-- so it is with a step by which one is given up; and where a call is late, the clock showed by then what it is late by
 abbrev pub ShownBy : Step → List Step → List Event → Type 0
 ShownBy (Lost at why) past h = WasShown why at past h
 ShownBy (Opened client) past h = Unit {0}
@@ -269,12 +277,13 @@ ShownBy (Settled number outcome) past h = Unit {0}
 ShownBy (Gave client bytes) past h = Unit {0}
 ShownBy (Closed client) past h = Unit {0}
 ShownBy (LeftLine client) past h = Unit {0}
+ShownBy (Ticked now) past h = Unit {0}
 ShownBy (Broke client) past h = Unit {0}
 ShownBy (Loaded configuration generation) past h = Unit {0}
 ShownBy (Linked at dialect) past h = Unit {0}
-ShownBy (Asked at number dialect ask) past h = Unit {0}
+ShownBy (Asked at number dialect ask since) past h = Unit {0}
 ShownBy (Greeted at dialect bytes) past h = Unit {0}
-ShownBy (Late at number) past h = Unit {0}
+ShownBy (Late at number limit now) past h = HasShown now h
 ShownBy (CameLate at number ask answer bytes) past h = Unit {0}
 ShownBy (Spelled at number ask answer bytes) past h = Unit {0}
 
@@ -308,10 +317,11 @@ LineState = List ℕ × Option (ℕ × List ℕ × List ℕ) × List SaidAsk × 
 abbrev pub line_of : Link → LineState
 line_of link = (link.text.items, option_map (λ (x : Conn). (x.number, x.held.items, bytes_of x.unsent)) link.conn, said_asks link.calls.sent.items, link.waiting.items, link.awaits_dialect, link.dialect, said_late link.late.items, drain_of link)
 
--- all connections that were of others than this one, and all that aren't its now, are as they were
+-- all connections that were of others than this one, and all that aren't its now, are as they were, and the clock wasn't looked at
 pub record KeepsOthers (its : ℕ × ℕ) (h h' : List Event) : Type 0 where
   pub were : (d : ℕ) (p : ℕ × ℕ) → role d h ≡ Some p → p ≢ its → IsUntouched d h h'
   pub are : (d : ℕ) → role d h' ≢ Some its → IsUntouched d h h'
+  pub clock : time h' ≡ time h
 
 -- by calls of this kind, which tell nothing of servers, the core goes on, and a client's end on the wire with it: where it agreed with all calls before, it agrees with all calls after, and no other connection is touched
 pub record OneGoes (Is : Step → Type 0) (id : ℕ) (core : ServedCore) (h : List Event) (client : Client) (core' : ServedCore) (h' : List Event) (client' : Client) : Type 0 where
@@ -325,9 +335,9 @@ pub record OneGoes (Is : Step → Type 0) (id : ℕ) (core : ServedCore) (h : Li
   pub only : TouchesOnly client.conn.number h h'
   pub others : (past : List Step) (j : ℕ) → nat_eq id j ≡ false → TellsNone j past steps
 
--- each call of this server that was out is out, and still to be asked if it was
+-- each call of this server that was out is out, given out when it was, and still to be asked if it was
 abbrev pub StayOut : ℕ → List Step → List Step → Type 0
-StayOut at past past' = (n : ℕ) (ask : Ask) → call_in past n ≡ Some (at, ask) → (call_in past' n ≡ call_in past n) × (due_in past' n ≡ due_in past n)
+StayOut at past past' = (n : ℕ) (ask : Ask) → call_in past n ≡ Some (at, ask) → (call_in past' n ≡ call_in past n) × (due_in past' n ≡ due_in past n) × (given_in past' n ≡ given_in past n)
 
 -- so are those of all others
 abbrev pub LeavesCalls : ℕ → List Step → List Step → Type 0
@@ -360,7 +370,7 @@ pub record AnEnd : Type 0 where
 abbrev pub texts_of : List Link → List (List ℕ)
 texts_of links = each (λ link. link.text.items) links
 
--- all happened in order by these calls, the core has those out that they tell to be, and each end agrees with them, and so does each connection that was a client's; the wire showed why each of a server's was given up; and none is open but what ends have
+-- all happened in order by these calls, the core has those out that they tell to be, the clock showed last what they tell, and each end agrees with them, and so does each connection that was a client's; the wire showed why each of a server's was given up; and none is open but what ends have
 pub record Agrees (past : List Step) (x : AnEnd) : Type 0 where
   pub orderly : IsOrderly past
   pub calls : TellsCalls past x.core
@@ -371,6 +381,7 @@ pub record Agrees (past : List Step) (x : AnEnd) : Type 0 where
   pub shown : AreShown past x.history
   pub unlinked : (at : ℕ) → slice_get x.links at ≡ None → ((talk_in past at).out ≡ []) × ((talk_in past at).stands ≡ Apart)
   pub shut : AreShut x.history x.clients x.links
+  pub clock : clock_in past ≡ time x.history
 
 -- the same, but that this holds of the link at one place
 pub record AgreesBut (This : ℕ → List Step → List Event → Link → Type 0) (at : ℕ) (past : List Step) (x : AnEnd) : Type 0 where
@@ -384,14 +395,15 @@ pub record AgreesBut (This : ℕ → List Step → List Event → Link → Type 
   pub shown : AreShown past x.history
   pub unlinked : (at : ℕ) → slice_get x.links at ≡ None → ((talk_in past at).out ≡ []) × ((talk_in past at).stands ≡ Apart)
   pub shut : AreShut x.history x.clients x.links
+  pub clock : clock_in past ≡ time x.history
 
 -- all agree, and the core just gave all that it had for this client
 abbrev pub AgreesGiven : ℕ → List Step → AnEnd → Type 0
 AgreesGiven id past x = Agrees past x × IsJustGiven id past
 
--- all agree, the core gave out this call for this server, and all would agree if it hadn't
+-- all agree, the core gave out this call for this server when the clock showed what it shows, and all would agree if it hadn't
 abbrev pub AgreesCalled : ℕ → ℕ → Ask → List Step → AnEnd → Type 0
-AgreesCalled number at ask past x = Agrees past x × (call : IsCalledIn past number at ask) × Agrees (call.later ++ call.earlier) x
+AgreesCalled number at ask past x = Agrees past x × (call : IsCalledIn past number at ask) × Agrees (call.later ++ call.earlier) x × (given_in past number ≡ clock_in past)
 
 -- all agree, and this call may go to this server, and wasn't asked yet
 abbrev pub AgreesSent : ℕ → SentCall → List Step → AnEnd → Type 0

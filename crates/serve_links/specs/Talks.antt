@@ -1,5 +1,5 @@
 -- What a walk tells of what was said over each server's connection. Source: mcgate's own.
-use Rattle.std.specs.Prelude.{Option, None, Some, ◌≡◌, ◌≢◌, ℕ, true, false, List, [], ◌∷◌, ◌++◌, nat_eq, length, if◌then◌else◌}
+use Rattle.std.specs.Prelude.{Option, None, Some, ◌≡◌, ◌≢◌, ◌⊎◌, ℕ, ◌+◌, ◌<◌, ◌≤◌, true, false, List, [], ◌∷◌, ◌++◌, nat_eq, length, if◌then◌else◌}
 use Rattle.mc_types.specs.declared.ask.Ask.{Ask}
 use Rattle.mc_types.specs.declared.ask.Dialect.{Dialect}
 use Rattle.mc_types.specs.declared.ask.Dialect.TheVariants.{Classic}
@@ -16,12 +16,12 @@ use Rattle.serve_links.specs.declared.news.Cause.TheVariants as causes
 use Rattle.serve_links.specs.Dialects.{asked_in, SpellsIn, AnswersFirst, awaits_flush}
 use Rattle.serve_links.specs.declared.settings.Greeting.{Greeting}
 use Rattle.serve_links.specs.Lines.{first_asked_of, awaits_first, first_dialect}
-use Rattle.serve_links.specs.CoreSteps.{Step, Opened, NotOpened, Fed, Polled, Stopped, Settled, Gave, Closed, LeftLine, Broke, Loaded, Linked, Asked, Greeted, Spelled, Late, CameLate, Lost}
-use Rattle.serve_links.specs.Called.{call_in, due_in, IsGivenOnce}
+use Rattle.serve_links.specs.CoreSteps.{Step, Opened, NotOpened, Fed, Polled, Stopped, Settled, Gave, Closed, LeftLine, Broke, Ticked, Loaded, Linked, Asked, Greeted, Spelled, Late, CameLate, Lost}
+use Rattle.serve_links.specs.Called.{call_in, due_in, given_in, IsGivenOnce}
 
--- a call that a server was asked: its number, in which dialect it was asked, and its ask
+-- a call that a server was asked: its number, in which dialect it was asked, its ask, and since when its time counts
 abbrev pub SaidAsk : Type 0
-SaidAsk = ℕ × Dialect × Ask
+SaidAsk = ℕ × Dialect × Ask × ℕ
 
 -- how a server's connection stands: none is there; one is in use; or one was given up that can't be kept, and its end is awaited
 pub data Standing : Type 0 where
@@ -71,8 +71,8 @@ abbrev pub first_talk : Greeting → Talk
 first_talk greeting = record { stands = InUse; sent = first_asked_of greeting; told = []; out = []; late = []; awaits = awaits_first greeting; dialect = first_dialect greeting.dialect }
 
 -- one more call is asked in its dialect
-abbrev pub with_ask : ℕ → Dialect → Ask → Talk → Talk
-with_ask number dialect ask talk = record talk { sent = talk.sent ++ spelling_of (asked_in dialect ask); out = talk.out ++ (number, dialect, ask) ∷ [] }
+abbrev pub with_ask : ℕ → Dialect → Ask → (since : ℕ) → Talk → Talk
+with_ask number dialect ask since talk = record talk { sent = talk.sent ++ spelling_of (asked_in dialect ask); out = talk.out ++ (number, dialect, ask, since) ∷ [] }
 
 -- the server told this dialect
 abbrev pub greeted : Dialect → List ℕ → Talk → Talk
@@ -97,9 +97,9 @@ given_up why talk = record talk { stands = left_by why; out = []; late = []; awa
 -- what a step adds to what was said over the connection of the server of this number
 abbrev pub talk_after : Step → ℕ → Talk → Talk
 talk_after (Linked at dialect) i talk = if nat_eq at i then first_talk dialect else talk
-talk_after (Asked at number dialect ask) i talk = if nat_eq at i then with_ask number dialect ask talk else talk
+talk_after (Asked at number dialect ask since) i talk = if nat_eq at i then with_ask number dialect ask since talk else talk
 talk_after (Greeted at dialect bytes) i talk = if nat_eq at i then greeted dialect bytes talk else talk
-talk_after (Late at number) i talk = if nat_eq at i then turned_late talk else talk
+talk_after (Late at number limit now) i talk = if nat_eq at i then turned_late talk else talk
 talk_after (CameLate at number ask answer bytes) i talk = if nat_eq at i then with_late bytes talk else talk
 talk_after (Spelled at number ask answer bytes) i talk = if nat_eq at i then with_answer bytes talk else talk
 talk_after (Lost at why) i talk = if nat_eq at i then given_up why talk else talk
@@ -112,6 +112,7 @@ talk_after (Settled number outcome) i talk = talk
 talk_after (Gave client bytes) i talk = talk
 talk_after (Closed client) i talk = talk
 talk_after (LeftLine client) i talk = talk
+talk_after (Ticked now) i talk = talk
 talk_after (Broke client) i talk = talk
 talk_after (Loaded configuration generation) i talk = talk
 
@@ -144,10 +145,10 @@ abbrev pub IsNotAmong : ℕ → List SaidAsk → Type 0
 IsNotAmong n [] = Unit {0}
 IsNotAmong n (said ∷ others) = (said.0 ≢ n) × IsNotAmong n others
 
--- each of these calls is still to be asked of this server: the core gave it out for it, and since then it was neither asked nor settled. No two have one number
+-- each of these calls is still to be asked of this server: the core gave it out for it, no later than its time counts from, and since then it was neither asked nor settled. No two have one number
 abbrev pub AreDue : List Step → ℕ → List SaidAsk → Type 0
 AreDue steps at [] = Unit {0}
-AreDue steps at (said ∷ others) = (due_in steps said.0 ≡ Some (at, said.2)) × IsNotAmong said.0 others × AreDue steps at others
+AreDue steps at (said ∷ others) = (due_in steps said.0 ≡ Some (at, said.2)) × IsNotAmong said.0 others × AreDue steps at others × (given_in steps said.0 ≤ said.3)
 
 -- each of these was asked, and the core has it out for this server still, where it asks just this. No two have one number
 abbrev pub AreCalled : List Step → ℕ → List SaidAsk → Type 0
@@ -157,8 +158,9 @@ AreCalled steps at (said ∷ others) = (call_in steps said.0 ≡ Some (at, said.
 -- the call that was asked first of those that are out has this number and asked this, nothing else is told before its answer, and these bytes, whatever follows them, spell this answer to it, in the dialect in which it was asked
 pub record IsNextAnswer (number : ℕ) (ask : Ask) (answer : Answer) (bytes : List ℕ) (talk : Talk) : Type 0 where
   pub dialect : Dialect
+  pub since : ℕ
   pub others : List SaidAsk
-  pub is_first : talk.out ≡ (number, dialect, ask) ∷ others
+  pub is_first : talk.out ≡ (number, dialect, ask, since) ∷ others
   pub none_before : talk.awaits ≡ None
   pub none_late : talk.late ≡ []
   pub more : List ℕ
@@ -168,8 +170,14 @@ pub record IsNextAnswer (number : ℕ) (ask : Ask) (answer : Answer) (bytes : Li
 pub record IsFirstOut (number : ℕ) (talk : Talk) : Type 0 where
   pub dialect : Dialect
   pub ask : Ask
+  pub since : ℕ
   pub others : List SaidAsk
-  pub is_first : talk.out ≡ (number, dialect, ask) ∷ others
+  pub is_first : talk.out ≡ (number, dialect, ask, since) ∷ others
+
+-- one of these calls has waited for longer than so many milliseconds at this time
+abbrev pub HasWaited : (limit now : ℕ) → List SaidAsk → Type 0
+HasWaited limit now [] = ⊥
+HasWaited limit now (said ∷ others) = (said.3 + limit < now) ⊎ HasWaited limit now others
 
 -- the call that was asked first of those that are out is a store
 abbrev pub IsStoreFirst : List SaidAsk → Type 0
@@ -179,8 +187,9 @@ IsStoreFirst (said ∷ others) = is_store said.2.op ≡ true
 -- the call of this number, which asks this, is the first of those that were late, nothing else is told before its answer, and these bytes, whatever follows them, spell this one to it, in the dialect in which it was asked
 pub record IsNextLate (number : ℕ) (ask : Ask) (answer : Answer) (bytes : List ℕ) (talk : Talk) : Type 0 where
   pub dialect : Dialect
+  pub since : ℕ
   pub others : List SaidAsk
-  pub is_first : talk.late ≡ (number, dialect, ask) ∷ others
+  pub is_first : talk.late ≡ (number, dialect, ask, since) ∷ others
   pub none_before : talk.awaits ≡ None
   pub more : List ℕ
   pub spells : SpellsIn dialect ask (bytes ++ more) answer (length bytes)
@@ -204,12 +213,12 @@ abbrev pub ComesBy : ℕ → Outcome → List Step → Type 0
 ComesBy number (Answered answer) past = IsJustSpelled number answer past
 ComesBy number Failed past = Unit {0}
 
--- after these steps this one may come: a connection is begun where none is there, also none whose end is awaited; a server is asked what the core gave out for it last under that number, once, in a dialect that it speaks, and neither while late answers are still to come nor before it said that it emptied itself where it is to do that first; tells of its dialects where it is asked for that, and then answers its calls in
--- their order, those that are late too, whose answers settle nothing; a call is settled that no server has, by its answer, or as it failed; and none is given out while one of its number is out
+-- after these steps this one may come: a connection is begun where none is there, also none whose end is awaited; a server is asked what the core gave out for it last under that number, once, in a dialect that it speaks, its time counting from then or later, and neither while late answers are still to come nor before it said that it emptied itself where it is to do that first; tells of its dialects where it is asked for that, and then answers its calls in
+-- their order, those that are late too, whose answers settle nothing; the first of those that are out is late once one of them, or of those that were late before it, has waited too long; a call is settled that no server has, by its answer, or as it failed; and none is given out while one of its number is out
 abbrev pub MayFollow : Step → List Step → Type 0
-MayFollow (Asked at number dialect ask) past = MayBeAsked past number at dialect ask × (due_in past number ≡ Some (at, ask)) × ((talk_in past at).late ≡ []) × (awaits_flush (talk_in past at).awaits ≡ false)
+MayFollow (Asked at number dialect ask since) past = MayBeAsked past number at dialect ask × (due_in past number ≡ Some (at, ask)) × ((talk_in past at).late ≡ []) × (awaits_flush (talk_in past at).awaits ≡ false) × (given_in past number ≤ since)
 MayFollow (Greeted at dialect bytes) past = AnswersFirst (talk_in past at).awaits dialect bytes
-MayFollow (Late at number) past = IsFirstOut number (talk_in past at)
+MayFollow (Late at number limit now) past = IsFirstOut number (talk_in past at) × HasWaited limit now ((talk_in past at).late ++ (talk_in past at).out)
 MayFollow (CameLate at number ask answer bytes) past = IsNextLate number ask answer bytes (talk_in past at)
 MayFollow (Spelled at number ask answer bytes) past = IsNextAnswer number ask answer bytes (talk_in past at)
 MayFollow (Settled number outcome) past = MaySettle number past × ComesBy number outcome past
@@ -223,6 +232,7 @@ MayFollow (Stopped client fault) past = Unit {0}
 MayFollow (Gave client bytes) past = Unit {0}
 MayFollow (Closed client) past = Unit {0}
 MayFollow (LeftLine client) past = Unit {0}
+MayFollow (Ticked now) past = Unit {0}
 MayFollow (Broke client) past = Unit {0}
 MayFollow (Loaded configuration generation) past = Unit {0}
 
@@ -241,13 +251,14 @@ IsOfClients (Stopped client fault) = Unit {0}
 IsOfClients (Gave client bytes) = Unit {0}
 IsOfClients (Closed client) = Unit {0}
 IsOfClients (LeftLine client) = Unit {0}
+IsOfClients (Ticked now) = ⊥
 IsOfClients (Broke client) = Unit {0}
 IsOfClients (Loaded configuration generation) = Unit {0}
 IsOfClients (Settled number outcome) = ⊥
 IsOfClients (Linked at dialect) = ⊥
-IsOfClients (Asked at number dialect ask) = ⊥
+IsOfClients (Asked at number dialect ask since) = ⊥
 IsOfClients (Greeted at dialect bytes) = ⊥
-IsOfClients (Late at number) = ⊥
+IsOfClients (Late at number limit now) = ⊥
 IsOfClients (CameLate at number ask answer bytes) = ⊥
 IsOfClients (Spelled at number ask answer bytes) = ⊥
 IsOfClients (Lost at why) = ⊥
@@ -256,9 +267,9 @@ IsOfClients (Lost at why) = ⊥
 abbrev pub IsOfServer : ℕ → Step → Type 0
 IsOfServer i (Settled number outcome) = Unit {0}
 IsOfServer i (Linked at dialect) = at ≡ i
-IsOfServer i (Asked at number dialect ask) = at ≡ i
+IsOfServer i (Asked at number dialect ask since) = at ≡ i
 IsOfServer i (Greeted at dialect bytes) = at ≡ i
-IsOfServer i (Late at number) = at ≡ i
+IsOfServer i (Late at number limit now) = at ≡ i
 IsOfServer i (CameLate at number ask answer bytes) = at ≡ i
 IsOfServer i (Spelled at number ask answer bytes) = at ≡ i
 IsOfServer i (Lost at why) = at ≡ i
@@ -270,5 +281,6 @@ IsOfServer i (Stopped client fault) = ⊥
 IsOfServer i (Gave client bytes) = ⊥
 IsOfServer i (Closed client) = ⊥
 IsOfServer i (LeftLine client) = ⊥
+IsOfServer i (Ticked now) = ⊥
 IsOfServer i (Broke client) = ⊥
 IsOfServer i (Loaded configuration generation) = ⊥

@@ -2,10 +2,10 @@
 //! they are the sign that the server is back.
 
 ghost use Rattle.std.specs.Prelude.{◌≡◌, ℕ, List, None, []};
-ghost use Rattle.serve_wire.specs.Events.{Event};
+ghost use Rattle.serve_wire.specs.Events.{Event, time};
 ghost use Rattle.core_accepted.specs.declared.served.ServedCore.{ServedCore};
 ghost use Rattle.serve_links.specs.Calls.{PassesOver};
-ghost use Rattle.serve_links.specs.Lateness.{LetsStoresWait};
+ghost use Rattle.serve_links.specs.Lateness.{HasOneLate, LetsStoresWait};
 ghost use Rattle.serve_links.specs.CoreSteps.{IsOfTurn, IsSending};
 ghost use Rattle.serve_links.specs.Story.{LineGoes, LineIsForeign};
 
@@ -52,10 +52,11 @@ fn pass_over(late: &mut VecDeque<LateCall>, calls: &mut LinkCalls, conn: &mut Co
 }
 
 impl Link {
-    /// The first of the calls that are out is late: it has failed, and keeps its place. Whose it was. Without a connection none is, nor is a store
+    /// The first of the calls that are out is late, as one of them is, or one that was late before: it has failed, and keeps its place. Whose it was. Without a connection none is, nor is a store
     /// where stores are awaited however long they take.
     pub(crate) fn fail_late(&mut self, core: &mut ServedCore) -> Result<Option<usize>, AllocError>
-        ensures goes { (at : ℕ) (h : List Event) → LineGoes IsSending at core.old h self.old core.new h self.new }
+        ensures goes { (at : ℕ) (h : List Event) → HasOneLate (time h) self.old → LineGoes IsSending at core.old h self.old core.new h self.new }
+        ensures late { (now : ℕ) → HasOneLate now self.old → HasOneLate now self.new }
         ensures stores { LetsStoresWait self.old self.new }
     {
         if self.conn.is_none() {

@@ -4,11 +4,11 @@ ghost use Rattle.std.specs.Prelude.{◌≡◌, ◌≢◌, ◌⊎◌, ℕ, List, 
 ghost use Rattle.serve_wire.specs.Ends.{HoldsAnew};
 ghost use Rattle.serve_clients.specs.Agrees.{KeepsEnds};
 ghost use Rattle.serve_links.specs.Calls.{SettlesNext};
-ghost use Rattle.serve_wire.specs.Events.{Event};
+ghost use Rattle.serve_wire.specs.Events.{Event, time};
 ghost use Rattle.serve_links.specs.CoreSteps.{GoesBy, IsSettlement, IsSending, Fails};
 ghost use Rattle.serve_links.specs.Story.{LineGoes};
 ghost use Rattle.core_accepted.specs.declared.served.ServedCore.{ServedCore};
-ghost use Rattle.serve_links.specs.Lateness.{HasLate, LetsStoresWait};
+ghost use Rattle.serve_links.specs.Lateness.{HasLate, HasOneLate, LetsStoresWait};
 ghost use Rattle.serve_links.specs.Links.{AllFail, FailsTo, IsDown};
 ghost use Rattle.serve_links.specs.Settled.{HoldsNoAnswer, HoldsForeign, SettlesSome, SettlesFront, used_by};
 
@@ -82,7 +82,7 @@ pub fn fail_all(link: &mut Link, core: &mut ServedCore, clients: &mut Clients)
 /// If a call that is out on the link is late by now, all that are have failed, and keep their places: those before the first store, where stores are
 /// awaited however long they take. Else nothing is done.
 pub fn fail_late(link: &mut Link, core: &mut ServedCore, clients: &mut Clients, now: u64)
-    ensures goes { (at : ℕ) (h : List Event) → LineGoes IsSending at core.old h link.old core.new h link.new }
+    ensures goes { (at : ℕ) (h : List Event) → time h ≡ now → LineGoes IsSending at core.old h link.old core.new h link.new }
     ensures late { HasLate now link.old ⊎ ((link.new ≡ link.old) × (core.new ≡ core.old)) }
     ensures stores { LetsStoresWait link.old link.new }
     ensures ends { KeepsEnds clients.old clients.new }
@@ -93,9 +93,9 @@ pub fn fail_late(link: &mut Link, core: &mut ServedCore, clients: &mut Clients, 
     fail_all_late(link, core, clients, now)
 }
 
-// The calls that are out on the link have failed, and keep their places.
+// The calls that are out on the link have failed, and keep their places, as one of them is late.
 fn fail_all_late(link: &mut Link, core: &mut ServedCore, clients: &mut Clients, now: u64)
-    ensures goes { (at : ℕ) (h : List Event) → LineGoes IsSending at core.old h link.old core.new h link.new }
+    ensures goes { (at : ℕ) (h : List Event) → HasOneLate (time h) link.old → LineGoes IsSending at core.old h link.old core.new h link.new }
     ensures stores { LetsStoresWait link.old link.new }
     ensures ends { KeepsEnds clients.old clients.new }
 {

@@ -19,7 +19,7 @@ use Rattle.serve_links.specs.declared.news.Cause.TheVariants as causes
 use Rattle.serve_links.specs.Calls.{stores_first}
 use Rattle.serve_links.specs.Lateness.{AwaitsLate}
 use Rattle.serve_links.specs.Links.{vain_cause}
-use Rattle.serve_links.specs.CoreSteps.{Step, Opened, NotOpened, Fed, Polled, Stopped, Settled, Gave, Closed, LeftLine, Broke, Loaded, Linked, Asked, Greeted, Spelled, Late, CameLate, Lost, Walks, AreOf, IsOfTurn, IsGivingUp, IsSending, Fails, GoesBy}
+use Rattle.serve_links.specs.CoreSteps.{Step, Opened, NotOpened, Fed, Polled, Stopped, Settled, Gave, Closed, LeftLine, Broke, Ticked, Loaded, Linked, Asked, Greeted, Spelled, Late, CameLate, Lost, Walks, AreOf, IsOfTurn, IsGivingUp, IsSending, Fails, GoesBy}
 use Rattle.serve_links.specs.Talks.{SaidAsk, IsStoreFirst, talk_in}
 use Rattle.serve_links.specs.Story.{said_asks, said_late, line_of, IsForeign, LineIsForeign, LineAgrees, LineLost, LineFails, LineGoesFrom, AnEnd, Agrees, AgreesBut, AllGoFrom, ShowsWhy}
 use Rattle.serve_links.proofs.LinkGoes.{as_failing, line_between, line_keeps}
@@ -136,7 +136,7 @@ line_given_up {h = h} {h' = h'} {cs = cs} {a = a} {b = b} why links at x y withi
 -- one may be given up that agrees, where it shows why
 failing_at : (why : Option Cause) (at : ℕ) (past : List Step) (x : AnEnd) → ((link : Link) → slice_get x.links at ≡ Some link → LineFails why at past x.history link) → Agrees past x → AgreesBut (LineFails why) at past x
 failing_at why at past x this a =
-    record { orderly = a.orderly; calls = a.calls; clients = a.clients; told = a.told; links = λ j link other there. a.links j link there; this = this; gone = a.gone; shown = a.shown; shut = a.shut; unlinked = a.unlinked }
+    record { orderly = a.orderly; calls = a.calls; clients = a.clients; told = a.told; links = λ j link other there. a.links j link there; this = this; gone = a.gone; shown = a.shown; shut = a.shut; unlinked = a.unlinked; clock = a.clock }
 
 pub unconnected : {Q : List Step → AnEnd → Type 0} {Is : Step → Type 0} {a b : AnEnd} (at : ℕ) → AllGoFrom (AgreesBut (LineFails (Some causes.ConnectLate)) at) Q Is a b → AllGoFrom Agrees Q Is a b
 unconnected {a = a} at g =
@@ -195,12 +195,13 @@ fails_of why (Stopped client fault ∷ steps) a b kinds walks = absurd kinds.0
 fails_of why (Gave client bytes ∷ steps) a b kinds walks = absurd kinds.0
 fails_of why (Closed client ∷ steps) a b kinds walks = absurd kinds.0
 fails_of why (LeftLine client ∷ steps) a b kinds walks = absurd kinds.0
+fails_of why (Ticked now ∷ steps) a b kinds walks = absurd kinds.0
 fails_of why (Broke client ∷ steps) a b kinds walks = absurd kinds.0
 fails_of why (Loaded configuration generation ∷ steps) a b kinds walks = absurd kinds.0
 fails_of why (Linked at dialect ∷ steps) a b kinds walks = absurd kinds.0
-fails_of why (Asked at number dialect ask ∷ steps) a b kinds walks = absurd kinds.0
+fails_of why (Asked at number dialect ask since ∷ steps) a b kinds walks = absurd kinds.0
 fails_of why (Greeted at dialect bytes ∷ steps) a b kinds walks = absurd kinds.0
-fails_of why (Late at number ∷ steps) a b kinds walks = absurd kinds.0
+fails_of why (Late at number limit now ∷ steps) a b kinds walks = absurd kinds.0
 fails_of why (CameLate at number ask answer bytes ∷ steps) a b kinds walks = absurd kinds.0
 fails_of why (Spelled at number ask answer bytes ∷ steps) a b kinds walks = absurd kinds.0
 

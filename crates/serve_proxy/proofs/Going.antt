@@ -1,5 +1,5 @@
 -- How the ends of a proxy go on, by what is done to one of them or by calls of the core alone.
-use Rattle.std.proofs.Common.{◌≡◌, ◌≢◌, inl, inr, ℕ, zero, suc, ◌<◌, Bool, true, false, if◌then◌else◌, List, [], ◌∷◌, ◌++◌, length, get_or, Option, Some, None, Result, Ok, Err, refl, sym, ap, ◌∙◌, subst, append_assoc, append-nil, arith}
+use Rattle.std.proofs.Common.{◌≡◌, ◌≢◌, inl, inr, ℕ, zero, suc, ◌<◌, ◌≤◌, Bool, true, false, if◌then◌else◌, List, [], ◌∷◌, ◌++◌, length, get_or, Option, Some, None, Result, Ok, Err, refl, sym, ap, ◌∙◌, subst, append_assoc, append-nil, arith}
 use Rattle.std.proofs.Math.ListN.{set}
 use Rattle.std.proofs.lemmas.Bool.{cases_Bool, eq-eqb, eqb-true}
 use Rattle.std.proofs.lemmas.Option.{slice_get_read}
@@ -33,14 +33,14 @@ use Rattle.serve_clients.proofs.Agreeing.{state_stays, agree_still}
 use Rattle.serve_links.specs.declared.calls.calls.SentCall.{SentCall}
 use Rattle.serve_links.specs.declared.link.Link.{Link}
 use Rattle.serve_links.specs.declared.news.Cause.{Cause}
-use Rattle.serve_links.specs.CoreSteps.{Step, Opened, NotOpened, Fed, Polled, Stopped, Settled, Gave, Closed, LeftLine, Broke, Loaded, Linked, Asked, Greeted, Spelled, Late, CameLate, Lost, Does, Walks, AreOf, GoesBy, IsOfTurn, IsFailure, IsSending, IsGivingUp, Fails}
-use Rattle.serve_links.specs.Called.{TellsCalls, GiveOnce}
+use Rattle.serve_links.specs.CoreSteps.{Step, Opened, NotOpened, Fed, Polled, Stopped, Settled, Gave, Closed, LeftLine, Broke, Ticked, Loaded, Linked, Asked, Greeted, Spelled, Late, CameLate, Lost, Does, Walks, AreOf, GoesBy, IsOfTurn, IsFailure, IsSending, IsGivingUp, Fails}
+use Rattle.serve_links.specs.Called.{clock_in, given_in, TellsCalls, GiveOnce}
 use Rattle.serve_links.specs.Talks.{Talk, IsNotAmong, AreDue, MaySettle, IsOrderly, IsOfClients}
 use Rattle.serve_links.proofs.Called.{given_besides, walks_tell_calls}
 use Rattle.serve_links.specs.Pieces.{FeedsHeld}
 use Rattle.serve_links.specs.Story.{fed_in, gave_in, is_open_in, is_broken_in, AgreesWith, IsTold, AreTold, TellsNone, HasOrHad, said_asks, StayOut, IsInHand, LineState, line_of, LineAgrees, LineCalled, LinesAgree, OneGoes, LineGoesFrom, LineGoes, AnEnd, Agrees, AgreesGiven, AgreesBut, AgreesCalled, AgreesDue, AllGoFrom, AllGo, texts_of, AgreesSent}
 use Rattle.serve_links.proofs.Reading.{breaks_now}
-use Rattle.serve_links.proofs.Talking.{IsPlain, plain_talk, clients_orderly}
+use Rattle.serve_links.proofs.Talking.{IsPlain, plain_talk, clients_orderly, clients_clock}
 use Rattle.serve_links.proofs.Story.{one_agrees, at_told, each_told, all_told, same_told, had_stays, one_of_all, line_among, line_stays_by, line_stays, unlinked_stays, all_still, from_then, go_between, all_but, but_all}
 use Rattle.serve_links.proofs.Showing.{plain_unlost, none_since, shown_since, shown_later}
 use Rattle.serve_links.proofs.Shutting.{shut_quiet}
@@ -88,7 +88,7 @@ lines_stay h h' past ls ls' quiet same was at link there = by (slice_get ls at) 
   where
     by : (o : Option Link) → slice_get ls at ≡ o → option_map line_of o ≡ Some (line_of link) → LineAgrees at past h' link
     by None e l = absurd (none_some l)
-    by (Some x) e l = line_stays h h' at [] past link (λ c of_c. quiet c) refl (λ n ask is. (refl, refl)) (same_line at past h x link (sym (same_some l)) (was at x e))
+    by (Some x) e l = line_stays h h' at [] past link (λ c of_c. quiet c) refl (λ n ask is. (refl, refl, refl)) (same_line at past h x link (sym (same_some l)) (was at x e))
 
 -- steps of which servers are told nothing, and by which all calls that were out stay so
 pub lines_told : (h : List Event) (steps past : List Step) (ls : List Link) → AreOf IsPlain steps → ((at : ℕ) → StayOut at past (steps ++ past)) → LinesAgree past h ls → LinesAgree (steps ++ past) h ls
@@ -163,6 +163,7 @@ stays {Is} {h} {h'} {cs} {cs'} {ls} {ls'} core s =
         shown = shown_since past h h' (s.quiet 0).after a.shown;
         shut = shut_quiet s.quiet (λ id. numbers_kept (client_of cs id) (client_of cs' id) (s.clients id)) (conns_kept ls ls' s.links) a.shut;
         unlinked = λ at none. a.unlinked at (none_there ls ls' s.links at none);
+        clock = a.clock ∙ sym (s.quiet 0).same_time;
       };
       texts = same_texts ls ls' s.links;
     }
@@ -216,15 +217,16 @@ IsSilent (Stopped client fault) = Unit {0}
 IsSilent (Settled number outcome) = ⊥
 IsSilent (Closed client) = ⊥
 IsSilent (LeftLine client) = Unit {0}
+IsSilent (Ticked now) = ⊥
 IsSilent (Broke client) = ⊥
 IsSilent (Opened client) = ⊥
 IsSilent (Fed client piece) = ⊥
 IsSilent (Gave client bytes) = ⊥
 IsSilent (Loaded configuration generation) = ⊥
 IsSilent (Linked at dialect) = ⊥
-IsSilent (Asked at number dialect ask) = ⊥
+IsSilent (Asked at number dialect ask since) = ⊥
 IsSilent (Greeted at dialect bytes) = ⊥
-IsSilent (Late at number) = ⊥
+IsSilent (Late at number limit now) = ⊥
 IsSilent (CameLate at number ask answer bytes) = ⊥
 IsSilent (Spelled at number ask answer bytes) = ⊥
 IsSilent (Lost at why) = ⊥
@@ -237,15 +239,16 @@ tells_none (Stopped client fault ∷ steps) kinds past j = tells_none steps kind
 tells_none (Settled number outcome ∷ steps) kinds past j = absurd kinds.0
 tells_none (Closed client ∷ steps) kinds past j = absurd kinds.0
 tells_none (LeftLine client ∷ steps) kinds past j = tells_none steps kinds.1 past j
+tells_none (Ticked now ∷ steps) kinds past j = absurd kinds.0
 tells_none (Broke client ∷ steps) kinds past j = absurd kinds.0
 tells_none (Opened client ∷ steps) kinds past j = absurd kinds.0
 tells_none (Fed client piece ∷ steps) kinds past j = absurd kinds.0
 tells_none (Gave client bytes ∷ steps) kinds past j = absurd kinds.0
 tells_none (Loaded configuration generation ∷ steps) kinds past j = absurd kinds.0
 tells_none (Linked at dialect ∷ steps) kinds past j = absurd kinds.0
-tells_none (Asked at number dialect ask ∷ steps) kinds past j = absurd kinds.0
+tells_none (Asked at number dialect ask since ∷ steps) kinds past j = absurd kinds.0
 tells_none (Greeted at dialect bytes ∷ steps) kinds past j = absurd kinds.0
-tells_none (Late at number ∷ steps) kinds past j = absurd kinds.0
+tells_none (Late at number limit now ∷ steps) kinds past j = absurd kinds.0
 tells_none (CameLate at number ask answer bytes ∷ steps) kinds past j = absurd kinds.0
 tells_none (Spelled at number ask answer bytes ∷ steps) kinds past j = absurd kinds.0
 tells_none (Lost at why ∷ steps) kinds past j = absurd kinds.0
@@ -261,15 +264,16 @@ silent_turn (step ∷ steps) kinds = (of_turn step kinds.0, silent_turn steps ki
     of_turn (Settled number outcome) is = tt
     of_turn (Closed client) is = tt
     of_turn (LeftLine client) is = tt
+    of_turn (Ticked now) is = tt
     of_turn (Broke client) is = tt
     of_turn (Opened client) is = tt
     of_turn (Fed client piece) is = tt
     of_turn (Gave client bytes) is = tt
     of_turn (Loaded configuration generation) is = is
     of_turn (Linked at dialect) is = tt
-    of_turn (Asked at number dialect ask) is = tt
+    of_turn (Asked at number dialect ask since) is = tt
     of_turn (Greeted at dialect bytes) is = tt
-    of_turn (Late at number) is = tt
+    of_turn (Late at number limit now) is = tt
     of_turn (CameLate at number ask answer bytes) is = tt
     of_turn (Spelled at number ask answer bytes) is = tt
     of_turn (Lost at why) is = absurd is
@@ -285,15 +289,16 @@ silent_plain (step ∷ steps) kinds = (plain step kinds.0, silent_plain steps ki
     plain (Stopped client fault) is = tt
     plain (Closed client) is = tt
     plain (LeftLine client) is = tt
+    plain (Ticked now) is = tt
     plain (Broke client) is = tt
     plain (Opened client) is = tt
     plain (Fed client piece) is = tt
     plain (Gave client bytes) is = tt
     plain (Loaded configuration generation) is = tt
     plain (Linked at dialect) is = is
-    plain (Asked at number dialect ask) is = is
+    plain (Asked at number dialect ask since) is = is
     plain (Greeted at dialect bytes) is = is
-    plain (Late at number) is = is
+    plain (Late at number limit now) is = is
     plain (CameLate at number ask answer bytes) is = is
     plain (Spelled at number ask answer bytes) is = is
     plain (Lost at why) is = is
@@ -307,6 +312,7 @@ silent_clients (step ∷ steps) kinds = (of_clients step kinds.0, silent_clients
     of_clients (Polled client poll) is = tt
     of_clients (Stopped client fault) is = tt
     of_clients (LeftLine client) is = tt
+    of_clients (Ticked now) is = is
     of_clients (Closed client) is = tt
     of_clients (Broke client) is = tt
     of_clients (Opened client) is = tt
@@ -315,9 +321,9 @@ silent_clients (step ∷ steps) kinds = (of_clients step kinds.0, silent_clients
     of_clients (Loaded configuration generation) is = tt
     of_clients (Settled number outcome) is = is
     of_clients (Linked at dialect) is = is
-    of_clients (Asked at number dialect ask) is = is
+    of_clients (Asked at number dialect ask since) is = is
     of_clients (Greeted at dialect bytes) is = is
-    of_clients (Late at number) is = is
+    of_clients (Late at number limit now) is = is
     of_clients (CameLate at number ask answer bytes) is = is
     of_clients (Spelled at number ask answer bytes) is = is
     of_clients (Lost at why) is = is
@@ -333,15 +339,16 @@ fails_send (step ∷ steps) kinds = (sends step kinds.0, fails_send steps kinds.
     sends (Stopped client fault) is = is
     sends (Closed client) is = is
     sends (LeftLine client) is = is
+    sends (Ticked now) is = is
     sends (Broke client) is = is
     sends (Opened client) is = is
     sends (Fed client piece) is = is
     sends (Gave client bytes) is = is
     sends (Loaded configuration generation) is = is
     sends (Linked at dialect) is = tt
-    sends (Asked at number dialect ask) is = tt
+    sends (Asked at number dialect ask since) is = tt
     sends (Greeted at dialect bytes) is = is
-    sends (Late at number) is = tt
+    sends (Late at number limit now) is = tt
     sends (CameLate at number ask answer bytes) is = is
     sends (Spelled at number ask answer bytes) is = is
     sends (Lost at why) is = absurd is
@@ -359,15 +366,16 @@ gives_up_send cause (step ∷ steps) kinds = (sends step kinds.0, gives_up_send 
     sends (Stopped client fault) is = is
     sends (Closed client) is = is
     sends (LeftLine client) is = is
+    sends (Ticked now) is = is
     sends (Broke client) is = is
     sends (Opened client) is = is
     sends (Fed client piece) is = is
     sends (Gave client bytes) is = is
     sends (Loaded configuration generation) is = is
     sends (Linked at dialect) is = tt
-    sends (Asked at number dialect ask) is = tt
+    sends (Asked at number dialect ask since) is = tt
     sends (Greeted at dialect bytes) is = is
-    sends (Late at number) is = tt
+    sends (Late at number limit now) is = tt
     sends (CameLate at number ask answer bytes) is = is
     sends (Spelled at number ask answer bytes) is = is
 
@@ -382,15 +390,16 @@ sends_turn (step ∷ steps) kinds = (of_turn step kinds.0, sends_turn steps kind
     of_turn (Stopped client fault) is = tt
     of_turn (Closed client) is = tt
     of_turn (LeftLine client) is = tt
+    of_turn (Ticked now) is = tt
     of_turn (Broke client) is = tt
     of_turn (Opened client) is = tt
     of_turn (Fed client piece) is = tt
     of_turn (Gave client bytes) is = tt
     of_turn (Loaded configuration generation) is = is
     of_turn (Linked at dialect) is = tt
-    of_turn (Asked at number dialect ask) is = tt
+    of_turn (Asked at number dialect ask since) is = tt
     of_turn (Greeted at dialect bytes) is = tt
-    of_turn (Late at number) is = tt
+    of_turn (Late at number limit now) is = tt
     of_turn (CameLate at number ask answer bytes) is = tt
     of_turn (Spelled at number ask answer bytes) is = tt
     of_turn (Lost at why) is = is
@@ -439,9 +448,15 @@ sent_clients {h} {ls} at call core cs cs' keeps =
     let g : AllGo IsSending (record { core = core; history = h; clients = cs; links = ls }) (record { core = core; history = h; clients = cs'; links = ls }) = stays core (record { quiet = λ d. untouched d h; clients = keeps; links = refl }) in
     record { steps = []; kinds = tt; walks = refl; agree = λ past was. (g.agree past was.0, was.1, was.2, was.3); texts = refl }
 
--- nor does it matter when it is said to have begun, or what is expected of it
-pub sent_renewed : {Is : Step → Type 0} {a : AnEnd} (at : ℕ) (call call' : SentCall) → call' ≡ record call { since = call'.since; bulk = call'.bulk } → AllGoFrom (AgreesSent at call) (AgreesSent at call') Is a a
-sent_renewed {a = a} at call call' is = record { steps = []; kinds = tt; walks = refl; agree = λ past was. subst (λ c. AgreesSent at c past a) (sym is) was; texts = refl }
+-- nor does it matter when it is said to have begun, if that isn't earlier, or what is expected of it
+pub sent_renewed : {Is : Step → Type 0} {a : AnEnd} (at : ℕ) (call call' : SentCall) → call' ≡ record call { since = call'.since; bulk = call'.bulk } → call.since ≤ call'.since → AllGoFrom (AgreesSent at call) (AgreesSent at call') Is a a
+sent_renewed {a = a} at call call' is later = record { steps = []; kinds = tt; walks = refl; agree = λ past was. subst (λ c. AgreesSent at c past a) (sym is) (renewed past was); texts = refl }
+  where
+    given : (past : List Step) → given_in past call.ticket.number ≤ call.since → given_in past call.ticket.number ≤ call'.since
+    given past was = omega (arith, was, later)
+
+    renewed : (past : List Step) → AgreesSent at call past a → AgreesSent at (record call { since = call'.since; bulk = call'.bulk }) past a
+    renewed past was = (was.0, was.1, λ link there. (let due = was.2 link there in (due.0, due.1, due.2, given past due.3)), (was.3.0, tt, tt, given past was.3.3))
 
 pub agree_told : (h : List Event) (input output input' output' : ℕ → List ℕ) (cs : Clients) → ((j : ℕ) → (input' j ≡ input j) × (output' j ≡ output j)) → AllAgree h input output cs → AllAgree h input' output' cs
 agree_told h input output input' output' cs told was id = by (client_of cs id) (was id)
@@ -470,6 +485,7 @@ calls_agree {h} {cs} {ls} a b past steps silent tells once was = record {
   shown = shown_later steps past h h (plain_unlost steps (silent_plain steps silent)) (none_since h) was.shown;
   shut = was.shut;
   unlinked = λ at none. unlinked_stays (plain_talk steps (silent_plain steps silent) past at) (was.unlinked at none);
+  clock = clients_clock steps (silent_clients steps silent) past ∙ was.clock;
 }
 
 calls_go :
@@ -503,6 +519,7 @@ refused_go {h} {cs} {ls} number a b is =
         shown = (tt, was.shown);
         shut = was.shut;
         unlinked = was.unlinked;
+        clock = was.clock;
       };
       texts = refl;
     }
@@ -513,7 +530,7 @@ refused_go {h} {cs} {ls} number a b is =
     lines : (past : List Step) → LinesAgree past h ls → IsInHand number past ls → LinesAgree (Settled number Failed ∷ past) h ls
     lines past was hand at link there =
         let agrees = was at link there in
-        let left = hand_gone past (Settled number Failed ∷ past) hand.at number hand.ask (number, Classic, hand.ask) refl hand.due (keeps_settled past number Failed Classic hand.ask) at link.calls.sent.items link.waiting.items (λ e. hand.apart link (ap (slice_get ls) e ∙ there)) agrees.called agrees.due in
+        let left = hand_gone past (Settled number Failed ∷ past) hand.at number hand.ask (number, Classic, hand.ask, 0) refl hand.due (keeps_settled past number Failed Classic hand.ask 0) at link.calls.sent.items link.waiting.items (λ e. hand.apart link (ap (slice_get ls) e ∙ there)) agrees.called agrees.due in
         line_stays_by h h at (Settled number Failed ∷ []) past link (λ c of_c. untouched c h) refl left.1 left.0 agrees
 
 -- one in hand is still to be asked
@@ -546,6 +563,7 @@ called_go {h} {cs} {ls} client ticket a b does =
         (let tells = walks_tell_calls.goes_on (step ∷ []) past a b was.calls (a, refl, does) in calls_agree a b past (step ∷ []) (tt, tt) tells.0 tells.1 was),
         record { client = client; ticket = ticket; number_is = refl; server_is = refl; ask_is = refl; later = []; earlier = past; was = refl },
         calls_agree a b past [] tt (given_besides client ticket past a b was.calls does) tt was,
+        ap (λ (t : Bool). if t then clock_in past else given_in past ticket.number) (same_client ticket.number),
       );
       texts = refl;
     }
@@ -588,11 +606,12 @@ close_none {h} {cs} {ls} client (Ok done) a b nobody ok err fresh = record {
     calls = (walks_tell_calls.goes_on (Closed client ∷ []) past a b was.calls (a, refl, (ok.0, ok.1, fresh))).0;
     clients = agree_told h (fed_in past) (gave_in past) (fed_in (Closed client ∷ past)) (gave_in (Closed client ∷ past)) cs (λ j. (refl, refl)) was.clients;
     told = each_told (Closed client ∷ past) cs (λ j z there. told past j z there (at_told past cs j z there was.told));
-    links = lines_told h (Closed client ∷ []) past ls (tt, tt) (λ at n ask is. (refl, refl)) was.links;
+    links = lines_told h (Closed client ∷ []) past ls (tt, tt) (λ at n ask is. (refl, refl, refl)) was.links;
     gone = λ conn id is. had_quiet past (Closed client ∷ []) h h cs cs id conn (untouched conn h) refl is was.gone;
     shown = (tt, was.shown);
     shut = was.shut;
     unlinked = was.unlinked;
+    clock = was.clock;
   };
   texts = refl;
 }
@@ -630,7 +649,7 @@ line_took {h = h} {h' = h'} {cs = cs} {a = a} {b = b} links at x y call within w
     with_call :
         (past : List Step) → AgreesSent at call past (record { core = a; history = h; clients = cs; links = links }) → AgreesBut (LineCalled call) at past (record { core = a; history = h; clients = cs; links = links })
     with_call past was =
-        record { orderly = was.0.orderly; calls = was.0.calls; clients = was.0.clients; told = was.0.told; links = λ j link other there. was.0.links j link there; this = λ link there. (was.0.links at link there, was.1, was.2 link there); gone = was.0.gone; shown = was.0.shown; shut = was.0.shut; unlinked = was.0.unlinked }
+        record { orderly = was.0.orderly; calls = was.0.calls; clients = was.0.clients; told = was.0.told; links = λ j link other there. was.0.links j link there; this = λ link there. (was.0.links at link there, was.1, was.2 link there); gone = was.0.gone; shown = was.0.shown; shut = was.0.shut; unlinked = was.0.unlinked; clock = was.0.clock }
 
 -- one that waited was taken from it
 pub line_gave :
@@ -644,10 +663,10 @@ line_gave {h = h} {h' = h'} {cs = cs} {a = a} {b = b} links at x y call within w
         → AgreesSent at call past (record { core = b; history = h'; clients = cs; links = set links at y })
     with_call past was = (
       but_all at past (record { core = b; history = h'; clients = cs; links = set links at y })
-          (record { orderly = was.orderly; calls = was.calls; clients = was.clients; told = was.told; links = was.links; this = λ link there. (was.this link there).0; gone = was.gone; shown = was.shown; shut = was.shut; unlinked = was.unlinked }),
+          (record { orderly = was.orderly; calls = was.calls; clients = was.clients; told = was.told; links = was.links; this = λ link there. (was.this link there).0; gone = was.gone; shown = was.shown; shut = was.shut; unlinked = was.unlinked; clock = was.clock }),
       (was.this y (set_here links at y within)).1,
       λ link there. subst (λ (z : Link). AreDue past at (said_asks (call ∷ z.waiting.items))) (same_some (sym (set_here links at y within) ∙ there)) (was.this y (set_here links at y within)).2,
-      ((was.this y (set_here links at y within)).2.0, tt, tt),
+      ((was.this y (set_here links at y within)).2.0, tt, tt, (was.this y (set_here links at y within)).2.3),
     )
 
 -- without a core

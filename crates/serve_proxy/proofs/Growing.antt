@@ -150,7 +150,7 @@ pub links_grow :
     {Is : Step → Type 0} {h : List Event} {cs : Clients} {ls ls' : List Link} (core : ServedCore) → AddsLines ls ls'
     → AllGrow Is (record { core = core; history = h; clients = cs; links = ls }) (record { core = core; history = h; clients = cs; links = ls' })
 links_grow {h = h} {ls = ls} {ls' = ls'} core adds =
-    record { steps = []; kinds = tt; walks = refl; agree = λ past was. record { orderly = was.orderly; calls = was.calls; clients = was.clients; told = was.told; links = lines_grow h past ls ls' adds was.orderly was.unlinked was.links; gone = was.gone; shown = was.shown; shut = shut_quiet (λ d. untouched d h) (λ j. refl) (conns_grow ls ls' adds) was.shut; unlinked = λ at none. was.unlinked at (none_before ls ls' adds at none) }; texts = (adds.0, texts_grow ls ls' adds) }
+    record { steps = []; kinds = tt; walks = refl; agree = λ past was. record { orderly = was.orderly; calls = was.calls; clients = was.clients; told = was.told; links = lines_grow h past ls ls' adds was.orderly was.unlinked was.links; gone = was.gone; shown = was.shown; shut = shut_quiet (λ d. untouched d h) (λ j. refl) (conns_grow ls ls' adds) was.shut; unlinked = λ at none. was.unlinked at (none_before ls ls' adds at none); clock = was.clock }; texts = (adds.0, texts_grow ls ls' adds) }
 
 -- a configuration was loaded, which tells nothing of clients
 pub load_grows :
@@ -161,14 +161,14 @@ load_grows {h} {cs} {ls} configuration generation a b loaded =
       steps = Loaded configuration generation ∷ [];
       kinds = ((generation, refl), tt);
       walks = (a, refl, loaded);
-      agree = λ past was. record { orderly = (tt, was.orderly); calls = (walks_tell_calls.goes_on (Loaded configuration generation ∷ []) past a b was.calls (a, refl, loaded)).0; clients = agree_told h (fed_in past) (gave_in past) (fed_in (Loaded configuration generation ∷ past)) (gave_in (Loaded configuration generation ∷ past)) cs (λ j. (refl, refl)) was.clients; told = was.told; links = lines_told h (Loaded configuration generation ∷ []) past ls (tt, tt) (λ at n ask is. (refl, refl)) was.links; gone = λ conn id is. had_quiet past (Loaded configuration generation ∷ []) h h cs cs id conn (untouched conn h) refl is was.gone; shown = (tt, was.shown); shut = was.shut; unlinked = was.unlinked };
+      agree = λ past was. record { orderly = (tt, was.orderly); calls = (walks_tell_calls.goes_on (Loaded configuration generation ∷ []) past a b was.calls (a, refl, loaded)).0; clients = agree_told h (fed_in past) (gave_in past) (fed_in (Loaded configuration generation ∷ past)) (gave_in (Loaded configuration generation ∷ past)) cs (λ j. (refl, refl)) was.clients; told = was.told; links = lines_told h (Loaded configuration generation ∷ []) past ls (tt, tt) (λ at n ask is. (refl, refl, refl)) was.links; gone = λ conn id is. had_quiet past (Loaded configuration generation ∷ []) h h cs cs id conn (untouched conn h) refl is was.gone; shown = (tt, was.shown); shut = was.shut; unlinked = was.unlinked; clock = was.clock };
       texts = ([], sym (append-nil (texts_of ls)));
     }
 
 -- it was, or it is as it was
 pub same_grows :
     {Is : Step → Type 0} {h : List Event} {cs : Clients} {ls : List Link} (a b : ServedCore) → b ≡ a → AllGrow Is (record { core = a; history = h; clients = cs; links = ls }) (record { core = b; history = h; clients = cs; links = ls })
-same_grows {Is} {h} {cs} {ls} a b same = record { steps = []; kinds = tt; walks = same; agree = λ past was. record { orderly = was.orderly; calls = subst (TellsCalls past) (sym same) was.calls; clients = was.clients; told = was.told; links = was.links; gone = was.gone; shown = was.shown; shut = was.shut; unlinked = was.unlinked }; texts = ([], sym (append-nil (texts_of ls))) }
+same_grows {Is} {h} {cs} {ls} a b same = record { steps = []; kinds = tt; walks = same; agree = λ past was. record { orderly = was.orderly; calls = subst (TellsCalls past) (sym same) was.calls; clients = was.clients; told = was.told; links = was.links; gone = was.gone; shown = was.shown; shut = was.shut; unlinked = was.unlinked; clock = was.clock }; texts = ([], sym (append-nil (texts_of ls))) }
 
 -- from a core that is the same
 pub grow_from :
@@ -187,7 +187,7 @@ unchecked_tells tree settings core begins = walks_tell_calls.begins tree (limits
 
 -- no client is there, and no link has a connection
 pub new_agrees : (h : List Event) (core : ServedCore) (cs : Clients) (ls : List Link) → TellsCalls [] core → cs.all.items ≡ [] → AddsLines [] ls → HasNoConns h → Agrees [] (record { core = core; history = h; clients = cs; links = ls })
-new_agrees h core cs ls tells none adds new = record { orderly = tt; calls = tells; clients = λ id. subst (λ o. IfSome o (EndAgrees h (fed_in []) (gave_in []) id)) (sym (nobody id)) tt; told = λ id. subst (λ o. IfSome o (IsTold [] id)) (sym (nobody id)) tt; links = lines_grow h [] [] ls adds tt (λ at none. (refl, refl)) (λ at link there. absurd (none_some there)); gone = λ conn id is. absurd (none_some (sym (new conn).0 ∙ is)); shown = tt; shut = record { clients = λ id conn is. absurd (none_some (sym (new conn).0 ∙ is)); links = λ at conn is. absurd (none_some (sym (new conn).0 ∙ is)); nobodys = λ conn is. (new conn).1 }; unlinked = λ at none. (refl, refl) }
+new_agrees h core cs ls tells none adds new = record { orderly = tt; calls = tells; clients = λ id. subst (λ o. IfSome o (EndAgrees h (fed_in []) (gave_in []) id)) (sym (nobody id)) tt; told = λ id. subst (λ o. IfSome o (IsTold [] id)) (sym (nobody id)) tt; links = lines_grow h [] [] ls adds tt (λ at none. (refl, refl)) (λ at link there. absurd (none_some there)); gone = λ conn id is. absurd (none_some (sym (new.0 conn).0 ∙ is)); shown = tt; shut = record { clients = λ id conn is. absurd (none_some (sym (new.0 conn).0 ∙ is)); links = λ at conn is. absurd (none_some (sym (new.0 conn).0 ∙ is)); nobodys = λ conn is. (new.0 conn).1 }; unlinked = λ at none. (refl, refl); clock = sym new.1 }
   where
     nobody : (id : ℕ) → client_of cs id ≡ None
     nobody id = ap (λ (xs : List (Option Client)). option_flatten (slice_get xs id)) none

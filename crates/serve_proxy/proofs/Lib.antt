@@ -4,6 +4,7 @@ pub mod Counting
 pub mod LinkTexts
 pub mod Staying
 pub mod Going
+pub mod Ticking
 pub mod Lent
 pub mod Told
 pub mod Growing

@@ -1,6 +1,6 @@
 -- What is done at one link, by what its own functions say, and how that goes on among all.
 use Rattle.mc_types.specs.declared.ask.Ask.{Ask}
-use Rattle.std.proofs.Common.{◌≡◌, ℕ, ◌<◌, zero, suc, false, List, [], ◌∷◌, ◌++◌, length, get_or, Option, Some, None, Result, Ok, ◌⊎◌, inl, inr, refl, sym, ap, ◌∙◌, subst, arith, Bool}
+use Rattle.std.proofs.Common.{◌≡◌, ℕ, ◌<◌, ◌≤◌, zero, suc, false, List, [], ◌∷◌, ◌++◌, length, get_or, Option, Some, None, Result, Ok, ◌⊎◌, inl, inr, refl, sym, ap, ◌∙◌, subst, arith, Bool}
 use Rattle.std.proofs.Math.ListN.{set}
 use Rattle.std.specs.Prelude.{MatchOption, IfOk, IfSome, IsSome, slice_get}
 use Rattle.std.specs.Option.{option_map}
@@ -8,7 +8,7 @@ use Rattle.mc_types.specs.declared.ask.Dialect.{Dialect}
 use Rattle.mc_types.specs.declared.ask.Dialect.TheVariants.{Classic}
 use Rattle.wire_parts.specs.Sending.{bytes_of}
 use Rattle.wire_stream.specs.Spelling.{spelling_of}
-use Rattle.serve_wire.specs.Events.{Event}
+use Rattle.serve_wire.specs.Events.{Event, time}
 use Rattle.serve_wire.specs.Ends.{HoldsAnew}
 use Rattle.serve_wire.specs.declared.conn.conn.Conn.{Conn}
 use Rattle.serve_wire.proofs.Steps.{untouched}
@@ -30,6 +30,7 @@ use Rattle.serve_links.specs.declared.link.Opening.{Opening}
 use Rattle.serve_links.specs.declared.link.Opening.TheVariants as opening
 use Rattle.serve_links.specs.declared.link.Link.{Link}
 use Rattle.serve_links.specs.CoreSteps.{Step, Polled, Does, IsOfTurn}
+use Rattle.serve_links.specs.Called.{given_in}
 use Rattle.serve_links.specs.Dialects.{asked_in, awaits_flush}
 use Rattle.serve_links.specs.Settled.{SettlesSome, SettlesFront}
 use Rattle.serve_links.specs.Lateness.{HasLate, HasLateAt, LetsStoresWait, AllLetStoresWait}
@@ -161,21 +162,23 @@ may_go past x at call there asks was called = record { later = []; earlier = pas
     by None e some = absurd (none_isnt_some Conn some)
     by (Some c) e some = ((was.links at there.0 there.1).conn c e).dialect_is ∙ sym same
 
--- so it goes, where that link stands at the number of its server
+-- so it goes, where that link stands at the number of its server, and its time counts from what the clock shows
 pub called_at :
-    {Q : List Step → AnEnd → Type 0} {Is : Step → Type 0} {a b : AnEnd} (at : ℕ) (call : SentCall) → call.ticket.server ≡ at → IsOpenAt at a.links → AsksIn call.dialect at a.links → AllGoFrom (AgreesSent at call) Q Is a b
+    {Q : List Step → AnEnd → Type 0} {Is : Step → Type 0} {a b : AnEnd} (at : ℕ) (call : SentCall) → call.ticket.server ≡ at → call.since ≡ time a.history → IsOpenAt at a.links → AsksIn call.dialect at a.links → AllGoFrom (AgreesSent at call) Q Is a b
     → AllGoFrom (AgreesCalled call.ticket.number call.ticket.server call.ticket.ask) Q Is a b
-called_at {Q} {Is} {a} {b} at call same stands asks g =
+called_at {Q} {Is} {a} {b} at call same shown stands asks g =
     subst (λ n. AllGoFrom (AgreesCalled call.ticket.number n call.ticket.ask) Q Is a b) (sym same)
     (go_between (λ past was. given past was) (λ past was. was) g)
   where
     given : (past : List Step) → AgreesCalled call.ticket.number at call.ticket.ask past a → AgreesSent at call past a
     given past was =
-        let due = one_due past call.ticket.number at call.ticket.ask was.1 was.0.orderly was.2.orderly in (
+        let due = one_due past call.ticket.number at call.ticket.ask was.1 was.0.orderly was.2.orderly in
+        let since : given_in past call.ticket.number ≡ call.since = was.3 ∙ was.0.clock ∙ sym shown in
+        let given : given_in past call.ticket.number ≤ call.since = omega (arith, since) in (
           was.0,
           may_go past a at call stands asks was.0 was.1,
-          λ link there. (due, one_apart past call.ticket.number at call.ticket.ask was.1 (said_asks link.waiting.items) was.0.orderly was.2.orderly (was.2.links at link there).due, (was.0.links at link there).due),
-          (due, tt, tt),
+          λ link there. (due, one_apart past call.ticket.number at call.ticket.ask was.1 (said_asks link.waiting.items) was.0.orderly was.2.orderly (was.2.links at link there).due, (was.0.links at link there).due, given),
+          (due, tt, tt, given),
         )
 
 -- ---- answers
@@ -220,6 +223,7 @@ but_clients {This} {core = core} {h = h} {ls = ls} at cs cs' g keeps = record { 
       shown = was.shown;
       shut = shut_quiet (λ d. untouched d h) (λ j. numbers_kept (client_of cs j) (client_of cs' j) (keeps j)) (λ at. refl) was.shut;
       unlinked = was.unlinked;
+      clock = was.clock;
     }
 
 -- no link stands there

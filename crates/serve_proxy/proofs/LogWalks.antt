@@ -23,7 +23,7 @@ use Rattle.core_accepted.specs.declared.served.ServedCore.{ServedCore}
 use Rattle.core_accepted.specs.declared.tally.CoreTally.{CoreTally}
 use Rattle.core_accepted.specs.Logs.{MayHaveLed, LogsGoCounting, IsFreshLog, BeginSo, fed}
 use Rattle.core_accepted.specs.Results.{PollStops, TakesResult, SettleStops}
-use Rattle.serve_links.specs.CoreSteps.{Step, Opened, NotOpened, Fed, Polled, Stopped, Settled, Gave, Closed, LeftLine, Broke, Loaded, Linked, Asked, Greeted, Spelled, Late, CameLate, Lost, Does, Walks}
+use Rattle.serve_links.specs.CoreSteps.{Step, Opened, NotOpened, Fed, Polled, Stopped, Settled, Gave, Closed, LeftLine, Broke, Ticked, Loaded, Linked, Asked, Greeted, Spelled, Late, CameLate, Lost, Does, Walks}
 use Rattle.core_accepted.proofs.Keeping.{since_are_fresh}
 use Rattle.core_accepted.proofs.Losses.{servers_may_lose}
 use Rattle.serve_links.proofs.Walked.{walks_keep_since}
@@ -197,12 +197,13 @@ module _ (opening : ℕ → List ℕ → Option Item) (past : List (Entry dialec
   step_goes (Gave client bytes) does = goes_by _ (one_own (Gives client bytes) (λ past l. l)) does.1
   step_goes (Closed client) does = goes_by _ (one_own (Resets client) (λ past l. l)) does.2
   step_goes (LeftLine client) does = goes_by _ none_own does.1
+  step_goes (Ticked now) does = by_none opening past old new led Holds holds does
   step_goes (Broke client) does = by_none opening past old new led Holds holds does
   step_goes (Loaded configuration generation) does = let t = does.goes opening past led in ([], refl, λ past l. l, t.after, holds past t.after)
   step_goes (Linked at _) does = by_none opening past old new led Holds holds does
-  step_goes (Asked at number _ ask) does = by_none opening past old new led Holds holds does
+  step_goes (Asked at number _ ask since) does = by_none opening past old new led Holds holds does
   step_goes (Greeted at _ bytes) does = by_none opening past old new led Holds holds does
-  step_goes (Late at number) does = by_none opening past old new led Holds holds does
+  step_goes (Late at number limit now) does = by_none opening past old new led Holds holds does
   step_goes (CameLate at number ask answer bytes) does = by_none opening past old new led Holds holds does
   step_goes (Spelled at number ask answer bytes) does = by_none opening past old new led Holds holds does.0
   step_goes (Lost at why) does = by_none opening past old new led Holds holds does

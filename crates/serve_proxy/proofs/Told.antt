@@ -5,10 +5,10 @@ use Rattle.std.specs.Prelude.{◌==◌, ◌||◌, nat_eq, IfSome, IfErr, OnOk, s
 use Rattle.std.specs.Option.{option_map, option_flatten}
 use Rattle.fresh_runs.specs.Overlap as log
 use Rattle.wire_parts.specs.Sending.{bytes_of}
-use Rattle.serve_wire.specs.Events.{Event, admits, ticks, looks_up, accepts, role, delivered, taken, is_open, IsNew}
+use Rattle.serve_wire.specs.Events.{Event, admits, looks_up, accepts, role, delivered, taken, is_open, time, IsNew}
 use Rattle.serve_wire.specs.Agreement.{Extends, TouchesOnly, IsUntouched}
 use Rattle.serve_wire.specs.Calls.{Closes}
-use Rattle.serve_wire.proofs.Steps.{equal, unequal, apart, new_apart, untouched, untouched_twice, only_admits, only_accepts, only_after, extends_twice, none_ticks, none_looks_up}
+use Rattle.serve_wire.proofs.Steps.{equal, unequal, apart, new_apart, untouched, untouched_twice, only_admits, only_accepts, only_after, extends_twice, only_time, none_looks_up}
 use Rattle.serve_wire.proofs.Touching.{only_same, only_closed}
 use Rattle.core_proxy.specs.declared.fault.CoreFault.{CoreFault}
 use Rattle.core_proxy.specs.Faults.{OutputFault}
@@ -31,7 +31,7 @@ use Rattle.serve_links.specs.Talks.{Talk}
 use Rattle.serve_links.specs.Called.{TellsCalls, GiveOnce}
 use Rattle.serve_links.proofs.Called.{walks_tell_calls}
 use Rattle.serve_links.proofs.Due.{clients_stay}
-use Rattle.serve_links.proofs.Talking.{IsPlain, plain_talk, clients_orderly}
+use Rattle.serve_links.proofs.Talking.{IsPlain, plain_talk, clients_orderly, clients_clock}
 use Rattle.serve_links.proofs.Story.{at_told, all_told, took_all, TellsSame, same_told, gone_stays, end_gone, had_stays, line_stays, unlinked_stays}
 use Rattle.serve_links.proofs.Walked.{walked, of_both}
 use Rattle.serve_proxy.specs.Ends.{EndsStay, EndsGo, IsAllSent, IsAllSentTo, IsClosing, MayAdmit}
@@ -42,9 +42,6 @@ use Rattle.serve_proxy.proofs.Going.{IsSilent, tells_none, silent_turn, silent_p
 
 pub stay_same : (h h' : List Event) (cs : Clients) (ls : List Link) → h' ≡ h → EndsStay h h' cs cs ls ls
 stay_same h h' cs ls same = record { quiet = λ d. subst (IsUntouched d h) (sym same) (untouched d h); clients = keeps_none cs; links = refl }
-
-pub stay_ticks : (t : ℕ) (h h' : List Event) (cs : Clients) (ls : List Link) → h' ≡ ticks t ∷ h → EndsStay h h' cs cs ls ls
-stay_ticks t h h' cs ls is = record { quiet = λ d. subst (IsUntouched d h) (sym is) (none_ticks t d h); clients = keeps_none cs; links = refl }
 
 pub stay_looks_up : (text : List ℕ) (h h' : List Event) (cs : Clients) (ls : List Link) → h' ≡ looks_up text ∷ h → EndsStay h h' cs cs ls ls
 stay_looks_up text h h' cs ls is = record { quiet = λ d. subst (IsUntouched d h) (sym is) (none_looks_up text d h); clients = keeps_none cs; links = refl }
@@ -93,11 +90,12 @@ new_touched {h} {h'} {cs} {ls} c none none_now shut only = λ core. record {
     orderly = was.orderly;
     calls = was.calls;
     told = was.told;
-    links = lines_apart h h' [] past ls (λ d at of_d. only d (new_apart c d h (1, at) of_d none)) tt (λ at n ask is. (refl, refl)) was.links;
+    links = lines_apart h h' [] past ls (λ d at of_d. only d (new_apart c d h (1, at) of_d none)) tt (λ at n ask is. (refl, refl, refl)) was.links;
     gone = λ conn id is. had_quiet past [] h h' cs cs id conn (only conn (new_apart c conn h' (0, id) is none_now)) refl is was.gone;
     shown = shown_later [] past h h' tt (only_after c h h' only) was.shown;
     shut = shut_turned c shut only was.shut;
     unlinked = was.unlinked;
+    clock = was.clock ∙ sym (only_time c h h' only);
   };
   texts = refl;
 }
@@ -129,6 +127,10 @@ dropped_after : (kept : Option ℕ) (h h' : List Event) → IsDropped kept h h' 
 dropped_after None h h' q = ([], q.none refl)
 dropped_after (Some c) h h' q = only_after c h h' (only_closed c h h' q.some)
 
+dropped_time : (kept : Option ℕ) (h h' : List Event) → IsDropped kept h h' → time h' ≡ time h
+dropped_time None h h' q = ap time (q.none refl)
+dropped_time (Some c) h h' q = only_time c h h' (only_closed c h h' q.some)
+
 -- a connection that is open still is another one
 dropped_opens : (kept : Option ℕ) (d : ℕ) (h h' : List Event) → IsDropped kept h h' → is_open d h' ≡ true → (is_open d h ≡ true) × (kept ≢ Some d)
 dropped_opens None d h h' q on = (sym (ap (is_open d) (q.none refl)) ∙ on, λ e. none_is e)
@@ -159,11 +161,12 @@ opened_go {h} {h1} {h2} {h'} {cs} {cs'} {ls} id c b last new is dropped only unu
     told = all_told (Opened id ∷ past) q.steps cs' (tells_none q.steps q.kinds (Opened id ∷ past)) (told_mid past was.told);
     orderly = clients_orderly q.steps (silent_clients q.steps q.kinds) (Opened id ∷ past) (tells_calls past was).1 (tt, was.orderly);
     calls = (tells_calls past was).0;
-    links = lines_told h' q.steps (Opened id ∷ past) ls (silent_plain q.steps q.kinds) (λ at. clients_stay at q.steps (silent_clients q.steps q.kinds) (Opened id ∷ past) (tells_calls past was).1) (lines_apart h h' (Opened id ∷ []) past ls (λ d at of_d. apart_of past was.clients d (1, at) of_d (λ e. one_zero (ap (λ (p : ℕ × ℕ). p.0) e))) (tt, tt) (λ at n ask is. (refl, refl)) was.links);
+    links = lines_told h' q.steps (Opened id ∷ past) ls (silent_plain q.steps q.kinds) (λ at. clients_stay at q.steps (silent_clients q.steps q.kinds) (Opened id ∷ past) (tells_calls past was).1) (lines_apart h h' (Opened id ∷ []) past ls (λ d at of_d. apart_of past was.clients d (1, at) of_d (λ e. one_zero (ap (λ (p : ℕ × ℕ). p.0) e))) (tt, tt) (λ at n ask is. (refl, refl, refl)) was.links);
     gone = gone past was;
     shown = shown_later q.steps (Opened id ∷ past) h' h' (plain_unlost q.steps (silent_plain q.steps q.kinds)) ([], refl) (shown_later (Opened id ∷ []) past h h' (tt, tt) after was.shown);
     shut = shut_opened id c (λ d e. (tells d e).0) opens own (λ j other. ap (option_map (λ (x : Client). x.conn.number)) (others j other)) (λ j. refl) was.shut;
     unlinked = λ at none. unlinked_stays (plain_talk q.steps (silent_plain q.steps q.kinds) (Opened id ∷ past) at) (was.unlinked at none);
+    clock = clients_clock q.steps (silent_clients q.steps q.kinds) (Opened id ∷ past) ∙ was.clock ∙ sym same_time;
   });
   texts = refl;
 }
@@ -186,6 +189,9 @@ opened_go {h} {h1} {h2} {h'} {cs} {cs'} {ls} id c b last new is dropped only unu
 
     opens : (d : ℕ) → nat_eq c d ≡ false → is_open d h' ≡ true → (is_open d h ≡ true) × (client_conn cs id ≢ Some d)
     opens d e on = let o = dropped_opens (client_conn cs id) d h1 h2 dropped (sym (only d e).same_open ∙ on) in (sym (accepted d e).same_open ∙ o.0, o.1)
+
+    same_time : time h' ≡ time h
+    same_time = only_time c h2 h' only ∙ dropped_time (client_conn cs id) h1 h2 dropped ∙ only_time c h h1 accepted
 
     after : Extends h h'
     after = extends_twice h h1 h' (only_after c h h1 accepted) (extends_twice h1 h2 h' (dropped_after (client_conn cs id) h1 h2 dropped) (only_after c h2 h' only))
@@ -339,11 +345,12 @@ gone_go {h} {h'} {cs} {cs'} {ls} id gone dropped before core does sent = record 
     told = λ j. still_told past was.told j (cases_eq j id);
     orderly = (tt, was.orderly);
     calls = (walks_tell_calls.goes_on (Closed id ∷ []) past before core was.calls (before, refl, does)).0;
-    links = lines_apart h h' (Closed id ∷ []) past ls (λ d at of_d. touched past was.clients d (1, at) of_d (λ e. one_zero (ap (λ (p : ℕ × ℕ). p.0) e))) (tt, tt) (λ at n ask is. (refl, refl)) was.links;
+    links = lines_apart h h' (Closed id ∷ []) past ls (λ d at of_d. touched past was.clients d (1, at) of_d (λ e. one_zero (ap (λ (p : ℕ × ℕ). p.0) e))) (tt, tt) (λ at n ask is. (refl, refl, refl)) was.links;
     gone = gone_of past was given.1;
     shown = shown_later (Closed id ∷ []) past h h' (tt, tt) (dropped_after (client_conn cs id) h h' dropped) was.shown;
     shut = shut_without id (λ d. (told d).0) (λ d on. dropped_opens (client_conn cs id) d h h' dropped on) (λ j other. ap (option_map (λ (x : Client). x.conn.number)) (gone_others cs cs' id gone j other)) (λ j. refl) was.shut;
     unlinked = was.unlinked;
+    clock = was.clock ∙ sym (dropped_time (client_conn cs id) h h' dropped);
   };
   texts = refl;
 }

@@ -3,7 +3,7 @@ use Rattle.std.specs.Prelude.{Bool, ◌≡◌, ◌≢◌, ℕ, List, [], ◌∷�
 use Rattle.wire_parts.specs.Sending.{bytes_of}
 use Rattle.mc_types.specs.declared.ask.Dialect.{Dialect}
 use Rattle.mc_types.specs.declared.ask.Dialect.TheVariants.{Classic}
-use Rattle.serve_wire.specs.Events.{Event, accepts, admits, role, is_open, IsNew}
+use Rattle.serve_wire.specs.Events.{Event, accepts, admits, role, is_open, time, IsNew}
 use Rattle.serve_wire.specs.Agreement.{IsUntouched}
 use Rattle.core_commands.specs.declared.ticket.Ticket.{Ticket}
 use Rattle.route_json.specs.Configuration.{Configuration}
@@ -28,7 +28,7 @@ use Rattle.serve_links.specs.Story.{LineState, line_of, LineAgrees, LineFails, L
 abbrev pub lines_of : List Link → List LineState
 lines_of links = each line_of links
 
--- of no connection anything has changed
+-- of no connection anything has changed, and the clock wasn't looked at
 abbrev pub IsQuiet : List Event → List Event → Type 0
 IsQuiet h h' = (d : ℕ) → IsUntouched d h h'
 
@@ -133,6 +133,10 @@ LineGoesUnless cause core old core' new = (at : ℕ) (h : List Event) → LineGo
 abbrev pub Stay : {W : Type 0} → (W → List Event) → Sockets W → Sockets W → Type 0
 Stay history old new = EndsStay (history old.wire) (history new.wire) old.clients new.clients old.links.all.items new.links.all.items
 
+-- whatever a core is, the ends go on once the clock was looked at, or without that
+abbrev pub AllTick : {W : Type 0} → (W → List Event) → Sockets W → Sockets W → Type 0
+AllTick history old new = (core : ServedCore) → AllGo IsOfTurn (record { core = core; history = history old.wire; clients = old.clients; links = old.links.all.items }) (record { core = core; history = history new.wire; clients = new.clients; links = new.links.all.items })
+
 -- of all but a core the ends go on
 abbrev pub GoAlone : {W : Type 0} → (W → List Event) → Sockets W → Sockets W → Type 0
 GoAlone history old new = EndsGo (history old.wire) (history new.wire) old.clients new.clients old.links.all.items new.links.all.items
@@ -227,9 +231,9 @@ AllGoClosed history id sockets sockets' = (before core : ServedCore) → Does (C
 abbrev pub AllGoBreaking : {W : Type 0} → (W → List Event) → (id : ℕ) → Sockets W → Sockets W → Type 0
 AllGoBreaking history id sockets sockets' = (core : ServedCore) → AllGo (λ step. step ≡ Broke id) (end_of history core sockets) (end_of history core sockets')
 
--- no connection is anybody's, and none is open
+-- no connection is anybody's, none is open, and the clock wasn't looked at
 abbrev pub HasNoConns : List Event → Type 0
-HasNoConns h = (conn : ℕ) → (role conn h ≡ None) × (is_open conn h ≡ false)
+HasNoConns h = ((conn : ℕ) → (role conn h ≡ None) × (is_open conn h ≡ false)) × (time h ≡ 0)
 
 -- the line of a link to the server whose address this text names, without a connection, and without calls
 abbrev pub down_line : List ℕ → LineState

@@ -17,7 +17,7 @@ use Rattle.core_accepted.specs.declared.beginnings.Beginnings.{Beginnings}
 use Rattle.core_accepted.specs.Known.{Known}
 use Rattle.core_accepted.specs.Logs.{MayHaveLed, IsFreshLog, EveryLogFromIsFresh, IsAcceptedSince, BeginSo, fed}
 use Rattle.core_accepted.specs.Losses.{IsLoss}
-use Rattle.serve_links.specs.CoreSteps.{Step, Opened, NotOpened, Fed, Polled, Stopped, Settled, Gave, Closed, LeftLine, Broke, Loaded, Linked, Asked, Greeted, Spelled, Late, CameLate, Lost, Walks}
+use Rattle.serve_links.specs.CoreSteps.{Step, Opened, NotOpened, Fed, Polled, Stopped, Settled, Gave, Closed, LeftLine, Broke, Ticked, Loaded, Linked, Asked, Greeted, Spelled, Late, CameLate, Lost, Walks}
 
 -- by these entries nobody else writes the servers
 abbrev pub AreOwn : List (Entry dialect) → Type 0
@@ -74,12 +74,13 @@ module _ (opening : ℕ → List ℕ → Option Item) where
   StepGoes (Gave client bytes) past old led new Holds = GoesOnSaying (λ entries. entries ≡ log.Gives client bytes ∷ []) past new Holds
   StepGoes (Closed client) past old led new Holds = GoesOnSaying (λ entries. entries ≡ log.Resets client ∷ []) past new Holds
   StepGoes (LeftLine client) past old led new Holds = GoesOnSaying (λ entries. entries ≡ []) past new Holds
+  StepGoes (Ticked now) past old led new Holds = StaysOn past old new Holds
   StepGoes (Broke client) past old led new Holds = StaysOn past old new Holds
   StepGoes (Loaded configuration generation) past old led new Holds = GoesOnSaying (λ entries. entries ≡ []) past new Holds
   StepGoes (Linked at _) past old led new Holds = StaysOn past old new Holds
-  StepGoes (Asked at number _ ask) past old led new Holds = StaysOn past old new Holds
+  StepGoes (Asked at number _ ask since) past old led new Holds = StaysOn past old new Holds
   StepGoes (Greeted at _ bytes) past old led new Holds = StaysOn past old new Holds
-  StepGoes (Late at number) past old led new Holds = StaysOn past old new Holds
+  StepGoes (Late at number limit now) past old led new Holds = StaysOn past old new Holds
   StepGoes (CameLate at number ask answer bytes) past old led new Holds = StaysOn past old new Holds
   StepGoes (Spelled at number ask answer bytes) past old led new Holds = StaysOn past old new Holds
   StepGoes (Lost at why) past old led new Holds = StaysOn past old new Holds

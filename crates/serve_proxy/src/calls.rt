@@ -1,6 +1,6 @@
 //! A call that the core makes goes to its server's link: it is written there, waits there, or has failed.
 
-ghost use Rattle.std.specs.Prelude.{◌≡◌};
+ghost use Rattle.std.specs.Prelude.{◌≡◌, ◌≤◌};
 ghost use Rattle.serve_links.specs.Story.{AgreesSent, AgreesDue};
 ghost use Rattle.serve_proxy.specs.Ends.{AgreesTicket, AllSendFrom, AllFailOn};
 
@@ -60,7 +60,8 @@ fn send_looked<W: Wire, N: Net>(
 
 // However long the call waited, it has half of a call's time for its answer at least, of which so many bytes are expected by now.
 fn renewed(call: SentCall, bulk: usize, time: u64, call_ms: u64) -> SentCall
-    ensures { result ≡ record call { since = result.since; bulk = result.bulk } }
+    ensures rest { result ≡ record call { since = result.since; bulk = result.bulk } }
+    ensures since { call.since ≤ result.since }
 {
     let mut call = call;
     call.bulk = bulk;

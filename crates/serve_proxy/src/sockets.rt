@@ -2,7 +2,7 @@
 
 ghost use Rattle.std.specs.Prelude.{◌≡◌, ◌↔◌, [], false, None, IfSome, IsTrue};
 ghost use Rattle.serve_wire.specs.Calls.{Closes};
-ghost use Rattle.serve_proxy.specs.Ends.{Stay};
+ghost use Rattle.serve_proxy.specs.Ends.{Stay, AllTick};
 ghost use Rattle.serve_proxy.specs.Stillness.{HasNoWork, AreStill};
 
 use crate::accepting::Accepting;
@@ -128,7 +128,7 @@ impl<W: Wire> Sockets<W> {
 
     // The clock is looked at.
     fn look<C: Clock>(&mut self, clock: &C) -> io::Result<()>
-        ensures ends { Stay W.history self.old self.new }
+        ensures ends { AllTick W.history self.old self.new }
     {
         let time = self.wire.millis(clock)?;
         self.time = time;
@@ -137,7 +137,7 @@ impl<W: Wire> Sockets<W> {
 
     /// How long may be waited, by the clock of now.
     pub fn wait_limit<C: Clock>(&mut self, clock: &C) -> io::Result<Option<Duration>>
-        ensures ends { Stay W.history self.old self.new }
+        ensures ends { AllTick W.history self.old self.new }
     {
         self.look(clock)?;
         if self.has_work() {
@@ -151,7 +151,7 @@ impl<W: Wire> Sockets<W> {
 
     /// A wait until something is ready, and no longer than this. What is ready is noted.
     pub fn wait<C: Clock>(&mut self, clock: &C, limit: Option<Duration>) -> io::Result<()>
-        ensures ends { Stay W.history self.old self.new }
+        ensures ends { AllTick W.history self.old self.new }
     {
         let count = self.wire.wait(limit)?;
         for at in 0..count {

@@ -1,6 +1,6 @@
 -- What the ends of connections and the wire have to do with each other. Source: mcgate's own.
 use Rattle.std.specs.Prelude.{◌≡◌, false, ◌==◌, if◌then◌else◌, Some, List, [], ◌++◌, ℕ}
-use Rattle.serve_wire.specs.Events.{Event, role, address_of, delivered, taken, is_over, is_open}
+use Rattle.serve_wire.specs.Events.{Event, role, address_of, delivered, taken, is_over, is_open, time}
 
 -- what came from client i is what is known of it as its input, and then what is held; what was put out for it is what it took, and then
 -- what is unsent
@@ -42,7 +42,7 @@ Empties at old new = (j : ℕ) → new j ≡ (if at == j then [] else old j)
 abbrev pub Extends : List Event → List Event → Type 0
 Extends h h' = (more : List Event) × (h' ≡ more ++ h)
 
--- of this connection all is as it was, whatever else happened
+-- of this connection all is as it was, whatever else happened, but that the clock wasn't looked at
 pub record IsUntouched (d : ℕ) (h h' : List Event) : Type 0 where
   pub same_role : role d h' ≡ role d h
   pub same_address : address_of d h' ≡ address_of d h
@@ -50,8 +50,9 @@ pub record IsUntouched (d : ℕ) (h h' : List Event) : Type 0 where
   pub same_went : taken d h' ≡ taken d h
   pub same_over : is_over d h' ≡ is_over d h
   pub same_open : is_open d h' ≡ is_open d h
+  pub same_time : time h' ≡ time h
   pub after : Extends h h'
 
--- of all connections but this one all is as it was
+-- of all connections but this one all is as it was, and the clock wasn't looked at
 abbrev pub TouchesOnly : ℕ → List Event → List Event → Type 0
 TouchesOnly c h h' = (d : ℕ) → (c == d) ≡ false → IsUntouched d h h'

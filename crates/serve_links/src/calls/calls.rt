@@ -63,6 +63,8 @@ pub struct LateCall {
     pub number: u64,
     /// In which dialect its server was asked.
     pub dialect: Dialect,
+    /// When it began, in milliseconds.
+    pub since: u64,
     pub ask: SharedAsk,
 }
 
@@ -479,6 +481,7 @@ impl LinkCalls {
         Ok(Some(LateCall {
             number: call.ticket.number,
             dialect: call.dialect,
+            since: call.since,
             ask,
         }))
     }

@@ -14,7 +14,7 @@ returns-then-is_full g c =
     let call : SentCall = record { ticket = c.args.ticket; client = c.args.id; since = c.last_millis.result; paced = c.pace.result; bulk = c.bulk_of-bulk.result; dialect = c.dialect_of.result } in
     record {
       ends = and_then (still_called c.args.ticket.number c.args.ticket.server c.args.ticket.ask (c.is_open.ensures.ends c.args.sockets.now.clients c.args.core.now))
-          (called_at c.number-at.result call (sym c.number-at.ensures) (c.is_open.ensures.there c.if-not-is_open.false) c.dialect_of.ensures c.let_wait.ensures.ends);
+          (called_at c.number-at.result call (sym c.number-at.ensures) c.last_millis.ensures (c.is_open.ensures.there c.if-not-is_open.false) c.dialect_of.ensures c.let_wait.ensures.ends);
     }
 
 pub returns : goal.returns
@@ -23,6 +23,6 @@ returns g c =
     record {
       ends = and_then
           (and_then (still_called c.args.ticket.number c.args.ticket.server c.args.ticket.ask (c.is_open.ensures.ends c.args.sockets.now.clients c.args.core.now))
-          (called_at c.number-at.result call (sym c.number-at.ensures) (c.is_open.ensures.there c.if-not-is_open.false) c.dialect_of.ensures c.begin_call.ensures.ends))
+          (called_at c.number-at.result call (sym c.number-at.ensures) c.last_millis.ensures (c.is_open.ensures.there c.if-not-is_open.false) c.dialect_of.ensures c.begin_call.ensures.ends))
           (stays c.begin_call.new.core (stay_links _ _ _ _ c.mark_output.ensures.lines));
     }

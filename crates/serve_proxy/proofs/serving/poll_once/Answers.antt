@@ -5,7 +5,7 @@ use Rattle.serve_proxy.proofs.Linking.{polled_call}
 use Rattle.serve_proxy.proofs.serving.poll_once.Goals as goal
 
 pub returns-in-Ok-Call : goal.returns-in-Ok-Call
-returns-in-Ok-Call g c = record { ends = and_then (and_then (called_go c.args.id c.in-Ok-Call.ticket c.args.core.now c.poll.new.self (polled_call c.args.id c.in-Ok-Call.ticket c.poll.result c.args.core.now c.poll.new.self (c.in-Ok-Call.is ∙ ap (λ p. Ok p) c.in-Ok-Call.field-0-is) c.poll.ensures.ok c.poll.ensures.fresh)) (still_called c.in-Ok-Call.ticket.number c.in-Ok-Call.ticket.server c.in-Ok-Call.ticket.ask (stays c.poll.new.self c.note_called.ensures.ends))) (failing c.send_call.ensures.ends) }
+returns-in-Ok-Call g c = record { ends = and_then (and_then (called_go c.args.id c.in-Ok-Call.ticket c.args.core.now c.poll.new.self (polled_call c.args.id c.in-Ok-Call.ticket c.poll.result c.args.core.now c.poll.new.self (c.in-Ok-Call.is ∙ ap (λ p. Ok p) c.in-Ok-Call.field-0-is) c.poll.ensures.ok c.poll.ensures.fresh)) (failing (still_called c.in-Ok-Call.ticket.number c.in-Ok-Call.ticket.server c.in-Ok-Call.ticket.ask (stays c.poll.new.self c.note_called.ensures.ends)))) (failing c.send_call.ensures.ends) }
 
 pub returns-in-Ok-Did : goal.returns-in-Ok-Did
 returns-in-Ok-Did g c = record { ends = and_then ((quietly_go (by_poll c.args.id c.poll.result c.args.core.now c.poll.new.self c.poll.ensures.ok c.poll.ensures.err c.poll.ensures.fresh c.poll.ensures.stops))) (stays c.poll.new.self c.note_went_on.ensures.ends) }
