@@ -164,8 +164,8 @@ pub fn lines_of_configuration(
     Ok(lines)
 }
 
-/// What is said of the text of a file that names this server, whose epoch is over by servers before: where that stands. The only error is
-/// running out of memory.
+/// What is said of the text of a file that names this server, whose epoch is over since a later server, which the text needn't name, has its
+/// address: where that stands. The only error is running out of memory.
 ///
 /// Source: mcgate's own.
 pub fn lines_of_over(

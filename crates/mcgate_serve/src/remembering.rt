@@ -92,8 +92,8 @@ fn is_of_another<R: Files + AllocGlobal>(rt: &R, path: &str, text: &str) -> io::
     }
 }
 
-/// The file has this text, and the disk too, where it had this one last: whether it did. What another process has written there stays. An
-/// error comes where the system refuses, or the text is too long to be read again; the file has it as it was then.
+/// The file has this text, and the disk too, where it had the old one or is gone: whether that was so. What another process has written there
+/// stays. An error comes where the system refuses, or the text is too long to be read again.
 pub fn put_over<R: Files + AllocGlobal>(
     rt: &R,
     path: &str,
