@@ -729,7 +729,7 @@ impl<W: Listens> Serving<W> {
     fn tell_refused<R: Eprint>(&mut self, rt: &R)
         ensures { self.new.end ≡ self.old.end }
     {
-        let refused = self.end.tally().refused;
+        let refused = self.end.core_tally().refused;
         let now = self.end.wire().last_millis();
         if let Some(count) = self.seen.next_refused(refused, now) {
             let line = format_args!("mcgate: clients refused as too many: {count}");
