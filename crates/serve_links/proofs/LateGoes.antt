@@ -111,11 +111,11 @@ waited_last limit now (said ∷ first) later has = inr (waited_last limit now fi
 
 waited_of : (limit now : ℕ) (calls : List SentCall) → Any (IsLate limit now) calls → HasWaited limit now (said_asks calls)
 waited_of limit now [] any = absurd (omega (arith, any.2))
-waited_of limit now (call ∷ calls) any = by any.0 any.2 any.3
+waited_of limit now (call ∷ calls) any = by (λ rest. waited_of limit now calls rest) any.0 any.2 any.3
   where
-    by : (i : ℕ) → i < length (call ∷ calls) → get_or (call ∷ calls) i any.1 ≡ any.1 → HasWaited limit now (said_asks (call ∷ calls))
-    by zero within is = inl (subst (IsLate limit now) (sym is) any.4)
-    by (suc i) within is = inr (waited_of limit now calls (i, any.1, omega (arith, within), is, any.4))
+    by : (Any (IsLate limit now) calls → HasWaited limit now (said_asks calls)) → (i : ℕ) → i < length (call ∷ calls) → get_or (call ∷ calls) i any.1 ≡ any.1 → HasWaited limit now (said_asks (call ∷ calls))
+    by others zero within is = inl (subst (IsLate limit now) (sym is) any.4)
+    by others (suc i) within is = inr (others (i, any.1, omega (arith, within), is, any.4))
 
 -- one of those that are out has
 pub one_late : (now : ℕ) (x : Link) → HasLate now x → HasOneLate now x
