@@ -301,14 +301,19 @@ impl<'a> Walk<'a> {
         Ok(())
     }
 
+    fn is_over(&self, name: &str) -> bool {
+        match self.over {
+            Some(over) => over == name,
+            None => false,
+        }
+    }
+
     fn server(&mut self, value: &'a Value) -> Result<(), Stop<'a>> {
         let Value::String(text) = value else {
             return fail(Trouble::Wanted("the text of an address, HOST:PORT"));
         };
         match read_server(text.as_str()) {
-            Some((name, _)) if self.over.is_some_and(|over| over == name) => {
-                fail(Trouble::Over(name))
-            }
+            Some((name, _)) if self.is_over(name) => fail(Trouble::Over(name)),
             Some(_) => Ok(()),
             None => fail(Trouble::NoServer(text.as_str())),
         }

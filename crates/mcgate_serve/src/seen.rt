@@ -17,6 +17,14 @@ pub struct LastFailure {
     pub at: u64,
 }
 
+// The name of a server.
+#[derive(Drop)]
+struct Name {
+    server: String,
+    // Whether it has led to no machine so far.
+    is_unknown: bool,
+}
+
 /// What is counted and kept of a proxy that runs, besides what its end counts.
 #[derive(Drop)]
 pub struct Seen {
@@ -25,8 +33,8 @@ pub struct Seen {
     pub closed_slow: u64,
     /// Whether its file couldn't be read when that was tried last.
     pub is_unread: bool,
-    // The servers whose names have led to no machine so far.
-    unknown: Vec<String>,
+    // Servers whose names led to no machine once.
+    names: Vec<Name>,
     // What went wrong last at each server, by its number.
     failures: Vec<Option<LastFailure>>,
     // How many clients that were turned away were told, and from when on more may be.
@@ -46,7 +54,7 @@ impl Seen {
             },
             closed_slow: 0,
             is_unread: false,
-            unknown: Vec::new(alloc),
+            names: Vec::new(alloc),
             failures: Vec::new(alloc),
             refused_told: 0,
             refused_from: 0,
@@ -70,18 +78,35 @@ impl Seen {
     /// The name of this server was looked up, by which no machine was known: whether it leads to one. Where memory is refused nothing is
     /// noted.
     pub fn note_found(&mut self, alloc: Global, server: &str, is_found: bool) {
-        self.unknown.retain(|name| name.as_str() != server);
-        if is_found {
-            return;
+        for at in 0..self.names.len() {
+            match self.names.get_mut(at) {
+                Some(name) if name.server.as_str() == server => {
+                    name.is_unknown = !is_found;
+                    return;
+                }
+                _ => {}
+            }
         }
-        if let Ok(name) = String::from_str(alloc, server) {
-            let _ = self.unknown.push(name);
+        if !is_found {
+            self.add_unknown(alloc, server);
+        }
+    }
+
+    fn add_unknown(&mut self, alloc: Global, server: &str) {
+        if let Ok(server) = String::from_str(alloc, server) {
+            let is_unknown = true;
+            let _ = self.names.push(Name { server, is_unknown });
         }
     }
 
     /// Whether the name of this server has led to no machine so far.
     pub fn is_unknown(&self, server: &str) -> bool {
-        self.unknown.iter().any(|name| name.as_str() == server)
+        for name in &self.names {
+            if name.server.as_str() == server {
+                return name.is_unknown;
+            }
+        }
+        false
     }
 
     /// This happened at the server of this number at this time. Where memory is refused nothing is noted.

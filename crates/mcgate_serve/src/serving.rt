@@ -776,13 +776,21 @@ impl<W: Listens> Serving<W> {
         if let Some(text) = self.servers.get(ServerId::new(number)) {
             let told = ServerNews {
                 news,
-                flushes: self.end.link(at).is_some_and(|link| link.flushes),
+                flushes: self.flushes(at),
             };
             let line = format_args!("mcgate: server {text}: {told}");
             match news {
                 LinkNews::Opened | LinkNews::Back => self.lines.tell(rt, line),
                 LinkNews::Failed(_, _) | LinkNews::Late => self.lines.warn(rt, line),
             }
+        }
+    }
+
+    // Whether the server of this number is still to be emptied before its first call.
+    fn flushes(&self, at: usize) -> bool {
+        match self.end.link(at) {
+            Some(link) => link.flushes,
+            None => false,
         }
     }
 
