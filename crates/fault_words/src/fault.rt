@@ -82,7 +82,7 @@ fn wanted(flag: &str) -> &'static str {
         Takes::Pool => "the name of a pool",
         Takes::Count => "a number in 1..=4294967295",
         Takes::Word => wanted_word(flag),
-        Takes::Version => "1 to 64 printed bytes of ASCII, no space at an end",
+        Takes::Version => "a text of 1 to 64 printed ASCII bytes (spaces inside alone)",
     }
 }
 

@@ -18,7 +18,7 @@ use Rattle.route_job.specs.Jobs.{server_in}
 use Rattle.core_commands.specs.declared.command.Command.{Command}
 use Rattle.core_commands.specs.Begun.{owner_by}
 use Rattle.core_commands.specs.Out.{is_call, has_call_out}
-use Rattle.core_proxy.specs.CoreState.{dialect, command_at, bars_of}
+use Rattle.core_proxy.specs.CoreState.{dialect, command_at, bars_of, version_by}
 use Rattle.core_proxy.specs.CallsStay.{called_by, called}
 use Rattle.core_proxy.proofs.Commands.{call_key}
 use Rattle.core_accepted.specs.declared.served.ServedCore.{ServedCore}
@@ -304,7 +304,7 @@ call_way served believes past led n at ask is = by (command_at served.core n) re
     by (Some a) e =
         let c = pair_is (has_call_out a) (server_in a.job.pending, ask_under a.job.frames.items a.job.ask) (at, ask) (sym (ap called_by e) ∙ is) in (
           a.ask,
-          owner_way (tree_words led.beside.at) (bars_of served.core led.beside) believes past led.leads.follows n (owner_by a) (sym (led.leads.owner n) ∙ ap (option_map owner_by) e),
+          owner_way (tree_words led.beside.at) (bars_of served.core led.beside) believes (version_by served.core.limits) past led.leads.follows n (owner_by a) (sym (led.leads.owner n) ∙ ap (option_map owner_by) e),
           ap (λ (p : ℕ × Ask). p.1.key) (sym c.1)
               ∙ call_key served.core.limits.sharing (led.beside.at n a.ask.key) a (led.fits.to_come n a e) (is_calling a.is_out a.job.pending c.0),
         )

@@ -109,7 +109,7 @@ module _ (served : ServedCore) (believes : ℕ → List ℕ → Option Item) (pa
           (subst (λ (o : Option Command). MayComeOf o (call ∷ next.0) next.1.reply next.1.from) (sym e) (subst (λ (c : Call). MayComeOf (Some a) (c ∷ next.0) next.1.reply next.1.from) same next.2)) in
           let plain =
           subst (λ (at : ℕ → List ℕ → Plan). tree_words at n a.ask (calls_so_far (run_of past) n ++ call ∷ next.0) next.1.reply next.1.from) led.plain word in
-          let begins = way_begun (run_of past) n a.ask (owner_way (tree_words led.beside.at) (bars_of served.core led.beside) believes past led.leads.follows n (owner_by a) (sym (led.leads.owner n) ∙ ap (option_map owner_by) e)) in
+          let begins = way_begun (run_of past) n a.ask (owner_way (tree_words led.beside.at) (bars_of served.core led.beside) believes (version_by served.core.limits) past led.leads.follows n (owner_by a) (sym (led.leads.owner n) ∙ ap (option_map owner_by) e)) in
           let client_is : a.ask ≡ client = some_ask a.ask client (sym begins ∙ is) in
           subst (λ (x : Ask). IsFront (words_by led.tree) n x (calls_so_far (run_of past) n ++ call ∷ [])) client_is
           (next.0, next.1.reply, next.1.from, subst (λ (l : List Call). words_by led.tree n a.ask l next.1.reply next.1.from) (sym (append_assoc (calls_so_far (run_of past) n) (call ∷ []) next.0)) plain)

@@ -47,9 +47,9 @@ words: mcgate cache --listen a:1 => mcgate cache: --capacity N is missing
 words: mcgate cache --listen a:1 --capacity 4294967296 => mcgate cache: --capacity 4294967296: expected a number in 1..=4294967295
 words: mcgate serve --config c --listen a:1 --log-level all => mcgate serve: --log-level all: expected error, warn, info or debug
 words: mcgate serve --config c --listen a:1 --unix-mode 777 => mcgate serve: --unix-mode 777: expected 600, 660 or 666
-words: mcgate serve --config c --listen a:1 --version-text  => mcgate serve: --version-text : expected 1 to 64 printed bytes of ASCII, no space at an end
-words: mcgate serve --config c --listen a:1 --version-text a\tb => mcgate serve: --version-text a\\x09b: expected 1 to 64 printed bytes of ASCII, no space at an end
-words: mcgate serve --config c --listen a:1 --version-text => mcgate serve: --version-text wants 1 to 64 printed bytes of ASCII, no space at an end after it
+words: mcgate serve --config c --listen a:1 --version-text  => mcgate serve: --version-text : expected a text of 1 to 64 printed ASCII bytes (spaces inside alone)
+words: mcgate serve --config c --listen a:1 --version-text a\tb => mcgate serve: --version-text a\\x09b: expected a text of 1 to 64 printed ASCII bytes (spaces inside alone)
+words: mcgate serve --config c --listen a:1 --version-text => mcgate serve: --version-text wants a text of 1 to 64 printed ASCII bytes (spaces inside alone) after it
 words: mcgate serve --config c --listen a:1 --drain-on-eof=1 => mcgate serve: --drain-on-eof takes no value
 words: mcgate tell p => mcgate tell: a PATH, WORD is missing
 words: mcgate tell p drain => 
