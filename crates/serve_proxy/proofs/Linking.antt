@@ -174,11 +174,11 @@ called_at {Q} {Is} {a} {b} at call same shown stands asks g =
     given past was =
         let due = one_due past call.ticket.number at call.ticket.ask was.1 was.0.orderly was.2.orderly in
         let since : given_in past call.ticket.number ≡ call.since = was.3 ∙ was.0.clock ∙ sym shown in
-        let given : given_in past call.ticket.number ≤ call.since = omega (arith, since) in (
+        let counts : given_in past call.ticket.number ≤ call.since = omega (arith, since) in (
           was.0,
           may_go past a at call stands asks was.0 was.1,
-          λ link there. (due, one_apart past call.ticket.number at call.ticket.ask was.1 (said_asks link.waiting.items) was.0.orderly was.2.orderly (was.2.links at link there).due, (was.0.links at link there).due, given),
-          (due, tt, tt, given),
+          λ link there. (due, one_apart past call.ticket.number at call.ticket.ask was.1 (said_asks link.waiting.items) was.0.orderly was.2.orderly (was.2.links at link there).due, (was.0.links at link there).due, counts),
+          (due, tt, tt, counts),
         )
 
 -- ---- answers
