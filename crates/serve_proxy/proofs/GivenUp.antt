@@ -35,7 +35,7 @@ use Rattle.serve_proxy.proofs.Linking.{but_clients}
 
 said_none : (calls : List SentCall) → said_asks calls ≡ [] → calls ≡ []
 said_none [] e = refl
-said_none (call ∷ calls) e = absurd (some_said (call.ticket.number, call.dialect, call.ticket.ask) (said_asks calls) e)
+said_none (call ∷ calls) e = absurd (some_said (call.ticket.number, call.dialect, call.ticket.ask, call.since) (said_asks calls) e)
   where
     some_said : (said : SaidAsk) (others : List SaidAsk) → said ∷ others ≡ [] → ⊥
     some_said said others none = cc
@@ -148,7 +148,7 @@ late_some at past h y conn a there some none = some (none_said y.late.items (sym
   where
     none_said : (calls : List LateCall) → said_late calls ≡ [] → calls ≡ []
     none_said [] e = refl
-    none_said (call ∷ calls) e = absurd (some_said (call.number, call.dialect, call.ask) (said_late calls) e)
+    none_said (call ∷ calls) e = absurd (some_said (call.number, call.dialect, call.ask, call.since) (said_late calls) e)
       where
         some_said : (said : SaidAsk) (others : List SaidAsk) → said ∷ others ≡ [] → ⊥
         some_said said others none = cc
