@@ -773,11 +773,11 @@ impl<W: Listens> Serving<W> {
         if !self.may_tell(at, news) {
             return;
         }
+        let told = ServerNews {
+            news,
+            flushes: self.flushes(at),
+        };
         if let Some(text) = self.servers.get(ServerId::new(number)) {
-            let told = ServerNews {
-                news,
-                flushes: self.flushes(at),
-            };
             let line = format_args!("mcgate: server {text}: {told}");
             match news {
                 LinkNews::Opened | LinkNews::Back => self.lines.tell(rt, line),
