@@ -1,8 +1,11 @@
--- What a core counts: clients, and commands that ended. Source: mcgate's own.
-use Rattle.std.specs.Prelude.{ℕ, ◌+◌, ◌-◌, ◌^◌, Option, Some, None, Result, Ok, Err, Bool, true, false, List, replicate, min, slice_index, slice_set}
+-- What a core counts: clients, commands that ended, and calls. Source: mcgate's own.
+use Rattle.std.specs.Prelude.{ℕ, Unit, ◌+◌, ◌-◌, ◌^◌, Option, Some, None, Result, Ok, Err, Bool, true, false, List, replicate, min, slice_index, slice_set}
 use Rattle.mc_types.specs.declared.ask.Op.{Op}
+use Rattle.mc_types.specs.declared.call.Outcome.{Outcome}
+use Rattle.mc_types.specs.declared.call.Outcome.TheVariants.{Answered, Failed}
 use Rattle.route_tree.specs.Operation.{op_number}
 use Rattle.core_proxy.specs.declared.fault.CoreFault.{CoreFault}
+use Rattle.core_proxy.specs.declared.fault.CoreFault.TheVariants as faults
 use Rattle.core_proxy.specs.declared.note.Note.{Note}
 use Rattle.core_proxy.specs.declared.note.Poll.{Poll}
 use Rattle.core_proxy.specs.declared.note.Poll.TheVariants as polls
@@ -42,16 +45,45 @@ with_reply TellsOther op tally = record tally { ended = one_more tally.ended; ot
 abbrev pub with_note : Note → CoreTally → CoreTally
 with_note note tally = with_reply (kind_of note) note.ask.op tally
 
--- the command that a poll tells to have ended is counted
+-- one more call was given out
+abbrev pub with_call : CoreTally → CoreTally
+with_call tally = record tally { calls = one_more tally.calls }
+
+-- the command that a poll tells to have ended is counted, and the call that it gives out
 abbrev pub with_poll : Poll → CoreTally → CoreTally
 with_poll (polls.Did note) tally = with_note note tally
 with_poll polls.Idle tally = tally
 with_poll polls.Own tally = tally
 with_poll polls.Refused tally = tally
-with_poll (polls.Call ticket) tally = tally
+with_poll (polls.Call ticket) tally = with_call tally
 with_poll polls.Waiting tally = tally
 with_poll polls.Queued tally = tally
 with_poll polls.Busy tally = tally
+
+-- whether a call was answered
+abbrev pub is_answer : Outcome → Bool
+is_answer (Answered answer) = true
+is_answer Failed = false
+
+-- one more call was answered, or has failed
+abbrev pub with_end : (answered : Bool) → CoreTally → CoreTally
+with_end true tally = record tally { answered = one_more tally.answered }
+with_end false tally = record tally { failed = one_more tally.failed }
+
+-- one more call had this outcome
+abbrev pub with_outcome : Outcome → CoreTally → CoreTally
+with_outcome outcome tally = with_end (is_answer outcome) tally
+
+-- the call that was settled is counted, also where memory was refused for what comes of it. Where none was out nothing is
+abbrev pub with_settling : (answered : Bool) → Result (Unit {0}) CoreFault → CoreTally → CoreTally
+with_settling answered (Ok done) tally = with_end answered tally
+with_settling answered (Err faults.NoMemory) tally = with_end answered tally
+with_settling answered (Err faults.NoTicket) tally = tally
+with_settling answered (Err faults.TooManyClients) tally = tally
+with_settling answered (Err faults.NoClient) tally = tally
+with_settling answered (Err faults.InputFull) tally = tally
+with_settling answered (Err faults.UnderWay) tally = tally
+with_settling answered (Err faults.Spent) tally = tally
 
 -- one more client was opened
 abbrev pub with_client : CoreTally → CoreTally
@@ -67,7 +99,7 @@ with_opening (Err fault) tally = with_refusal tally
 
 -- nothing was done yet
 abbrev pub nothing_done : CoreTally
-nothing_done = record { opened = 0; refused = 0; ended = 0; items = replicate 12 0; acknowledged = replicate 12 0; others = replicate 12 0 }
+nothing_done = record { opened = 0; refused = 0; ended = 0; calls = 0; answered = 0; failed = 0; items = replicate 12 0; acknowledged = replicate 12 0; others = replicate 12 0 }
 
 -- of one operation
 abbrev pub of_op : CoreTally → Op → OpTally
