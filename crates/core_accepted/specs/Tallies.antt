@@ -12,21 +12,23 @@ use Rattle.core_proxy.specs.declared.note.Poll.TheVariants as polls
 use Rattle.core_accepted.specs.declared.tally.CoreTally.{CoreTally}
 use Rattle.core_accepted.specs.declared.tally.OpTally.{OpTally}
 
--- the replies that are told apart: one that shows an item, that to a delete that was acknowledged, and any other
+-- the replies that are told apart: an error, one that shows an item, that to a delete that was acknowledged, and any other
 pub data ReplyKind : Type 0 where
+  TellsError : ReplyKind
   ShowsItem : ReplyKind
   Acknowledges : ReplyKind
   TellsOther : ReplyKind
 
--- by whether it acknowledges a delete, and the call whose item it shows, if it shows one
-abbrev pub kind_by : Bool → Option ℕ → ReplyKind
-kind_by true from = Acknowledges
-kind_by false (Some call) = ShowsItem
-kind_by false None = TellsOther
+-- by whether it is an error, or acknowledges a delete, and the call whose item it shows, if it shows one
+abbrev pub kind_by : (is_error acknowledged : Bool) → Option ℕ → ReplyKind
+kind_by true acknowledged from = TellsError
+kind_by false true from = Acknowledges
+kind_by false false (Some call) = ShowsItem
+kind_by false false None = TellsOther
 
 -- the reply of a command that ended so
 abbrev pub kind_of : Note → ReplyKind
-kind_of note = kind_by note.acknowledged note.from
+kind_of note = kind_by note.is_error note.acknowledged note.from
 
 -- one more, as far as it is counted
 abbrev pub one_more : ℕ → ℕ
@@ -38,6 +40,7 @@ more_at place counts = slice_set counts place (one_more (slice_index counts plac
 
 -- one more command of this operation has ended, with such a reply
 abbrev pub with_reply : ReplyKind → Op → CoreTally → CoreTally
+with_reply TellsError op tally = record tally { ended = one_more tally.ended; errors = more_at (op_number op) tally.errors }
 with_reply ShowsItem op tally = record tally { ended = one_more tally.ended; items = more_at (op_number op) tally.items }
 with_reply Acknowledges op tally = record tally { ended = one_more tally.ended; acknowledged = more_at (op_number op) tally.acknowledged }
 with_reply TellsOther op tally = record tally { ended = one_more tally.ended; others = more_at (op_number op) tally.others }
@@ -99,8 +102,13 @@ with_opening (Err fault) tally = with_refusal tally
 
 -- nothing was done yet
 abbrev pub nothing_done : CoreTally
-nothing_done = record { opened = 0; refused = 0; ended = 0; calls = 0; answered = 0; failed = 0; items = replicate 12 0; acknowledged = replicate 12 0; others = replicate 12 0 }
+nothing_done = record { opened = 0; refused = 0; ended = 0; calls = 0; answered = 0; failed = 0; errors = replicate 12 0; items = replicate 12 0; acknowledged = replicate 12 0; others = replicate 12 0 }
 
 -- of one operation
 abbrev pub of_op : CoreTally → Op → OpTally
-of_op tally op = record { items = slice_index tally.items (op_number op); acknowledged = slice_index tally.acknowledged (op_number op); others = slice_index tally.others (op_number op) }
+of_op tally op = record {
+  errors = slice_index tally.errors (op_number op);
+  items = slice_index tally.items (op_number op);
+  acknowledged = slice_index tally.acknowledged (op_number op);
+  others = slice_index tally.others (op_number op);
+}

@@ -22,7 +22,9 @@ pub struct CoreTally {
     pub answered: u64,
     /// How many have failed.
     pub failed: u64,
-    // Of each operation, those whose reply shows an item.
+    // Of each operation, those whose reply is an error.
+    errors: [u64; 12],
+    // Those whose reply shows an item.
     items: [u64; 12],
     // Deletes that were acknowledged.
     acknowledged: [u64; 12],
@@ -33,6 +35,8 @@ pub struct CoreTally {
 /// How many commands of an operation have ended.
 #[derive(Clone, Copy)]
 pub struct OpTally {
+    /// Those whose reply is an error.
+    pub errors: u64,
     /// Those whose reply shows an item.
     pub items: u64,
     /// Deletes that were acknowledged.
@@ -92,6 +96,7 @@ impl CoreTally {
             calls: 0,
             answered: 0,
             failed: 0,
+            errors: [0; 12],
             items: [0; 12],
             acknowledged: [0; 12],
             others: [0; 12],
@@ -114,7 +119,9 @@ impl CoreTally {
     {
         self.ended = self.ended.saturating_add(1);
         let place = place_of(note.ask.get().op);
-        if note.acknowledged {
+        if note.is_error {
+            add_at(&mut self.errors, place)
+        } else if note.acknowledged {
             add_at(&mut self.acknowledged, place)
         } else if note.from.is_some() {
             add_at(&mut self.items, place)
@@ -163,6 +170,7 @@ impl CoreTally {
     {
         let place = place_of(op);
         OpTally {
+            errors: self.errors[place],
             items: self.items[place],
             acknowledged: self.acknowledged[place],
             others: self.others[place],

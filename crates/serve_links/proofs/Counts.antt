@@ -20,7 +20,7 @@ use Rattle.core_commands.specs.declared.ticket.Ticket.{Ticket}
 use Rattle.core_accepted.specs.declared.served.ServedCore.{ServedCore}
 use Rattle.core_accepted.specs.declared.tally.CoreTally.{CoreTally}
 use Rattle.core_accepted.specs.Results.{PollStops, SettleStops, IsSettled}
-use Rattle.core_accepted.specs.Tallies.{ReplyKind, ShowsItem, Acknowledges, TellsOther, kind_of, one_more, more_at, with_reply, with_note, with_poll, with_call, with_outcome, with_client, with_refusal, nothing_done, of_op}
+use Rattle.core_accepted.specs.Tallies.{ReplyKind, TellsError, ShowsItem, Acknowledges, TellsOther, kind_of, one_more, more_at, with_reply, with_note, with_poll, with_call, with_outcome, with_client, with_refusal, nothing_done, of_op}
 use Rattle.serve_links.specs.CoreSteps.{Step, Opened, NotOpened, Fed, Polled, Stopped, Settled, Gave, Closed, LeftLine, Loaded, Spelled, Does, Walks}
 use Rattle.serve_links.specs.Called.{call_in, TellsCalls}
 use Rattle.serve_links.specs.Talks.{MayFollow, IsOrderly}
@@ -56,26 +56,35 @@ at_place counts i j n false other within was = get_or-set_other counts i j (one_
 
 -- one more reply
 reply_counted :
-    (said kind : ReplyKind) (done op : Op) (n : ℕ) (tally : CoreTally) → (length tally.items ≡ 12) × (length tally.acknowledged ≡ 12) × (length tally.others ≡ 12)
+    (said kind : ReplyKind) (done op : Op) (n : ℕ) (tally : CoreTally) → (length tally.items ≡ 12) × (length tally.acknowledged ≡ 12) × (length tally.others ≡ 12) × (length tally.errors ≡ 12)
     → count_of kind (of_op tally op) ≡ counted n → count_of kind (of_op (with_reply said done tally) op) ≡ counted (if same_kind said kind && same_op done op then n + 1 else n)
+reply_counted TellsError TellsError done op n tally places was = at_place tally.errors (op_number done) (op_number op) n (same_op done op) refl (let within = place_within done in let len = places.3 in omega (arith, within, len)) was
 reply_counted ShowsItem ShowsItem done op n tally places was = at_place tally.items (op_number done) (op_number op) n (same_op done op) refl (let within = place_within done in let len = places.0 in omega (arith, within, len)) was
 reply_counted Acknowledges Acknowledges done op n tally places was = at_place tally.acknowledged (op_number done) (op_number op) n (same_op done op) refl (let within = place_within done in let len = places.1 in omega (arith, within, len)) was
 reply_counted TellsOther TellsOther done op n tally places was = at_place tally.others (op_number done) (op_number op) n (same_op done op) refl (let within = place_within done in let len = places.2 in omega (arith, within, len)) was
+reply_counted TellsError ShowsItem done op n tally places was = was
+reply_counted TellsError Acknowledges done op n tally places was = was
+reply_counted TellsError TellsOther done op n tally places was = was
+reply_counted ShowsItem TellsError done op n tally places was = was
 reply_counted ShowsItem Acknowledges done op n tally places was = was
 reply_counted ShowsItem TellsOther done op n tally places was = was
+reply_counted Acknowledges TellsError done op n tally places was = was
 reply_counted Acknowledges ShowsItem done op n tally places was = was
 reply_counted Acknowledges TellsOther done op n tally places was = was
+reply_counted TellsOther TellsError done op n tally places was = was
 reply_counted TellsOther ShowsItem done op n tally places was = was
 reply_counted TellsOther Acknowledges done op n tally places was = was
 
 places_kept :
-    (said : ReplyKind) (done : Op) (tally : CoreTally) → (length tally.items ≡ 12) × (length tally.acknowledged ≡ 12) × (length tally.others ≡ 12)
-    → (length (with_reply said done tally).items ≡ 12) × (length (with_reply said done tally).acknowledged ≡ 12) × (length (with_reply said done tally).others ≡ 12)
-places_kept ShowsItem done tally places = (length-set tally.items (op_number done) (one_more (slice_index tally.items (op_number done))) ∙ places.0, places.1, places.2)
-places_kept Acknowledges done tally places = (places.0, length-set tally.acknowledged (op_number done) (one_more (slice_index tally.acknowledged (op_number done))) ∙ places.1, places.2)
-places_kept TellsOther done tally places = (places.0, places.1, length-set tally.others (op_number done) (one_more (slice_index tally.others (op_number done))) ∙ places.2)
+    (said : ReplyKind) (done : Op) (tally : CoreTally) → (length tally.items ≡ 12) × (length tally.acknowledged ≡ 12) × (length tally.others ≡ 12) × (length tally.errors ≡ 12)
+    → (length (with_reply said done tally).items ≡ 12) × (length (with_reply said done tally).acknowledged ≡ 12) × (length (with_reply said done tally).others ≡ 12) × (length (with_reply said done tally).errors ≡ 12)
+places_kept TellsError done tally places = (places.0, places.1, places.2, length-set tally.errors (op_number done) (one_more (slice_index tally.errors (op_number done))) ∙ places.3)
+places_kept ShowsItem done tally places = (length-set tally.items (op_number done) (one_more (slice_index tally.items (op_number done))) ∙ places.0, places.1, places.2, places.3)
+places_kept Acknowledges done tally places = (places.0, length-set tally.acknowledged (op_number done) (one_more (slice_index tally.acknowledged (op_number done))) ∙ places.1, places.2, places.3)
+places_kept TellsOther done tally places = (places.0, places.1, length-set tally.others (op_number done) (one_more (slice_index tally.others (op_number done))) ∙ places.2, places.3)
 
 ended_counted : (said : ReplyKind) (done : Op) (n : ℕ) (tally : CoreTally) → tally.ended ≡ counted n → (with_reply said done tally).ended ≡ counted (n + 1)
+ended_counted TellsError done n tally was = one_more_counted n tally.ended was
 ended_counted ShowsItem done n tally was = one_more_counted n tally.ended was
 ended_counted Acknowledges done n tally was = one_more_counted n tally.ended was
 ended_counted TellsOther done n tally was = one_more_counted n tally.ended was
@@ -85,6 +94,7 @@ others_kept :
     (said : ReplyKind) (done : Op) (tally : CoreTally)
     → ((with_reply said done tally).opened ≡ tally.opened) × ((with_reply said done tally).refused ≡ tally.refused) × ((with_reply said done tally).calls ≡ tally.calls)
     × ((with_reply said done tally).answered ≡ tally.answered) × ((with_reply said done tally).failed ≡ tally.failed)
+others_kept TellsError done tally = (refl, refl, refl, refl, refl)
 others_kept ShowsItem done tally = (refl, refl, refl, refl, refl)
 others_kept Acknowledges done tally = (refl, refl, refl, refl, refl)
 others_kept TellsOther done tally = (refl, refl, refl, refl, refl)
@@ -304,13 +314,14 @@ none_at ops.Decr = refl
 none_at ops.Touch = refl
 
 none_counted : (op : Op) (kind : ReplyKind) → count_of kind (of_op nothing_done op) ≡ counted 0
+none_counted op TellsError = none_at op
 none_counted op ShowsItem = none_at op
 none_counted op Acknowledges = none_at op
 none_counted op TellsOther = none_at op
 
 pub steps_are_counted : StepsAreCounted
 steps_are_counted = record {
-  begins = record { opened = refl; refused = refl; ended = refl; calls = refl; replies = none_counted; places = (refl, refl, refl) };
+  begins = record { opened = refl; refused = refl; ended = refl; calls = refl; replies = none_counted; places = (refl, refl, refl, refl) };
   goes_on = walk_counted;
   results_begin = record { answered = refl; failed = refl };
   results_go_on = walk_results;

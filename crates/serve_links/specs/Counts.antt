@@ -7,7 +7,7 @@ use Rattle.core_proxy.specs.declared.note.Poll.TheVariants as polls
 use Rattle.core_accepted.specs.declared.served.ServedCore.{ServedCore}
 use Rattle.core_accepted.specs.declared.tally.CoreTally.{CoreTally}
 use Rattle.core_accepted.specs.declared.tally.OpTally.{OpTally}
-use Rattle.core_accepted.specs.Tallies.{ReplyKind, ShowsItem, Acknowledges, TellsOther, kind_of, nothing_done, of_op}
+use Rattle.core_accepted.specs.Tallies.{ReplyKind, TellsError, ShowsItem, Acknowledges, TellsOther, kind_of, nothing_done, of_op}
 use Rattle.serve_links.specs.CoreSteps.{Step, Opened, NotOpened, Polled, Settled, Walks}
 use Rattle.serve_links.specs.Called.{TellsCalls}
 use Rattle.serve_links.specs.Talks.{IsOrderly}
@@ -23,6 +23,7 @@ counted n = min n (2 ^ 64 - 1)
 
 -- whether two replies are of one kind
 abbrev pub same_kind : ReplyKind → ReplyKind → Bool
+same_kind TellsError TellsError = true
 same_kind ShowsItem ShowsItem = true
 same_kind Acknowledges Acknowledges = true
 same_kind TellsOther TellsOther = true
@@ -65,6 +66,7 @@ fails_one step = false
 
 -- how many replies of this kind were counted
 abbrev pub count_of : ReplyKind → OpTally → ℕ
+count_of TellsError tally = tally.errors
 count_of ShowsItem tally = tally.items
 count_of Acknowledges tally = tally.acknowledged
 count_of TellsOther tally = tally.others
@@ -76,7 +78,7 @@ pub record AreCounted (steps : List Step) (tally : CoreTally) : Type 0 where
   pub ended : tally.ended ≡ counted (number_of ends_one steps)
   pub calls : tally.calls ≡ counted (number_of calls_one steps)
   pub replies : (op : Op) (kind : ReplyKind) → count_of kind (of_op tally op) ≡ counted (number_of (ends_so op kind) steps)
-  pub places : (length tally.items ≡ 12) × (length tally.acknowledged ≡ 12) × (length tally.others ≡ 12)
+  pub places : (length tally.items ≡ 12) × (length tally.acknowledged ≡ 12) × (length tally.others ≡ 12) × (length tally.errors ≡ 12)
 
 -- by how many of these steps a call was answered is counted, and by how many one has failed
 pub record ResultsAreCounted (steps : List Step) (tally : CoreTally) : Type 0 where
