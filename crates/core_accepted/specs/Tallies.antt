@@ -1,5 +1,5 @@
 -- What a core counts: clients, commands that ended, and calls. Source: mcgate's own.
-use Rattle.std.specs.Prelude.{ℕ, Unit, ◌+◌, ◌-◌, ◌^◌, Option, Some, None, Result, Ok, Err, Bool, true, false, List, replicate, min, slice_index, slice_set}
+use Rattle.std.specs.Prelude.{ℕ, ◌+◌, ◌-◌, ◌^◌, Option, Some, None, Result, Ok, Err, Bool, true, false, List, replicate, min, slice_index, slice_set}
 use Rattle.mc_types.specs.declared.ask.Op.{Op}
 use Rattle.mc_types.specs.declared.call.Outcome.{Outcome}
 use Rattle.mc_types.specs.declared.call.Outcome.TheVariants.{Answered, Failed}
