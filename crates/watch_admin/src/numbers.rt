@@ -1,5 +1,9 @@
 //! What a running proxy tells of itself, and the families of these numbers.
 
+ghost use Rattle.std.specs.Prelude.{◌≡◌, ◌++◌, [], ◌∷◌, IfOk, OnOk, codes, string_bytes, map as each_of, flat_map};
+ghost use Rattle.watch_admin.specs.declared.families.Amount.TheVariants.{Count};
+ghost use Rattle.watch_admin.specs.Told.{label_read, sample_read, HasSamples, command_count, command_counts, client_count, TellsCommands, TellsClients, AddsTo};
+
 use crate::families::{Amount, Family, Label, MetricKind, Sample, Samples, Spread};
 use std::alloc::{AllocError, Global};
 
@@ -168,7 +172,9 @@ fn each(name: &'static str, kind: MetricKind, help: &'static str, samples: Vec<S
     }
 }
 
-fn label(alloc: Global, name: &'static str, value: &str) -> Result<Label, AllocError> {
+fn label(alloc: Global, name: &'static str, value: &str) -> Result<Label, AllocError>
+    ensures { IfOk result (λ label. label_read label ≡ (name.now, value.now)) }
+{
     Ok(Label {
         name,
         value: String::from_str(alloc, value)?,
@@ -181,7 +187,9 @@ fn sample(
     name: &'static str,
     value: &str,
     count: u64,
-) -> Result<Sample, AllocError> {
+) -> Result<Sample, AllocError>
+    ensures { IfOk result (λ sample. sample_read sample ≡ ((name.now, value.now) ∷ [], Count count)) }
+{
     let mut labels = Vec::new(alloc);
     labels.push(label(alloc, name, value)?)?;
     Ok(Sample {
@@ -210,7 +218,9 @@ fn add_process(
     alloc: Global,
     process: &ProcessNumbers,
     families: &mut Vec<Family>,
-) -> Result<(), AllocError> {
+) -> Result<(), AllocError>
+    ensures { OnOk result (AddsTo families.old.items families.new.items) }
+{
     let mut builds = Vec::new(alloc);
     builds.push(sample(alloc, "version", process.version.as_str(), 1)?)?;
     families.push(each(
@@ -248,7 +258,9 @@ fn add_config(
     alloc: Global,
     config: &ConfigNumbers,
     families: &mut Vec<Family>,
-) -> Result<(), AllocError> {
+) -> Result<(), AllocError>
+    ensures { OnOk result (AddsTo families.old.items families.new.items) }
+{
     families.push(gauge(
         "mcgate_generation",
         "The configuration in use.",
@@ -271,7 +283,10 @@ fn add_clients(
     alloc: Global,
     clients: &ClientNumbers,
     families: &mut Vec<Family>,
-) -> Result<(), AllocError> {
+) -> Result<(), AllocError>
+    ensures adds { OnOk result (AddsTo families.old.items families.new.items) }
+    ensures told { OnOk result (TellsClients clients.now families.new.items) }
+{
     families.push(gauge(
         "mcgate_clients",
         "Clients that are there.",
@@ -309,7 +324,9 @@ fn command_sample(
     op: &'static str,
     reply: &'static str,
     count: u64,
-) -> Result<Sample, AllocError> {
+) -> Result<Sample, AllocError>
+    ensures { IfOk result (λ sample. sample_read sample ≡ command_count op.now reply.now count) }
+{
     let mut ended = sample(alloc, "op", op, count)?;
     ended.labels.push(label(alloc, "reply", reply)?)?;
     Ok(ended)
@@ -320,7 +337,9 @@ fn add_command(
     alloc: Global,
     commands: &CommandNumbers,
     samples: &mut Vec<Sample>,
-) -> Result<(), AllocError> {
+) -> Result<(), AllocError>
+    ensures { OnOk result (each_of sample_read samples.new.items ≡ each_of sample_read samples.old.items ++ command_counts commands.now) }
+{
     let op = commands.op;
     samples.push(command_sample(alloc, op, "item", commands.items)?)?;
     samples.push(command_sample(alloc, op, "acknowledged", commands.acknowledged)?)?;
@@ -332,7 +351,10 @@ fn add_commands(
     alloc: Global,
     commands: &[CommandNumbers],
     families: &mut Vec<Family>,
-) -> Result<(), AllocError> {
+) -> Result<(), AllocError>
+    ensures adds { OnOk result (AddsTo families.old.items families.new.items) }
+    ensures told { OnOk result (TellsCommands commands.now families.new.items) }
+{
     let mut samples = Vec::new(alloc);
     for of_op in commands {
         add_command(alloc, of_op, &mut samples)?;
@@ -369,7 +391,9 @@ fn add_command_times(
     alloc: Global,
     times: &CommandTimes,
     families: &mut Vec<Family>,
-) -> Result<(), AllocError> {
+) -> Result<(), AllocError>
+    ensures { OnOk result (AddsTo families.old.items families.new.items) }
+{
     let mut spread = Spread {
         buckets: command_buckets(alloc, times)?,
         sums: Vec::new(alloc),
@@ -534,7 +558,9 @@ fn add_calls(
     alloc: Global,
     servers: &[ServerNumbers],
     families: &mut Vec<Family>,
-) -> Result<(), AllocError> {
+) -> Result<(), AllocError>
+    ensures { OnOk result (AddsTo families.old.items families.new.items) }
+{
     families.push(each(
         "mcgate_server_calls_total",
         MetricKind::Counter,
@@ -555,7 +581,9 @@ fn add_limits(
     alloc: Global,
     servers: &[ServerNumbers],
     families: &mut Vec<Family>,
-) -> Result<(), AllocError> {
+) -> Result<(), AllocError>
+    ensures { OnOk result (AddsTo families.old.items families.new.items) }
+{
     families.push(each(
         "mcgate_server_call_limit_seconds",
         MetricKind::Gauge,
@@ -587,7 +615,9 @@ fn add_states(
     alloc: Global,
     servers: &[ServerNumbers],
     families: &mut Vec<Family>,
-) -> Result<(), AllocError> {
+) -> Result<(), AllocError>
+    ensures { OnOk result (AddsTo families.old.items families.new.items) }
+{
     families.push(each(
         "mcgate_server_up",
         MetricKind::Gauge,
@@ -613,7 +643,9 @@ fn add_servers(
     alloc: Global,
     servers: &[ServerNumbers],
     families: &mut Vec<Family>,
-) -> Result<(), AllocError> {
+) -> Result<(), AllocError>
+    ensures { OnOk result (AddsTo families.old.items families.new.items) }
+{
     add_states(alloc, servers, families)?;
     families.push(each(
         "mcgate_server_connections_total",
@@ -638,7 +670,10 @@ fn add_servers(
 }
 
 /// The families of these numbers. The only error is that memory was refused.
-pub fn families_of(alloc: Global, numbers: &Numbers) -> Result<Vec<Family>, AllocError> {
+pub fn families_of(alloc: Global, numbers: &Numbers) -> Result<Vec<Family>, AllocError>
+    ensures clients { IfOk result (λ families. TellsClients numbers.now.clients families.items) }
+    ensures commands { IfOk result (λ families. TellsCommands numbers.now.commands.items families.items) }
+{
     let mut families = Vec::new(alloc);
     add_process(alloc, &numbers.process, &mut families)?;
     add_config(alloc, &numbers.config, &mut families)?;
