@@ -1,5 +1,5 @@
 -- Polls and results of a core that is served.
-use Rattle.std.proofs.Common.{◌≡◌, ℕ, List, [], ◌∷◌, ◌++◌, Result, Ok, Err, refl, ap, ◌∙◌, inl, inr}
+use Rattle.std.proofs.Common.{◌≡◌, ℕ, List, [], ◌∷◌, ◌++◌, Result, Ok, Err, refl, ap, ap₂, ◌∙◌, inl, inr}
 use Rattle.std.specs.Prelude.{IfErr, OnOk}
 use Rattle.mc_types.specs.declared.call.Outcome.{Outcome}
 use Rattle.fresh_runs.specs.Overlap as log
@@ -13,12 +13,18 @@ use Rattle.core_proxy.specs.Steps.{event_of}
 use Rattle.core_proxy.specs.Settles.{SettlesBy, Settles, SettleFault, freed}
 use Rattle.core_proxy.specs.Polls.{PollFault, SoFar, Then}
 use Rattle.core_accepted.specs.declared.served.ServedCore.{ServedCore}
+use Rattle.core_accepted.specs.declared.tally.CoreTally.{CoreTally}
+use Rattle.core_accepted.specs.Tallies.{is_answer, with_outcome, with_settling}
 use Rattle.core_accepted.specs.Results.{PollStops, SettlesOn, TakesResult, SettleStops, IsSettled}
 use Rattle.core_accepted.proofs.Keeping.{goes, led_there}
 
 -- the core is as it was
 pub same : (old : ServedCore) (x : Core) → x ≡ old.core → record old { core = x } ≡ old
 same old x e = ap (λ (y : Core). record old { core = y }) e
+
+-- the same where nothing is counted
+uncounted : (old : ServedCore) (x : Core) (t : CoreTally) → x ≡ old.core → t ≡ old.tally → record old { core = x; tally = t } ≡ old
+uncounted old x t e k = ap₂ (λ (y : Core) (s : CoreTally). record old { core = y; tally = s }) e k
 
 pub poll_stops : (old : ServedCore) (x : Core) (client : ℕ) (fault : CoreFault) → PollFault old.core client fault x → PollStops old client fault (record old { core = x })
 poll_stops old x client faults.NoMemory f = record { stops = f; goes = goes old x (Then (SoFar client) (λ entries. entries ≡ freed f.numbers ++ log.Drops client ∷ [])) f.goes }
@@ -30,9 +36,9 @@ poll_stops old x client faults.UnderWay f = absurd f
 poll_stops old x client faults.NoTicket f = absurd f
 
 settles_on :
-    (old : ServedCore) (x : Core) (number : ℕ) (a : Command) (outcome : Outcome) (IsMore : List (Entry dialect) → Type 0)
-    → SettlesBy old.core number a outcome IsMore x → SettlesOn old number a outcome IsMore (record old { core = x })
-settles_on old x number a outcome IsMore by opening past led end is ends =
+    (old : ServedCore) (x : Core) (t : CoreTally) (number : ℕ) (a : Command) (outcome : Outcome) (IsMore : List (Entry dialect) → Type 0)
+    → SettlesBy old.core number a outcome IsMore x → SettlesOn old number a outcome IsMore (record old { core = x; tally = t })
+settles_on old x t number a outcome IsMore by opening past led end is ends =
     let s = by led.beside end led.fits is ends in
     let at = s.3.at in (
       s.1,
@@ -48,21 +54,38 @@ settles_on old x number a outcome IsMore by opening past led end is ends =
       s.3,
     )
 
-pub takes_result : (old : ServedCore) (x : Core) (number : ℕ) (outcome : Outcome) → Settles old.core number outcome x → TakesResult old number outcome (record old { core = x })
-takes_result old x number outcome s = record { word = refl; tally = refl; settles = s; goes = settles_on old x number s.command outcome _ s.goes }
+takes_result :
+    (old : ServedCore) (x : Core) (t : CoreTally) (number : ℕ) (outcome : Outcome) → t ≡ with_outcome outcome old.tally → Settles old.core number outcome x
+    → TakesResult old number outcome (record old { core = x; tally = t })
+takes_result old x t number outcome counted s = record { word = refl; tally = counted; settles = s; goes = settles_on old x t number s.command outcome _ s.goes }
 
-pub settle_stops : (old : ServedCore) (x : Core) (number : ℕ) (outcome : Outcome) (fault : CoreFault) → SettleFault old.core number outcome fault x → SettleStops old number outcome fault (record old { core = x })
-settle_stops old x number outcome faults.NoMemory f = record { word = refl; tally = refl; breaks = f; goes = settles_on old x number f.command outcome _ f.goes }
-settle_stops old x number outcome faults.NoTicket f = (f.0, same old x f.1)
-settle_stops old x number outcome faults.TooManyClients f = absurd f
-settle_stops old x number outcome faults.NoClient f = absurd f
-settle_stops old x number outcome faults.InputFull f = absurd f
-settle_stops old x number outcome faults.UnderWay f = absurd f
-settle_stops old x number outcome faults.Spent f = absurd f
+settle_stops :
+    (old : ServedCore) (x : Core) (t : CoreTally) (number : ℕ) (outcome : Outcome) (fault : CoreFault) → t ≡ with_settling (is_answer outcome) (Err fault) old.tally → SettleFault old.core number outcome fault x
+    → SettleStops old number outcome fault (record old { core = x; tally = t })
+settle_stops old x t number outcome faults.NoMemory counted f = record { word = refl; tally = counted; breaks = f; goes = settles_on old x t number f.command outcome _ f.goes }
+settle_stops old x t number outcome faults.NoTicket counted f = (f.0, uncounted old x t f.1 counted)
+settle_stops old x t number outcome faults.TooManyClients counted f = absurd f
+settle_stops old x t number outcome faults.NoClient counted f = absurd f
+settle_stops old x t number outcome faults.InputFull counted f = absurd f
+settle_stops old x t number outcome faults.UnderWay counted f = absurd f
+settle_stops old x t number outcome faults.Spent counted f = absurd f
+
+-- the result came, or why not
+pub took :
+    (old : ServedCore) (x : Core) (t : CoreTally) (number : ℕ) (outcome : Outcome) (r : Result (Unit {0}) CoreFault) → t ≡ with_settling (is_answer outcome) r old.tally → OnOk r (Settles old.core number outcome x)
+    → OnOk r (TakesResult old number outcome (record old { core = x; tally = t }))
+took old x t number outcome (Ok done) counted ok = takes_result old x t number outcome counted ok
+took old x t number outcome (Err fault) counted ok = tt
+
+pub stopped :
+    (old : ServedCore) (x : Core) (t : CoreTally) (number : ℕ) (outcome : Outcome) (r : Result (Unit {0}) CoreFault) → t ≡ with_settling (is_answer outcome) r old.tally → IfErr r (λ fault. SettleFault old.core number outcome fault x)
+    → IfErr r (λ fault. SettleStops old number outcome fault (record old { core = x; tally = t }))
+stopped old x t number outcome (Ok done) counted err = tt
+stopped old x t number outcome (Err fault) counted err = settle_stops old x t number outcome fault counted err
 
 -- however the result came
 pub is_settled :
-    (old : ServedCore) (x : Core) (number : ℕ) (outcome : Outcome) (r : Result (Unit {0}) CoreFault) → OnOk r (Settles old.core number outcome x) → IfErr r (λ fault. SettleFault old.core number outcome fault x)
-    → IsSettled old number outcome (record old { core = x })
-is_settled old x number outcome (Ok done) ok err = inl (takes_result old x number outcome ok)
-is_settled old x number outcome (Err fault) ok err = inr (fault, settle_stops old x number outcome fault err)
+    (old : ServedCore) (x : Core) (t : CoreTally) (number : ℕ) (outcome : Outcome) (r : Result (Unit {0}) CoreFault) → t ≡ with_settling (is_answer outcome) r old.tally
+    → OnOk r (Settles old.core number outcome x) → IfErr r (λ fault. SettleFault old.core number outcome fault x) → IsSettled old number outcome (record old { core = x; tally = t })
+is_settled old x t number outcome (Ok done) counted ok err = inl (takes_result old x t number outcome counted ok)
+is_settled old x t number outcome (Err fault) counted ok err = inr (fault, settle_stops old x t number outcome fault counted err)

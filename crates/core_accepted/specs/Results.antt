@@ -20,13 +20,13 @@ use Rattle.core_proxy.specs.Polls.{StopsPolling, SoFar, Then, Perhaps, BeginsOne
 use Rattle.core_accepted.specs.declared.tally.CoreTally.{CoreTally}
 use Rattle.core_accepted.specs.declared.served.ServedCore.{ServedCore}
 use Rattle.core_accepted.specs.Logs.{MayHaveLed, LogsGoCounting, LogsGoBy}
-use Rattle.core_accepted.specs.Tallies.{with_poll}
+use Rattle.core_accepted.specs.Tallies.{with_poll, with_outcome}
 
 -- each log stays, and so it is counted
 abbrev pub StaysCounting : (CoreTally → CoreTally) → ServedCore → ServedCore → Type 0
 StaysCounting count old new = LogsGoCounting count old (λ entries. entries ≡ []) new
 
--- a poll told this: each log goes on by it, a command may have begun before it, and one that ended is counted
+-- a poll told this: each log goes on by it, a command may have begun before it, and one that ended is counted, and a call that was given out
 abbrev pub PollGoes : ServedCore → ℕ → Poll → ServedCore → Type 0
 PollGoes old client poll new = LogsGoCounting (with_poll poll) old (Then (Perhaps (BeginsOne client)) (IsPolled client poll)) new
 
@@ -52,17 +52,17 @@ SettlesOn old number a outcome IsMore new =
     → EndsIn (led.beside.holds (server_in a.job.pending) (ask_under a.job.frames.items a.job.ask).key) (led.beside.found number) number (ask_under a.job.frames.items a.job.ask) (origin_under a.job.frames.items OfClient) end
     → (more : List (Entry dialect)) × IsMore more × (led' : MayHaveLed opening ((more ++ Happens (event_of number a end) ∷ []) ++ past) new) × IsBeside (settled (event_of number a end) led.beside) led'.beside
 
--- the command of this number has the result of its call; where nothing is done for its client any more, it is broken off
+-- the command of this number has the result of its call, which is counted; where nothing is done for its client any more, it is broken off
 pub record TakesResult (old : ServedCore) (number : ℕ) (outcome : Outcome) (new : ServedCore) : Type 0 where
   pub word : new.accepted ≡ old.accepted
-  pub tally : new.tally ≡ old.tally
+  pub tally : new.tally ≡ with_outcome outcome old.tally
   pub settles : Settles old.core number outcome new.core
   pub goes : SettlesOn old number settles.command outcome (λ more. more ≡ (if dropped_by (client_at old.core settles.command.client) then log.Frees number ∷ [] else [])) new
 
--- memory was refused: the command of this number has the result all the same, and nothing is done for its client any more
+-- memory was refused: the command of this number has the result all the same, which is counted, and nothing is done for its client any more
 pub record BreaksWith (old : ServedCore) (number : ℕ) (outcome : Outcome) (new : ServedCore) : Type 0 where
   pub word : new.accepted ≡ old.accepted
-  pub tally : new.tally ≡ old.tally
+  pub tally : new.tally ≡ with_outcome outcome old.tally
   pub breaks : SettlesRefused old.core number outcome new.core
   pub goes : SettlesOn old number breaks.command outcome (λ more. more ≡ freed breaks.numbers ++ log.Frees number ∷ log.Drops breaks.command.client ∷ []) new
 

@@ -1,29 +1,34 @@
--- What a core counts: clients, and commands that ended. Source: mcgate's own.
-use Rattle.std.specs.Prelude.{ℕ, ◌+◌, ◌-◌, ◌^◌, Option, Some, None, Result, Ok, Err, Bool, true, false, List, replicate, min, slice_index, slice_set}
+-- What a core counts: clients, commands that ended, and calls. Source: mcgate's own.
+use Rattle.std.specs.Prelude.{ℕ, Unit, ◌+◌, ◌-◌, ◌^◌, Option, Some, None, Result, Ok, Err, Bool, true, false, List, replicate, min, slice_index, slice_set}
 use Rattle.mc_types.specs.declared.ask.Op.{Op}
+use Rattle.mc_types.specs.declared.call.Outcome.{Outcome}
+use Rattle.mc_types.specs.declared.call.Outcome.TheVariants.{Answered, Failed}
 use Rattle.route_tree.specs.Operation.{op_number}
 use Rattle.core_proxy.specs.declared.fault.CoreFault.{CoreFault}
+use Rattle.core_proxy.specs.declared.fault.CoreFault.TheVariants as faults
 use Rattle.core_proxy.specs.declared.note.Note.{Note}
 use Rattle.core_proxy.specs.declared.note.Poll.{Poll}
 use Rattle.core_proxy.specs.declared.note.Poll.TheVariants as polls
 use Rattle.core_accepted.specs.declared.tally.CoreTally.{CoreTally}
 use Rattle.core_accepted.specs.declared.tally.OpTally.{OpTally}
 
--- the replies that are told apart: one that shows an item, that to a delete that was acknowledged, and any other
+-- the replies that are told apart: an error, one that shows an item, that to a delete that was acknowledged, and any other
 pub data ReplyKind : Type 0 where
+  TellsError : ReplyKind
   ShowsItem : ReplyKind
   Acknowledges : ReplyKind
   TellsOther : ReplyKind
 
--- by whether it acknowledges a delete, and the call whose item it shows, if it shows one
-abbrev pub kind_by : Bool → Option ℕ → ReplyKind
-kind_by true from = Acknowledges
-kind_by false (Some call) = ShowsItem
-kind_by false None = TellsOther
+-- by whether it is an error, or acknowledges a delete, and the call whose item it shows, if it shows one
+abbrev pub kind_by : (is_error acknowledged : Bool) → Option ℕ → ReplyKind
+kind_by true acknowledged from = TellsError
+kind_by false true from = Acknowledges
+kind_by false false (Some call) = ShowsItem
+kind_by false false None = TellsOther
 
 -- the reply of a command that ended so
 abbrev pub kind_of : Note → ReplyKind
-kind_of note = kind_by note.acknowledged note.from
+kind_of note = kind_by note.is_error note.acknowledged note.from
 
 -- one more, as far as it is counted
 abbrev pub one_more : ℕ → ℕ
@@ -35,6 +40,7 @@ more_at place counts = slice_set counts place (one_more (slice_index counts plac
 
 -- one more command of this operation has ended, with such a reply
 abbrev pub with_reply : ReplyKind → Op → CoreTally → CoreTally
+with_reply TellsError op tally = record tally { ended = one_more tally.ended; errors = more_at (op_number op) tally.errors }
 with_reply ShowsItem op tally = record tally { ended = one_more tally.ended; items = more_at (op_number op) tally.items }
 with_reply Acknowledges op tally = record tally { ended = one_more tally.ended; acknowledged = more_at (op_number op) tally.acknowledged }
 with_reply TellsOther op tally = record tally { ended = one_more tally.ended; others = more_at (op_number op) tally.others }
@@ -42,16 +48,45 @@ with_reply TellsOther op tally = record tally { ended = one_more tally.ended; ot
 abbrev pub with_note : Note → CoreTally → CoreTally
 with_note note tally = with_reply (kind_of note) note.ask.op tally
 
--- the command that a poll tells to have ended is counted
+-- one more call was given out
+abbrev pub with_call : CoreTally → CoreTally
+with_call tally = record tally { calls = one_more tally.calls }
+
+-- the command that a poll tells to have ended is counted, and the call that it gives out
 abbrev pub with_poll : Poll → CoreTally → CoreTally
 with_poll (polls.Did note) tally = with_note note tally
 with_poll polls.Idle tally = tally
 with_poll polls.Own tally = tally
 with_poll polls.Refused tally = tally
-with_poll (polls.Call ticket) tally = tally
+with_poll (polls.Call ticket) tally = with_call tally
 with_poll polls.Waiting tally = tally
 with_poll polls.Queued tally = tally
 with_poll polls.Busy tally = tally
+
+-- whether a call was answered
+abbrev pub is_answer : Outcome → Bool
+is_answer (Answered answer) = true
+is_answer Failed = false
+
+-- one more call was answered, or has failed
+abbrev pub with_end : (answered : Bool) → CoreTally → CoreTally
+with_end true tally = record tally { answered = one_more tally.answered }
+with_end false tally = record tally { failed = one_more tally.failed }
+
+-- one more call had this outcome
+abbrev pub with_outcome : Outcome → CoreTally → CoreTally
+with_outcome outcome tally = with_end (is_answer outcome) tally
+
+-- the call that was settled is counted, also where memory was refused for what comes of it. Where none was out nothing is
+abbrev pub with_settling : (answered : Bool) → Result (Unit {0}) CoreFault → CoreTally → CoreTally
+with_settling answered (Ok done) tally = with_end answered tally
+with_settling answered (Err faults.NoMemory) tally = with_end answered tally
+with_settling answered (Err faults.NoTicket) tally = tally
+with_settling answered (Err faults.TooManyClients) tally = tally
+with_settling answered (Err faults.NoClient) tally = tally
+with_settling answered (Err faults.InputFull) tally = tally
+with_settling answered (Err faults.UnderWay) tally = tally
+with_settling answered (Err faults.Spent) tally = tally
 
 -- one more client was opened
 abbrev pub with_client : CoreTally → CoreTally
@@ -67,8 +102,13 @@ with_opening (Err fault) tally = with_refusal tally
 
 -- nothing was done yet
 abbrev pub nothing_done : CoreTally
-nothing_done = record { opened = 0; refused = 0; ended = 0; items = replicate 12 0; acknowledged = replicate 12 0; others = replicate 12 0 }
+nothing_done = record { opened = 0; refused = 0; ended = 0; calls = 0; answered = 0; failed = 0; errors = replicate 12 0; items = replicate 12 0; acknowledged = replicate 12 0; others = replicate 12 0 }
 
 -- of one operation
 abbrev pub of_op : CoreTally → Op → OpTally
-of_op tally op = record { items = slice_index tally.items (op_number op); acknowledged = slice_index tally.acknowledged (op_number op); others = slice_index tally.others (op_number op) }
+of_op tally op = record {
+  errors = slice_index tally.errors (op_number op);
+  items = slice_index tally.items (op_number op);
+  acknowledged = slice_index tally.acknowledged (op_number op);
+  others = slice_index tally.others (op_number op);
+}

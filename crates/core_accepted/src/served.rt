@@ -16,7 +16,7 @@ ghost use Rattle.core_accepted.specs.Results.{StaysCounting, PollGoes, PollStops
 use crate::beginnings::Beginnings;
 use crate::generations::Generations;
 use crate::loading::{LoadFault, load_accepted, load_any};
-use crate::tally::CoreTally;
+use crate::tally::{CoreTally, is_answer};
 use core_proxy::{Core, CoreFault, CoreLimits, Poll, Ticket};
 use gate_check::Accepted;
 use mc_types::{Ask, Outcome};
@@ -151,7 +151,8 @@ impl ServedCore {
         polled
     }
 
-    /// What it has done so far: clients opened or turned away, and commands ended, as its calls told.
+    /// What it has done so far: clients opened or turned away, commands ended, and calls given out, answered and failed, as its
+    /// calls told.
     pub fn tally(&self) -> CoreTally
         ensures { result ≡ self.now.tally }
     {
@@ -182,7 +183,10 @@ impl ServedCore {
         ensures stops { IfErr result (λ fault. SettleStops self.old ticket.number outcome fault self.new) }
         ensures settled { IsSettled self.old ticket.number outcome self.new }
     {
-        self.core.settle(ticket, outcome)
+        let answered = is_answer(&outcome);
+        let settled = self.core.settle(ticket, outcome);
+        self.tally.note_settled(answered, &settled);
+        settled
     }
 
     /// As `Core::is_closed`.

@@ -2,10 +2,10 @@
 
 ghost use Rattle.std.specs.Prelude.{◌≡◌, ◌<◌, IfOk, OnErr};
 ghost use Rattle.route_tree.specs.Operation.{op_number};
-ghost use Rattle.core_accepted.specs.Tallies.{more_at, with_note, with_poll, with_opening, nothing_done, of_op};
+ghost use Rattle.core_accepted.specs.Tallies.{more_at, with_note, with_poll, is_answer, with_end, with_settling, with_opening, nothing_done, of_op};
 
 use core_proxy::{CoreFault, Note, Poll};
-use mc_types::Op;
+use mc_types::{Op, Outcome};
 
 /// What a core has done so far.
 #[derive(Clone, Copy)]
@@ -16,7 +16,15 @@ pub struct CoreTally {
     pub refused: u64,
     /// How many commands have ended.
     pub ended: u64,
-    // Of each operation, those whose reply shows an item.
+    /// How many calls it gave out.
+    pub calls: u64,
+    /// How many of them were answered.
+    pub answered: u64,
+    /// How many have failed.
+    pub failed: u64,
+    // Of each operation, those whose reply is an error.
+    errors: [u64; 12],
+    // Those whose reply shows an item.
     items: [u64; 12],
     // Deletes that were acknowledged.
     acknowledged: [u64; 12],
@@ -27,6 +35,8 @@ pub struct CoreTally {
 /// How many commands of an operation have ended.
 #[derive(Clone, Copy)]
 pub struct OpTally {
+    /// Those whose reply is an error.
+    pub errors: u64,
     /// Those whose reply shows an item.
     pub items: u64,
     /// Deletes that were acknowledged.
@@ -56,6 +66,16 @@ fn place_of(op: Op) -> usize
     }
 }
 
+/// Whether a call was answered.
+pub(crate) fn is_answer(outcome: &Outcome) -> bool
+    ensures { result ≡ is_answer outcome.now }
+{
+    match outcome {
+        Outcome::Answered(_) => true,
+        Outcome::Failed => false,
+    }
+}
+
 // There is one more at this place.
 fn add_at(counts: &mut [u64; 12], place: usize)
     requires { place < 12 }
@@ -73,6 +93,10 @@ impl CoreTally {
             opened: 0,
             refused: 0,
             ended: 0,
+            calls: 0,
+            answered: 0,
+            failed: 0,
+            errors: [0; 12],
             items: [0; 12],
             acknowledged: [0; 12],
             others: [0; 12],
@@ -95,7 +119,9 @@ impl CoreTally {
     {
         self.ended = self.ended.saturating_add(1);
         let place = place_of(note.ask.get().op);
-        if note.acknowledged {
+        if note.is_error {
+            add_at(&mut self.errors, place)
+        } else if note.acknowledged {
             add_at(&mut self.acknowledged, place)
         } else if note.from.is_some() {
             add_at(&mut self.items, place)
@@ -104,14 +130,37 @@ impl CoreTally {
         }
     }
 
-    /// A poll ended with this: a command ended, if it tells so.
+    /// A poll ended with this: a command ended, or a call was given out, if it tells so.
     pub fn note_polled(&mut self, polled: &Result<Poll, CoreFault>)
         ensures counted { IfOk polled.now (λ poll. self.new ≡ with_poll poll self.old) }
         ensures none { OnErr polled.now (self.new ≡ self.old) }
     {
         match polled {
             Ok(Poll::Did(note)) => self.note(note),
+            Ok(Poll::Call(_)) => self.calls = self.calls.saturating_add(1),
             _ => {}
+        }
+    }
+
+    // One more call was answered, or has failed.
+    fn note_end(&mut self, answered: bool)
+        ensures { self.new ≡ with_end answered self.old }
+    {
+        if answered {
+            self.answered = self.answered.saturating_add(1);
+        } else {
+            self.failed = self.failed.saturating_add(1);
+        }
+    }
+
+    /// A call was settled so, as answered or as failed, if it was out.
+    pub fn note_settled(&mut self, answered: bool, settled: &Result<(), CoreFault>)
+        ensures { self.new ≡ with_settling answered settled.now self.old }
+    {
+        match settled {
+            Ok(()) => self.note_end(answered),
+            Err(CoreFault::NoMemory) => self.note_end(answered),
+            Err(_) => {}
         }
     }
 
@@ -121,6 +170,7 @@ impl CoreTally {
     {
         let place = place_of(op);
         OpTally {
+            errors: self.errors[place],
             items: self.items[place],
             acknowledged: self.acknowledged[place],
             others: self.others[place],

@@ -345,7 +345,7 @@ settled_ends : (old new : Core) (number : ℕ) (a : Command) → CanStand old �
 settled_ends old new number a can there is_out stands = let x = stands can.0 can.1 in ends_call old new number a can.0 x.0 there is_out can.1 x.1 x.2
 
 -- where none is out nothing ends
-none_out : (core : Core) (number : ℕ) → HasNoCall core number → called core number ≡ None
+pub none_out : (core : Core) (number : ℕ) → HasNoCall core number → called core number ≡ None
 none_out core number none = by (command_at core number) refl
   where
     by : (o : Option Command) → command_at core number ≡ o → called_by o ≡ None

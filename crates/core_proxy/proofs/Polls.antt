@@ -243,6 +243,7 @@ ended_goes old new client number x y can place is given ask note reply was here 
       told.asked ∙ same,
       subst (λ (k : Ask). IsTrue note.acknowledged ↔ Acknowledges k given.reply) same told.acknowledged,
       h.2 ∙ (λ i. Ends (own i) (sym told.number_is i) h.0 given.reply (sym told.from i) ∷ []),
+      told.error,
     ))
     (ends old new number a x y is.pending given.reply given.from (record {
       was = can.idle.was;

@@ -1,6 +1,7 @@
 -- A command whose job is done, and what is told of it. Source: mcgate's own.
 use Rattle.std.specs.Prelude.{◌≡◌, ◌↔◌, ℕ, [], Some, None, IsTrue, if◌then◌else◌, nat_eq}
 use Rattle.mc_types.specs.Acknowledged.{Acknowledges}
+use Rattle.mc_types.specs.Fits.{is_error}
 use Rattle.mc_types.specs.declared.ask.Ask.{Ask}
 use Rattle.mc_types.specs.declared.answer.Answer.{Answer}
 use Rattle.route_tree.specs.Word.{Given}
@@ -27,6 +28,7 @@ pub record IsNote (number : ℕ) (ask : Ask) (given : Given) (note : Note) (repl
   pub from : note.from ≡ given.from
   pub reply_is : reply ≡ given.reply
   pub acknowledged : IsTrue note.acknowledged ↔ Acknowledges ask given.reply
+  pub error : note.is_error ≡ is_error given.reply
 
 -- the reply of the command of this number, whose job is done, came to its client and was shown: what is told of the command
 pub record ShowsDone (number : ℕ) (command : Command) (x : Client) (told : EndedCommand) (y : Client) : Type 0 where
@@ -35,6 +37,7 @@ pub record ShowsDone (number : ℕ) (command : Command) (x : Client) (told : End
   pub shown : AnswersHead x number given.reply y
   pub from : told.from ≡ given.from
   pub acknowledged : IsTrue told.acknowledged ↔ Acknowledges command.ask given.reply
+  pub error : told.is_error ≡ is_error given.reply
 
 -- the command of this number, which has this ask, is taken out, and nothing else changes
 pub record TakesAway (old : Core) (number : ℕ) (ask : Ask) (new : Core) : Type 0 where

@@ -1,6 +1,7 @@
 -- What a call of `poll` does, step by step. Source: mcgate's own.
 use Rattle.std.specs.Prelude.{◌≡◌, ◌↔◌, IsTrue, ℕ, ◌+◌, Bool, true, false, List, [], ◌∷◌, ◌++◌, Option, Some, None, MatchOption, ◌<◌, ◌⊎◌, length, map as each}
 use Rattle.mc_types.specs.Acknowledged.{Acknowledges}
+use Rattle.mc_types.specs.Fits.{is_error}
 use Rattle.mc_types.specs.declared.ask.Ask.{Ask}
 use Rattle.mc_types.specs.declared.answer.Answer.{Answer}
 use Rattle.fresh_runs.specs.Log.{Part}
@@ -103,6 +104,7 @@ IsSent ticket entries = entries ≡ Sends ticket.number ticket.server ticket.ask
 abbrev pub IsEnded : ℕ → Note → List (Entry dialect) → Type 0
 IsEnded client note entries =
     (part : Part dialect) × (reply : Answer) × (note.ask ≡ part.ask) × (IsTrue note.acknowledged ↔ Acknowledges part.ask reply) × (entries ≡ Ends client note.number part reply note.from ∷ [])
+    × (note.is_error ≡ is_error reply)
 
 -- replies of the client's commands were shown
 abbrev pub AreShown : ℕ → List (Entry dialect) → Type 0

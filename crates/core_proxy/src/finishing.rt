@@ -8,6 +8,7 @@ ghost use Rattle.core_proxy.specs.Polls.{ForClient, IsServed, IsEnded, AreShown,
 ghost use Rattle.core_proxy.specs.Finishing.{CanEnd, IsNote, ShowsDone, TakesAway};
 ghost use Rattle.core_client.specs.Fronts.{Stays};
 ghost use Rattle.mc_types.specs.Acknowledged.{Acknowledges};
+ghost use Rattle.mc_types.specs.Fits.{is_error};
 
 use crate::fault::CoreFault;
 use crate::note::Note;
@@ -23,16 +24,29 @@ use std::alloc::Global;
 pub struct EndedCommand {
     pub from: Option<u64>,
     pub acknowledged: bool,
+    pub is_error: bool,
+}
+
+// Whether a reply is an error line.
+fn says_error(reply: &Answer) -> bool
+    ensures { result ≡ is_error reply.now }
+{
+    match reply {
+        Answer::Error | Answer::ClientError(_) | Answer::ServerError(_) => true,
+        _ => false,
+    }
 }
 
 // What is told of a command of this ask that ended with this reply.
 fn told_of(ask: &Ask, done: &Done) -> EndedCommand
     ensures from { result.from ≡ (given_of done.now).from }
     ensures acknowledged { IsTrue result.acknowledged ↔ Acknowledges ask.now (given_of done.now).reply }
+    ensures error { result.is_error ≡ is_error (given_of done.now).reply }
 {
     EndedCommand {
         from: done.from,
         acknowledged: done.reply.acknowledges(ask),
+        is_error: says_error(&done.reply),
     }
 }
 
@@ -77,11 +91,13 @@ fn note_of(number: u64, ask: SharedAsk, done: Done) -> (Note, Answer)
 {
     let Done { from, reply } = done;
     let acknowledged = reply.acknowledges(ask.get());
+    let is_error = says_error(&reply);
     let note = Note {
         ask,
         from,
         number,
         acknowledged,
+        is_error,
     };
     (note, reply)
 }
@@ -149,6 +165,7 @@ impl Core {
             from: told.from,
             number,
             acknowledged: told.acknowledged,
+            is_error: told.is_error,
         })
     }
 

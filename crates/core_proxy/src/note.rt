@@ -3,14 +3,15 @@
 use core_commands::Ticket;
 use mc_types::SharedAsk;
 
-/// A command that ended: its number, its ask, whether it was a delete that was acknowledged, and the number of the call whose item
-/// its reply shows, if it shows one.
+/// A command that ended: its number, its ask, whether it was a delete that was acknowledged, whether its reply is an error, and the
+/// number of the call whose item its reply shows, if it shows one.
 #[derive(Drop)]
 pub struct Note {
     pub ask: SharedAsk,
     pub from: Option<u64>,
     pub number: u64,
     pub acknowledged: bool,
+    pub is_error: bool,
 }
 
 /// What was done for a client.

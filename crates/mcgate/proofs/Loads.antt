@@ -14,7 +14,7 @@ use Rattle.serve_links.specs.Story.{Agrees, texts_of}
 use Rattle.serve_links.specs.Called.{TellsCalls}
 use Rattle.serve_links.specs.Talks.{IsOrderly}
 use Rattle.core_accepted.specs.Tallies.{nothing_done}
-use Rattle.serve_links.specs.Counts.{AreCounted}
+use Rattle.serve_links.specs.Counts.{AreCounted, ResultsAreCounted}
 use Rattle.serve_links.proofs.Counts.{steps_are_counted}
 use Rattle.serve_links.proofs.LateWalks.{walks_are_fresh_late}
 use Rattle.serve_links.proofs.Walked.{walks_keep_since}
@@ -87,6 +87,12 @@ nothing_done_by (servables.Unchecked configuration) begun settings core begins =
 has_counted : (steps : List Step) (first last : ServedCore) → first.tally ≡ nothing_done → Walks steps first last → AreCounted steps last.tally
 has_counted steps first last none walks = subst (λ l. AreCounted l last.tally) (append-nil steps) (steps_are_counted.goes_on steps [] first last walks (subst (AreCounted []) (sym none) steps_are_counted.begins))
 
+-- the results too, of calls that were out
+has_results : (steps : List Step) (first last : ServedCore) → first.tally ≡ nothing_done → Walks steps first last → TellsCalls [] first → IsOrderly steps → ResultsAreCounted steps last.tally
+has_results steps first last none walks tells orderly =
+    subst (λ l. ResultsAreCounted l last.tally) (append-nil steps)
+    (steps_are_counted.results_go_on steps [] first last walks tells (subst IsOrderly (sym (append-nil steps)) orderly) (subst (ResultsAreCounted []) (sym none) steps_are_counted.results_begin))
+
 pub has_served :
     (servable : Servable) (begun : Beginnings) (settings : Settings) (first last : ProxyEnd Sockets) → BeginsServing servable begun settings first → Serves history_of first last → LogsAreFresh last.core.value
     → TreesAreSound last.core.value → HasServed servable begun settings last
@@ -101,6 +107,7 @@ has_served servable begun settings first last begins g fresh sound =
       fresh = has_freshly servable begun shared g.steps first.core.value last.core.value begins.core.2 g.walks fresh;
       late = has_freshly_late servable begun shared g.steps first.core.value last.core.value begins.core.2 g.walks begins.agrees.calls agrees.orderly sound;
       counts = has_counted g.steps first.core.value last.core.value (nothing_done_by servable begun shared first.core.value begins.core.2) g.walks;
+      results = has_results g.steps first.core.value last.core.value (nothing_done_by servable begun shared first.core.value begins.core.2) g.walks begins.agrees.calls agrees.orderly;
     }
 
 by_kind :

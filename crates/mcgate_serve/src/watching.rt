@@ -1,5 +1,7 @@
 //! What a proxy that runs tells over HTTP of what it counts.
 
+ghost use Rattle.std.specs.Prelude.{◌≡◌};
+
 use crate::seen::{LastFailure, Seen};
 use crate::serving::resolve;
 use gate_gaps::names::op_name;
@@ -21,8 +23,8 @@ use watch_admin::http::request::Page;
 use watch_admin::http::visitors::Visitors;
 use watch_admin::json::write_json;
 use watch_admin::numbers::{
-    ClientNumbers, CommandNumbers, CommandTimes, FailureNumbers, LimitNumbers, Numbers,
-    ProcessNumbers, ServerNumbers, SpanNumbers, families_of,
+    CallNumbers, ClientNumbers, CommandNumbers, CommandTimes, FailureNumbers, LimitNumbers,
+    Numbers, ProcessNumbers, ServerNumbers, SpanNumbers, families_of,
 };
 use watch_admin::places::PLACES;
 use watch_admin::prometheus::write_prometheus;
@@ -96,10 +98,25 @@ fn commands_of<W: Wire>(
             op: op_name(op),
             items: of_op.items,
             acknowledged: of_op.acknowledged,
+            errors: of_op.errors,
             others: of_op.others,
         })?;
     }
     Ok(commands)
+}
+
+// What its core counts of calls, of all servers together.
+fn calls_of<W: Wire>(end: &ProxyEnd<W>) -> CallNumbers
+    ensures made { result.made ≡ end.now.core.value.tally.calls }
+    ensures answered { result.answered ≡ end.now.core.value.tally.answered }
+    ensures failed { result.failed ≡ end.now.core.value.tally.failed }
+{
+    let of_core = end.core_tally();
+    CallNumbers {
+        made: of_core.calls,
+        answered: of_core.answered,
+        failed: of_core.failed,
+    }
 }
 
 // The longest time at this place of those that are told apart, in seconds.
@@ -239,6 +256,7 @@ fn numbers_of<R: Files + AllocGlobal, W: Wire>(
         clients: clients_of(end, seen),
         commands: commands_of(rt.alloc(), end)?,
         command_times: command_times_of(rt.alloc(), end)?,
+        calls: calls_of(end),
         servers: servers_of(rt.alloc(), end, servers, seen)?,
         scrapes: times.scrapes,
     })

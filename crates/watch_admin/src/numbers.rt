@@ -60,8 +60,21 @@ pub struct CommandNumbers {
     pub items: u64,
     /// Those that were deletes, and were acknowledged.
     pub acknowledged: u64,
+    /// Those whose reply is an error.
+    pub errors: u64,
     /// All others.
     pub others: u64,
+}
+
+/// Calls of commands, of all servers together.
+#[derive(Clone, Copy)]
+pub struct CallNumbers {
+    /// How many were made.
+    pub made: u64,
+    /// How many of them were answered.
+    pub answered: u64,
+    /// How many have failed, those that failed at once too.
+    pub failed: u64,
 }
 
 /// Failures of a server's link for one cause.
@@ -141,6 +154,7 @@ pub struct Numbers {
     pub clients: ClientNumbers,
     pub commands: Vec<CommandNumbers>,
     pub command_times: CommandTimes,
+    pub calls: CallNumbers,
     pub servers: Vec<ServerNumbers>,
     /// How many requests for these numbers were answered before.
     pub scrapes: u64,
@@ -343,6 +357,7 @@ fn add_command(
     let op = commands.op;
     samples.push(command_sample(alloc, op, "item", commands.items)?)?;
     samples.push(command_sample(alloc, op, "acknowledged", commands.acknowledged)?)?;
+    samples.push(command_sample(alloc, op, "error", commands.errors)?)?;
     samples.push(command_sample(alloc, op, "other", commands.others)?)?;
     Ok(())
 }
@@ -362,7 +377,7 @@ fn add_commands(
     families.push(each(
         "mcgate_commands_total",
         MetricKind::Counter,
-        "Commands that have ended, one for each key: with an item in the reply, as an acknowledged delete, or otherwise.",
+        "Commands that have ended, one for each key: with an item in the reply, as an acknowledged delete, with an error, or otherwise.",
         samples,
     ))?;
     Ok(())
@@ -411,6 +426,28 @@ fn add_command_times(
         help: "How long commands took that have ended, from when they began, or came to wait for their key.",
         samples: Samples::Times(spread),
     })?;
+    Ok(())
+}
+
+fn add_all_calls(
+    alloc: Global,
+    calls: &CallNumbers,
+    families: &mut Vec<Family>,
+) -> Result<(), AllocError> {
+    families.push(counter(
+        "mcgate_calls_made_total",
+        "Calls of servers that commands have made.",
+        calls.made,
+    ))?;
+    let mut ended = Vec::new(alloc);
+    ended.push(sample(alloc, "outcome", "answered", calls.answered)?)?;
+    ended.push(sample(alloc, "outcome", "failed", calls.failed)?)?;
+    families.push(each(
+        "mcgate_calls_total",
+        MetricKind::Counter,
+        "Those that have ended, by what became of them, also where they failed at once.",
+        ended,
+    ))?;
     Ok(())
 }
 
@@ -680,6 +717,7 @@ pub fn families_of(alloc: Global, numbers: &Numbers) -> Result<Vec<Family>, Allo
     add_clients(alloc, &numbers.clients, &mut families)?;
     add_commands(alloc, numbers.commands.as_slice(), &mut families)?;
     add_command_times(alloc, &numbers.command_times, &mut families)?;
+    add_all_calls(alloc, &numbers.calls, &mut families)?;
     add_servers(alloc, numbers.servers.as_slice(), &mut families)?;
     families.push(counter(
         "mcgate_scrapes_total",

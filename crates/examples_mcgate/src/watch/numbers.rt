@@ -6,8 +6,8 @@ use std::test::Fail;
 use watch_admin::families::Family;
 use watch_admin::json::write_json;
 use watch_admin::numbers::{
-    ClientNumbers, CommandNumbers, CommandTimes, ConfigNumbers, FailureNumbers, LimitNumbers,
-    Numbers, ProcessNumbers, ServerNumbers, SpanNumbers, families_of,
+    CallNumbers, ClientNumbers, CommandNumbers, CommandTimes, ConfigNumbers, FailureNumbers,
+    LimitNumbers, Numbers, ProcessNumbers, ServerNumbers, SpanNumbers, families_of,
 };
 use watch_admin::prometheus::write_prometheus;
 
@@ -49,10 +49,11 @@ mcgate_slow_clients_closed_total 9
 # TYPE mcgate_client_bytes_total counter
 mcgate_client_bytes_total{direction="in"} 10
 mcgate_client_bytes_total{direction="out"} 18446744073709551615
-# HELP mcgate_commands_total Commands that have ended, one for each key: with an item in the reply, as an acknowledged delete, or otherwise.
+# HELP mcgate_commands_total Commands that have ended, one for each key: with an item in the reply, as an acknowledged delete, with an error, or otherwise.
 # TYPE mcgate_commands_total counter
 mcgate_commands_total{op="get",reply="item"} 11
 mcgate_commands_total{op="get",reply="acknowledged"} 12
+mcgate_commands_total{op="get",reply="error"} 23
 mcgate_commands_total{op="get",reply="other"} 13
 # HELP mcgate_command_seconds How long commands took that have ended, from when they began, or came to wait for their key.
 # TYPE mcgate_command_seconds histogram
@@ -60,6 +61,13 @@ mcgate_command_seconds_bucket{le="0.0001"} 10
 mcgate_command_seconds_bucket{le="+Inf"} 18
 mcgate_command_seconds_sum 2.000020
 mcgate_command_seconds_count 18
+# HELP mcgate_calls_made_total Calls of servers that commands have made.
+# TYPE mcgate_calls_made_total counter
+mcgate_calls_made_total 24
+# HELP mcgate_calls_total Those that have ended, by what became of them, also where they failed at once.
+# TYPE mcgate_calls_total counter
+mcgate_calls_total{outcome="answered"} 25
+mcgate_calls_total{outcome="failed"} 26
 # HELP mcgate_server_up 1 where a connection to the server stands.
 # TYPE mcgate_server_up gauge
 mcgate_server_up{server="\"a\\:1?"} 1
@@ -118,8 +126,10 @@ fn stats() -> &'static str {
 "mcgate_client_connections_total":[{"verdict":"accepted","value":7},{"verdict":"refused","value":8}],
 "mcgate_slow_clients_closed_total":9,
 "mcgate_client_bytes_total":[{"direction":"in","value":10},{"direction":"out","value":18446744073709551615}],
-"mcgate_commands_total":[{"op":"get","reply":"item","value":11},{"op":"get","reply":"acknowledged","value":12},{"op":"get","reply":"other","value":13}],
+"mcgate_commands_total":[{"op":"get","reply":"item","value":11},{"op":"get","reply":"acknowledged","value":12},{"op":"get","reply":"error","value":23},{"op":"get","reply":"other","value":13}],
 "mcgate_command_seconds":{"le":[{"le":"0.0001","value":10},{"le":"+Inf","value":18}],"sum":[{"value":2.000020}],"n":[{"value":18}]},
+"mcgate_calls_made_total":24,
+"mcgate_calls_total":[{"outcome":"answered","value":25},{"outcome":"failed","value":26}],
 "mcgate_server_up":[{"server":"\"a\\:1?","value":1}],
 "mcgate_server_late":[{"server":"\"a\\:1?","value":0}],
 "mcgate_server_unknown":[{"server":"\"a\\:1?","value":1}],
@@ -152,6 +162,7 @@ fn commands(alloc: Global) -> Result<Vec<CommandNumbers>, AllocError> {
         op: "get",
         items: 11,
         acknowledged: 12,
+        errors: 23,
         others: 13,
     })?;
     Ok(commands)
@@ -221,6 +232,11 @@ fn families(alloc: Global) -> Result<Vec<Family>, AllocError> {
             ended: 18,
             micros: 2_000_020,
             spans: spans(alloc)?,
+        },
+        calls: CallNumbers {
+            made: 24,
+            answered: 25,
+            failed: 26,
         },
         servers: servers(alloc)?,
         scrapes: 17,

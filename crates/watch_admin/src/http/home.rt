@@ -105,17 +105,16 @@ function serverRow(now, then, seconds, server) {
 
 function commandRow(now, then, seconds, op) {
   const grown = reply => rate(sum(now.mcgate_commands_total, {op, reply}), sum(then.mcgate_commands_total, {op, reply}), seconds);
-  const kinds = op === "delete" ? ["item", "acknowledged", "other"] : ["item", "other"];
-  const all = kinds.reduce((total, kind) => total + grown(kind), 0);
-  const bad = op === "delete" && grown("other") > 0;
-  return [op, number(all), number(grown("item")), op === "delete" ? number(grown("acknowledged")) : "", [number(grown("other")), bad ? "down" : ""],
-    number(sum(now.mcgate_commands_total, {op}))];
+  const all = ["item", "acknowledged", "error", "other"].reduce((total, kind) => total + grown(kind), 0);
+  const failed = grown("error"), others = grown("other");
+  return [op, number(all), number(grown("item")), op === "delete" ? number(grown("acknowledged")) : "", [number(failed), failed ? "down" : ""],
+    [number(others), op === "delete" && others ? "down" : ""], number(sum(now.mcgate_commands_total, {op}))];
 }
 
 function tell(now) {
   const told = [];
   const refused = sum(now.mcgate_reloads_total, {verdict: "refused"});
-  const lost = sum(now.mcgate_commands_total, {op: "delete", reply: "other"});
+  const lost = ["error", "other"].reduce((all, reply) => all + sum(now.mcgate_commands_total, {op: "delete", reply}), 0);
   if (refused) told.push("Texts of its file that were refused: " + number(refused) + ". What is in use may not be what the file says.");
   if (lost) told.push("Deletes that weren't acknowledged: " + number(lost) + ".");
   const unknown = now.mcgate_server_unknown.filter(row => row.value).map(row => row.server);
@@ -134,7 +133,7 @@ function show(now, then, seconds) {
   fill("servers", ["server", "state", "answers/s", "failed/s", "half took", "99 % took", "calls out", "failures so far"],
     now.mcgate_server_up.map(row => serverRow(now, then, seconds, row.server)));
   const ops = [...new Set(now.mcgate_commands_total.map(row => row.op))].filter(op => sum(now.mcgate_commands_total, {op}));
-  fill("commands", ["command", "per second", "with an item", "acknowledged", "others", "so far"], ops.map(op => commandRow(now, then, seconds, op)));
+  fill("commands", ["command", "per second", "with an item", "acknowledged", "errors", "others", "so far"], ops.map(op => commandRow(now, then, seconds, op)));
   const [half, mostly] = answers(spans(now, then, "mcgate_command_seconds", {}));
   at("took").textContent = half ? "half took " + half + ", 99 % " + mostly : "";
   const moved = direction => rate(sum(now.mcgate_client_bytes_total, {direction}), sum(then.mcgate_client_bytes_total, {direction}), seconds);

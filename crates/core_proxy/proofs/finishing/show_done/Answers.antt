@@ -15,4 +15,5 @@ returns-in-Ok-true-clause-some c =
       shown = subst (λ (b : Bool). ShowsAtOnce c.args.client.now c.args.number done.reply b c.show_at_once.new.self) c.in-Ok-true.field-0-test c.in-Ok-true.ensures.ok;
       from = c.told_of.ensures.from;
       acknowledged = subst (λ (a : Ask). IsTrue c.told_of.result.acknowledged ↔ Acknowledges a (given_of done).reply) c.get.ensures c.told_of.ensures.acknowledged;
+      error = c.told_of.ensures.error;
     }

@@ -42,5 +42,6 @@ returns-clause-some c =
       from = shows.from;
       reply_is = refl;
       acknowledged = subst (λ (a : Ask). IsTrue c.in_ok-told.told.acknowledged ↔ Acknowledges a shows.given.reply) (sym ask_is) shows.acknowledged;
+      error = shows.error;
     })
     away.gone (ap (λ (k : Core). k.tree) away.core_is) (ap (λ (k : Core). k.limits) away.core_is) (ap (λ (k : Core). k.number) away.core_is)
