@@ -5,3 +5,4 @@ pub mod Emptied
 pub mod Names
 pub mod Limits
 pub mod InFleet
+pub mod Told

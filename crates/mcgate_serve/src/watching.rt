@@ -1,9 +1,14 @@
 //! What a proxy that runs tells over HTTP of what it counts.
 
-ghost use Rattle.std.specs.Prelude.{◌≡◌};
+ghost use Rattle.std.specs.Prelude.{◌≡◌, IfOk, flat_map};
+ghost use Rattle.mc_types.specs.Asks.{all_ops};
+ghost use Rattle.watch_admin.specs.Told.{command_counts};
+ghost use Rattle.watch_admin.specs.declared.http.request.Page.TheVariants.{Metrics, Stats};
+ghost use Rattle.mcgate_serve.specs.Told.{op_counts, HasTally, IsInPrometheus, IsInJson, TellsInPrometheus, TellsInJson};
 
 use crate::seen::{LastFailure, Seen};
 use crate::serving::resolve;
+use core_accepted::CoreTally;
 use gate_gaps::names::op_name;
 use mc_types::{Op, ServerId};
 use route_json::addresses::Servers;
@@ -73,7 +78,10 @@ fn process_use<R: Files + AllocGlobal>(rt: &R) -> Used {
     }
 }
 
-fn clients_of<W: Wire>(end: &ProxyEnd<W>, seen: &Seen) -> ClientNumbers {
+fn clients_of<W: Wire>(end: &ProxyEnd<W>, seen: &Seen) -> ClientNumbers
+    ensures accepted { result.accepted ≡ end.now.core.value.tally.opened }
+    ensures refused { result.refused ≡ end.now.core.value.tally.refused }
+{
     let tally = end.tally();
     let of_core = end.core_tally();
     ClientNumbers {
@@ -86,16 +94,19 @@ fn clients_of<W: Wire>(end: &ProxyEnd<W>, seen: &Seen) -> ClientNumbers {
     }
 }
 
-fn commands_of<W: Wire>(
+// How many commands of these operations have ended.
+fn numbers_of_ops(
     alloc: Global,
-    end: &ProxyEnd<W>,
-) -> Result<Vec<CommandNumbers>, AllocError> {
-    let tally = end.core_tally();
+    tally: &CoreTally,
+    ops: &[Op],
+) -> Result<Vec<CommandNumbers>, AllocError>
+    ensures { IfOk result (λ commands. flat_map command_counts commands.items ≡ flat_map (op_counts tally.now) ops.now) }
+{
     let mut commands = Vec::new(alloc);
-    for op in Op::all() {
-        let of_op = tally.of(op);
+    for op in ops {
+        let of_op = tally.of(*op);
         commands.push(CommandNumbers {
-            op: op_name(op),
+            op: op_name(*op),
             items: of_op.items,
             acknowledged: of_op.acknowledged,
             errors: of_op.errors,
@@ -103,6 +114,17 @@ fn commands_of<W: Wire>(
         })?;
     }
     Ok(commands)
+}
+
+fn commands_of<W: Wire>(
+    alloc: Global,
+    end: &ProxyEnd<W>,
+) -> Result<Vec<CommandNumbers>, AllocError>
+    ensures { IfOk result (λ commands. flat_map command_counts commands.items ≡ flat_map (op_counts end.now.core.value.tally) all_ops) }
+{
+    let tally = end.core_tally();
+    let ops = Op::all();
+    numbers_of_ops(alloc, &tally, &ops)
 }
 
 // What its core counts of calls, of all servers together.
@@ -242,7 +264,9 @@ fn numbers_of<R: Files + AllocGlobal, W: Wire>(
     servers: &Servers,
     seen: &Seen,
     times: Times,
-) -> io::Result<Numbers> {
+) -> io::Result<Numbers>
+    ensures { IfOk result (HasTally end.now.core.value.tally) }
+{
     let used = process_use(rt);
     Ok(Numbers {
         process: ProcessNumbers {
@@ -262,14 +286,17 @@ fn numbers_of<R: Files + AllocGlobal, W: Wire>(
     })
 }
 
-/// All of that as the text of a page.
+/// All of that as the text of a page: what the core counts stands at its names.
+#[tactic(auto, using(crate::proofs::Told::in_json))]
 pub fn stats_of<R: Files + AllocGlobal, W: Wire>(
     rt: &R,
     end: &ProxyEnd<W>,
     servers: &Servers,
     seen: &Seen,
     times: Times,
-) -> io::Result<Vec<u8>> {
+) -> io::Result<Vec<u8>>
+    ensures { IfOk result (λ text. TellsInJson end.now.core.value.tally text.items) }
+{
     json_of(rt.alloc(), &numbers_of(rt, end, servers, seen, times)?)
 }
 
@@ -354,14 +381,18 @@ pub fn write_servers<O: Write, W: Wire>(
 }
 
 // These numbers in Prometheus' text format.
-fn prometheus_of(alloc: Global, numbers: &Numbers) -> io::Result<Vec<u8>> {
+fn prometheus_of(alloc: Global, numbers: &Numbers) -> io::Result<Vec<u8>>
+    ensures { IfOk result (λ text. IsInPrometheus numbers.now text.items) }
+{
     let mut body = Vec::new(alloc);
     write_prometheus(families_of(alloc, numbers)?.as_slice(), &mut body)?;
     Ok(body)
 }
 
 // The same in JSON.
-fn json_of(alloc: Global, numbers: &Numbers) -> io::Result<Vec<u8>> {
+fn json_of(alloc: Global, numbers: &Numbers) -> io::Result<Vec<u8>>
+    ensures { IfOk result (λ text. IsInJson numbers.now text.items) }
+{
     let mut body = Vec::new(alloc);
     write_json(families_of(alloc, numbers)?.as_slice(), &mut body)?;
     Ok(body)
@@ -419,7 +450,9 @@ impl Watching {
         servers: &Servers,
         seen: &Seen,
         lost_lines: u64,
-    ) -> io::Result<Numbers> {
+    ) -> io::Result<Numbers>
+        ensures { IfOk result (HasTally end.now.core.value.tally) }
+    {
         let times = Times {
             uptime_ms: self.uptime(rt)?,
             scrapes: self.visitors.answered(),
@@ -428,7 +461,8 @@ impl Watching {
         numbers_of(rt, end, servers, seen, times)
     }
 
-    // The text of a page, by what there is to tell.
+    // The text of a page, by what there is to tell: what the core counts stands at its names.
+    #[tactic(auto, using(crate::proofs::Told::in_prometheus, crate::proofs::Told::in_json))]
     fn page<R: Files + Clock + AllocGlobal, W: Wire>(
         &self,
         rt: &R,
@@ -438,7 +472,10 @@ impl Watching {
         seen: &Seen,
         lost_lines: u64,
         text: &str,
-    ) -> io::Result<Vec<u8>> {
+    ) -> io::Result<Vec<u8>>
+        ensures metrics { page ≡ Metrics → IfOk result (λ told. TellsInPrometheus end.now.core.value.tally told.items) }
+        ensures stats { page ≡ Stats → IfOk result (λ told. TellsInJson end.now.core.value.tally told.items) }
+    {
         let alloc = rt.alloc();
         match page {
             Page::Home => Ok(home_text().as_bytes().to_vec(alloc)?),

@@ -1,3 +1,4 @@
 mod Empty
 mod Kept
 mod Sent
+mod Told

@@ -9,3 +9,4 @@ pub mod ControlRequests
 pub mod ControlAnswers
 pub mod ControlExchanges
 pub mod Sending
+pub mod Told

@@ -1,5 +1,9 @@
 //! What a running proxy tells of itself, and the families of these numbers.
 
+ghost use Rattle.std.specs.Prelude.{◌≡◌, ◌++◌, [], ◌∷◌, IfOk, OnOk, codes, string_bytes, map as each_of, flat_map};
+ghost use Rattle.watch_admin.specs.declared.families.Amount.TheVariants.{Count};
+ghost use Rattle.watch_admin.specs.Told.{label_read, sample_read, command_count, command_counts, one_labelled, came_counts, ended_counts, TellsCommands, TellsClients, TellsCalls, Tells, IsAmong, AddsTo};
+
 use crate::families::{Amount, Family, Label, MetricKind, Sample, Samples, Spread};
 use std::alloc::{AllocError, Global};
 
@@ -156,7 +160,9 @@ pub struct Numbers {
     pub scrapes: u64,
 }
 
-fn one(name: &'static str, kind: MetricKind, help: &'static str, amount: Amount) -> Family {
+fn one(name: &'static str, kind: MetricKind, help: &'static str, amount: Amount) -> Family
+    ensures { Tells name.now (([], amount) ∷ []) result }
+{
     Family {
         name,
         kind,
@@ -165,7 +171,9 @@ fn one(name: &'static str, kind: MetricKind, help: &'static str, amount: Amount)
     }
 }
 
-fn counter(name: &'static str, help: &'static str, count: u64) -> Family {
+fn counter(name: &'static str, help: &'static str, count: u64) -> Family
+    ensures { Tells name.now (([], Count count) ∷ []) result }
+{
     one(name, MetricKind::Counter, help, Amount::Count(count))
 }
 
@@ -173,7 +181,9 @@ fn gauge(name: &'static str, help: &'static str, count: u64) -> Family {
     one(name, MetricKind::Gauge, help, Amount::Count(count))
 }
 
-fn each(name: &'static str, kind: MetricKind, help: &'static str, samples: Vec<Sample>) -> Family {
+fn each(name: &'static str, kind: MetricKind, help: &'static str, samples: Vec<Sample>) -> Family
+    ensures { Tells name.now (each_of sample_read samples.items) result }
+{
     Family {
         name,
         kind,
@@ -182,7 +192,9 @@ fn each(name: &'static str, kind: MetricKind, help: &'static str, samples: Vec<S
     }
 }
 
-fn label(alloc: Global, name: &'static str, value: &str) -> Result<Label, AllocError> {
+fn label(alloc: Global, name: &'static str, value: &str) -> Result<Label, AllocError>
+    ensures { IfOk result (λ label. label_read label ≡ (name.now, value.now)) }
+{
     Ok(Label {
         name,
         value: String::from_str(alloc, value)?,
@@ -195,7 +207,9 @@ fn sample(
     name: &'static str,
     value: &str,
     count: u64,
-) -> Result<Sample, AllocError> {
+) -> Result<Sample, AllocError>
+    ensures { IfOk result (λ sample. sample_read sample ≡ one_labelled name.now value.now count) }
+{
     let mut labels = Vec::new(alloc);
     labels.push(label(alloc, name, value)?)?;
     Ok(Sample {
@@ -224,7 +238,9 @@ fn add_process(
     alloc: Global,
     process: &ProcessNumbers,
     families: &mut Vec<Family>,
-) -> Result<(), AllocError> {
+) -> Result<(), AllocError>
+    ensures { OnOk result (AddsTo families.old.items families.new.items) }
+{
     let mut builds = Vec::new(alloc);
     builds.push(sample(alloc, "version", process.version.as_str(), 1)?)?;
     families.push(each(
@@ -262,7 +278,9 @@ fn add_config(
     alloc: Global,
     config: &ConfigNumbers,
     families: &mut Vec<Family>,
-) -> Result<(), AllocError> {
+) -> Result<(), AllocError>
+    ensures { OnOk result (AddsTo families.old.items families.new.items) }
+{
     families.push(gauge(
         "mcgate_generation",
         "The configuration in use.",
@@ -281,25 +299,42 @@ fn add_config(
     Ok(())
 }
 
-fn add_clients(
-    alloc: Global,
-    clients: &ClientNumbers,
-    families: &mut Vec<Family>,
-) -> Result<(), AllocError> {
-    families.push(gauge(
-        "mcgate_clients",
-        "Clients that are there.",
-        clients.connected,
-    ))?;
+fn came_samples(alloc: Global, clients: &ClientNumbers) -> Result<Vec<Sample>, AllocError>
+    ensures { IfOk result (λ came. each_of sample_read came.items ≡ came_counts clients.now) }
+{
     let mut came = Vec::new(alloc);
     came.push(sample(alloc, "verdict", "accepted", clients.accepted)?)?;
     came.push(sample(alloc, "verdict", "refused", clients.refused)?)?;
+    Ok(came)
+}
+
+// How many clients came.
+#[tactic(auto, using(crate::proofs::Told::last_is_among))]
+fn add_came(
+    alloc: Global,
+    clients: &ClientNumbers,
+    families: &mut Vec<Family>,
+) -> Result<(), AllocError>
+    ensures adds { OnOk result (AddsTo families.old.items families.new.items) }
+    ensures told { OnOk result (TellsClients clients.now families.new.items) }
+{
     families.push(each(
         "mcgate_client_connections_total",
         MetricKind::Counter,
         "Clients that came; those refused were too many.",
-        came,
+        came_samples(alloc, clients)?,
     ))?;
+    Ok(())
+}
+
+// How many were closed, and what came of them and went to them.
+fn add_traffic(
+    alloc: Global,
+    clients: &ClientNumbers,
+    families: &mut Vec<Family>,
+) -> Result<(), AllocError>
+    ensures { OnOk result (AddsTo families.old.items families.new.items) }
+{
     families.push(counter(
         "mcgate_slow_clients_closed_total",
         "Clients that were closed, as they took too little.",
@@ -317,13 +352,33 @@ fn add_clients(
     Ok(())
 }
 
+#[tactic(auto, using(crate::proofs::Told::one_more, crate::proofs::Told::more_then, crate::proofs::Told::stays_among))]
+fn add_clients(
+    alloc: Global,
+    clients: &ClientNumbers,
+    families: &mut Vec<Family>,
+) -> Result<(), AllocError>
+    ensures adds { OnOk result (AddsTo families.old.items families.new.items) }
+    ensures told { OnOk result (TellsClients clients.now families.new.items) }
+{
+    families.push(gauge(
+        "mcgate_clients",
+        "Clients that are there.",
+        clients.connected,
+    ))?;
+    add_came(alloc, clients, families)?;
+    add_traffic(alloc, clients, families)
+}
+
 // A number of an operation.
 fn command_sample(
     alloc: Global,
     op: &'static str,
     reply: &'static str,
     count: u64,
-) -> Result<Sample, AllocError> {
+) -> Result<Sample, AllocError>
+    ensures { IfOk result (λ sample. sample_read sample ≡ command_count op.now reply.now count) }
+{
     let mut ended = sample(alloc, "op", op, count)?;
     ended.labels.push(label(alloc, "reply", reply)?)?;
     Ok(ended)
@@ -334,7 +389,9 @@ fn add_command(
     alloc: Global,
     commands: &CommandNumbers,
     samples: &mut Vec<Sample>,
-) -> Result<(), AllocError> {
+) -> Result<(), AllocError>
+    ensures { OnOk result (each_of sample_read samples.new.items ≡ each_of sample_read samples.old.items ++ command_counts commands.now) }
+{
     let op = commands.op;
     samples.push(command_sample(alloc, op, "item", commands.items)?)?;
     samples.push(command_sample(alloc, op, "acknowledged", commands.acknowledged)?)?;
@@ -343,11 +400,15 @@ fn add_command(
     Ok(())
 }
 
+#[tactic(auto, using(crate::proofs::Told::last_is_among))]
 fn add_commands(
     alloc: Global,
     commands: &[CommandNumbers],
     families: &mut Vec<Family>,
-) -> Result<(), AllocError> {
+) -> Result<(), AllocError>
+    ensures adds { OnOk result (AddsTo families.old.items families.new.items) }
+    ensures told { OnOk result (TellsCommands commands.now families.new.items) }
+{
     let mut samples = Vec::new(alloc);
     for of_op in commands {
         add_command(alloc, of_op, &mut samples)?;
@@ -384,7 +445,9 @@ fn add_command_times(
     alloc: Global,
     times: &CommandTimes,
     families: &mut Vec<Family>,
-) -> Result<(), AllocError> {
+) -> Result<(), AllocError>
+    ensures { OnOk result (AddsTo families.old.items families.new.items) }
+{
     let mut spread = Spread {
         buckets: command_buckets(alloc, times)?,
         sums: Vec::new(alloc),
@@ -405,26 +468,59 @@ fn add_command_times(
     Ok(())
 }
 
-fn add_all_calls(
+fn ended_samples(alloc: Global, calls: &CallNumbers) -> Result<Vec<Sample>, AllocError>
+    ensures { IfOk result (λ ended. each_of sample_read ended.items ≡ ended_counts calls.now) }
+{
+    let mut ended = Vec::new(alloc);
+    ended.push(sample(alloc, "outcome", "answered", calls.answered)?)?;
+    ended.push(sample(alloc, "outcome", "failed", calls.failed)?)?;
+    Ok(ended)
+}
+
+// How many calls of all servers have ended, and how.
+#[tactic(auto, using(crate::proofs::Told::last_is_among))]
+fn add_ended_calls(
     alloc: Global,
     calls: &CallNumbers,
     families: &mut Vec<Family>,
-) -> Result<(), AllocError> {
+) -> Result<(), AllocError>
+    ensures adds { OnOk result (AddsTo families.old.items families.new.items) }
+    ensures told { OnOk result (IsAmong (Tells (codes "mcgate_calls_total") (ended_counts calls.now)) families.new.items) }
+{
+    families.push(each(
+        "mcgate_calls_total",
+        MetricKind::Counter,
+        "Those that have ended, by what became of them, also where they failed at once.",
+        ended_samples(alloc, calls)?,
+    ))?;
+    Ok(())
+}
+
+// How many were made.
+#[tactic(auto, using(crate::proofs::Told::last_is_among))]
+fn add_made_calls(calls: &CallNumbers, families: &mut Vec<Family>) -> Result<(), AllocError>
+    ensures adds { OnOk result (AddsTo families.old.items families.new.items) }
+    ensures told { OnOk result (IsAmong (Tells (codes "mcgate_calls_made_total") (([], Count calls.now.made) ∷ [])) families.new.items) }
+{
     families.push(counter(
         "mcgate_calls_made_total",
         "Calls of servers that commands have made.",
         calls.made,
     ))?;
-    let mut ended = Vec::new(alloc);
-    ended.push(sample(alloc, "outcome", "answered", calls.answered)?)?;
-    ended.push(sample(alloc, "outcome", "failed", calls.failed)?)?;
-    families.push(each(
-        "mcgate_calls_total",
-        MetricKind::Counter,
-        "Those that have ended, by what became of them, also where they failed at once.",
-        ended,
-    ))?;
     Ok(())
+}
+
+#[tactic(auto, using(crate::proofs::Told::more_then, crate::proofs::Told::stays_among))]
+fn add_all_calls(
+    alloc: Global,
+    calls: &CallNumbers,
+    families: &mut Vec<Family>,
+) -> Result<(), AllocError>
+    ensures adds { OnOk result (AddsTo families.old.items families.new.items) }
+    ensures told { OnOk result (TellsCalls calls.now families.new.items) }
+{
+    add_made_calls(calls, families)?;
+    add_ended_calls(alloc, calls, families)
 }
 
 // What is told of a server in one number.
@@ -571,7 +667,9 @@ fn add_calls(
     alloc: Global,
     servers: &[ServerNumbers],
     families: &mut Vec<Family>,
-) -> Result<(), AllocError> {
+) -> Result<(), AllocError>
+    ensures { OnOk result (AddsTo families.old.items families.new.items) }
+{
     families.push(each(
         "mcgate_server_calls_total",
         MetricKind::Counter,
@@ -592,7 +690,9 @@ fn add_limits(
     alloc: Global,
     servers: &[ServerNumbers],
     families: &mut Vec<Family>,
-) -> Result<(), AllocError> {
+) -> Result<(), AllocError>
+    ensures { OnOk result (AddsTo families.old.items families.new.items) }
+{
     families.push(each(
         "mcgate_server_call_limit_seconds",
         MetricKind::Gauge,
@@ -624,7 +724,9 @@ fn add_states(
     alloc: Global,
     servers: &[ServerNumbers],
     families: &mut Vec<Family>,
-) -> Result<(), AllocError> {
+) -> Result<(), AllocError>
+    ensures { OnOk result (AddsTo families.old.items families.new.items) }
+{
     families.push(each(
         "mcgate_server_up",
         MetricKind::Gauge,
@@ -646,12 +748,14 @@ fn add_states(
     Ok(())
 }
 
-fn add_servers(
+// The connections to servers, their calls that are out, and their failures.
+fn add_links(
     alloc: Global,
     servers: &[ServerNumbers],
     families: &mut Vec<Family>,
-) -> Result<(), AllocError> {
-    add_states(alloc, servers, families)?;
+) -> Result<(), AllocError>
+    ensures { OnOk result (AddsTo families.old.items families.new.items) }
+{
     families.push(each(
         "mcgate_server_connections_total",
         MetricKind::Counter,
@@ -670,12 +774,49 @@ fn add_servers(
         "Failures of the link to the server, by cause.",
         failures_of(alloc, servers)?,
     ))?;
+    Ok(())
+}
+
+#[tactic(auto, using(crate::proofs::Told::more_then))]
+fn add_servers(
+    alloc: Global,
+    servers: &[ServerNumbers],
+    families: &mut Vec<Family>,
+) -> Result<(), AllocError>
+    ensures { OnOk result (AddsTo families.old.items families.new.items) }
+{
+    add_states(alloc, servers, families)?;
+    add_links(alloc, servers, families)?;
     add_limits(alloc, servers, families)?;
     add_calls(alloc, servers, families)
 }
 
+// What is told of servers, and how often all this was asked.
+#[tactic(auto, using(crate::proofs::Told::one_more, crate::proofs::Told::more_then))]
+fn add_rest(
+    alloc: Global,
+    servers: &[ServerNumbers],
+    scrapes: u64,
+    families: &mut Vec<Family>,
+) -> Result<(), AllocError>
+    ensures { OnOk result (AddsTo families.old.items families.new.items) }
+{
+    add_servers(alloc, servers, families)?;
+    families.push(counter(
+        "mcgate_scrapes_total",
+        "Requests for these numbers that were answered before.",
+        scrapes,
+    ))?;
+    Ok(())
+}
+
 /// The families of these numbers. The only error is that memory was refused.
-pub fn families_of(alloc: Global, numbers: &Numbers) -> Result<Vec<Family>, AllocError> {
+#[tactic(auto, using(crate::proofs::Told::more_then, crate::proofs::Told::stays_among))]
+pub fn families_of(alloc: Global, numbers: &Numbers) -> Result<Vec<Family>, AllocError>
+    ensures clients { IfOk result (λ families. TellsClients numbers.now.clients families.items) }
+    ensures commands { IfOk result (λ families. TellsCommands numbers.now.commands.items families.items) }
+    ensures calls { IfOk result (λ families. TellsCalls numbers.now.calls families.items) }
+{
     let mut families = Vec::new(alloc);
     add_process(alloc, &numbers.process, &mut families)?;
     add_config(alloc, &numbers.config, &mut families)?;
@@ -683,11 +824,7 @@ pub fn families_of(alloc: Global, numbers: &Numbers) -> Result<Vec<Family>, Allo
     add_commands(alloc, numbers.commands.as_slice(), &mut families)?;
     add_command_times(alloc, &numbers.command_times, &mut families)?;
     add_all_calls(alloc, &numbers.calls, &mut families)?;
-    add_servers(alloc, numbers.servers.as_slice(), &mut families)?;
-    families.push(counter(
-        "mcgate_scrapes_total",
-        "Requests for these numbers that were answered before.",
-        numbers.scrapes,
-    ))?;
+    let servers = numbers.servers.as_slice();
+    add_rest(alloc, servers, numbers.scrapes, &mut families)?;
     Ok(families)
 }

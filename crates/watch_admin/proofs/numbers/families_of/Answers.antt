@@ -1,0 +1,18 @@
+use Rattle.std.proofs.Common.{List, subst}
+use Rattle.watch_admin.specs.declared.numbers.CommandNumbers.{CommandNumbers}
+use Rattle.watch_admin.specs.Told.{TellsCommands}
+use Rattle.watch_admin.proofs.Told.{more_then, stays_among}
+use Rattle.watch_admin.proofs.numbers.families_of.Goals as goal
+
+pub returns-clause-clients : goal.returns-clause-clients
+returns-clause-clients c =
+    stays_among _ _ _ c.in_ok-add_clients.ensures.told
+    (more_then _ _ _ c.in_ok-add_commands.ensures.adds (more_then _ _ _ c.in_ok-add_command_times.ensures (more_then _ _ _ c.in_ok-add_all_calls.ensures.adds c.in_ok-add_rest.ensures)))
+
+pub returns-clause-commands : goal.returns-clause-commands
+returns-clause-commands c =
+    stays_among _ _ _ (subst (λ (commands : List CommandNumbers). TellsCommands commands c.add_commands.new.families.items) c.as_slice.ensures.value c.in_ok-add_commands.ensures.told)
+    (more_then _ _ _ c.in_ok-add_command_times.ensures (more_then _ _ _ c.in_ok-add_all_calls.ensures.adds c.in_ok-add_rest.ensures))
+
+pub returns-clause-calls : goal.returns-clause-calls
+returns-clause-calls c = (stays_among _ _ _ c.in_ok-add_all_calls.ensures.told.0 c.in_ok-add_rest.ensures, stays_among _ _ _ c.in_ok-add_all_calls.ensures.told.1 c.in_ok-add_rest.ensures)
