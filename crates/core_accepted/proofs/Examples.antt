@@ -20,7 +20,7 @@ use Rattle.fresh_runs.specs.Freshness.{nobody_bars, answered_call, refill_words}
 use Rattle.fresh_runs.proofs.Runs.{way_below}
 use Rattle.fresh_runs.proofs.Example.{a_delete, a_get, a_get_is, hit_fits}
 use Rattle.fresh_runs.proofs.Example as races
-use Rattle.core_accepted.specs.Late.{Does, Lands, seen}
+use Rattle.core_accepted.specs.Late.{Does, Lands, told}
 use Rattle.core_accepted.specs.Pipes.{PipeStep, Sends, Moves, Steps, moments_of}
 use Rattle.core_accepted.specs.Examples.{two_lines, GivenUpIsStale, bars_within, FleetCopiesRace}
 
@@ -122,7 +122,7 @@ t4 : Steps two_lines words nobody_bars empty s4
 t4 = (((a_set, refl, refl, (a_set_is, Failed, tt, refl, refl, refl)), tt), t3)
 
 t5 : Steps two_lines words nobody_bars empty s5
-t5 = ((((omega arith, (omega arith, (omega arith, omega arith))), apart_all (seen (moments_of s4)) 2 a_delete), tt), t4)
+t5 = ((((omega arith, (omega arith, (omega arith, omega arith))), apart_all (told empty (moments_of s4)) 2 a_delete), tt), t4)
 
 t6 : Steps two_lines words nobody_bars empty s6
 t6 = ((a_delete, refl, refl), t5)
@@ -137,7 +137,7 @@ t9 : Steps two_lines words nobody_bars empty s9
 t9 = ((((0, refl), tt, tt, refl), ([], refl)), t8)
 
 t10 : Steps two_lines words nobody_bars empty s10
-t10 = ((((omega arith, (omega arith, (omega arith, (omega arith, (omega arith, (omega arith, omega arith)))))), apart_all (seen (moments_of s9)) 3 a_get), tt), t9)
+t10 = ((((omega arith, (omega arith, (omega arith, (omega arith, (omega arith, (omega arith, omega arith)))))), apart_all (told empty (moments_of s9)) 3 a_get), tt), t9)
 
 t11 : Steps two_lines words nobody_bars empty s11
 t11 = ((a_get, refl, refl), t10)
@@ -155,7 +155,7 @@ given_up =
       steps = s13;
       opens = λ s k. tt;
       run = t13;
-      stale = λ fresh. fresh 2 3 a_delete set_item (inl (refl, refl, (refl, refl))) (inl (refl, refl, 0, refl, refl)) (inl refl);
+      stale = λ fresh. fresh 2 3 a_delete set_item (inr (inl (refl, refl, (refl, refl)))) (inl (refl, refl, 0, refl, refl)) (inl refl);
     }
 
 -- The copy at one proxy.

@@ -3,6 +3,7 @@ use Rattle.std.proofs.Common.{◌≡◌, ℕ, Bool, true, false, cond, if◌then
 use Rattle.std.proofs.lemmas.Bool.{eqb-true}
 use Rattle.mc_types.specs.declared.ask.Ask.{Ask}
 use Rattle.mc_types.specs.declared.answer.Answer.{Answer}
+use Rattle.mc_types.specs.Items.{Item}
 use Rattle.fresh_runs.specs.Calls.{Call, outcome_of}
 use Rattle.fresh_runs.specs.Cover.{IsCovered}
 use Rattle.fresh_runs.specs.Run.{Event, Begins, Calls, Replies, Breaks, Turns, Restarts, under_way, calls_so_far, IsNewNumber, IsFront}
@@ -24,7 +25,7 @@ use Rattle.core_accepted.specs.Known.{Known, is_arbitrary}
 use Rattle.core_accepted.specs.Logs.{MayBeLoaded, TreesAreSound, IsAccepted}
 use Rattle.core_accepted.proofs.Keeping as keeping
 use Rattle.core_accepted.specs.Pipes.{moments_of}
-use Rattle.core_accepted.specs.Late.{seen}
+use Rattle.core_accepted.specs.Late.{Moment, Does, Lands, seen, told}
 use Rattle.core_accepted.specs.Parts.{Own, part, NumbersRise}
 use Rattle.core_accepted.specs.Rollout.{words_by}
 use Rattle.core_accepted.specs.LateCores.{only_proxy, only_line, EveryLateLogIsFresh, EveryLateRunIsFresh}
@@ -112,6 +113,17 @@ own_part words Bars (Breaks n ∷ past) own = ((own.0.0, way_part past n ∙ own
 own_part words Bars (Turns server key turned ∷ past) own = own_part words Bars past own.1
 own_part words Bars (Restarts server ∷ past) own = own_part words Bars past own.1
 
+-- it sees nothing of what lands
+part_told : (opening : ℕ → List ℕ → Option Item) (past : List Moment) → part only_proxy 0 (seen past) ≡ part only_proxy 0 (told opening past)
+part_told opening [] = refl
+part_told opening (Does (Begins n ask) ∷ past) = ap (λ l. Begins n ask ∷ l) (part_told opening past)
+part_told opening (Does (Calls n server ask origin end) ∷ past) = ap (λ l. Calls n server ask origin end ∷ l) (part_told opening past)
+part_told opening (Does (Replies n key reply from) ∷ past) = ap (λ l. Replies n key reply from ∷ l) (part_told opening past)
+part_told opening (Does (Breaks n) ∷ past) = ap (λ l. Breaks n ∷ l) (part_told opening past)
+part_told opening (Does (Turns server key turned) ∷ past) = part_told opening past
+part_told opening (Does (Restarts server) ∷ past) = part_told opening past
+part_told opening (Lands n server ask origin stamp answer spaces ∷ past) = part_told opening past
+
 -- each server may have held anything at first
 any_either : (c : Bool) → is_any (if c then any_begun.opened else any_begun.added) ≡ true
 any_either true = refl
@@ -143,11 +155,12 @@ module _ (served : ServedCore) (known : Known) (word : served.accepted ≡ Some 
       let words = words_by tree in
       let Bars : ℕ → Ask → ℕ → Ask → Type 0 = bars_by rule at in
       let loaded : AreLoaded (trees_of known.configs) tree = subst (λ (w : Option Known). MayBeLoaded w tree) word core.led.loaded in
-      let happened = seen (moments_of steps) in
-      let own : (p : ℕ) → Own words Bars (part only_proxy p happened) = λ p. one_does words Bars happened core.own p (nat_eq 0 p) refl in
+      let happened = told opening (moments_of steps) in
+      let mine : Own words Bars (part only_proxy 0 happened) = subst (Own words Bars) (part_told opening (moments_of steps)) core.own in
+      let own : (p : ℕ) → Own words Bars (part only_proxy p happened) = λ p. one_does words Bars happened mine p (nat_eq 0 p) refl in
       one_fresh words Bars (covered (trees_of known.configs) are sound tree loaded) (keeping.copies rule at) opening steps
       ((part_laws words Bars).steps only_proxy (λ number other ask client b. refl) only_line opening steps
-      (record { parts = record { own = own; rise = own_rise words Bars happened core.own; serves = core.serves }; order = order }))
+      (record { parts = record { own = own; rise = own_rise words Bars happened mine; serves = core.serves }; order = order }))
 
   -- a log that is the same by the order in which servers applied its calls
   late_logs : EveryLateLogIsFresh served

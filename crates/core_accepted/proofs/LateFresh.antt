@@ -1,5 +1,5 @@
 -- Every run is fresh whose deletes clear what later commands take, in which what copies has its key alone, and in which what had failed is applied in time or never.
-use Rattle.std.proofs.Common.{◌≡◌, ℕ, ◌<◌, true, false, cond, List, [], ◌∷◌, ◌++◌, length, Option, Some, None, ◌⊎◌, inl, inr, ⊎_elim, refl, sym, ap, ◌∙◌, subst, arith, bytes_eq, nat_eq, slice_get}
+use Rattle.std.proofs.Common.{◌≡◌, ℕ, true, false, cond, List, [], ◌∷◌, ◌++◌, length, Option, Some, None, ◌⊎◌, inl, inr, ⊎_elim, refl, sym, ap, ◌∙◌, subst, arith, bytes_eq, nat_eq, slice_get}
 use Rattle.std.proofs.lemmas.Slice.Eq.{bytes_eq-Decides}
 use Rattle.std.proofs.lemmas.Bool.{eqb-true}
 use Rattle.mc_types.specs.declared.ask.Op.TheVariants.{Delete}
@@ -8,60 +8,40 @@ use Rattle.mc_types.specs.declared.answer.Answer.{Answer}
 use Rattle.mc_types.specs.declared.call.Origin.{Origin}
 use Rattle.mc_types.specs.declared.call.Origin.TheVariants.{Client, CopyOf}
 use Rattle.mc_types.specs.declared.call.Outcome.TheVariants.{Answered, Failed}
-use Rattle.mc_types.specs.Items.{Item}
+use Rattle.mc_types.specs.Items.{Item, after_call}
 use Rattle.fresh_runs.specs.Life.{held_in}
 use Rattle.fresh_runs.specs.Calls.{Call, End, Read, Unread, Never, outcome_of}
 use Rattle.fresh_runs.specs.Cover.{ClearsIn, IsCleared, IsCovered}
-use Rattle.fresh_runs.specs.Run.{Event, Begins, Calls, Replies, Breaks, Turns, Restarts, under_way, calls_so_far, before, HasEnded, IsNewNumber, IsFront, CopiesBar, AcknowledgedBy, IsAcknowledged}
+use Rattle.fresh_runs.specs.Run.{Event, Begins, Calls, Replies, Breaks, Turns, Restarts, under_way, calls_so_far, before, HasEnded, IsNewNumber, IsFront, CopiesBar, AcknowledgedBy, IsAcknowledged, IsShown, life_of, held, item_at, GivesStamp}
+use Rattle.fresh_runs.specs.Run as sharing
 use Rattle.fresh_runs.proofs.Stamps.{by_test, clear_marks, get_left, get_seam, clears_split}
 use Rattle.fresh_runs.proofs.Seen.{Has, Gives, has_from_gone, has_marks, delete_marks}
-use Rattle.fresh_runs.proofs.Runs.{some_ask, no_ask, differs, differ, second, acked_below, new_calls, ended_since, acked_since, acked_over, acked_delete}
-use Rattle.core_accepted.specs.Late.{Moment, Does, Lands, seen, life_of, begun, HasFailed, held, item_at, GivesStamp, MayCome, Run, IsShown, IsFreshBy, is_store, LandsInTime}
+use Rattle.fresh_runs.proofs.Runs.{some_ask, no_ask, differs, differ, second, acked_below, new_calls, ended_since, acked_since, acked_over, acked_delete, over, above, shown_below, new_item_at}
+use Rattle.core_accepted.specs.Late.{Moment, Does, Lands, told, begun, HasFailed, MayCome, Run, IsFreshBy, is_store, LandsInTime}
 use Rattle.core_accepted.specs.LateLaws.{IsPart}
-use Rattle.core_accepted.proofs.Late.{way_begun, over, not_apart, began_after, above, acked_begun, made}
+use Rattle.core_accepted.proofs.Late.{way_begun, not_apart, began_after, acked_begun, made, as_run}
 use Rattle.core_accepted.proofs.Landed.{landed, no_store}
 
 no_item : (item : Item) → ◌≡◌ {A = Option Item} None (Some item) → ⊥
 no_item item e = cc
 
--- a command that hasn't begun was shown no item
-new_item_at : (opening : ℕ → List ℕ → Option Item) (x : ℕ) (past : List Moment) (i : ℕ) → IsNewNumber x (seen past) → item_at opening past x i ≡ None
-new_item_at opening x [] i new = refl
-new_item_at opening x (Does (Begins m ask) ∷ past) i new = new_item_at opening x past i new.1
-new_item_at opening x (Does (Calls m s a o end) ∷ past) i new = second _ _ _ (differs m x (λ is. (let lt = new.0 in omega (arith, lt, is)))) ∙ new_item_at opening x past i new.1
-new_item_at opening x (Does (Replies m key r f) ∷ past) i new = new_item_at opening x past i new.1
-new_item_at opening x (Does (Breaks m) ∷ past) i new = new_item_at opening x past i new.1
-new_item_at opening x (Does (Turns s key turned) ∷ past) i new = new_item_at opening x past i new
-new_item_at opening x (Does (Restarts s) ∷ past) i new = new_item_at opening x past i new
-new_item_at opening x (Lands m s a o stamp answer spaces ∷ past) i new = new_item_at opening x past i new
-
-shown_below : (opening : ℕ → List ℕ → Option Item) (x : ℕ) (past : List Moment) (m : ℕ) (key : List ℕ) (item : Item) → IsNewNumber x (seen past) → IsShown opening past m key item → m < x
-shown_below opening x [] m key item new shown = absurd shown
-shown_below opening x (Does (Begins n ask) ∷ past) m key item new (inl h) = absurd h
-shown_below opening x (Does (Begins n ask) ∷ past) m key item new (inr h) = shown_below opening x past m key item new.1 h
-shown_below opening x (Does (Calls n s a o end) ∷ past) m key item new (inl h) = absurd h
-shown_below opening x (Does (Calls n s a o end) ∷ past) m key item new (inr h) = shown_below opening x past m key item new.1 h
-shown_below opening x (Does (Replies n k r f) ∷ past) m key item new (inl h) = subst (λ k. k < x) h.0 new.0
-shown_below opening x (Does (Replies n k r f) ∷ past) m key item new (inr h) = shown_below opening x past m key item new.1 h
-shown_below opening x (Does (Breaks n) ∷ past) m key item new (inl h) = absurd h
-shown_below opening x (Does (Breaks n) ∷ past) m key item new (inr h) = shown_below opening x past m key item new.1 h
-shown_below opening x (Does (Turns s k turned) ∷ past) m key item new (inl h) = absurd h
-shown_below opening x (Does (Turns s k turned) ∷ past) m key item new (inr h) = shown_below opening x past m key item new h
-shown_below opening x (Does (Restarts s) ∷ past) m key item new (inl h) = absurd h
-shown_below opening x (Does (Restarts s) ∷ past) m key item new (inr h) = shown_below opening x past m key item new h
-shown_below opening x (Lands n s a o stamp answer spaces ∷ past) m key item new h = shown_below opening x past m key item new h
-
 module _ (words : ℕ → Ask → List Call → Answer → Option ℕ → Type 0) (Bars : ℕ → Ask → ℕ → Ask → Type 0) (Over : List Event → ℕ → ℕ → Type 0) (cover : IsCovered words) (copies : CopiesBar words Bars) (part : IsPart Over) (opening : ℕ → List ℕ → Option Item) (n : ℕ) (delete : Ask) (op : delete.op ≡ Delete) (began : List Event) where
   abbrev Fine : List Moment → Type 0
   Fine past = Run words Bars opening (LandsInTime Over) past
+
+  abbrev T : List Moment → List Event
+  T = told opening
+
+  runs : (past : List Moment) → Fine past → sharing.Run words Bars opening (T past)
+  runs = as_run words Bars opening (LandsInTime Over)
 
   -- the stamps of what may be seen once the delete, which began then, is acknowledged
   abbrev Q : ℕ → Type 0
   Q s = Over began n s → ⊥
 
   -- a command under way stores what may be seen
-  young : (past : List Moment) → Fine past → before (seen past) n ≡ began → (m : ℕ) (client : Ask) → under_way (seen past) m ≡ Some client → Q m
-  young past run at m client there ended = over words Bars opening (LandsInTime Over) past m client run (ended_since (seen past) n m (subst (λ l. HasEnded l m) (sym at) (part began n m ended))) there
+  young : (past : List Moment) → Fine past → before (T past) n ≡ began → (m : ℕ) (client : Ask) → under_way (T past) m ≡ Some client → Q m
+  young past run at m client there ended = over words Bars opening (T past) m client (runs past run) (ended_since (T past) n m (subst (λ l. HasEnded l m) (sym at) (part began n m ended))) there
 
   -- a call of the command whose calls these are, and which was no copy before them, bars the delete
   copy_bars : (number : ℕ) (client : Ask) (calls : List Call) (j : ℕ) (call : Call) (i : ℕ) → client.key ≡ delete.key → IsFront words number client calls → slice_get calls j ≡ Some call → call.origin ≡ CopyOf i → Bars number client n delete
@@ -70,115 +50,128 @@ module _ (words : ℕ → Ask → List Call → Answer → Option ℕ → Type 0
 
   -- since the delete was acknowledged: what it clears was answered so, and holds nothing of the key, or what may be seen; and so has each command that began later found it
   record Guarded (past : List Moment) : Type 0 where
-    cleared : (s : ℕ) → IsCleared words n delete s → ClearsIn (calls_so_far (seen past) n) s
-    holds : (s : ℕ) → IsCleared words n delete s → Has Q (held opening past s delete.key)
-    read : (m : ℕ) (client : Ask) → begun (seen past) m ≡ Some client → client.key ≡ delete.key → IsAcknowledged (before (seen past) m) n delete → (i : ℕ) (item : Item) → item_at opening past m i ≡ Some item → (call : Call) × (slice_get (calls_so_far (seen past) m) i ≡ Some call) × (IsCleared words n delete call.server → Q item.stamp)
+    cleared : (s : ℕ) → IsCleared words n delete s → ClearsIn (calls_so_far (T past) n) s
+    holds : (s : ℕ) → IsCleared words n delete s → Has Q (held opening (T past) s delete.key)
+    read : (m : ℕ) (client : Ask) → begun (T past) m ≡ Some client → client.key ≡ delete.key → IsAcknowledged (before (T past) m) n delete → (i : ℕ) (item : Item) → item_at opening (T past) m i ≡ Some item → (call : Call) × (slice_get (calls_so_far (T past) m) i ≡ Some call) × (IsCleared words n delete call.server → Q item.stamp)
 
   -- while the delete is under way there are no copies but of commands that were over
-  copy_early : (past : List Moment) → Fine past → under_way (seen past) n ≡ Some delete → (number : ℕ) (client : Ask) (calls : List Call) (j : ℕ) (call : Call) (i : ℕ) → begun (seen past) number ≡ Some client → (number ≡ n → ⊥) → client.key ≡ delete.key → IsFront words number client calls → slice_get calls j ≡ Some call → call.origin ≡ CopyOf i → (HasEnded (before (seen past) n) number → ⊥) → ⊥
+  copy_early : (past : List Moment) → Fine past → under_way (T past) n ≡ Some delete → (number : ℕ) (client : Ask) (calls : List Call) (j : ℕ) (call : Call) (i : ℕ) → begun (T past) number ≡ Some client → (number ≡ n → ⊥) → client.key ≡ delete.key → IsFront words number client calls → slice_get calls j ≡ Some call → call.origin ≡ CopyOf i → (HasEnded (before (T past) n) number → ⊥) → ⊥
   copy_early past run way number client calls j call i begins other same front got o alive =
-      not_apart words Bars opening (LandsInTime Over) past run number n client delete begins way other same (copy_bars number client calls j call i same front got o) alive
+      not_apart words Bars opening (T past) (runs past run) number n client delete begins way other same (copy_bars number client calls j call i same front got o) alive
 
   -- since it was acknowledged a copy of a command that wasn't over is of what may be seen
-  copy_late : (past : List Moment) → Fine past → IsAcknowledged (seen past) n delete → Guarded past → (number : ℕ) (client : Ask) (calls : List Call) (j : ℕ) (call : Call) (i : ℕ) (stamp : ℕ) → begun (seen past) number ≡ Some client → (number ≡ n → ⊥) → client.key ≡ delete.key → IsFront words number client calls → slice_get calls j ≡ Some call → call.origin ≡ CopyOf i → ((r : ℕ) (found : Call) → slice_get (calls_so_far (seen past) number) r ≡ Some found → slice_get calls r ≡ Some found) → (HasEnded (before (seen past) n) number → ⊥) → GivesStamp opening past number (CopyOf i) stamp → Q stamp
+  copy_late : (past : List Moment) → Fine past → IsAcknowledged (T past) n delete → Guarded past → (number : ℕ) (client : Ask) (calls : List Call) (j : ℕ) (call : Call) (i : ℕ) (stamp : ℕ) → begun (T past) number ≡ Some client → (number ≡ n → ⊥) → client.key ≡ delete.key → IsFront words number client calls → slice_get calls j ≡ Some call → call.origin ≡ CopyOf i → ((r : ℕ) (found : Call) → slice_get (calls_so_far (T past) number) r ≡ Some found → slice_get calls r ≡ Some found) → (HasEnded (before (T past) n) number → ⊥) → GivesStamp opening (T past) number (CopyOf i) stamp → Q stamp
   copy_late past run ack g number client calls j call i stamp begins other same front got o first alive gives =
-      let later = began_after words Bars opening (LandsInTime Over) past run n number delete client ack begins other same (copy_bars number client calls j call i same front got o) alive in
+      let later = began_after words Bars opening (T past) (runs past run) n number delete client ack begins other same (copy_bars number client calls j call i same front got o) alive in
       let r = g.read number client begins same later i gives.0 gives.1 in
       let source = get_left calls front.0 i r.0 (first i r.0 r.1) in
       let copy = get_left calls front.0 j call got in
-      let clears = cover.covered n number delete client (above words Bars opening (LandsInTime Over) past run n number delete later) op same _ _ _ front.3 r.0.server (i, (r.0, source, refl), inr (j, call, copy, o)) in
+      let clears = cover.covered n number delete client (above words Bars opening (T past) (runs past run) n number delete later) op same _ _ _ front.3 r.0.server (i, (r.0, source, refl), inr (j, call, copy, o)) in
       subst Q (sym gives.2) (r.2 clears)
 
   -- what lands is no call of a delete that stores
-  other_lands : (past : List Moment) → Fine past → under_way (seen past) n ≡ Some delete ⊎ IsAcknowledged (seen past) n delete → (number server : ℕ) (ask : Ask) (origin : Origin) → HasFailed (seen past) number server ask origin → is_store ask.op ≡ true → number ≡ n → ⊥
+  other_lands : (past : List Moment) → Fine past → under_way (T past) n ≡ Some delete ⊎ IsAcknowledged (T past) n delete → (number server : ℕ) (ask : Ask) (origin : Origin) → HasFailed (T past) number server ask origin → is_store ask.op ≡ true → number ≡ n → ⊥
   other_lands past run phase number server ask origin failed store is =
       let call : Call = record { server = server; ask = ask; origin = origin; outcome = Failed } in
-      let got : slice_get (calls_so_far (seen past) n) failed.0 ≡ Some call = subst (λ k. slice_get (calls_so_far (seen past) k) failed.0 ≡ Some call) is failed.1 in
-      let m = made words Bars opening (LandsInTime Over) past run n failed.0 call got in
-      let begins : begun (seen past) n ≡ Some delete = ⊎_elim (λ way. way_begun (seen past) n delete way) (λ ack. acked_begun words Bars opening (LandsInTime Over) past run n delete ack) phase in
+      let got : slice_get (calls_so_far (T past) n) failed.0 ≡ Some call = subst (λ k. slice_get (calls_so_far (T past) k) failed.0 ≡ Some call) is failed.1 in
+      let m = made words Bars opening (T past) (runs past run) n failed.0 call got in
+      let begins : begun (T past) n ≡ Some delete = ⊎_elim (λ way. way_begun (T past) n delete way) (λ ack. acked_begun words Bars opening (T past) (runs past run) n delete ack) phase in
       let asked : m.0 ≡ delete = some_ask m.0 delete (sym m.1 ∙ begins) in
-      let front : IsFront words n delete (calls_so_far (seen past) n) = subst (λ a. IsFront words n a (calls_so_far (seen past) n)) asked m.2 in
-      no_store ask.op (cover.deletes n delete op _ _ _ front.3 failed.0 call (get_left (calls_so_far (seen past) n) front.0 failed.0 call got)) store
+      let front : IsFront words n delete (calls_so_far (T past) n) = subst (λ a. IsFront words n a (calls_so_far (T past) n)) asked m.2 in
+      no_store ask.op (cover.deletes n delete op _ _ _ front.3 failed.0 call (get_left (calls_so_far (T past) n) front.0 failed.0 call got)) store
 
   -- the stamp of a store that lands at a server which the delete has cleared
-  lands_early : (past : List Moment) → Fine past → before (seen past) n ≡ began → under_way (seen past) n ≡ Some delete → (number server : ℕ) (ask : Ask) (origin : Origin) (stamp : ℕ) → HasFailed (seen past) number server ask origin → LandsInTime Over (seen past) number server ask origin → GivesStamp opening past number origin stamp → ask.key ≡ delete.key → ClearsIn (calls_so_far (seen past) n) server → is_store ask.op ≡ true → Q stamp
+  lands_early : (past : List Moment) → Fine past → before (T past) n ≡ began → under_way (T past) n ≡ Some delete → (number server : ℕ) (ask : Ask) (origin : Origin) (stamp : ℕ) → HasFailed (T past) number server ask origin → LandsInTime Over (T past) number server ask origin → GivesStamp opening (T past) number origin stamp → ask.key ≡ delete.key → ClearsIn (calls_so_far (T past) n) server → is_store ask.op ≡ true → Q stamp
   lands_early past run at way number server ask Client stamp failed timely gives same clears store =
-      subst Q (sym gives) (λ ended. timely store n delete (way_begun (seen past) n delete way) op (sym same) (subst (λ l. Over l n number) (sym at) ended) clears)
+      subst Q (sym gives) (λ ended. timely store n delete (way_begun (T past) n delete way) op (sym same) (subst (λ l. Over l n number) (sym at) ended) clears)
   lands_early past run at way number server ask (CopyOf i) stamp failed timely gives same clears store =
       let call : Call = record { server = server; ask = ask; origin = CopyOf i; outcome = Failed } in
-      let m = made words Bars opening (LandsInTime Over) past run number failed.0 call failed.1 in
-      absurd (copy_early past run way number m.0 (calls_so_far (seen past) number) failed.0 call i m.1
+      let m = made words Bars opening (T past) (runs past run) number failed.0 call failed.1 in
+      absurd (copy_early past run way number m.0 (calls_so_far (T past) number) failed.0 call i m.1
       (other_lands past run (inl way) number server ask (CopyOf i) failed store) (sym m.3 ∙ same) m.2 failed.1 refl
-      (λ ended. timely store n delete (way_begun (seen past) n delete way) op (sym same) ended clears))
+      (λ ended. timely store n delete (way_begun (T past) n delete way) op (sym same) ended clears))
 
-  lands_late : (past : List Moment) → Fine past → before (seen past) n ≡ began → IsAcknowledged (seen past) n delete → Guarded past → (number server : ℕ) (ask : Ask) (origin : Origin) (stamp : ℕ) → HasFailed (seen past) number server ask origin → LandsInTime Over (seen past) number server ask origin → GivesStamp opening past number origin stamp → ask.key ≡ delete.key → ClearsIn (calls_so_far (seen past) n) server → is_store ask.op ≡ true → Q stamp
+  lands_late : (past : List Moment) → Fine past → before (T past) n ≡ began → IsAcknowledged (T past) n delete → Guarded past → (number server : ℕ) (ask : Ask) (origin : Origin) (stamp : ℕ) → HasFailed (T past) number server ask origin → LandsInTime Over (T past) number server ask origin → GivesStamp opening (T past) number origin stamp → ask.key ≡ delete.key → ClearsIn (calls_so_far (T past) n) server → is_store ask.op ≡ true → Q stamp
   lands_late past run at ack g number server ask Client stamp failed timely gives same clears store =
-      subst Q (sym gives) (λ ended. timely store n delete (acked_begun words Bars opening (LandsInTime Over) past run n delete ack) op (sym same) (subst (λ l. Over l n number) (sym at) ended) clears)
+      subst Q (sym gives) (λ ended. timely store n delete (acked_begun words Bars opening (T past) (runs past run) n delete ack) op (sym same) (subst (λ l. Over l n number) (sym at) ended) clears)
   lands_late past run at ack g number server ask (CopyOf i) stamp failed timely gives same clears store =
       let call : Call = record { server = server; ask = ask; origin = CopyOf i; outcome = Failed } in
-      let m = made words Bars opening (LandsInTime Over) past run number failed.0 call failed.1 in
-      copy_late past run ack g number m.0 (calls_so_far (seen past) number) failed.0 call i stamp m.1
+      let m = made words Bars opening (T past) (runs past run) number failed.0 call failed.1 in
+      copy_late past run ack g number m.0 (calls_so_far (T past) number) failed.0 call i stamp m.1
       (other_lands past run (inr ack) number server ask (CopyOf i) failed store) (sym m.3 ∙ same) m.2 failed.1 refl (λ r found e. e)
-      (λ ended. timely store n delete (acked_begun words Bars opening (LandsInTime Over) past run n delete ack) op (sym same) ended clears) gives
+      (λ ended. timely store n delete (acked_begun words Bars opening (T past) (runs past run) n delete ack) op (sym same) ended clears) gives
 
   -- while the delete is under way another command's call stores what may be seen
-  stamp_early : (past : List Moment) → Fine past → before (seen past) n ≡ began → under_way (seen past) n ≡ Some delete → (number : ℕ) (client : Ask) (call : Call) (origin : Origin) (stamp : ℕ) → (number ≡ n → ⊥) → client.key ≡ delete.key → call.origin ≡ origin → under_way (seen past) number ≡ Some client → IsFront words number client (calls_so_far (seen past) number ++ call ∷ []) → GivesStamp opening past number origin stamp → Q stamp
+  stamp_early : (past : List Moment) → Fine past → before (T past) n ≡ began → under_way (T past) n ≡ Some delete → (number : ℕ) (client : Ask) (call : Call) (origin : Origin) (stamp : ℕ) → (number ≡ n → ⊥) → client.key ≡ delete.key → call.origin ≡ origin → under_way (T past) number ≡ Some client → IsFront words number client (calls_so_far (T past) number ++ call ∷ []) → GivesStamp opening (T past) number origin stamp → Q stamp
   stamp_early past run at way number client call Client stamp other same o there front gives = subst Q (sym gives) (young past run at number client there)
   stamp_early past run at way number client call (CopyOf i) stamp other same o there front gives =
-      let calls = calls_so_far (seen past) number in
-      absurd (copy_early past run way number client (calls ++ call ∷ []) (length calls) call i (way_begun (seen past) number client there) other same front (get_seam calls call []) o
-      (λ ended. over words Bars opening (LandsInTime Over) past number client run (ended_since (seen past) n number ended) there))
+      let calls = calls_so_far (T past) number in
+      absurd (copy_early past run way number client (calls ++ call ∷ []) (length calls) call i (way_begun (T past) number client there) other same front (get_seam calls call []) o
+      (λ ended. over words Bars opening (T past) number client (runs past run) (ended_since (T past) n number ended) there))
 
-  early : (past : List Moment) (number server : ℕ) (ask : Ask) (origin : Origin) (end : End) → Fine past → before (seen past) n ≡ began → under_way (seen past) n ≡ Some delete → (number ≡ n → ⊥) → MayCome words Bars opening (LandsInTime Over) past (Does (Calls number server ask origin end)) → ask.key ≡ delete.key → Gives Q end
+  early : (past : List Moment) (number server : ℕ) (ask : Ask) (origin : Origin) (end : End) → Fine past → before (T past) n ≡ began → under_way (T past) n ≡ Some delete → (number ≡ n → ⊥) → MayCome words Bars opening (LandsInTime Over) past (Does (Calls number server ask origin end)) → ask.key ≡ delete.key → Gives Q end
   early past number server ask origin (Read stamp answer spaces) run at way other may same =
       stamp_early past run at way number may.0 (record { server = server; ask = ask; origin = origin; outcome = Answered answer }) origin stamp other (sym may.2 ∙ same) refl may.1 may.3 may.4.1
   early past number server ask origin (Unread stamp answer spaces) run at way other may same =
       stamp_early past run at way number may.0 (record { server = server; ask = ask; origin = origin; outcome = Failed }) origin stamp other (sym may.2 ∙ same) refl may.1 may.3 may.4.1
   early past number server ask origin Never run at way other may same = tt
 
+  -- what lands leaves nothing of the key, or what may be seen, if it stores that
+  lands_holds : (past : List Moment) (server s : ℕ) (ask : Ask) (stamp : ℕ) (answer : Answer) (spaces : ℕ) → Has Q (held opening (T past) s delete.key) → (server ≡ s → ask.key ≡ delete.key → is_store ask.op ≡ true → Q stamp)
+      → Has Q (held opening (Turns server ask.key (after_call ask stamp answer spaces (held opening (T past) server ask.key)) ∷ T past) s delete.key)
+  lands_holds past server s ask stamp answer spaces rest stores =
+      let key = delete.key in
+      by_test (λ l. Has Q (held_in (opening s key) l key)) (nat_eq server s) _ _
+      (λ here. by_test (Has Q) (bytes_eq ask.key key) _ _
+      (λ same.
+      let on = eqb-true server s here in let mine = (bytes_eq-Decides ask.key key).0 same in
+      landed Q ask stamp answer spaces _ (stores on mine) (subst (λ t. Has Q (held opening (T past) t ask.key)) (sym on) (subst (λ k. Has Q (held opening (T past) s k)) (sym mine) rest)))
+      (λ _. rest))
+      (λ _. rest)
+
   -- while the delete is under way: a server that it has cleared holds nothing of the key, or what may be seen
-  clear_so_far : (past : List Moment) → Fine past → before (seen past) n ≡ began → under_way (seen past) n ≡ Some delete → (s : ℕ) → ClearsIn (calls_so_far (seen past) n) s → Has Q (held opening past s delete.key)
+  clear_so_far : (past : List Moment) → Fine past → before (T past) n ≡ began → under_way (T past) n ≡ Some delete → (s : ℕ) → ClearsIn (calls_so_far (T past) n) s → Has Q (held opening (T past) s delete.key)
   clear_so_far [] run at e s h = absurd h
   clear_so_far (Does (Begins number ask) ∷ past) run at e s h =
-      (elim (nat_eq number n) as (λ b. nat_eq number n ≡ b → cond b (seen past) (before (seen past) n) ≡ began → cond b (Some ask) (under_way (seen past) n) ≡ Some delete → Has Q (held opening past s delete.key)) [
-        | true ↦ λ is _ _. absurd (subst (λ calls. ClearsIn calls s) (new_calls n (seen past) (subst (λ k. IsNewNumber k (seen past)) (eqb-true number n is) run.0.0)) h)
+      (elim (nat_eq number n) as (λ b. nat_eq number n ≡ b → cond b (T past) (before (T past) n) ≡ began → cond b (Some ask) (under_way (T past) n) ≡ Some delete → Has Q (held opening (T past) s delete.key)) [
+        | true ↦ λ is _ _. absurd (subst (λ calls. ClearsIn calls s) (new_calls n (T past) (subst (λ k. IsNewNumber k (T past)) (eqb-true number n is) run.0.0)) h)
         | false ↦ λ _ a is. clear_so_far past run.1 a is s h
       ]) refl at e
   clear_so_far (Does (Replies number k reply from) ∷ past) run at e s h =
-      (elim (nat_eq number n) as (λ b. cond b None (under_way (seen past) n) ≡ Some delete → Has Q (held opening past s delete.key)) [
+      (elim (nat_eq number n) as (λ b. cond b None (under_way (T past) n) ≡ Some delete → Has Q (held opening (T past) s delete.key)) [
         | true ↦ λ is. no_ask delete is
         | false ↦ λ is. clear_so_far past run.1 at is s h
       ]) e
   clear_so_far (Does (Breaks number) ∷ past) run at e s h =
-      (elim (nat_eq number n) as (λ b. cond b None (under_way (seen past) n) ≡ Some delete → Has Q (held opening past s delete.key)) [
+      (elim (nat_eq number n) as (λ b. cond b None (under_way (T past) n) ≡ Some delete → Has Q (held opening (T past) s delete.key)) [
         | true ↦ λ is. no_ask delete is
         | false ↦ λ is. clear_so_far past run.1 at is s h
       ]) e
   clear_so_far (Does (Calls number server ask origin end) ∷ past) run at e s h =
       let key = delete.key in
-      let calls = calls_so_far (seen past) n in
+      let calls = calls_so_far (T past) n in
       let call : Call = record { server = server; ask = ask; origin = origin; outcome = outcome_of end } in
-      (elim (nat_eq number n) as (λ b. nat_eq number n ≡ b → ClearsIn (cond b (calls ++ call ∷ []) calls) s → Has Q (held opening (Does (Calls number server ask origin end) ∷ past) s key)) [
+      (elim (nat_eq number n) as (λ b. nat_eq number n ≡ b → ClearsIn (cond b (calls ++ call ∷ []) calls) s → Has Q (held opening (T (Does (Calls number server ask origin end) ∷ past)) s key)) [
         | true ↦ λ is c.
             let mine : number ≡ n = eqb-true number n is in
-            let asked : run.0.0 ≡ delete = some_ask run.0.0 delete (sym run.0.1 ∙ ap (under_way (seen past)) mine ∙ e) in
+            let asked : run.0.0 ≡ delete = some_ask run.0.0 delete (sym run.0.1 ∙ ap (under_way (T past)) mine ∙ e) in
             let same : bytes_eq ask.key key ≡ true = (bytes_eq-Decides ask.key key).1 (run.0.2 ∙ ap (λ (a : Ask). a.key) asked) in
-            let front : IsFront words n delete (calls ++ call ∷ []) = subst (λ a. IsFront words n a (calls ++ call ∷ [])) asked (subst (λ k. IsFront words k run.0.0 (calls_so_far (seen past) k ++ call ∷ [])) mine run.0.3) in
+            let front : IsFront words n delete (calls ++ call ∷ []) = subst (λ a. IsFront words n a (calls ++ call ∷ [])) asked (subst (λ k. IsFront words k run.0.0 (calls_so_far (T past) k ++ call ∷ [])) mine run.0.3) in
             let asks : ask.op ≡ Delete = cover.deletes n delete op _ _ _ front.3 (length calls) call (get_left (calls ++ call ∷ []) front.0 (length calls) call (get_seam calls call [])) in
             ⊎_elim
             (λ earlier.
             let rest = clear_so_far past run.1 at e s earlier in
-            by_test (λ l. Has Q (held_in (opening s key) l key)) (nat_eq server s) _ _ (λ _. delete_marks Q (opening s key) ask end (life_of past s) key asks rest) (λ _. rest))
+            by_test (λ l. Has Q (held_in (opening s key) l key)) (nat_eq server s) _ _ (λ _. delete_marks Q (opening s key) ask end (life_of (T past) s) key asks rest) (λ _. rest))
             (⊎_elim
             (λ now.
             let answered = now.1 in
-            by_test (λ l. Has Q (held_in (opening s key) l key)) (nat_eq server s) _ _ (λ _. has_from_gone Q _ (clear_marks (opening s key) ask end (life_of past s) key answered.0 asks same answered.1 answered.2)) (λ other. differ server s other now.0))
+            by_test (λ l. Has Q (held_in (opening s key) l key)) (nat_eq server s) _ _ (λ _. has_from_gone Q _ (clear_marks (opening s key) ask end (life_of (T past) s) key answered.0 asks same answered.1 answered.2)) (λ other. differ server s other now.0))
             (λ none. absurd none))
             (clears_split calls call s c)
         | false ↦ λ other c.
             let rest = clear_so_far past run.1 at e s c in
             by_test (λ l. Has Q (held_in (opening s key) l key)) (nat_eq server s) _ _
-            (λ _. has_marks Q (opening s key) ask end (life_of past s) key (λ same. early past number server ask origin end run.1 at e (λ is. differ number n other is) run.0 ((bytes_eq-Decides ask.key key).0 same)) rest)
+            (λ _. has_marks Q (opening s key) ask end (life_of (T past) s) key (λ same. early past number server ask origin end run.1 at e (λ is. differ number n other is) run.0 ((bytes_eq-Decides ask.key key).0 same)) rest)
             (λ _. rest)
       ]) refl h
   clear_so_far (Does (Turns server k turned) ∷ past) run at e s h =
@@ -188,53 +181,47 @@ module _ (words : ℕ → Ask → List Call → Answer → Option ℕ → Type 0
       let rest = clear_so_far past run.1 at e s h in
       by_test (λ l. Has Q (held_in (opening s delete.key) l delete.key)) (nat_eq server s) _ _ (λ _. tt) (λ _. rest)
   clear_so_far (Lands number server ask origin stamp answer spaces ∷ past) run at e s h =
-      let key = delete.key in
       let rest = clear_so_far past run.1 at e s h in
-      by_test (λ l. Has Q (held_in (opening s key) l key)) (nat_eq server s) _ _
-      (λ here. by_test (Has Q) (bytes_eq ask.key key) _ _
-      (λ same. landed Q ask stamp answer spaces _
-      (λ store. lands_early past run.1 at e number server ask origin stamp run.0.0 run.0.1 run.0.3 ((bytes_eq-Decides ask.key key).0 same) (subst (λ x. ClearsIn (calls_so_far (seen past) n) x) (sym (eqb-true server s here)) h) store)
-      rest)
-      (λ _. rest))
-      (λ _. rest)
+      lands_holds past server s ask stamp answer spaces rest
+      (λ here same store. lands_early past run.1 at e number server ask origin stamp run.0.0 run.0.1 run.0.3 same (subst (λ x. ClearsIn (calls_so_far (T past) n) x) (sym here) h) store)
 
   -- the moment of the reply
-  guard_begins : (past : List Moment) (m : ℕ) (k : List ℕ) (reply : Answer) (from : Option ℕ) → Fine (Does (Replies m k reply from) ∷ past) → before (seen past) n ≡ began → AcknowledgedBy (seen past) (Replies m k reply from) n delete → Guarded (Does (Replies m k reply from) ∷ past)
+  guard_begins : (past : List Moment) (m : ℕ) (k : List ℕ) (reply : Answer) (from : Option ℕ) → Fine (Does (Replies m k reply from) ∷ past) → before (T past) n ≡ began → AcknowledgedBy (T past) (Replies m k reply from) n delete → Guarded (Does (Replies m k reply from) ∷ past)
   guard_begins past m k reply from run at ack =
       let mine : m ≡ n = ack.0 in
-      let there : under_way (seen past) n ≡ Some delete = subst (λ x. under_way (seen past) x ≡ Some delete) mine ack.1 in
+      let there : under_way (T past) n ≡ Some delete = subst (λ x. under_way (T past) x ≡ Some delete) mine ack.1 in
       let asked : run.0.0 ≡ delete = some_ask run.0.0 delete (sym run.0.1 ∙ ack.1) in
-      let word : words n delete (calls_so_far (seen past) n) reply from = subst (λ a. words n a (calls_so_far (seen past) n) reply from) asked (subst (λ x. words x run.0.0 (calls_so_far (seen past) x) reply from) mine run.0.3) in
+      let word : words n delete (calls_so_far (T past) n) reply from = subst (λ a. words n a (calls_so_far (T past) n) reply from) asked (subst (λ x. words x run.0.0 (calls_so_far (T past) x) reply from) mine run.0.3) in
       record {
-        cleared = λ s clears. clears (calls_so_far (seen past) n) reply from word ack.2;
-        holds = λ s clears. clear_so_far past run.1 at there s (clears (calls_so_far (seen past) n) reply from word ack.2);
-        read = λ x client begins same later i item is. absurd (over words Bars opening (LandsInTime Over) past n delete run.1 (acked_over (seen past) n delete (acked_since (seen past) x n delete later)) there);
+        cleared = λ s clears. clears (calls_so_far (T past) n) reply from word ack.2;
+        holds = λ s clears. clear_so_far past run.1 at there s (clears (calls_so_far (T past) n) reply from word ack.2);
+        read = λ x client begins same later i item is. absurd (over words Bars opening (T past) n delete (runs past run.1) (acked_over (T past) n delete (acked_since (T past) x n delete later)) there);
       }
 
   -- a later command's call stores what may be seen
-  stamp_late : (past : List Moment) → Fine past → before (seen past) n ≡ began → IsAcknowledged (seen past) n delete → Guarded past → (number : ℕ) (client : Ask) (call : Call) (origin : Origin) (stamp : ℕ) → (number ≡ n → ⊥) → client.key ≡ delete.key → call.origin ≡ origin → under_way (seen past) number ≡ Some client → IsFront words number client (calls_so_far (seen past) number ++ call ∷ []) → GivesStamp opening past number origin stamp → Q stamp
+  stamp_late : (past : List Moment) → Fine past → before (T past) n ≡ began → IsAcknowledged (T past) n delete → Guarded past → (number : ℕ) (client : Ask) (call : Call) (origin : Origin) (stamp : ℕ) → (number ≡ n → ⊥) → client.key ≡ delete.key → call.origin ≡ origin → under_way (T past) number ≡ Some client → IsFront words number client (calls_so_far (T past) number ++ call ∷ []) → GivesStamp opening (T past) number origin stamp → Q stamp
   stamp_late past run at ack g number client call Client stamp other same o there front gives = subst Q (sym gives) (young past run at number client there)
   stamp_late past run at ack g number client call (CopyOf i) stamp other same o there front gives =
-      let calls = calls_so_far (seen past) number in
-      copy_late past run ack g number client (calls ++ call ∷ []) (length calls) call i stamp (way_begun (seen past) number client there) other same front (get_seam calls call []) o
+      let calls = calls_so_far (T past) number in
+      copy_late past run ack g number client (calls ++ call ∷ []) (length calls) call i stamp (way_begun (T past) number client there) other same front (get_seam calls call []) o
       (λ r found e. get_left calls (call ∷ []) r found e)
-      (λ ended. over words Bars opening (LandsInTime Over) past number client run (ended_since (seen past) n number ended) there) gives
+      (λ ended. over words Bars opening (T past) number client (runs past run) (ended_since (T past) n number ended) there) gives
 
-  late : (past : List Moment) (number server : ℕ) (ask : Ask) (origin : Origin) (end : End) → Fine past → before (seen past) n ≡ began → IsAcknowledged (seen past) n delete → Guarded past → MayCome words Bars opening (LandsInTime Over) past (Does (Calls number server ask origin end)) → ask.key ≡ delete.key → Gives Q end
+  late : (past : List Moment) (number server : ℕ) (ask : Ask) (origin : Origin) (end : End) → Fine past → before (T past) n ≡ began → IsAcknowledged (T past) n delete → Guarded past → MayCome words Bars opening (LandsInTime Over) past (Does (Calls number server ask origin end)) → ask.key ≡ delete.key → Gives Q end
   late past number server ask origin (Read stamp answer spaces) run at ack g may same =
-      stamp_late past run at ack g number may.0 (record { server = server; ask = ask; origin = origin; outcome = Answered answer }) origin stamp (λ is. over words Bars opening (LandsInTime Over) past n may.0 run (acked_over (seen past) n delete ack) (ap (under_way (seen past)) (sym is) ∙ may.1)) (sym may.2 ∙ same) refl may.1 may.3 may.4.1
+      stamp_late past run at ack g number may.0 (record { server = server; ask = ask; origin = origin; outcome = Answered answer }) origin stamp (λ is. over words Bars opening (T past) n may.0 (runs past run) (acked_over (T past) n delete ack) (ap (under_way (T past)) (sym is) ∙ may.1)) (sym may.2 ∙ same) refl may.1 may.3 may.4.1
   late past number server ask origin (Unread stamp answer spaces) run at ack g may same =
-      stamp_late past run at ack g number may.0 (record { server = server; ask = ask; origin = origin; outcome = Failed }) origin stamp (λ is. over words Bars opening (LandsInTime Over) past n may.0 run (acked_over (seen past) n delete ack) (ap (under_way (seen past)) (sym is) ∙ may.1)) (sym may.2 ∙ same) refl may.1 may.3 may.4.1
+      stamp_late past run at ack g number may.0 (record { server = server; ask = ask; origin = origin; outcome = Failed }) origin stamp (λ is. over words Bars opening (T past) n may.0 (runs past run) (acked_over (T past) n delete ack) (ap (under_way (T past)) (sym is) ∙ may.1)) (sym may.2 ∙ same) refl may.1 may.3 may.4.1
   late past number server ask origin Never run at ack g may same = tt
 
-  guard_keeps : (past : List Moment) (moment : Moment) → Fine (moment ∷ past) → before (seen past) n ≡ began → IsAcknowledged (seen past) n delete → Guarded past → Guarded (moment ∷ past)
+  guard_keeps : (past : List Moment) (moment : Moment) → Fine (moment ∷ past) → before (T past) n ≡ began → IsAcknowledged (T past) n delete → Guarded past → Guarded (moment ∷ past)
   guard_keeps past (Does (Begins number ask)) run at ack g =
       record {
         cleared = g.cleared;
         holds = g.holds;
         read = λ m client begins same later i item is.
-            (elim (nat_eq number m) as (λ b. nat_eq number m ≡ b → cond b (Some ask) (begun (seen past) m) ≡ Some client → IsAcknowledged (cond b (seen past) (before (seen past) m)) n delete → (call : Call) × (slice_get (calls_so_far (seen past) m) i ≡ Some call) × (IsCleared words n delete call.server → Q item.stamp)) [
-              | true ↦ λ here _ _. absurd (no_item item (sym (new_item_at opening m past i (subst (λ k. IsNewNumber k (seen past)) (eqb-true number m here) run.0.0)) ∙ is))
+            (elim (nat_eq number m) as (λ b. nat_eq number m ≡ b → cond b (Some ask) (begun (T past) m) ≡ Some client → IsAcknowledged (cond b (T past) (before (T past) m)) n delete → (call : Call) × (slice_get (calls_so_far (T past) m) i ≡ Some call) × (IsCleared words n delete call.server → Q item.stamp)) [
+              | true ↦ λ here _ _. absurd (no_item item (sym (new_item_at opening m (T past) i (subst (λ k. IsNewNumber k (T past)) (eqb-true number m here) run.0.0)) ∙ is))
               | false ↦ λ _ e l. g.read m client e same l i item is
             ]) refl begins later;
       }
@@ -243,21 +230,21 @@ module _ (words : ℕ → Ask → List Call → Answer → Option ℕ → Type 0
   guard_keeps past (Does (Calls number server ask origin end)) run at ack g =
       let key = delete.key in
       let call : Call = record { server = server; ask = ask; origin = origin; outcome = outcome_of end } in
-      let other : nat_eq number n ≡ false = differs number n (λ is. over words Bars opening (LandsInTime Over) past n run.0.0 run.1 (acked_over (seen past) n delete ack) (ap (under_way (seen past)) (sym is) ∙ run.0.1)) in
+      let other : nat_eq number n ≡ false = differs number n (λ is. over words Bars opening (T past) n run.0.0 (runs past run.1) (acked_over (T past) n delete ack) (ap (under_way (T past)) (sym is) ∙ run.0.1)) in
       record {
-        cleared = λ s clears. subst (λ l. ClearsIn l s) (sym (second (nat_eq number n) (calls_so_far (seen past) n ++ call ∷ []) (calls_so_far (seen past) n) other)) (g.cleared s clears);
-        holds = λ s clears. by_test (λ l. Has Q (held_in (opening s key) l key)) (nat_eq server s) _ _ (λ _. has_marks Q (opening s key) ask end (life_of past s) key (λ same. late past number server ask origin end run.1 at ack g run.0 ((bytes_eq-Decides ask.key key).0 same)) (g.holds s clears)) (λ _. g.holds s clears);
+        cleared = λ s clears. subst (λ l. ClearsIn l s) (sym (second (nat_eq number n) (calls_so_far (T past) n ++ call ∷ []) (calls_so_far (T past) n) other)) (g.cleared s clears);
+        holds = λ s clears. by_test (λ l. Has Q (held_in (opening s key) l key)) (nat_eq server s) _ _ (λ _. has_marks Q (opening s key) ask end (life_of (T past) s) key (λ same. late past number server ask origin end run.1 at ack g run.0 ((bytes_eq-Decides ask.key key).0 same)) (g.holds s clears)) (λ _. g.holds s clears);
         read = λ m client begins same later i item is.
-            let calls = calls_so_far (seen past) m in
-            (elim (nat_eq number m) as (λ b. nat_eq number m ≡ b → cond b (cond (nat_eq (length calls) i) (held opening past server ask.key) (item_at opening past m i)) (item_at opening past m i) ≡ Some item → (found : Call) × (slice_get (cond b (calls ++ call ∷ []) calls) i ≡ Some found) × (IsCleared words n delete found.server → Q item.stamp)) [
-              | true ↦ λ mine. by_test (λ o. o ≡ Some item → (call' : Call) × (slice_get (calls ++ call ∷ []) i ≡ Some call') × (IsCleared words n delete call'.server → Q item.stamp)) (nat_eq (length calls) i) (held opening past server ask.key) (item_at opening past m i)
+            let calls = calls_so_far (T past) m in
+            (elim (nat_eq number m) as (λ b. nat_eq number m ≡ b → cond b (cond (nat_eq (length calls) i) (held opening (T past) server ask.key) (item_at opening (T past) m i)) (item_at opening (T past) m i) ≡ Some item → (found : Call) × (slice_get (cond b (calls ++ call ∷ []) calls) i ≡ Some found) × (IsCleared words n delete found.server → Q item.stamp)) [
+              | true ↦ λ mine. by_test (λ o. o ≡ Some item → (call' : Call) × (slice_get (calls ++ call ∷ []) i ≡ Some call') × (IsCleared words n delete call'.server → Q item.stamp)) (nat_eq (length calls) i) (held opening (T past) server ask.key) (item_at opening (T past) m i)
                   (λ here e. (
                     call,
                     subst (λ j. slice_get (calls ++ call ∷ []) j ≡ Some call) (eqb-true (length calls) i here) (get_seam calls call []),
                     λ clears.
-                        let asked : run.0.0 ≡ client = some_ask run.0.0 client (sym (way_begun (seen past) number run.0.0 run.0.1) ∙ ap (begun (seen past)) (eqb-true number m mine) ∙ begins) in
+                        let asked : run.0.0 ≡ client = some_ask run.0.0 client (sym (way_begun (T past) number run.0.0 run.0.1) ∙ ap (begun (T past)) (eqb-true number m mine) ∙ begins) in
                         let on : ask.key ≡ key = run.0.2 ∙ ap (λ (a : Ask). a.key) asked ∙ same in
-                        subst (Has Q) (sym (ap (held opening past server) on) ∙ e) (g.holds server clears),
+                        subst (Has Q) (sym (ap (held opening (T past) server) on) ∙ e) (g.holds server clears),
                   ))
                   (λ _ e. let r = g.read m client begins same later i item e in (r.0, get_left calls (call ∷ []) i r.0 r.1, r.2))
               | false ↦ λ _ e. g.read m client begins same later i item e
@@ -276,20 +263,14 @@ module _ (words : ℕ → Ask → List Call → Answer → Option ℕ → Type 0
         read = g.read;
       }
   guard_keeps past (Lands number server ask origin stamp answer spaces) run at ack g =
-      let key = delete.key in
       record {
         cleared = g.cleared;
-        holds = λ s clears. by_test (λ l. Has Q (held_in (opening s key) l key)) (nat_eq server s) _ _
-            (λ here. by_test (Has Q) (bytes_eq ask.key key) _ _
-            (λ same. landed Q ask stamp answer spaces _
-            (λ store. lands_late past run.1 at ack g number server ask origin stamp run.0.0 run.0.1 run.0.3 ((bytes_eq-Decides ask.key key).0 same) (subst (λ x. ClearsIn (calls_so_far (seen past) n) x) (sym (eqb-true server s here)) (g.cleared s clears)) store)
-            (g.holds s clears))
-            (λ _. g.holds s clears))
-            (λ _. g.holds s clears);
+        holds = λ s clears. lands_holds past server s ask stamp answer spaces (g.holds s clears)
+            (λ here same store. lands_late past run.1 at ack g number server ask origin stamp run.0.0 run.0.1 run.0.3 same (subst (λ x. ClearsIn (calls_so_far (T past) n) x) (sym here) (g.cleared s clears)) store);
         read = g.read;
       }
 
-  guarded : (past : List Moment) → Fine past → before (seen past) n ≡ began → IsAcknowledged (seen past) n delete → Guarded past
+  guarded : (past : List Moment) → Fine past → before (T past) n ≡ began → IsAcknowledged (T past) n delete → Guarded past
   guarded [] run at ack = absurd ack
   guarded (Does (Replies m k reply from) ∷ past) run at (inl ack) = guard_begins past m k reply from run at ack
   guarded (Does (Begins m ask) ∷ past) run at (inl ack) = absurd ack
@@ -298,23 +279,24 @@ module _ (words : ℕ → Ask → List Call → Answer → Option ℕ → Type 0
   guarded (Does (Turns server k turned) ∷ past) run at (inl ack) = absurd ack
   guarded (Does (Restarts server) ∷ past) run at (inl ack) = absurd ack
   guarded (Does (Begins m ask) ∷ past) run at (inr ack) =
-      let old : before (seen past) n ≡ began = sym (ap (λ b. cond b (seen past) (before (seen past) n)) (differs m n (λ is. (let lt = acked_below m (seen past) n delete run.0.0 ack in omega (arith, lt, is))))) ∙ at in
+      let old : before (T past) n ≡ began = sym (ap (λ b. cond b (T past) (before (T past) n)) (differs m n (λ is. (let lt = acked_below m (T past) n delete run.0.0 ack in omega (arith, lt, is))))) ∙ at in
       guard_keeps past (Does (Begins m ask)) run old ack (guarded past run.1 old ack)
   guarded (Does (Calls m server ask origin end) ∷ past) run at (inr ack) = guard_keeps past (Does (Calls m server ask origin end)) run at ack (guarded past run.1 at ack)
   guarded (Does (Replies m k reply from) ∷ past) run at (inr ack) = guard_keeps past (Does (Replies m k reply from)) run at ack (guarded past run.1 at ack)
   guarded (Does (Breaks m) ∷ past) run at (inr ack) = guard_keeps past (Does (Breaks m)) run at ack (guarded past run.1 at ack)
   guarded (Does (Turns server k turned) ∷ past) run at (inr ack) = guard_keeps past (Does (Turns server k turned)) run at ack (guarded past run.1 at ack)
   guarded (Does (Restarts server) ∷ past) run at (inr ack) = guard_keeps past (Does (Restarts server)) run at ack (guarded past run.1 at ack)
-  guarded (Lands x s a o stamp answer spaces ∷ past) run at ack = guard_keeps past (Lands x s a o stamp answer spaces) run at ack (guarded past run.1 at ack)
+  guarded (Lands x s a o stamp answer spaces ∷ past) run at (inl ack) = absurd ack
+  guarded (Lands x s a o stamp answer spaces ∷ past) run at (inr ack) = guard_keeps past (Lands x s a o stamp answer spaces) run at ack (guarded past run.1 at ack)
 
   -- what a command shows that began after the delete was acknowledged
-  pub shows_young : (moments : List Moment) → Fine moments → before (seen moments) n ≡ began → (m : ℕ) (item : Item) → IsAcknowledged (before (seen moments) m) n delete → IsShown opening moments m delete.key item → Q item.stamp
+  pub shows_young : (moments : List Moment) → Fine moments → before (T moments) n ≡ began → (m : ℕ) (item : Item) → IsAcknowledged (before (T moments) m) n delete → IsShown opening (T moments) m delete.key item → Q item.stamp
   shows_young [] run at m item ack shown = absurd shown
   shows_young (Does (Begins x ask) ∷ past) run at m item ack (inl shown) = absurd shown
   shows_young (Does (Begins x ask) ∷ past) run at m item ack (inr shown) =
-      let later : IsAcknowledged (before (seen past) m) n delete = subst (λ b. IsAcknowledged (cond b (seen past) (before (seen past) m)) n delete) (differs x m (λ is. (let lt = shown_below opening x past m delete.key item run.0.0 shown in omega (arith, lt, is)))) ack in
-      let acked = acked_since (seen past) m n delete later in
-      let old : before (seen past) n ≡ began = sym (ap (λ b. cond b (seen past) (before (seen past) n)) (differs x n (λ is. (let lt = acked_below x (seen past) n delete run.0.0 acked in omega (arith, lt, is))))) ∙ at in
+      let later : IsAcknowledged (before (T past) m) n delete = subst (λ b. IsAcknowledged (cond b (T past) (before (T past) m)) n delete) (differs x m (λ is. (let lt = shown_below opening x (T past) m delete.key item run.0.0 shown in omega (arith, lt, is)))) ack in
+      let acked = acked_since (T past) m n delete later in
+      let old : before (T past) n ≡ began = sym (ap (λ b. cond b (T past) (before (T past) n)) (differs x n (λ is. (let lt = acked_below x (T past) n delete run.0.0 acked in omega (arith, lt, is))))) ∙ at in
       shows_young past run.1 old m item later shown
   shows_young (Does (Calls a b c d e) ∷ past) run at m item ack (inl shown) = absurd shown
   shows_young (Does (Calls a b c d e) ∷ past) run at m item ack (inr shown) = shows_young past run.1 at m item ack shown
@@ -324,17 +306,18 @@ module _ (words : ℕ → Ask → List Call → Answer → Option ℕ → Type 0
   shows_young (Does (Turns a b turned) ∷ past) run at m item ack (inr shown) = shows_young past run.1 at m item ack shown
   shows_young (Does (Restarts a) ∷ past) run at m item ack (inl shown) = absurd shown
   shows_young (Does (Restarts a) ∷ past) run at m item ack (inr shown) = shows_young past run.1 at m item ack shown
-  shows_young (Lands x s a o stamp answer spaces ∷ past) run at m item ack shown = shows_young past run.1 at m item ack shown
+  shows_young (Lands x s a o stamp answer spaces ∷ past) run at m item ack (inl shown) = absurd shown
+  shows_young (Lands x s a o stamp answer spaces ∷ past) run at m item ack (inr shown) = shows_young past run.1 at m item ack shown
   shows_young (Does (Replies a k reply from) ∷ past) run at m item ack (inr shown) = shows_young past run.1 at m item ack shown
   shows_young (Does (Replies a k reply from) ∷ past) run at m item ack (inl shown) =
-      let later : IsAcknowledged (before (seen past) a) n delete = subst (λ x. IsAcknowledged (before (seen past) x) n delete) (sym shown.0) ack in
-      let g = guarded past run.1 at (acked_since (seen past) a n delete later) in
+      let later : IsAcknowledged (before (T past) a) n delete = subst (λ x. IsAcknowledged (before (T past) x) n delete) (sym shown.0) ack in
+      let g = guarded past run.1 at (acked_since (T past) a n delete later) in
       let same : run.0.0.key ≡ delete.key = sym run.0.2 ∙ shown.1 in
-      let r = g.read a run.0.0 (way_begun (seen past) a run.0.0 run.0.1) same later shown.2 item shown.4 in
-      r.2 (cover.covered n a delete run.0.0 (above words Bars opening (LandsInTime Over) past run.1 n a delete later) op same _ _ _ run.0.3 r.0.server (shown.2, (r.0, r.1, refl), inl shown.3))
+      let r = g.read a run.0.0 (way_begun (T past) a run.0.0 run.0.1) same later shown.2 item shown.4 in
+      r.2 (cover.covered n a delete run.0.0 (above words Bars opening (T past) (runs past run.1) n a delete later) op same _ _ _ run.0.3 r.0.server (shown.2, (r.0, r.1, refl), inl shown.3))
 
 -- a run is fresh, whose deletes clear what later commands take, in which what copies has its key alone, and what had failed is applied in time or never
 pub fresh : (words : ℕ → Ask → List Call → Answer → Option ℕ → Type 0) (Bars : ℕ → Ask → ℕ → Ask → Type 0) (Over : List Event → ℕ → ℕ → Type 0) → IsCovered words → CopiesBar words Bars → IsPart Over → (opening : ℕ → List ℕ → Option Item) (moments : List Moment) → Run words Bars opening (LandsInTime Over) moments → IsFreshBy opening Over moments
 fresh words Bars Over cover copies part opening moments run n m delete item ack shown =
-    let op = acked_delete (seen moments) n delete (acked_since (seen moments) m n delete ack) in
-    shows_young words Bars Over cover copies part opening n delete op (before (seen moments) n) moments run refl m item ack shown
+    let op = acked_delete (told opening moments) n delete (acked_since (told opening moments) m n delete ack) in
+    shows_young words Bars Over cover copies part opening n delete op (before (told opening moments) n) moments run refl m item ack shown

@@ -8,7 +8,7 @@ use Rattle.mc_types.specs.Items.{Item}
 use Rattle.fresh_runs.specs.Calls.{Call, End, outcome_of}
 use Rattle.fresh_runs.specs.Run.{Event, Begins, Calls, Replies, Breaks, Turns, Restarts, under_way, calls_so_far, IsNewNumber, IsFront}
 use Rattle.fresh_runs.proofs.Runs.{no_ask, differs, differ, second, way_below}
-use Rattle.core_accepted.specs.Late.{Moment, Does, Lands, seen, Run, LandsEver}
+use Rattle.core_accepted.specs.Late.{Moment, Does, Lands, told, Run, LandsEver}
 use Rattle.core_accepted.specs.Pipes.{PipeStep, Sends, Moves, Closes, moments_of, Steps}
 use Rattle.core_accepted.specs.Parts.{MayDo, Own, RunIsOwn, IsOther, IsChange, MovesBack, EndsAs, LeavesKey, LeavesRestart, AreChanges, Same, More, OwnIsChanged, renamed, OwnIsRenamed, part, BarsWithin, NumbersRise, MayServe, Serves, AreInOrder, ArePartsOf, IsFleet, PartsAreRun, FleetHasSteps, FleetOfPartsIsFresh, NoStoreLands, PartsAreFresh, AreRunsOf, RunsAreParts, PartLaws}
 use Rattle.core_accepted.specs.FleetLaws.{LandsHarmless}
@@ -305,10 +305,10 @@ module _ (words : ℕ → Ask → List Call → Answer → Option ℕ → Type 0
     head_of p event mine own = (subst (Own words Bars) (first (nat_eq p p) (event ∷ mine) mine (same p)) own).0
 
     module _ (within : BarsWithin proxy Bars) (opening : ℕ → List ℕ → Option Item) where
-      go : (moments : List Moment) → ((p : ℕ) → Own words Bars (part proxy p (seen moments))) → NumbersRise (seen moments) → Serves opening moments → Run words Bars opening LandsEver moments
+      go : (moments : List Moment) → ((p : ℕ) → Own words Bars (part proxy p (told opening moments))) → NumbersRise (told opening moments) → Serves opening moments → Run words Bars opening LandsEver moments
       go [] own rise serves = tt
       go (Does (Begins x ask) ∷ past) own rise serves =
-          let events = seen past in
+          let events = told opening past in
           let p = proxy x in
           let may = head_of p (Begins x ask) (part proxy p events) (own p) in
           let free : (other : ℕ) (client : Ask) → under_way events other ≡ Some client → client.key ≡ ask.key → p ≡ proxy other → (Bars x ask other client → ⊥) × (Bars other client x ask → ⊥) =
@@ -317,7 +317,7 @@ module _ (words : ℕ → Ask → List Call → Answer → Option ℕ → Type 0
             go past (λ q. tail (Begins x ask) events q (own q)) rise.1 serves.1,
           )
       go (Does (Calls x s a o end) ∷ past) own rise serves =
-          let events = seen past in
+          let events = told opening past in
           let p = proxy x in
           let call : Call = record { server = s; ask = a; origin = o; outcome = outcome_of end } in
           let may = head_of p (Calls x s a o end) (part proxy p events) (own p) in (
@@ -325,14 +325,14 @@ module _ (words : ℕ → Ask → List Call → Answer → Option ℕ → Type 0
             go past (λ q. tail (Calls x s a o end) events q (own q)) rise serves.1,
           )
       go (Does (Replies x key r f) ∷ past) own rise serves =
-          let events = seen past in
+          let events = told opening past in
           let p = proxy x in
           let may = head_of p (Replies x key r f) (part proxy p events) (own p) in (
             (may.0, sym (part_way events x) ∙ may.1, may.2, subst (λ l. words x may.0 l r f) (part_calls events x) may.3),
             go past (λ q. tail (Replies x key r f) events q (own q)) rise serves.1,
           )
       go (Does (Breaks x) ∷ past) own rise serves =
-          let events = seen past in
+          let events = told opening past in
           let p = proxy x in
           let may = head_of p (Breaks x) (part proxy p events) (own p) in
           ((may.0, sym (part_way events x) ∙ may.1), go past (λ q. tail (Breaks x) events q (own q)) rise serves.1)
@@ -375,7 +375,7 @@ module _ (words : ℕ → Ask → List Call → Answer → Option ℕ → Type 0
   runs_parts proxy opening moments fleet =
       record {
         own = λ p.
-            changes (renamed (fleet.name p) (fleet.events p)) (part proxy p (seen moments)) (fleet.parts p)
+            changes (renamed (fleet.name p) (fleet.events p)) (part proxy p (told opening moments)) (fleet.parts p)
             (own_named (fleet.name p) (fleet.rising p) (fleet.events p) (own_by (λ n. words (fleet.name p n)) (λ n ask m client. Bars (fleet.name p n) ask (fleet.name p m) client) (fleet.believes p) (fleet.events p) (fleet.runs p)));
         rise = fleet.rise;
         serves = fleet.serves;

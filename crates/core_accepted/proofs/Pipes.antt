@@ -12,11 +12,11 @@ use Rattle.fresh_runs.specs.Cover.{ClearsIn}
 use Rattle.fresh_runs.specs.Run.{Event, Begins, Calls, Replies, Breaks, Turns, Restarts, under_way, calls_so_far, before, HasEnded, IsNewNumber}
 use Rattle.fresh_runs.specs.Overlap.{Ticket}
 use Rattle.fresh_runs.proofs.Stamps.{by_test, get_left, clears_split}
-use Rattle.fresh_runs.proofs.Runs.{some_ask, no_ask, differs, differ, second, new_calls, ended_since}
-use Rattle.core_accepted.specs.Late.{Moment, Does, Lands, seen, begun, Run, WasOver, IsTimely, LandsInTime, LandsEver}
+use Rattle.fresh_runs.proofs.Runs.{some_ask, no_ask, differs, differ, second, new_calls, ended_since, over}
+use Rattle.core_accepted.specs.Late.{Moment, Does, Lands, told, begun, Run, WasOver, IsTimely, LandsInTime, LandsEver}
 use Rattle.core_accepted.specs.FleetLaws.{IsSticky}
 use Rattle.core_accepted.specs.Pipes.{PipeStep, Sends, Moves, Closes, moments_of, is_pipe, behind_first, IsFirstIn, pipe_of, Steps, WasOverOn, CopiesStay}
-use Rattle.core_accepted.proofs.Late.{way_begun, over, made}
+use Rattle.core_accepted.proofs.Late.{way_begun, made, as_run, way_told}
 
 is_pipe_true : (q t p s : ℕ) → is_pipe q t p s ≡ true → (q ≡ p) × (t ≡ s)
 is_pipe_true q t p s e =
@@ -169,58 +169,61 @@ module _ (line : ℕ → ℕ → ℕ) where
         let e = is_pipe_true (line number server) server p s here in
         subst (λ q. IsFirstIn (pipe_of line past q s) number ask origin) e.0 (subst (λ t. IsFirstIn (pipe_of line past (line number server) t) number ask origin) e.1 first)
 
-    piped : (steps : List PipeStep) → Steps line words Bars opening steps → (p s : ℕ) → Piped (seen (moments_of steps)) p s (pipe_of line steps p s)
+    piped : (steps : List PipeStep) → Steps line words Bars opening steps → (p s : ℕ) → Piped (told opening (moments_of steps)) p s (pipe_of line steps p s)
     piped [] h p s = record { begins = tt; ordered = tt; behind = λ n home clears. tt }
     piped (Sends x server ask origin ∷ past) h p s =
-        let events = seen (moments_of past) in
+        let events = told opening (moments_of past) in
         let old = piped past h.1 p s in
         let t : Ticket = record { number = x; ask = ask; origin = origin } in
-        let on : (n : ℕ) → HasEnded (before events n) x → ⊥ = λ n ended. over words Bars opening LandsEver (moments_of past) x h.0.0 (run_of past h.1) (ended_since events n x ended) h.0.1 in
+        let way : under_way events x ≡ Some h.0.0 = sym (way_told opening (moments_of past) x) ∙ h.0.1 in
+        let on : (n : ℕ) → HasEnded (before events n) x → ⊥ = λ n ended. over words Bars opening events x h.0.0 (as_run words Bars opening LandsEver (moments_of past) (run_of past h.1)) (ended_since events n x ended) way in
         by_test (Piped events p s) (is_pipe (line x server) server p s) (pipe_of line past p s ++ t ∷ []) (pipe_of line past p s)
         (λ _. record {
-          begins = begun_more (λ n. begun events n) (pipe_of line past p s) t h.0.0 old.begins (way_begun events x h.0.0 h.0.1);
+          begins = begun_more (λ n. begun events n) (pipe_of line past p s) t h.0.0 old.begins (way_begun events x h.0.0 way);
           ordered = ordered_more (λ n. before events n) (pipe_of line past p s) t old.ordered on;
           behind = λ n home clears. none_more (before events n) (pipe_of line past p s) t (old.behind n home clears) (on n);
         })
         (λ _. old)
-    piped (Moves (Does (Begins x ask)) ∷ past) h p s = piped_begins (seen (moments_of past)) p s (pipe_of line past p s) x ask h.0.0.0 (piped past h.1 p s)
+    piped (Moves (Does (Begins x ask)) ∷ past) h p s = piped_begins (told opening (moments_of past)) p s (pipe_of line past p s) x ask h.0.0.0 (piped past h.1 p s)
     piped (Moves (Does (Calls x server ask origin (Read stamp answer spaces))) ∷ past) h p s =
-        piped_call (seen (moments_of past)) p s (pipe_of line past p s) x server ask origin (Read stamp answer spaces) (λ here. turn_at past x server p s ask origin here h.0.1) (piped past h.1 p s)
+        piped_call (told opening (moments_of past)) p s (pipe_of line past p s) x server ask origin (Read stamp answer spaces) (λ here. turn_at past x server p s ask origin here h.0.1) (piped past h.1 p s)
     piped (Moves (Does (Calls x server ask origin (Unread stamp answer spaces))) ∷ past) h p s =
-        piped_call (seen (moments_of past)) p s (pipe_of line past p s) x server ask origin (Unread stamp answer spaces) (λ here. turn_at past x server p s ask origin here h.0.1) (piped past h.1 p s)
+        piped_call (told opening (moments_of past)) p s (pipe_of line past p s) x server ask origin (Unread stamp answer spaces) (λ here. turn_at past x server p s ask origin here h.0.1) (piped past h.1 p s)
     piped (Moves (Does (Calls x server ask origin Never)) ∷ past) h p s =
-        by_test (Piped (seen (moments_of (Moves (Does (Calls x server ask origin Never)) ∷ past))) p s) (is_pipe (line x server) server p s) (pipe_of line past p s) (pipe_of line past p s)
-        (λ _. piped_never (seen (moments_of past)) p s (pipe_of line past p s) x server ask origin (piped past h.1 p s))
-        (λ _. piped_never (seen (moments_of past)) p s (pipe_of line past p s) x server ask origin (piped past h.1 p s))
+        by_test (Piped (told opening (moments_of (Moves (Does (Calls x server ask origin Never)) ∷ past))) p s) (is_pipe (line x server) server p s) (pipe_of line past p s) (pipe_of line past p s)
+        (λ _. piped_never (told opening (moments_of past)) p s (pipe_of line past p s) x server ask origin (piped past h.1 p s))
+        (λ _. piped_never (told opening (moments_of past)) p s (pipe_of line past p s) x server ask origin (piped past h.1 p s))
     piped (Moves (Does (Replies x key r f)) ∷ past) h p s = let old = piped past h.1 p s in record { begins = old.begins; ordered = old.ordered; behind = old.behind }
     piped (Moves (Does (Breaks x)) ∷ past) h p s = let old = piped past h.1 p s in record { begins = old.begins; ordered = old.ordered; behind = old.behind }
     piped (Moves (Does (Turns server key turned)) ∷ past) h p s = let old = piped past h.1 p s in record { begins = old.begins; ordered = old.ordered; behind = old.behind }
     piped (Moves (Does (Restarts server)) ∷ past) h p s = let old = piped past h.1 p s in record { begins = old.begins; ordered = old.ordered; behind = old.behind }
     piped (Moves (Lands x server ask origin stamp answer spaces) ∷ past) h p s =
         let old = piped past h.1 p s in
-        by_test (Piped (seen (moments_of past)) p s) (is_pipe (line x server) server p s) (behind_first (pipe_of line past p s)) (pipe_of line past p s)
-        (λ here. piped_behind (seen (moments_of past)) p s (pipe_of line past p s) x ask origin (turn_at past x server p s ask origin here h.0.1) old)
-        (λ _. old)
+        let next =
+        by_test (Piped (told opening (moments_of past)) p s) (is_pipe (line x server) server p s) (behind_first (pipe_of line past p s)) (pipe_of line past p s)
+        (λ here. piped_behind (told opening (moments_of past)) p s (pipe_of line past p s) x ask origin (turn_at past x server p s ask origin here h.0.1) old)
+        (λ _. old) in
+        record { begins = next.begins; ordered = next.ordered; behind = next.behind }
     piped (Closes q server ∷ past) h p s =
-        by_test (Piped (seen (moments_of past)) p s) (is_pipe q server p s) [] (pipe_of line past p s)
+        by_test (Piped (told opening (moments_of past)) p s) (is_pipe q server p s) [] (pipe_of line past p s)
         (λ _. record { begins = tt; ordered = tt; behind = λ n home clears. tt })
         (λ _. piped past h.1 p s)
 
     -- what lands in its turn wasn't over when a delete of its proxy began that has an answer there
-    in_turn : (past : List PipeStep) → Steps line words Bars opening past → (number server : ℕ) (ask : Ask) (origin : Origin) → IsFirstIn (pipe_of line past (line number server) server) number ask origin → (n : ℕ) → line n server ≡ line number server → ClearsIn (calls_so_far (seen (moments_of past)) n) server → HasEnded (before (seen (moments_of past)) n) number → ⊥
+    in_turn : (past : List PipeStep) → Steps line words Bars opening past → (number server : ℕ) (ask : Ask) (origin : Origin) → IsFirstIn (pipe_of line past (line number server) server) number ask origin → (n : ℕ) → line n server ≡ line number server → ClearsIn (calls_so_far (told opening (moments_of past)) n) server → HasEnded (before (told opening (moments_of past)) n) number → ⊥
     in_turn past h number server ask origin first n home clears ended =
-        (subst (NoneOver (before (seen (moments_of past)) n)) first.1 ((piped past h (line number server) server).behind n home clears)).0 ended
+        (subst (NoneOver (before (told opening (moments_of past)) n)) first.1 ((piped past h (line number server) server).behind n home clears)).0 ended
 
     -- once a command is over it makes no calls
-    calls_stay : (past : List Moment) → Run words Bars opening LandsEver past → (n s : ℕ) → HasEnded (before (seen past) n) s → calls_so_far (before (seen past) n) s ≡ calls_so_far (seen past) s
+    calls_stay : (past : List Moment) → Run words Bars opening LandsEver past → (n s : ℕ) → HasEnded (before (told opening past) n) s → calls_so_far (before (told opening past) n) s ≡ calls_so_far (told opening past) s
     calls_stay [] run n s h = refl
     calls_stay (Does (Begins x ask) ∷ past) run n s h =
-        (elim (nat_eq x n) as (λ b. HasEnded (cond b (seen past) (before (seen past) n)) s → calls_so_far (cond b (seen past) (before (seen past) n)) s ≡ calls_so_far (seen past) s) [
+        (elim (nat_eq x n) as (λ b. HasEnded (cond b (told opening past) (before (told opening past) n)) s → calls_so_far (cond b (told opening past) (before (told opening past) n)) s ≡ calls_so_far (told opening past) s) [
           | true ↦ λ _. refl
           | false ↦ λ e. calls_stay past run.1 n s e
         ]) h
     calls_stay (Does (Calls x server ask origin end) ∷ past) run n s h =
-        calls_stay past run.1 n s h ∙ sym (second (nat_eq x s) (calls_so_far (seen past) s ++ record { server = server; ask = ask; origin = origin; outcome = outcome_of end } ∷ []) (calls_so_far (seen past) s) (differs x s (λ is. over words Bars opening LandsEver past s run.0.0 run.1 (ended_since (seen past) n s h) (ap (under_way (seen past)) (sym is) ∙ run.0.1))))
+        calls_stay past run.1 n s h ∙ sym (second (nat_eq x s) (calls_so_far (told opening past) s ++ record { server = server; ask = ask; origin = origin; outcome = outcome_of end } ∷ []) (calls_so_far (told opening past) s) (differs x s (λ is. over words Bars opening (told opening past) s run.0.0 (as_run words Bars opening LandsEver past run.1) (ended_since (told opening past) n s h) (ap (under_way (told opening past)) (sym is) ∙ run.0.1))))
     calls_stay (Does (Replies x key r f) ∷ past) run n s h = calls_stay past run.1 n s h
     calls_stay (Does (Breaks x) ∷ past) run n s h = calls_stay past run.1 n s h
     calls_stay (Does (Turns server key turned) ∷ past) run n s h = calls_stay past run.1 n s h
@@ -228,16 +231,16 @@ module _ (line : ℕ → ℕ → ℕ) where
     calls_stay (Lands x server ask origin stamp answer spaces ∷ past) run n s h = calls_stay past run.1 n s h
 
     -- so what had failed of it had failed then
-    pub failed_then : (past : List Moment) → Run words Bars opening LandsEver past → (number n j : ℕ) (call : Call) → slice_get (calls_so_far (seen past) number) j ≡ Some call → HasEnded (before (seen past) n) number → slice_get (calls_so_far (before (seen past) n) number) j ≡ Some call
+    pub failed_then : (past : List Moment) → Run words Bars opening LandsEver past → (number n j : ℕ) (call : Call) → slice_get (calls_so_far (told opening past) number) j ≡ Some call → HasEnded (before (told opening past) n) number → slice_get (calls_so_far (before (told opening past) n) number) j ≡ Some call
     failed_then past run number n j call got ended = subst (λ l. slice_get l j ≡ Some call) (sym (calls_stay past run n number ended)) got
 
-    lands_in_time : CopiesStay line words → (past : List PipeStep) → Steps line words Bars opening past → (number server : ℕ) (ask : Ask) (origin : Origin) → (j : ℕ) → slice_get (calls_so_far (seen (moments_of past)) number) j ≡ Some (record { server = server; ask = ask; origin = origin; outcome = Failed }) → IsFirstIn (pipe_of line past (line number server) server) number ask origin → LandsInTime (WasOverOn line) (seen (moments_of past)) number server ask origin
+    lands_in_time : CopiesStay line words → (past : List PipeStep) → Steps line words Bars opening past → (number server : ℕ) (ask : Ask) (origin : Origin) → (j : ℕ) → slice_get (calls_so_far (told opening (moments_of past)) number) j ≡ Some (record { server = server; ask = ask; origin = origin; outcome = Failed }) → IsFirstIn (pipe_of line past (line number server) server) number ask origin → LandsInTime (WasOverOn line) (told opening (moments_of past)) number server ask origin
     lands_in_time stay past h number server ask Client j got first = λ store n delete begins op same ended clears.
         let call : Call = record { server = server; ask = ask; origin = Client; outcome = Failed } in
         in_turn past h number server ask Client first n (ended.1 j call (failed_then (moments_of past) (run_of past h) number n j call got ended.0) store refl) clears ended.0
     lands_in_time stay past h number server ask (CopyOf i) j got first = λ store n delete begins op same ended clears.
-        let m = made words Bars opening LandsEver (moments_of past) (run_of past h) number j (record { server = server; ask = ask; origin = CopyOf i; outcome = Failed }) got in
-        let home = stay number m.0 _ m.2.1 m.2.2 m.2.3 j (record { server = server; ask = ask; origin = CopyOf i; outcome = Failed }) i (get_left (calls_so_far (seen (moments_of past)) number) m.2.0 j _ got) refl n server in
+        let m = made words Bars opening (told opening (moments_of past)) (as_run words Bars opening LandsEver (moments_of past) (run_of past h)) number j (record { server = server; ask = ask; origin = CopyOf i; outcome = Failed }) got in
+        let home = stay number m.0 _ m.2.1 m.2.2 m.2.3 j (record { server = server; ask = ask; origin = CopyOf i; outcome = Failed }) i (get_left (calls_so_far (told opening (moments_of past)) number) m.2.0 j _ got) refl n server in
         in_turn past h number server ask (CopyOf i) first n home clears ended
 
     pub timely : CopiesStay line words → (steps : List PipeStep) → Steps line words Bars opening steps → Run words Bars opening (LandsInTime (WasOverOn line)) (moments_of steps)
@@ -268,10 +271,10 @@ module _ (line : ℕ → ℕ → ℕ) where
       stuck (Turns server key turned ∷ past) h n ask e s = stuck past h n ask e s
       stuck (Restarts server ∷ past) h n ask e s = stuck past h n ask e s
 
-      stuck_in_time : (past : List PipeStep) → Steps line words Bars opening past → IsSticky words Bars line at (seen (moments_of past)) → (number server : ℕ) (ask : Ask) (origin : Origin) → (j : ℕ) → slice_get (calls_so_far (seen (moments_of past)) number) j ≡ Some (record { server = server; ask = ask; origin = origin; outcome = Failed }) → IsFirstIn (pipe_of line past (line number server) server) number ask origin → IsTimely WasOver (seen (moments_of past)) number server ask.key
+      stuck_in_time : (past : List PipeStep) → Steps line words Bars opening past → IsSticky words Bars line at (told opening (moments_of past)) → (number server : ℕ) (ask : Ask) (origin : Origin) → (j : ℕ) → slice_get (calls_so_far (told opening (moments_of past)) number) j ≡ Some (record { server = server; ask = ask; origin = origin; outcome = Failed }) → IsFirstIn (pipe_of line past (line number server) server) number ask origin → IsTimely WasOver (told opening (moments_of past)) number server ask.key
       stuck_in_time past h sticky number server ask origin j got first n delete begins op same ended clears =
-          let events = seen (moments_of past) in
-          let m = made words Bars opening LandsEver (moments_of past) (run_of past h) number j (record { server = server; ask = ask; origin = origin; outcome = Failed }) got in
+          let events = told opening (moments_of past) in
+          let m = made words Bars opening (told opening (moments_of past)) (as_run words Bars opening LandsEver (moments_of past) (run_of past h)) number j (record { server = server; ask = ask; origin = origin; outcome = Failed }) got in
           let home : line n server ≡ line number server = stuck events sticky n delete begins server ∙ ap (λ k. at k server) (same ∙ m.3) ∙ sym (stuck events sticky number m.0 m.1 server) in
           in_turn past h number server ask origin first n home clears ended
 
@@ -279,7 +282,7 @@ module _ (line : ℕ → ℕ → ℕ) where
       by_origin past number server ask Client timely = λ store. timely
       by_origin past number server ask (CopyOf i) timely = λ store. timely
 
-      pub stuck_timely : (steps : List PipeStep) → Steps line words Bars opening steps → IsSticky words Bars line at (seen (moments_of steps)) → Run words Bars opening (LandsInTime WasOver) (moments_of steps)
+      pub stuck_timely : (steps : List PipeStep) → Steps line words Bars opening steps → IsSticky words Bars line at (told opening (moments_of steps)) → Run words Bars opening (LandsInTime WasOver) (moments_of steps)
       stuck_timely [] h sticky = tt
       stuck_timely (Sends number server ask origin ∷ past) h sticky = stuck_timely past h.1 sticky
       stuck_timely (Closes q server ∷ past) h sticky = stuck_timely past h.1 sticky
@@ -290,4 +293,4 @@ module _ (line : ℕ → ℕ → ℕ) where
       stuck_timely (Moves (Does (Turns server key turned)) ∷ past) h sticky = (h.0.0, stuck_timely past h.1 sticky)
       stuck_timely (Moves (Does (Restarts server)) ∷ past) h sticky = (h.0.0, stuck_timely past h.1 sticky)
       stuck_timely (Moves (Lands x server ask origin stamp answer spaces) ∷ past) h sticky =
-          ((h.0.0.0, by_origin (seen (moments_of past)) x server ask origin (stuck_in_time past h.1 sticky x server ask origin h.0.0.0.0 h.0.0.0.1 h.0.1), h.0.0.2, h.0.0.3), stuck_timely past h.1 sticky)
+          ((h.0.0.0, by_origin (told opening (moments_of past)) x server ask origin (stuck_in_time past h.1 sticky x server ask origin h.0.0.0.0 h.0.0.0.1 h.0.1), h.0.0.2, h.0.0.3), stuck_timely past h.1 sticky)

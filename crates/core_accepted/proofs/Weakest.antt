@@ -1,5 +1,5 @@
 -- A set that lands after a delete was acknowledged may be shown.
-use Rattle.std.proofs.Common.{◌≡◌, ℕ, ◌+◌, ◌<◌, ◌≤◌, Bool, true, false, cond, List, [], ◌∷◌, ◌++◌, length, Option, Some, None, inl, refl, sym, ap, ◌∙◌, subst, arith, bytes_eq, nat_eq, slice_get}
+use Rattle.std.proofs.Common.{◌≡◌, ℕ, ◌+◌, ◌<◌, ◌≤◌, Bool, true, false, cond, List, [], ◌∷◌, ◌++◌, length, Option, Some, None, inl, inr, refl, sym, ap, ◌∙◌, subst, arith, bytes_eq, nat_eq, slice_get}
 use Rattle.std.proofs.lemmas.Bool.{eq-eqb}
 use Rattle.std.proofs.lemmas.Slice.Eq.{bytes_eq-Decides}
 use Rattle.mc_types.specs.declared.ask.Ask.{Ask}
@@ -14,15 +14,15 @@ use Rattle.mc_types.specs.Fits.{Fits}
 use Rattle.fresh_runs.specs.Life.{held_in}
 use Rattle.fresh_runs.specs.Calls.{Call, Read}
 use Rattle.fresh_runs.specs.Single.{server_call, server_words}
-use Rattle.fresh_runs.specs.Run.{Event, Begins, Calls, Replies, Breaks, Turns, Restarts, under_way, calls_so_far, before, HasEnded, IsNewNumber, IsApart, IsFront, IsAcknowledged}
+use Rattle.fresh_runs.specs.Run.{Event, Begins, Calls, Replies, Breaks, Turns, Restarts, under_way, calls_so_far, before, HasEnded, IsNewNumber, IsApart, IsFront, IsAcknowledged, life_of, held, item_at}
 use Rattle.fresh_runs.specs.Freshness.{nobody_bars}
 use Rattle.fresh_runs.proofs.Lists.{only_one}
 use Rattle.fresh_runs.proofs.Stamps.{get_left}
 use Rattle.fresh_runs.proofs.Runs.{differs, second, acked_below, new_calls}
 use Rattle.fresh_runs.proofs.Example.{a_get}
-use Rattle.core_accepted.specs.Late.{Moment, Does, Lands, seen, life_of, HasFailed, held, item_at, Run, LandsEver}
+use Rattle.core_accepted.specs.Late.{Moment, Does, Lands, told, HasFailed, Run, LandsEver}
 use Rattle.core_accepted.specs.Weakest.{UntimelyIsStale}
-use Rattle.core_accepted.proofs.Late.{made}
+use Rattle.core_accepted.proofs.Late.{made, as_run}
 
 same : (p : ℕ) → nat_eq p p ≡ true
 same p = eq-eqb p p refl
@@ -70,12 +70,12 @@ apart_all : (past : List Event) (number : ℕ) (ask : Ask) → IsApart nobody_ba
 apart_all past number ask other client e alike = ((λ x. x), (λ x. x))
 
 -- what failed is an ask that a client can write
-is_ask : (opening : ℕ → List ℕ → Option Item) (past : List Moment) → Run words nobody_bars opening LandsEver past → (number : ℕ) (set : Ask) → HasFailed (seen past) number 0 set Client → IsAsk set
+is_ask : (opening : ℕ → List ℕ → Option Item) (past : List Moment) → Run words nobody_bars opening LandsEver past → (number : ℕ) (set : Ask) → HasFailed (told opening past) number 0 set Client → IsAsk set
 is_ask opening past run number set failed =
     let call : Call = record { server = 0; ask = set; origin = Client; outcome = Failed } in
-    let m = made words nobody_bars opening LandsEver past run number failed.0 call failed.1 in
+    let m = made words nobody_bars opening (told opening past) (as_run words nobody_bars opening LandsEver past run) number failed.0 call failed.1 in
     let word = m.2.3 in
-    let whole : slice_get (calls_so_far (seen past) number ++ m.2.0) failed.0 ≡ Some call = get_left (calls_so_far (seen past) number) m.2.0 failed.0 call failed.1 in
+    let whole : slice_get (calls_so_far (told opening past) number ++ m.2.0) failed.0 ≡ Some call = get_left (calls_so_far (told opening past) number) m.2.0 failed.0 call failed.1 in
     let is : server_call (λ _. 0) m.0 word.1 ≡ call = only_one (server_call (λ _. 0) m.0 word.1) call failed.0 (subst (λ l. slice_get l failed.0 ≡ Some call) word.3 whole) in
     subst IsAsk (ap (λ (c : Call). c.ask) is) word.0
 
@@ -83,7 +83,7 @@ pub untimely : UntimelyIsStale
 untimely opening past run number n set delete op failed ack on ended =
     let asked : IsAsk set = is_ask opening past run number set failed in
     let key = set.key in
-    let events = seen past in
+    let events = told opening past in
     let fresh_number = some_new events in
     let m = fresh_number.0 in
     let new : IsNewNumber m events = fresh_number.1 in
@@ -103,9 +103,9 @@ untimely opening past run number n set delete op failed ack on ended =
     let begun : List Moment = Does (Begins m get) ∷ landed in
     let called : List Moment = Does (Calls m 0 get Client (Read m hit 0)) ∷ begun in
     let shown : List Moment = Does (Replies m key hit (Some 0)) ∷ called in
-    let before_it = held_in (opening 0 key) (life_of past 0) key in
+    let before_it = held_in (opening 0 key) (life_of (told opening past) 0) key in
     let after : after_call set number Stored 0 before_it ≡ Some item = ap (λ o. cond (removes o Stored) None (after_done o set number 0 before_it)) op in
-    let held_is : held opening begun 0 key ≡ Some item = first (bytes_eq key key) (after_call set number Stored 0 before_it) before_it ((bytes_eq-Decides key key).1 refl) ∙ after in
+    let held_is : held opening (told opening begun) 0 key ≡ Some item = first (bytes_eq key key) (after_call set number Stored 0 before_it) before_it ((bytes_eq-Decides key key).1 refl) ∙ after in
     let way : cond (nat_eq m m) (Some get) (under_way events m) ≡ Some get = first (nat_eq m m) (Some get) (under_way events m) (same m) in
     let r1 : Run words nobody_bars opening LandsEver landed = ((failed, tt, subst (λ o. AgreesAs o set Stored before_it) (sym op) tt, refl), run) in
     let r2 : Run words nobody_bars opening LandsEver begun = ((new, apart_all events m get), r1) in
@@ -122,18 +122,18 @@ untimely opening past run number n set delete op failed ack on ended =
     let made_calls : cond (nat_eq m m) (calls_so_far events m ++ call ∷ []) (calls_so_far events m) ≡ call ∷ [] = first (nat_eq m m) (calls_so_far events m ++ call ∷ []) (calls_so_far events m) (same m) ∙ ap (λ l. l ++ call ∷ []) none in
     let r4 : Run words nobody_bars opening LandsEver shown =
     ((get, way, refl, subst (λ l. words m get l hit (Some 0)) (sym made_calls) (get_is, Answered hit, fits, refl, refl, refl)), r3) in
-    let found : item_at opening called m 0 ≡ Some item =
-    first (nat_eq m m) (cond (nat_eq (length (calls_so_far events m)) 0) (held opening begun 0 key) (item_at opening past m 0)) (item_at opening past m 0) (same m)
-    ∙ first (nat_eq (length (calls_so_far events m)) 0) (held opening begun 0 key) (item_at opening past m 0) (ap (λ (l : List Call). nat_eq (length l) 0) none)
+    let found : item_at opening (told opening called) m 0 ≡ Some item =
+    first (nat_eq m m) (cond (nat_eq (length (calls_so_far events m)) 0) (held opening (told opening begun) 0 key) (item_at opening (told opening past) m 0)) (item_at opening (told opening past) m 0) (same m)
+    ∙ first (nat_eq (length (calls_so_far events m)) 0) (held opening (told opening begun) 0 key) (item_at opening (told opening past) m 0) (ap (λ (l : List Call). nat_eq (length l) 0) none)
     ∙ held_is in
-    let later : before (seen shown) m ≡ events = first (nat_eq m m) events (before events m) (same m) in
-    let earlier : before (seen shown) n ≡ before events n = second (nat_eq m n) events (before events n) (differs m n (λ is. (let lt = acked_below m events n delete new ack in omega (arith, lt, is)))) in
+    let later : before (told opening shown) m ≡ told opening landed = first (nat_eq m m) (told opening landed) (before events m) (same m) in
+    let earlier : before (told opening shown) n ≡ before events n = second (nat_eq m n) (told opening landed) (before events n) (differs m n (λ is. (let lt = acked_below m events n delete new ack in omega (arith, lt, is)))) in
     record {
       moments = Does (Replies m key hit (Some 0)) ∷ (Does (Calls m 0 get Client (Read m hit 0)) ∷ (Does (Begins m get) ∷ (Lands number 0 set Client number Stored 0 ∷ [])));
       run = r4;
       stale = λ fresh.
           fresh n m delete item
-          (subst (λ l. IsAcknowledged l n delete) (sym later) ack)
+          (subst (λ l. IsAcknowledged l n delete) (sym later) (inr ack))
           (inl (refl, sym on, 0, refl, found))
           (subst (λ l. HasEnded l number) (sym earlier) ended);
     }

@@ -8,7 +8,7 @@ use Rattle.route_tree.specs.Route.{Route}
 use Rattle.core_proxy.specs.CoreState.{dialect}
 use Rattle.core_accepted.specs.declared.served.ServedCore.{ServedCore}
 use Rattle.core_accepted.specs.Logs.{MayHaveLed}
-use Rattle.core_accepted.specs.Late.{Moment, seen, begun, IsFreshBy, WasOver}
+use Rattle.core_accepted.specs.Late.{Moment, told, begun, IsFreshBy, WasOver}
 use Rattle.core_accepted.specs.Pipes.{PipeStep, moments_of, WasOverOn}
 use Rattle.core_accepted.specs.FleetLaws.{IsSticky}
 use Rattle.core_accepted.specs.Parts.{AreChanges, renamed, part, NumbersRise, Serves, AreInOrder, NoStoreLands}
@@ -28,8 +28,8 @@ pub record AreCoresOf (lag : ℕ) (trees : List Route) (fresh : ℕ → ServedCo
   pub tree : ℕ → Route
   pub runs_by : (p n : ℕ) (ask : Ask) → begun (run_of (logs p)) n ≡ Some ask → tree (name p n) ≡ (led p).tree n
   pub loaded : AreLoadedWithin lag trees tree
-  pub parts : (p : ℕ) → AreChanges (renamed (name p) (run_of (logs p))) (part proxy p (seen moments))
-  pub rise : NumbersRise (seen moments)
+  pub parts : (p : ℕ) → AreChanges (renamed (name p) (run_of (logs p))) (part proxy p (told opening moments))
+  pub rise : NumbersRise (told opening moments)
   pub serves : Serves opening moments
 
 -- A command that begins at any proxy after a delete of its key was acknowledged by any proxy shows no item of a store that was over when the delete began ..
@@ -53,4 +53,4 @@ abbrev pub StickyFleetOfCoresIsFresh : Type 0
 StickyFleetOfCoresIsFresh =
     (lag : ℕ) (trees : List Route) → AreOfFleet lag trees
     → (fresh : ℕ → ServedCore) (line : ℕ → ℕ → ℕ) (at : List ℕ → ℕ → ℕ) (opening : ℕ → List ℕ → Option Item) (steps : List PipeStep) → (cores : AreCoresOf lag trees fresh opening (moments_of steps))
-    → AreInOrder line steps → IsSticky (words_by cores.tree) nobody_bars line at (seen (moments_of steps)) → IsFreshBy opening WasOver (moments_of steps)
+    → AreInOrder line steps → IsSticky (words_by cores.tree) nobody_bars line at (told opening (moments_of steps)) → IsFreshBy opening WasOver (moments_of steps)

@@ -10,7 +10,7 @@ use Rattle.fresh_runs.specs.Calls.{Call}
 use Rattle.fresh_runs.specs.Cover.{IsCovered}
 use Rattle.fresh_runs.specs.Run.{Event, Begins, Calls, Replies, Breaks, Turns, Restarts, calls_so_far, HasEnded, CopiesBar}
 use Rattle.fresh_runs.specs.Run as sharing
-use Rattle.core_accepted.specs.Late.{Moment, seen, Run, IsFreshBy, WasOver, LandsEver, is_store}
+use Rattle.core_accepted.specs.Late.{Moment, told, Run, IsFreshBy, WasOver, LandsEver, is_store}
 use Rattle.core_accepted.specs.Pipes.{PipeStep, moments_of, Steps, WasOverOn}
 
 -- no call is a copy
@@ -46,7 +46,7 @@ module _ (words : ℕ → Ask → List Call → Answer → Option ℕ → Type 0
   abbrev pub StickyIsFresh : Type 0
   StickyIsFresh =
       IsCovered words → CopiesBar words Bars → (line : ℕ → ℕ → ℕ) (at : List ℕ → ℕ → ℕ) (opening : ℕ → List ℕ → Option Item) (steps : List PipeStep)
-      → Steps line words Bars opening steps → IsSticky line at (seen (moments_of steps)) → IsFreshBy opening WasOver (moments_of steps)
+      → Steps line words Bars opening steps → IsSticky line at (told opening (moments_of steps)) → IsFreshBy opening WasOver (moments_of steps)
 
   -- what lands stores nothing
   abbrev pub LandsHarmless : List Event → ℕ → ℕ → Ask → Origin → Type 0

@@ -7,9 +7,9 @@ use Rattle.mc_types.specs.Items.{Item}
 use Rattle.mc_types.specs.Agree.{Agrees}
 use Rattle.fresh_runs.specs.Calls.{Call, End, outcome_of}
 use Rattle.fresh_runs.specs.Cover.{IsCovered}
-use Rattle.fresh_runs.specs.Run.{Event, Begins, Calls, Replies, Breaks, Turns, Restarts, under_way, calls_so_far, IsNewNumber, IsApart, IsFront}
+use Rattle.fresh_runs.specs.Run.{Event, Begins, Calls, Replies, Breaks, Turns, Restarts, under_way, calls_so_far, IsNewNumber, IsApart, IsFront, held, GivesStamp, EndsWell}
 use Rattle.fresh_runs.specs.Run as sharing
-use Rattle.core_accepted.specs.Late.{Moment, Does, Lands, seen, HasFailed, held, GivesStamp, EndsWell, Run, IsFreshBy, WasOver, LandsEver, is_store}
+use Rattle.core_accepted.specs.Late.{Moment, Does, Lands, seen, told, HasFailed, Run, IsFreshBy, WasOver, LandsEver, is_store}
 use Rattle.core_accepted.specs.Pipes.{PipeStep, Sends, Moves, Closes, moments_of, Obeys, Steps, WasOverOn}
 use Rattle.core_accepted.specs.FleetLaws.{NothingCopies}
 
@@ -111,9 +111,9 @@ NumbersRise (Restarts server ∷ past) = NumbersRise past
 module _ (opening : ℕ → List ℕ → Option Item) where
   -- what servers do, and that nobody else writes them: a call that is applied agrees with what its server holds just before, and gives the stamp of its origin
   abbrev pub MayServe : List Moment → Moment → Type 0
-  MayServe past (Does (Calls number server ask origin end)) = EndsWell opening past number server ask origin end
+  MayServe past (Does (Calls number server ask origin end)) = EndsWell opening (told opening past) number server ask origin end
   MayServe past (Lands number server ask origin stamp answer spaces) =
-      HasFailed (seen past) number server ask origin × Agrees ask answer (held opening past server ask.key) × GivesStamp opening past number origin stamp
+      HasFailed (told opening past) number server ask origin × Agrees ask answer (held opening (told opening past) server ask.key) × GivesStamp opening (told opening past) number origin stamp
   MayServe past (Does (Begins number ask)) = Unit {0}
   MayServe past (Does (Replies number key reply from)) = Unit {0}
   MayServe past (Does (Breaks number)) = Unit {0}
@@ -134,8 +134,8 @@ AreInOrder line (Closes q server ∷ past) = AreInOrder line past
 
 -- proxies and servers, each by its own law
 pub record ArePartsOf (proxy : ℕ → ℕ) (words : ℕ → Ask → List Call → Answer → Option ℕ → Type 0) (Bars : ℕ → Ask → ℕ → Ask → Type 0) (opening : ℕ → List ℕ → Option Item) (moments : List Moment) : Type 0 where
-  pub own : (p : ℕ) → Own words Bars (part proxy p (seen moments))
-  pub rise : NumbersRise (seen moments)
+  pub own : (p : ℕ) → Own words Bars (part proxy p (told opening moments))
+  pub rise : NumbersRise (told opening moments)
   pub serves : Serves opening moments
 
 -- and connections by theirs
@@ -183,8 +183,8 @@ pub record AreRunsOf (proxy : ℕ → ℕ) (words : ℕ → Ask → List Call �
   pub believes : ℕ → ℕ → List ℕ → Option Item
   pub events : ℕ → List Event
   pub runs : (p : ℕ) → sharing.Run (λ n. words (name p n)) (λ n ask m client. Bars (name p n) ask (name p m) client) (believes p) (events p)
-  pub parts : (p : ℕ) → AreChanges (renamed (name p) (events p)) (part proxy p (seen moments))
-  pub rise : NumbersRise (seen moments)
+  pub parts : (p : ℕ) → AreChanges (renamed (name p) (events p)) (part proxy p (told opening moments))
+  pub rise : NumbersRise (told opening moments)
   pub serves : Serves opening moments
 
 -- from runs of proxies come parts

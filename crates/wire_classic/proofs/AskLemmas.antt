@@ -15,10 +15,12 @@ use Rattle.wire_classic.specs.Places.{order_in, keys_in}
 use Rattle.wire_parts.specs.Places.{IsIn}
 use Rattle.wire_parts.specs.Tests.{Word}
 use Rattle.wire_classic.specs.Order.{Order, Storing, Retrieval, Storage, Swapping, Deletion, Touching, Counting, OfItself}
-use Rattle.wire_classic.specs.Message.{Message, Begins, IsClassicReadFrom, message_in}
+use Rattle.wire_classic.specs.Message.{Begins, IsClassicReadFrom, message_in}
 use Rattle.wire_parts.specs.Message.{Served, Refusal}
 use Rattle.wire_classic.specs.Grammar.{classic_grammar, block_len}
 use Rattle.wire_classic.specs.Asks.{asks_by, asks_of, IsClassicAsk, retrieval_ask, store_ask, bare_ask, count_ask}
+use Rattle.wire_parts.specs.Requests.{AsksAreWellFormed}
+use Rattle.wire_classic.specs.Laws.{classic_requests}
 use Rattle.wire_classic.proofs.Sound.{IsPlainStore, IsCount, IsSound, IsSoundStoring, sound}
 use Rattle.wire_parts.proofs.Sound.{IsServed, served_sound}
 
@@ -102,9 +104,9 @@ are_classic (Touching key exptime quiet) block h = (record { well_formed = h.0; 
 are_classic (Counting op key delta quiet) block h = (record { well_formed = h.0; classic = refl }, tt)
 are_classic (OfItself own) block h = tt
 
-pub of_message : (bytes : List ℕ) (m : Message) (used : ℕ) → Begins bytes m used → AllByRecursion IsClassicAsk (asks_of m)
-of_message bytes (Served o block) used b = let s = is_served bytes o block used b in are_classic o block (are_asks o block s.sound s.short)
-of_message bytes (Refusal why skip) used b = tt
+pub asks_are_well_formed : AsksAreWellFormed classic_requests
+asks_are_well_formed bytes (Served o block) used b = let s = is_served bytes o block used b in are_classic o block (are_asks o block s.sound s.short)
+asks_are_well_formed bytes (Refusal why skip) used b = tt
 
 -- an element of a list
 pub found : {A : Type 0} (P : A → Type 0) (xs : List A) (i : ℕ) (x : A) → AllByRecursion P xs → slice_get xs i ≡ Some x → P x
@@ -130,7 +132,7 @@ request_sound bytes r command h is = let s = is_served bytes (order_in bytes r.c
 
 -- the asks of a request that was read are well formed
 pub asks_sound : (bytes : List ℕ) (r : ClassicRequest) → IsClassicReadFrom bytes r → AllByRecursion IsClassicAsk (asks_of (message_in bytes r))
-asks_sound bytes r h = of_message bytes (message_in bytes r) r.used h.begins
+asks_sound bytes r h = asks_are_well_formed bytes (message_in bytes r) r.used h.begins
 
 -- the keys of a line, from its front
 pub keys_line : (bytes : List ℕ) (keys : Keys) → IsIn (length bytes) keys.span → words (drop keys.span.start (take keys.span.end bytes)) ≡ keys_in bytes keys

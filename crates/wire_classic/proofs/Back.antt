@@ -15,7 +15,8 @@ use Rattle.wire_parts.proofs.Tokens.{IsToken, AreTokens, key_token, decimal_toke
 use Rattle.wire_classic.specs.Message.{Begins}
 use Rattle.wire_classic.specs.Grammar.{classic_grammar, block_len}
 use Rattle.wire_classic.specs.Spelling.{command_word, words_after, store_words, block_after, order_for, exptime_in, cas_in}
-use Rattle.wire_classic.specs.ReadBack.{AsksAreReadBack}
+use Rattle.wire_parts.specs.Requests.{AsksAreReadBack}
+use Rattle.wire_classic.specs.Laws.{classic_requests}
 use Rattle.wire_classic.proofs.OrderBack.{IsFit, is_fit, order_back}
 
 word_token : (op : Op) (with_cas : Bool) → IsToken (command_word op with_cas)
@@ -99,5 +100,5 @@ by_op ask more Touch f h = rw (h.body) (plain ask more f Touch refl)
 pub classic : (ask : Ask) → IsAsk ask → ask.dialect ≡ Classic → HasShape ask (classic_shape ask.op)
 classic ask h is = subst (λ (d : Dialect). HasShapeOf ask (shape_of d ask.op)) is h.shape
 
-pub asks_are_read_back : AsksAreReadBack
+pub asks_are_read_back : AsksAreReadBack classic_requests
 asks_are_read_back ask more h = by_op ask more ask.op (is_fit ask h.well_formed) (classic ask h.well_formed h.classic)

@@ -1,22 +1,20 @@
--- A stream begins with one line, and a line is read as what it means.
-use Rattle.std.proofs.Common.{◌≡◌, ℕ, ◌-◌, List, [], ◌∷◌, length, take, drop, Some, Ok, refl, sym, ap, ◌∙◌, arith}
-use Rattle.text_words.specs.Line.{TakesLine, without_cr}
+-- A line is read as what it means.
+use Rattle.std.proofs.Common.{◌≡◌, ℕ, ◌-◌, List, [], ◌∷◌, length, take, drop, refl, sym, ap, ◌∙◌, arith}
+use Rattle.text_words.specs.Line.{TakesLine}
 use Rattle.text_words.specs.Word.{words}
-use Rattle.wire_parts.specs.declared.refusal.RefusalReason.TheVariants.{Unknown}
-use Rattle.wire_parts.specs.declared.skip.Skip.TheVariants.{Nothing}
 use Rattle.wire_parts.specs.Places.{IsIn}
-use Rattle.wire_parts.specs.Message.{Refusal, with_rest}
-use Rattle.wire_parts.proofs.Fronts.{text_at-take, IsIn-le, length-front, length-part, line_text, begins_meant, none_begins}
+use Rattle.wire_parts.specs.Message.{Refusal}
+use Rattle.wire_parts.proofs.Fronts.{text_at-take, IsIn-le, length-front, length-part, begins_meant, none_begins}
 use Rattle.wire_classic.specs.declared.command.ClassicCommand.{ClassicCommand}
 use Rattle.wire_classic.specs.declared.command.ClassicCommand.TheVariants as commands
 use Rattle.wire_classic.specs.declared.command.ClassicRead.{ClassicRead}
 use Rattle.wire_classic.specs.declared.command.ClassicRead.TheVariants as reads
 use Rattle.wire_classic.specs.declared.command.Keys.{Keys}
 use Rattle.wire_classic.specs.declared.command.Stored.{Stored}
-use Rattle.wire_classic.specs.Order.{Order, Storing, Retrieval, Storage, Swapping, Deletion, Touching, Counting, order_of}
+use Rattle.wire_classic.specs.Order.{Storing, Retrieval, Storage, Swapping, Deletion, Touching, Counting}
 use Rattle.wire_classic.specs.Places.{order_in, storing_in, keys_in, LiesIn}
-use Rattle.wire_classic.specs.Grammar.{classic_grammar, block_len}
-use Rattle.wire_classic.specs.Message.{Reads, IsMeant, meaning, message_in, command_block_len}
+use Rattle.wire_classic.specs.Grammar.{classic_grammar}
+use Rattle.wire_classic.specs.Message.{Reads, IsMeant, meaning, message_in}
 
 storing_in-take : (n : ℕ) (bytes : List ℕ) (s : Stored) → IsIn n s.key → storing_in (take n bytes) s ≡ storing_in bytes s
 storing_in-take n bytes s h = ap (λ (t : List ℕ). let r : Storing = record { key = t; flags = s.flags; exptime = s.exptime; length = s.length } in r) (text_at-take n bytes s.key h.within)
@@ -49,34 +47,9 @@ LiesIn-take n bytes (commands.Touching quiet key exptime) h = IsIn-le _ _ key (l
 LiesIn-take n bytes (commands.Counting op quiet key delta) h = IsIn-le _ _ key (length-part n bytes) h
 LiesIn-take n bytes (commands.Own own) h = tt
 
-block_len-order_in : (bytes : List ℕ) (command : ClassicCommand) → block_len (order_in bytes command) ≡ command_block_len command
-block_len-order_in bytes (commands.Retrieval with_cas exptime keys) = refl
-block_len-order_in bytes (commands.Storage op quiet stored) = refl
-block_len-order_in bytes (commands.Swapping quiet stored cas) = refl
-block_len-order_in bytes (commands.Deletion quiet key) = refl
-block_len-order_in bytes (commands.Touching quiet key exptime) = refl
-block_len-order_in bytes (commands.Counting op quiet key delta) = refl
-block_len-order_in bytes (commands.Own own) = refl
-
--- a line that asks something means that, with what follows it
-pub meaning-asked : (bytes : List ℕ) (end used : ℕ) (command : ClassicCommand) → TakesLine bytes end used → LiesIn (take end bytes) command → order_of (words (take end bytes)) ≡ Ok (order_in (take end bytes) command)
-    → meaning (take (used - 1) bytes) (drop used bytes) ≡ with_rest (order_in bytes command) used (drop used bytes) (command_block_len command)
-meaning-asked bytes end used command line within asked =
-    let text = line_text bytes end used line in
-    let len = text.1 in
-    let order : order_of (words (without_cr (take (used - 1) bytes))) ≡ Ok (order_in bytes command) = ap (λ (t : List ℕ). order_of (words t)) text.0 ∙ asked ∙ ap (λ (o : Order). Ok o) (order_in-take end bytes command within) in
-    rw (order, len, block_len-order_in bytes command) refl
-
 -- what is read after the first line is what the stream begins with
 pub reads-from_line : (bytes : List ℕ) (end used : ℕ) (r : ClassicRead) → TakesLine bytes end used → IsMeant bytes r (meaning (take (used - 1) bytes) (drop used bytes)) → Reads bytes r
 reads-from_line bytes end used (reads.Request r) line h = record { placed = h.0; begins = begins_meant classic_grammar bytes end used (message_in bytes r) r.used line h.1 }
 reads-from_line bytes end used (reads.Refused why n skip) line h = begins_meant classic_grammar bytes end used (Refusal why skip) n line h
 reads-from_line bytes end used reads.TooLong line h = absurd h
 reads-from_line bytes end used reads.More line h = none_begins classic_grammar bytes end used line h
-
--- a line without a word
-pub no_word : (bytes : List ℕ) (end used : ℕ) → TakesLine bytes end used → words (take end bytes) ≡ [] → meaning (take (used - 1) bytes) (drop used bytes) ≡ Some (Refusal Unknown Nothing, used)
-no_word bytes end used line none =
-    let text = line_text bytes end used line in
-    let empty : words (without_cr (take (used - 1) bytes)) ≡ [] = ap words text.0 ∙ none in
-    rw (empty, text.1) refl

@@ -11,7 +11,8 @@ use Rattle.mc_types.specs.declared.ask.Op.TheVariants.{Get, Gat, Set, Add, Repla
 use Rattle.mc_types.specs.declared.ask.Dialect.TheVariants.{Classic}
 use Rattle.wire_classic.specs.Asks.{asks_by, is_quiet, bare_ask, store_ask, retrieval_ask, touch_ask, count_ask}
 use Rattle.wire_classic.specs.Spelling.{storing, order_for, exptime_in, cas_in}
-use Rattle.wire_classic.specs.ReadBack.{MessagesAreOneAsk}
+use Rattle.wire_parts.specs.Requests.{MessagesAreOneAsk}
+use Rattle.wire_classic.specs.Laws.{classic_requests}
 use Rattle.wire_classic.proofs.Back.{classic}
 
 no_tokens : (tokens : List Token) → are_served [] tokens ≡ true → tokens ≡ []
@@ -54,5 +55,5 @@ message_by ask Incr o d h = (one _ ask (same_ask (count_ask Incr ask.key ask.del
 message_by ask Decr o d h = (one _ ask (same_ask (count_ask Decr ask.key ask.delta) ask refl (sym o) (sym d) (sym h.with_cas) (sym h.flags) (sym h.exptime) (sym h.body) (sym h.cas) refl (sym (no_tokens ask.tokens h.tokens))), refl)
 message_by ask Touch o d h = (one _ ask (same_ask (touch_ask ask.key (exptime_in ask)) ask refl (sym o) (sym d) (sym h.with_cas) (sym h.flags) (some_exptime ask.exptime h.exptime) (sym h.body) (sym h.cas) (sym h.delta) (sym (no_tokens ask.tokens h.tokens))), refl)
 
-pub messages_are_one_ask : MessagesAreOneAsk
+pub messages_are_one_ask : MessagesAreOneAsk classic_requests
 messages_are_one_ask ask h = message_by ask ask.op refl h.classic (classic ask h.well_formed h.classic)

@@ -17,9 +17,9 @@ use Rattle.wire_classic.specs.Order.{Order, Retrieval, Storage, Swapping, Deleti
 use Rattle.wire_classic.specs.Places.{order_in, keys_in, AreIn, LiesIn}
 use Rattle.wire_classic.specs.Message.{IsClassicReadFrom}
 use Rattle.wire_classic.specs.Asks.{asks_by, single_ask, listed, retrieval_ask, StandsAt, IsAt, IsWalk, first_place}
-use Rattle.wire_classic.specs.Laws.{WalkStill, AsksAreWellFormed}
+use Rattle.wire_classic.specs.Laws.{WalkStill}
 use Rattle.wire_classic.proofs.StreamLemmas.{read_still}
-use Rattle.wire_classic.proofs.AskLemmas.{request_sound, keys_line, found, taken_next, taken_all, of_message}
+use Rattle.wire_classic.proofs.AskLemmas.{request_sound, keys_line, found, taken_next, taken_all}
 
 -- a key of a line is one
 pub key_there : (bytes : List ℕ) (r : ClassicRequest) (e : Option ℤ) (w : Bool) (keys : Keys) (i : ℕ) (text : Word) → IsClassicReadFrom bytes r → r.command ≡ commands.Retrieval w e keys → slice_get (keys_in bytes keys) i ≡ Some text → IsKey text
@@ -138,6 +138,3 @@ still_at bytes more (commands.Own own) at taken a b h = tt
 
 pub walk_still : WalkStill
 walk_still bytes more a h = let r = read_still bytes more a.request h.read in record { read = r.0; place = still_at bytes more a.request.command a.at a.taken h.read.placed.command r.0.placed.command h.place }
-
-pub asks_are_well_formed : AsksAreWellFormed
-asks_are_well_formed = of_message

@@ -6,6 +6,5 @@ pub mod KeysOfLine
 pub mod Message
 pub mod Asks
 pub mod Stream
-pub mod Laws
 pub mod Spelling
-pub mod ReadBack
+pub mod Laws

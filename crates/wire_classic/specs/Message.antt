@@ -1,5 +1,5 @@
 -- Messages at the front of a stream: a line, and after a store's line its data. Source: memcached's protocol.txt, "Protocol" and "Storage commands".
-use Rattle.std.specs.Prelude.{◌≡◌, ℕ, List, length, Option, Some, None}
+use Rattle.std.specs.Prelude.{◌≡◌, ℕ, List, length, Some, None}
 use Rattle.text_words.specs.Line.{IsTooLong}
 use Rattle.text_words.specs.Word.{text_at}
 use Rattle.wire_parts.specs.Message as parts
@@ -8,8 +8,6 @@ use Rattle.wire_parts.specs.Places.{IsIn}
 use Rattle.wire_classic.specs.declared.command.ClassicRead.{ClassicRead}
 use Rattle.wire_classic.specs.declared.command.ClassicRead.TheVariants as reads
 use Rattle.wire_classic.specs.declared.command.ClassicRequest.{ClassicRequest}
-use Rattle.wire_classic.specs.declared.command.ClassicCommand.{ClassicCommand}
-use Rattle.wire_classic.specs.declared.command.ClassicCommand.TheVariants as commands
 use Rattle.wire_classic.specs.Order.{Order}
 use Rattle.wire_classic.specs.Grammar.{classic_grammar}
 use Rattle.wire_classic.specs.Places.{order_in, LiesIn}
@@ -17,12 +15,6 @@ use Rattle.wire_classic.specs.Places.{order_in, LiesIn}
 -- a message: one that is served, with its data block, or one that is refused, with what is passed over after it
 abbrev pub Message : Type 0
 Message = parts.Message Order
-
--- the length of the data block after a command, where one follows
-abbrev pub command_block_len : ClassicCommand → Option ℕ
-command_block_len (commands.Storage op quiet stored) = Some stored.length
-command_block_len (commands.Swapping quiet stored cas) = Some stored.length
-command_block_len _ = None
 
 -- a message, and how many bytes it takes; none where more must come
 abbrev pub Found : Type 0

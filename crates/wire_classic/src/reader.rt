@@ -1,10 +1,10 @@
 //! How the message at the front of a client's bytes is read.
-ghost use Rattle.std.specs.Prelude.{◌≡◌, ◌≤◌, ◌-◌, ◌<◌, ◌+◌, take, drop, length, Some};
+ghost use Rattle.std.specs.Prelude.{◌≡◌, ℕ, List, ◌-◌, take, drop};
 ghost use Rattle.text_words.specs.Line.{TakesLine};
 ghost use Rattle.text_words.specs.Word.{IsNextWord};
-ghost use Rattle.wire_classic.specs.Places.{LiesIn, order_in};
-ghost use Rattle.wire_classic.specs.Message.{Reads, IsMeant, meaning, command_block_len};
-ghost use Rattle.wire_parts.specs.Message.{end_of, with_rest};
+ghost use Rattle.wire_classic.specs.Grammar.{block_len};
+ghost use Rattle.wire_classic.specs.Places.{order_in};
+ghost use Rattle.wire_classic.specs.Message.{Reads, IsMeant, meaning};
 
 use crate::command::{ClassicCommand, ClassicRead, ClassicRequest};
 use crate::command_line::{command, skip};
@@ -12,35 +12,10 @@ use crate::verbs::verb;
 use text_words::ends::Line;
 use text_words::reading::line;
 use text_words::word::{Span, next_word};
-use wire_parts::{End, RefusalReason, Skip, block_end};
-
-fn with_block(bytes: &[u8], used: usize, command: ClassicCommand, len: usize) -> ClassicRead
-    requires used { used ≤ length bytes.now }
-    requires within { LiesIn bytes.now command }
-    ensures { IsMeant bytes.now result (with_rest (order_in bytes.now command) used (drop used bytes.now) (Some len)) }
-{
-    let rest = &bytes[used..];
-    if rest.len() <= len {
-        return ClassicRead::More;
-    }
-    let end = used + len;
-    match block_end(&rest[len..]) {
-        End::Open => ClassicRead::More,
-        End::Good => ClassicRead::Request(ClassicRequest {
-            command,
-            block: Span { start: used, end },
-            used: end + 2,
-        }),
-        End::Bad => ClassicRead::Refused {
-            why: RefusalReason::BadChunk,
-            used: end,
-            skip: Skip::ThroughNewline,
-        },
-    }
-}
+use wire_parts::{RefusalReason, Rest, Skip, after_line};
 
 fn block_len(command: &ClassicCommand) -> Option<usize>
-    ensures { result ≡ command_block_len command.now }
+    ensures { (bytes : List ℕ) → result ≡ block_len (order_in bytes command.now) }
 {
     match command {
         ClassicCommand::Storage { stored, .. } => Some(stored.length as usize),
@@ -67,16 +42,18 @@ pub fn read_after(bytes: &[u8], end: usize, used: usize, first: Span) -> Classic
             used,
             skip: skip(text, first, verb),
         },
-        Ok(command) => match block_len(&command) {
-            Some(len) => return with_block(bytes, used, command, len),
-            None => return ClassicRead::Request(ClassicRequest {
+        Ok(command) => match after_line(bytes, used, block_len(&command)) {
+            Rest::More => return ClassicRead::More,
+            Rest::Whole { block, used } => return ClassicRead::Request(ClassicRequest {
                 command,
-                block: Span {
-                    start: used,
-                    end: used,
-                },
+                block,
                 used,
             }),
+            Rest::Bad { used } => return ClassicRead::Refused {
+                why: RefusalReason::BadChunk,
+                used,
+                skip: Skip::ThroughNewline,
+            },
         },
     }
 }

@@ -34,7 +34,8 @@ use Rattle.wire_meta.specs.Grammar.{meta_grammar}
 use Rattle.wire_meta.specs.Message.{Begins}
 use Rattle.wire_meta.specs.Spelling.{kind_of, kind_word, mode_letter, mode_word, token_word, token_words, cas_words, exptime_words, value_words, flag_words, block_by, line_words, order_for}
 use Rattle.wire_meta.specs.Asks.{IsText, IsMetaAsk, get_op, store_op, ask_by, asks_by, is_quiet}
-use Rattle.wire_meta.specs.ReadBack.{AsksAreReadBack, MessagesAreOneAsk}
+use Rattle.wire_parts.specs.Requests.{AsksAreReadBack, MessagesAreOneAsk}
+use Rattle.wire_meta.specs.Laws.{meta_requests}
 use Rattle.wire_meta.proofs.ServedLemmas.{served_by}
 use Rattle.wire_meta.proofs.FlagsBack.{AreValued, IsDate, flags_back, tokens_back, values_back}
 use Rattle.wire_meta.proofs.ValuesBack.{get_date, store_date, count_date, get_values, delete_values, store_values, count_values}
@@ -334,7 +335,7 @@ by_kind ask more Delete r = subst (λ (b : List ℕ). Begins ((line_of (line_wor
 by_kind ask more Count r = subst (λ (b : List ℕ). Begins ((line_of (line_words Count ask) ++ []) ++ more) (Served (order_for Count ask) b) (length (line_of (line_words Count ask) ++ []))) (sym r.body) (begins_plain meta_grammar (line_words Count ask) (order_for Count ask) (line_few ask r.v Count r.spelled).are (at_most ask r.v Count r.spelled) (order_back ask r.v Count r.spelled) more refl)
 by_kind ask more Store r = begins_block meta_grammar (line_words Store ask) (order_for Store ask) (line_few ask r.v Store r.spelled).are (at_most ask r.v Store r.spelled) (order_back ask r.v Store r.spelled) ask.body more refl
 
-pub asks_are_read_back : AsksAreReadBack
+pub asks_are_read_back : AsksAreReadBack meta_requests
 asks_are_read_back ask more h = by_kind ask more (kind_of ask.op) (is_back ask h)
 
 one : (a b : Ask) → a ≡ b → a ∷ [] ≡ b ∷ []
@@ -347,5 +348,5 @@ one_ask ask kind r =
     let made : ask_by kind ask.key (values_of kind (flag_words kind ask)) (tokens_in (flag_words kind ask)) ask.body ≡ ask = rw (vs, ts) r.same in
     (one _ ask made, ap (λ (v : Values). v.quiet) vs ∙ r.loud)
 
-pub messages_are_one_ask : MessagesAreOneAsk
+pub messages_are_one_ask : MessagesAreOneAsk meta_requests
 messages_are_one_ask ask h = one_ask ask (kind_of ask.op) (is_back ask h)

@@ -35,7 +35,8 @@ use Rattle.wire_meta.specs.Places.{order_in, flags_in, LiesIn}
 use Rattle.wire_meta.specs.Grammar.{meta_grammar, block_len}
 use Rattle.wire_meta.specs.Message.{Begins, IsMetaReadFrom}
 use Rattle.wire_meta.specs.Asks.{ask_by, asks_by, IsText, IsMetaAsk, get_op, store_op, bare_ask}
-use Rattle.wire_meta.specs.Laws.{AsksAreWellFormed}
+use Rattle.wire_parts.specs.Requests.{AsksAreWellFormed}
+use Rattle.wire_meta.specs.Laws.{meta_requests}
 use Rattle.wire_meta.proofs.ServedLemmas.{served_by, are_let_through}
 
 -- the data of `ms` isn't too long
@@ -236,7 +237,7 @@ are_asks : (o : MetaOrder) (block : List ℕ) → IsSound o → length block ≤
 are_asks (Asking kind key n flags) block h le = (is_meta_ask kind key n flags block h le, tt)
 are_asks (OfItself own) block h le = tt
 
-pub asks_are_well_formed : AsksAreWellFormed
+pub asks_are_well_formed : AsksAreWellFormed meta_requests
 asks_are_well_formed bytes (Served o block) used b = let s = is_served bytes o block used b in are_asks o block s.sound s.short
 asks_are_well_formed bytes (Refusal why skip) used b = tt
 

@@ -5,6 +5,5 @@ pub mod Places
 pub mod Grammar
 pub mod Message
 pub mod Asks
-pub mod Laws
 pub mod Spelling
-pub mod ReadBack
+pub mod Laws

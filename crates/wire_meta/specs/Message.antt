@@ -1,5 +1,5 @@
 -- Meta messages at the front of a stream: a line, and after that of `ms` its data. Source: memcached's protocol.txt, "Meta Commands".
-use Rattle.std.specs.Prelude.{◌≡◌, ℕ, List, length, Option, Some, None}
+use Rattle.std.specs.Prelude.{◌≡◌, ℕ, List, length, Some, None}
 use Rattle.text_words.specs.Line.{IsTooLong}
 use Rattle.text_words.specs.Word.{text_at}
 use Rattle.wire_parts.specs.Message as parts
@@ -8,8 +8,6 @@ use Rattle.wire_parts.specs.Places.{IsIn}
 use Rattle.wire_meta.specs.declared.command.MetaRead.{MetaRead}
 use Rattle.wire_meta.specs.declared.command.MetaRead.TheVariants as reads
 use Rattle.wire_meta.specs.declared.command.MetaRequest.{MetaRequest}
-use Rattle.wire_meta.specs.declared.command.MetaCommand.{MetaCommand}
-use Rattle.wire_meta.specs.declared.command.MetaCommand.TheVariants as commands
 use Rattle.wire_meta.specs.Order.{MetaOrder}
 use Rattle.wire_meta.specs.Grammar.{meta_grammar}
 use Rattle.wire_meta.specs.Places.{order_in, LiesIn}
@@ -17,11 +15,6 @@ use Rattle.wire_meta.specs.Places.{order_in, LiesIn}
 -- a message: one that is served, with its data block, or one that is refused, with what is passed over after it
 abbrev pub Message : Type 0
 Message = parts.Message MetaOrder
-
--- the length of the data block after a command, where one follows
-abbrev pub command_block_len : MetaCommand → Option ℕ
-command_block_len (commands.Keyed kind n key flags) = n
-command_block_len (commands.Own own) = None
 
 -- a message, and how many bytes it takes; none where more must come
 abbrev pub Found : Type 0

@@ -1,15 +1,19 @@
 -- A stream begins with one line, and no message begins where none is whole.
-use Rattle.std.proofs.Common.{◌≡◌, ◌≢◌, ℕ, zero, suc, ◌+◌, ◌-◌, ◌≤◌, List, [], ◌∷◌, ◌++◌, length, take, drop, get_or, All, Option, Some, None, refl, sym, ap, subst, ◌∙◌, arith, inl, inr}
+use Rattle.std.proofs.Common.{◌≡◌, ◌≢◌, ℕ, zero, suc, ◌+◌, ◌-◌, ◌≤◌, List, [], ◌∷◌, ◌++◌, length, take, drop, get_or, All, Option, Some, None, Err, refl, sym, ap, subst, ◌∙◌, arith, inl, inr}
 use Rattle.std.proofs.lemmas.Bool.{cases_lt}
 use Rattle.std.proofs.lemmas.List.{length-append, length-take, drop-take}
 use Rattle.std.proofs.Math.Seq.{get_or-append_seam}
 use Rattle.text_words.specs.Line.{IsLine, IsOpen, IsTooLong, TakesLine, without_cr, LF}
-use Rattle.text_words.specs.Word.{text_at}
+use Rattle.text_words.specs.Word.{words, text_at}
 use Rattle.text_words.proofs.Stays.{one_line, not_too_long}
 use Rattle.text_words.specs.declared.word.Span.{Span}
 use Rattle.wire_parts.specs.Places.{IsIn}
 use Rattle.wire_parts.specs.Grammar.{Grammar}
-use Rattle.wire_parts.specs.Message.{Message, Served, Begins, meaning, with_rest}
+use Rattle.wire_parts.specs.declared.refusal.RefusalReason.TheVariants.{Unknown}
+use Rattle.wire_parts.specs.declared.skip.Skip.TheVariants.{Nothing}
+use Rattle.wire_parts.specs.declared.block.End.{End}
+use Rattle.wire_parts.specs.declared.block.End.TheVariants.{Open, Good, Bad}
+use Rattle.wire_parts.specs.Message.{Message, Refusal, Begins, meaning, with_rest, with_block, end_of, lift_found}
 
 pub take-take-le : (i j : ℕ) (xs : List ℕ) → i ≤ j → take i (take j xs) ≡ take i xs
 take-take-le zero j xs le = refl
@@ -43,13 +47,15 @@ line_text bytes end used line =
     let at : used - 1 ≡ line.at = omega (arith, line.used_is) in
     (ap (λ (k : ℕ). without_cr (take k bytes)) at ∙ sym line.text, omega (arith, line.used_is, line.line.0, length-take (used - 1) bytes))
 
--- no bytes, after the line
-pub no_span : (bytes : List ℕ) (end used : ℕ) → TakesLine bytes end used → IsIn (length bytes) (record { start = used; end = used })
-no_span bytes end used line = record { ordered = omega arith; within = omega (arith, line.used_is, line.line.0) }
+-- of orders that are seen so
+block_lifted : {A B : Type 0} (f : A → B) (o : A) (used : ℕ) (block : List ℕ) (end : End) → with_block (f o) used block end ≡ lift_found f (with_block o used block end)
+block_lifted f o used block Open = refl
+block_lifted f o used block Good = refl
+block_lifted f o used block Bad = refl
 
-pub no_block : {Order : Type 0} (bytes : List ℕ) (order : Order) (used : ℕ) (rest : List ℕ) (n : Option ℕ) → None ≡ n → with_rest order used rest n ≡ Some (Served order (text_at bytes (record { start = used; end = used })), used)
-no_block bytes order used rest None e = let none : used - used ≡ 0 = omega arith in rw none refl
-no_block bytes order used rest (Some n) e = absurd cc
+pub rest_lifted : {A B : Type 0} (f : A → B) (o : A) (used : ℕ) (rest : List ℕ) (n : Option ℕ) → with_rest (f o) used rest n ≡ lift_found f (with_rest o used rest n)
+rest_lifted f o used rest None = refl
+rest_lifted f o used rest (Some n) = block_lifted f o used (take n rest) (end_of (drop n rest))
 
 module _ (G : Grammar) where
   -- where no line is whole, no message is
@@ -86,3 +92,10 @@ module _ (G : Grammar) where
   none_begins bytes end used line h =
       let before : used - 1 ≡ line.at = omega (arith, line.used_is) in
       none_meant bytes (take line.at bytes) (drop (line.at + 1) bytes) line.line.1 (subst (λ (k : ℕ). meaning G (take k bytes) (drop (line.at + 1) bytes) ≡ None) before (subst (λ (k : ℕ). meaning G (take (used - 1) bytes) (drop k bytes) ≡ None) line.used_is h))
+
+  -- a line without a word
+  pub no_word : (bytes : List ℕ) (end used : ℕ) → G.order_of [] ≡ Err Unknown → G.skip_of [] ≡ Nothing → TakesLine bytes end used → words (take end bytes) ≡ [] → meaning G (take (used - 1) bytes) (drop used bytes) ≡ Some (Refusal Unknown Nothing, used)
+  no_word bytes end used refused none_skipped line none =
+      let text = line_text bytes end used line in
+      let empty : words (without_cr (take (used - 1) bytes)) ≡ [] = ap words text.0 ∙ none in
+      rw (empty, refused, none_skipped, text.1) refl

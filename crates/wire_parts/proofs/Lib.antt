@@ -5,6 +5,7 @@ pub mod KeyTexts
 pub mod GroupLemmas
 pub mod Fronts
 pub mod Streams
+pub mod Requests
 pub mod Ranges
 pub mod Sound
 pub mod Tokens

@@ -6,4 +6,5 @@ pub mod Grammar
 pub mod Message
 pub mod Stream
 pub mod Laws
+pub mod Requests
 pub mod Sources

@@ -1,13 +1,16 @@
 -- Messages at the front of a stream: a line, and after a store's line its data. Source: memcached's protocol.txt, "Protocol" and "Storage commands".
 use Rattle.std.specs.Prelude.{◌≡◌, ℕ, ◌+◌, ◌&&◌, List, [], ◌∷◌, length, take, drop, Option, Some, None, Result, Ok, Err, ◌==◌, if◌then◌else◌}
 use Rattle.text_words.specs.Line.{IsLine, LF, CR, without_cr}
-use Rattle.text_words.specs.Word.{words}
+use Rattle.text_words.specs.Word.{words, text_at}
+use Rattle.wire_parts.specs.Places.{IsIn}
 use Rattle.wire_parts.specs.declared.refusal.RefusalReason.{RefusalReason}
 use Rattle.wire_parts.specs.declared.refusal.RefusalReason.TheVariants.{BadChunk}
 use Rattle.wire_parts.specs.declared.skip.Skip.{Skip}
 use Rattle.wire_parts.specs.declared.skip.Skip.TheVariants.{ThroughNewline}
 use Rattle.wire_parts.specs.declared.block.End.{End}
 use Rattle.wire_parts.specs.declared.block.End.TheVariants.{Open, Good, Bad}
+use Rattle.wire_parts.specs.declared.block.Rest.{Rest}
+use Rattle.wire_parts.specs.declared.block.Rest.TheVariants as rests
 use Rattle.wire_parts.specs.Grammar.{Grammar}
 
 -- a message: one that is served, with its data block, or one that is refused, with what is passed over after it
@@ -35,6 +38,21 @@ with_block order used block Bad = Some (Refusal BadChunk ThroughNewline, used + 
 abbrev pub with_rest : {Order : Type 0} → Order → ℕ → List ℕ → Option ℕ → Found Order
 with_rest order used rest None = Some (Served order [], used)
 with_rest order used rest (Some n) = with_block order used (take n rest) (end_of (drop n rest))
+
+-- what follows a line, whatever that asks, stands there
+abbrev pub IsRest : List ℕ → Rest → Found (Unit {0}) → Type 0
+IsRest bytes rests.More found = found ≡ None
+IsRest bytes (rests.Whole block used) found = IsIn (length bytes) block × (found ≡ Some (Served tt (text_at bytes block), used))
+IsRest bytes (rests.Bad used) found = found ≡ Some (Refusal BadChunk ThroughNewline, used)
+
+-- the same message, of orders that are seen so
+abbrev pub lift_message : {A B : Type 0} → (A → B) → Message A → Message B
+lift_message f (Served order block) = Served (f order) block
+lift_message f (Refusal why skip) = Refusal why skip
+
+abbrev pub lift_found : {A B : Type 0} → (A → B) → Found A → Found B
+lift_found f None = None
+lift_found f (Some x) = Some (lift_message f x.0, x.1)
 
 module _ (G : Grammar) where
   -- what a line means, with what follows it

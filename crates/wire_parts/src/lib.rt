@@ -18,7 +18,7 @@ pub mod refusal;
 pub mod skip;
 pub mod to_send;
 
-pub use block::{End, block_end};
+pub use block::{Rest, after_line};
 pub use proxy_command::ProxyCommand;
 pub use refusal::RefusalReason;
 pub use skip::Skip;

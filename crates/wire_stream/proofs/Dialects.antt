@@ -7,7 +7,7 @@ use Rattle.wire_parts.specs.declared.refusal.RefusalReason.TheVariants.{Unknown}
 use Rattle.wire_parts.specs.declared.skip.Skip.{Skip}
 use Rattle.wire_parts.specs.Tests.{Word}
 use Rattle.wire_parts.specs.Message as parts
-use Rattle.wire_parts.specs.Message.{Served, Refusal, Found, meaning_of}
+use Rattle.wire_parts.specs.Message.{Served, Refusal, Found, meaning_of, lift_message, lift_found}
 use Rattle.wire_classic.specs.Order as texts
 use Rattle.wire_classic.specs.CommandWords as text_words
 use Rattle.wire_classic.specs.Grammar.{classic_grammar}
@@ -17,7 +17,7 @@ use Rattle.wire_meta.specs.Grammar.{meta_grammar}
 use Rattle.wire_meta.specs.Message as meta_messages
 use Rattle.wire_meta.specs.declared.command.Verb.{Verb}
 use Rattle.wire_meta.specs.CommandWords.{verb_of}
-use Rattle.wire_stream.specs.Both.{AnyOrder, Classic, Meta, both_grammar, order_by, order_of, skip_by, skip_of, lift_message, lift_found}
+use Rattle.wire_stream.specs.Both.{AnyOrder, Classic, Meta, both_grammar, order_by, order_of, skip_by, skip_of}
 use Rattle.wire_stream.specs.Message.{Begins}
 use Rattle.wire_stream.proofs.Lifting.{classic_lifted, meta_lifted}
 use Rattle.wire_stream.proofs.WordLengths.{meta_length, no_classic}

@@ -1,5 +1,5 @@
 -- A line means the same in its dialect as among both.
-use Rattle.std.proofs.Common.{◌≡◌, ℕ, ◌+◌, ◌-◌, true, false, List, [], ◌∷◌, length, take, drop, Option, Some, None, Result, Ok, Err, inl, inr, refl, sym, ap, ◌∙◌}
+use Rattle.std.proofs.Common.{◌≡◌, ℕ, ◌+◌, ◌-◌, true, false, List, ◌∷◌, length, take, drop, Option, Some, None, Result, Ok, Err, inl, inr, refl, sym, ap, ◌∙◌}
 use Rattle.text_words.specs.Line.{TakesLine, without_cr}
 use Rattle.text_words.specs.Word.{words, text_at, IsNextWord}
 use Rattle.text_words.proofs.Stays.{taken_line}
@@ -7,12 +7,9 @@ use Rattle.text_words.specs.declared.word.Span.{Span}
 use Rattle.wire_parts.specs.declared.refusal.RefusalReason.{RefusalReason}
 use Rattle.wire_parts.specs.declared.refusal.RefusalReason.TheVariants.{Unknown}
 use Rattle.wire_parts.specs.declared.skip.Skip.{Skip}
-use Rattle.wire_parts.specs.declared.skip.Skip.TheVariants.{Nothing}
-use Rattle.wire_parts.specs.declared.block.End.{End}
-use Rattle.wire_parts.specs.declared.block.End.TheVariants.{Open, Good, Bad}
 use Rattle.wire_parts.specs.Tests.{Word}
-use Rattle.wire_parts.specs.Message.{Found, Refusal, meaning, meaning_of, with_rest, with_block, end_of}
-use Rattle.wire_parts.proofs.Fronts.{line_text, begins_meant, none_begins}
+use Rattle.wire_parts.specs.Message.{Found, Refusal, meaning, meaning_of, lift_found}
+use Rattle.wire_parts.proofs.Fronts.{line_text, begins_meant, none_begins, rest_lifted}
 use Rattle.wire_classic.specs.Order as texts
 use Rattle.wire_classic.specs.CommandWords as text_words
 use Rattle.wire_classic.specs.Grammar.{classic_grammar}
@@ -22,19 +19,10 @@ use Rattle.wire_meta.specs.declared.command.Verb.{Verb}
 use Rattle.wire_meta.specs.CommandWords.{verb_of}
 use Rattle.wire_stream.specs.declared.requests.reader.Read.{Read}
 use Rattle.wire_stream.specs.declared.requests.reader.Read.TheVariants as reads
-use Rattle.wire_stream.specs.Both.{AnyOrder, Classic, Meta, both_grammar, order_by, order_of, skip_by, skip_of, mapped, lift_found}
+use Rattle.wire_stream.specs.Both.{AnyOrder, Classic, Meta, both_grammar, order_by, order_of, skip_by, skip_of, mapped}
 use Rattle.wire_stream.specs.OtherProtocol.{is_binary, ends_as_http, IsHttp, IsText, is_http}
 use Rattle.wire_stream.specs.Message.{IsMeant, Reads, message_in, used_of}
 use Rattle.wire_stream.proofs.OtherProtocols.{refused_order, order_refused, same_reason, http_line, http_text}
-
-block_lifted : {A B : Type 0} (f : A → B) (o : A) (used : ℕ) (block : List ℕ) (end : End) → with_block (f o) used block end ≡ lift_found f (with_block o used block end)
-block_lifted f o used block Open = refl
-block_lifted f o used block Good = refl
-block_lifted f o used block Bad = refl
-
-rest_lifted : {A B : Type 0} (f : A → B) (o : A) (used : ℕ) (rest : List ℕ) (n : Option ℕ) → with_rest (f o) used rest n ≡ lift_found f (with_rest o used rest n)
-rest_lifted f o used rest None = refl
-rest_lifted f o used rest (Some n) = block_lifted f o used (take n rest) (end_of (drop n rest))
 
 pub classic_lifted : (r : Result texts.Order RefusalReason) (skip : Skip) (used : ℕ) (rest : List ℕ) → meaning_of both_grammar (mapped Classic r) skip used rest ≡ lift_found Classic (meaning_of classic_grammar r skip used rest)
 classic_lifted (Err why) skip used rest = refl
@@ -124,9 +112,3 @@ module _ (bytes : List ℕ) (end used : ℕ) (line : TakesLine bytes end used) w
   reads_meant reads.OtherProtocol is_not h = inr (other_meant h.0 h.1 h.2 h.3 (http_text (take end bytes) h.0 h.4))
   reads_meant reads.TooLong is_not h = absurd h
   reads_meant reads.More is_not h = let none = none_begins both_grammar bytes end used line h in (none.0, none.1, more_text is_not h)
-
-  pub no_word : words (take end bytes) ≡ [] → meaning both_grammar (take (used - 1) bytes) (drop used bytes) ≡ Some (Refusal Unknown Nothing, used)
-  no_word none =
-      let text = line_text bytes end used line in
-      let empty : words (without_cr (take (used - 1) bytes)) ≡ [] = ap words text.0 ∙ none in
-      rw (empty, text.1) refl

@@ -10,7 +10,8 @@ use Rattle.mc_types.specs.declared.ask.Op.TheVariants.{Get, Gat, Set, Add, Repla
 use Rattle.mc_types.specs.declared.ask.Dialect.{Dialect}
 use Rattle.mc_types.specs.declared.ask.Dialect.TheVariants as dialects
 use Rattle.mc_types.specs.declared.token.Token.{Token}
-use Rattle.wire_parts.specs.Message.{Served, Refusal}
+use Rattle.wire_parts.specs.Message.{Served, Refusal, lift_message}
+use Rattle.wire_parts.specs.Requests.{ReadStill, AsksAreWellFormed, AsksAreReadBack, MessagesAreOneAsk}
 use Rattle.wire_parts.proofs.Streams.{begins_still}
 use Rattle.wire_classic.specs.declared.command.ClassicRequest.{ClassicRequest}
 use Rattle.wire_classic.specs.Message as texts
@@ -18,6 +19,7 @@ use Rattle.wire_classic.specs.Asks as text_asks
 use Rattle.wire_classic.specs.Asks.{IsClassicAsk}
 use Rattle.wire_classic.proofs.StreamLemmas as text_streams
 use Rattle.wire_classic.proofs.WalkLemmas as text_walks
+use Rattle.wire_classic.proofs.AskLemmas as text_sound
 use Rattle.wire_classic.proofs.Back as text_back
 use Rattle.wire_classic.proofs.OneAsk as text_one
 use Rattle.wire_meta.specs.declared.command.MetaRequest.{MetaRequest}
@@ -29,11 +31,11 @@ use Rattle.wire_meta.proofs.Back as meta_back
 use Rattle.wire_meta.proofs.Sound as meta_sound
 use Rattle.wire_stream.specs.declared.requests.request.Request.TheVariants as requests
 use Rattle.wire_stream.specs.declared.requests.request.Asks.TheVariants as walks
-use Rattle.wire_stream.specs.Both.{Classic, Meta, both_grammar, lift_message}
+use Rattle.wire_stream.specs.Both.{Classic, Meta, both_grammar}
 use Rattle.wire_stream.specs.Message.{Message, Begins, IsReadFrom, message_in}
 use Rattle.wire_stream.specs.Asks.{asks_of, quiet_of, IsClientAsk}
 use Rattle.wire_stream.specs.Spelling.{spelled_in, message_by}
-use Rattle.wire_stream.specs.Laws.{ReadStill, WalkStill, AsksAreWellFormed, AsksAreReadBack, MessagesAreOneAsk}
+use Rattle.wire_stream.specs.Laws.{both_requests, WalkStill}
 use Rattle.wire_stream.proofs.Dialects.{classic_begins, meta_begins, begins_classic, begins_meta}
 
 -- a request that was read, in its dialect
@@ -43,7 +45,7 @@ classic_read bytes r h = record { placed = h.placed; begins = classic_begins byt
 pub meta_read : (bytes : List ℕ) (r : MetaRequest) → IsReadFrom bytes (requests.Meta r) → metas.IsMetaReadFrom bytes r
 meta_read bytes r h = record { placed = h.placed; begins = meta_begins bytes _ _ r.used h.begins }
 
-pub read_still : ReadStill
+pub read_still : ReadStill both_requests
 read_still bytes more (requests.Classic r) h =
     let one = text_streams.read_still bytes more r (classic_read bytes r h) in
     let same : message_in (bytes ++ more) (requests.Classic r) ≡ message_in bytes (requests.Classic r) = ap (lift_message Classic) one.1 in
@@ -88,8 +90,8 @@ all_as : {P Q : Ask → Type 0} → ((ask : Ask) → P ask → Q ask) → (asks 
 all_as f [] h = tt
 all_as f (ask ∷ asks) h = (f ask h.0, all_as f asks h.1)
 
-pub asks_are_well_formed : AsksAreWellFormed
-asks_are_well_formed bytes (Served (Classic o) block) used b = all_as of_classic (text_asks.asks_by o block) (text_walks.asks_are_well_formed bytes (Served o block) used (classic_begins bytes o block used b))
+pub asks_are_well_formed : AsksAreWellFormed both_requests
+asks_are_well_formed bytes (Served (Classic o) block) used b = all_as of_classic (text_asks.asks_by o block) (text_sound.asks_are_well_formed bytes (Served o block) used (classic_begins bytes o block used b))
 asks_are_well_formed bytes (Served (Meta o) block) used b = all_as of_meta (meta_asks.asks_by o block) (meta_sound.asks_are_well_formed bytes (Served o block) used (meta_begins bytes o block used b))
 asks_are_well_formed bytes (Refusal why skip) used b = tt
 
@@ -99,14 +101,14 @@ classic_ask ask d h = record { well_formed = h.well_formed; classic = d }
 meta_ask : (ask : Ask) → ask.dialect ≡ dialects.Meta → IsClientAsk ask → IsMetaAsk ask
 meta_ask ask d h = record { well_formed = h.well_formed; meta = d; texts = h.texts }
 
-pub asks_are_read_back : AsksAreReadBack
+pub asks_are_read_back : AsksAreReadBack both_requests
 asks_are_read_back ask more h = go ask.dialect refl
   where
     go : (d : Dialect) → ask.dialect ≡ d → Begins (spelled_in d ask ++ more) (message_by d ask) (length (spelled_in d ask))
     go dialects.Classic d = begins_classic _ _ _ _ (text_back.asks_are_read_back ask more (classic_ask ask d h))
     go dialects.Meta d = begins_meta _ _ _ _ (meta_back.asks_are_read_back ask more (meta_ask ask d h))
 
-pub messages_are_one_ask : MessagesAreOneAsk
+pub messages_are_one_ask : MessagesAreOneAsk both_requests
 messages_are_one_ask ask h = go ask.dialect refl
   where
     go : (d : Dialect) → ask.dialect ≡ d → (asks_of (message_by d ask) ≡ ask ∷ []) × (quiet_of (message_by d ask) ≡ false)

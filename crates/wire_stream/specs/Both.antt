@@ -7,7 +7,6 @@ use Rattle.wire_parts.specs.declared.skip.Skip.TheVariants.{Nothing}
 use Rattle.wire_parts.specs.declared.proxy_command.ProxyCommand.{ProxyCommand}
 use Rattle.wire_parts.specs.Tests.{Word}
 use Rattle.wire_parts.specs.Grammar.{Grammar}
-use Rattle.wire_parts.specs.Message.{Message, Served, Refusal, Found}
 use Rattle.wire_classic.specs.Order as texts
 use Rattle.wire_classic.specs.Grammar as text_lines
 use Rattle.wire_meta.specs.Order as metas
@@ -51,12 +50,3 @@ own_by (Meta order) = meta_lines.own_by order
 
 abbrev pub both_grammar : Grammar
 both_grammar = record { Order = AnyOrder; order_of = order_of; skip_of = skip_of; block_len = block_len; own_by = own_by }
-
--- a message of one dialect, as one of both
-abbrev pub lift_message : {A B : Type 0} → (A → B) → Message A → Message B
-lift_message f (Served order block) = Served (f order) block
-lift_message f (Refusal why skip) = Refusal why skip
-
-abbrev pub lift_found : {A B : Type 0} → (A → B) → Found A → Found B
-lift_found f None = None
-lift_found f (Some x) = Some (lift_message f x.0, x.1)

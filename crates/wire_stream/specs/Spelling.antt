@@ -5,7 +5,8 @@ use Rattle.mc_types.specs.declared.ask.Dialect.TheVariants as dialects
 use Rattle.mc_types.specs.declared.ask.Ask.{Ask}
 use Rattle.wire_classic.specs.Spelling as texts
 use Rattle.wire_meta.specs.Spelling as metas
-use Rattle.wire_stream.specs.Both.{Classic, Meta, lift_message}
+use Rattle.wire_parts.specs.Message.{lift_message}
+use Rattle.wire_stream.specs.Both.{Classic, Meta}
 use Rattle.wire_stream.specs.Message.{Message}
 
 abbrev pub spelled_in : Dialect → Ask → List ℕ

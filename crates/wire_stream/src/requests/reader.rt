@@ -4,8 +4,8 @@ ghost use Rattle.wire_classic.specs.Message as texts;
 ghost use Rattle.wire_classic.specs.CommandWords as text_words;
 ghost use Rattle.wire_meta.specs.Message as metas;
 ghost use Rattle.wire_meta.specs.CommandWords as meta_words;
-ghost use Rattle.wire_parts.specs.Message.{Refusal};
-ghost use Rattle.wire_stream.specs.Both.{Classic, Meta, lift_found};
+ghost use Rattle.wire_parts.specs.Message.{Refusal, lift_found};
+ghost use Rattle.wire_stream.specs.Both.{Classic, Meta};
 ghost use Rattle.wire_stream.specs.Message.{Found, IsMeant, Reads};
 
 use crate::requests::other_protocol::{is_binary, is_http};

@@ -1,21 +1,22 @@
-use Rattle.std.proofs.Common.{◌∙◌, drop}
-use Rattle.wire_parts.proofs.Fronts.{no_block, no_span}
-use Rattle.wire_meta.specs.Places.{order_in}
-use Rattle.wire_meta.specs.Message.{command_block_len}
-use Rattle.wire_meta.proofs.Front.{meaning-asked, LiesIn-take}
+use Rattle.std.proofs.Common.{None, Some}
+use Rattle.text_words.specs.Word.{text_at}
+use Rattle.wire_parts.specs.Message.{Served, Refusal}
+use Rattle.wire_parts.specs.declared.refusal.RefusalReason.TheVariants.{BadChunk}
+use Rattle.wire_parts.specs.declared.skip.Skip.TheVariants.{ThroughNewline}
+use Rattle.wire_parts.proofs.Requests.{meaning-asked}
+use Rattle.wire_meta.specs.Grammar.{meta_grammar}
+use Rattle.wire_meta.specs.Places.{order_in, LiesIn}
+use Rattle.wire_meta.proofs.Front.{order_in-take, LiesIn-take}
 use Rattle.wire_meta.proofs.reader.read_after.Goals as goal
 
-pub with_block-requires-clause-within : goal.with_block-requires-clause-within
-with_block-requires-clause-within c = LiesIn-take c.args.end c.args.bytes.now c.in-Ok.command c.in-Ok.ensures.within
+pub returns-in-More : goal.returns-in-More
+returns-in-More c = meaning-asked meta_grammar order_in LiesIn order_in-take _ _ _ c.in-Ok.command _ None c.requires.line c.in-Ok.ensures.within c.in-Ok.ensures.order (c.block_len.ensures c.args.bytes.now) c.in-More.ensures
 
-pub returns-in-Some : goal.returns-in-Some
-returns-in-Some c =
-    let asked = meaning-asked c.args.bytes.now c.args.end c.args.used c.in-Ok.command c.requires.line c.in-Ok.ensures.within c.in-Ok.ensures.order in
-    rw (asked, ← c.block_len.ensures, c.in-Some.is) c.with_block.ensures
+pub returns-in-Whole : goal.returns-in-Whole
+returns-in-Whole c = (
+  record { command = LiesIn-take c.args.end c.args.bytes.now c.in-Ok.command c.in-Ok.ensures.within; block = c.in-Whole.ensures.0 },
+  meaning-asked meta_grammar order_in LiesIn order_in-take _ _ _ c.in-Ok.command _ (Some (Served tt (text_at c.args.bytes.now c.in-Whole.block), c.in-Whole.used)) c.requires.line c.in-Ok.ensures.within c.in-Ok.ensures.order (c.block_len.ensures c.args.bytes.now) c.in-Whole.ensures.1,
+)
 
-pub returns-in-None : goal.returns-in-None
-returns-in-None c =
-    let asked = meaning-asked c.args.bytes.now c.args.end c.args.used c.in-Ok.command c.requires.line c.in-Ok.ensures.within c.in-Ok.ensures.order in (
-      record { command = LiesIn-take c.args.end c.args.bytes.now c.in-Ok.command c.in-Ok.ensures.within; block = no_span c.args.bytes.now c.args.end c.args.used c.requires.line },
-      asked ∙ no_block c.args.bytes.now (order_in c.args.bytes.now c.in-Ok.command) c.args.used (drop c.args.used c.args.bytes.now) (command_block_len c.in-Ok.command) c.in-None.ensures,
-    )
+pub returns-in-Bad : goal.returns-in-Bad
+returns-in-Bad c = meaning-asked meta_grammar order_in LiesIn order_in-take _ _ _ c.in-Ok.command _ (Some (Refusal BadChunk ThroughNewline, c.in-Bad.used)) c.requires.line c.in-Ok.ensures.within c.in-Ok.ensures.order (c.block_len.ensures c.args.bytes.now) c.in-Bad.ensures

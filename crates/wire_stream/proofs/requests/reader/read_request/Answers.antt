@@ -1,8 +1,8 @@
 use Rattle.std.proofs.Common.{take, refl, sym, subst, ◌∙◌}
-use Rattle.wire_parts.proofs.Fronts.{nothing_begins}
+use Rattle.wire_parts.proofs.Fronts.{nothing_begins, no_word}
 use Rattle.wire_stream.specs.Both.{both_grammar}
 use Rattle.wire_stream.specs.Message.{IsMeant}
-use Rattle.wire_stream.proofs.Lifting.{means_classic, means_meta, reads_meant, no_word}
+use Rattle.wire_stream.proofs.Lifting.{means_classic, means_meta, reads_meant}
 use Rattle.wire_stream.proofs.OtherProtocols.{open_text, long_text}
 use Rattle.wire_stream.proofs.requests.reader.read_request.Goals as goal
 
@@ -16,7 +16,7 @@ returns-in-TooLong c = (c.in-TooLong.ensures, long_text c.args.bytes.now (sym c.
 
 pub returns-in-None : goal.returns-in-None
 returns-in-None c =
-    let means = no_word c.args.bytes.now c.in-At.end c.in-At.used c.in-At.ensures c.in-None.ensures in
+    let means = no_word both_grammar c.args.bytes.now c.in-At.end c.in-At.used refl refl c.in-At.ensures c.in-None.ensures in
     reads_meant c.args.bytes.now c.in-At.end c.in-At.used c.in-At.ensures c.of_refused.result (sym c.is_binary.ensures ∙ c.if-is_binary.false) (c.of_refused.ensures c.args.bytes.now _ means)
 
 pub returns-in-Classic : goal.returns-in-Classic

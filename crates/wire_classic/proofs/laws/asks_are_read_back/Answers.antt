@@ -1,5 +1,0 @@
-use Rattle.wire_classic.proofs.Back.{asks_are_read_back}
-use Rattle.wire_classic.proofs.laws.asks_are_read_back.Goals as goal
-
-pub returns : goal.returns
-returns c = asks_are_read_back
