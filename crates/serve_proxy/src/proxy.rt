@@ -286,8 +286,8 @@ impl<W: Wire> ProxyEnd<W> {
         self.sockets.in_rounds = true;
     }
 
-    /// What its core has done so far: clients opened and turned away, and commands ended, in all and of each operation by their replies. Each count is
-    /// of just that, as far as it goes ([`serve_links::laws::steps_are_counted`]).
+    /// What its core has done so far: clients opened and turned away, commands ended, in all and of each operation by their replies, and calls given
+    /// out, answered and failed. Each count is of just that, as far as it goes ([`serve_links::laws::steps_are_counted`]).
     pub fn core_tally(&self) -> CoreTally
         ensures { result ≡ self.now.core.value.tally }
     {
