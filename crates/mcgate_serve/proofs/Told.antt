@@ -12,13 +12,13 @@ use Rattle.mcgate_serve.specs.Told.{op_counts, FamiliesTell, IsInPrometheus, IsI
 pub tells_tally : (tally : CoreTally) (numbers : Numbers) (families : List Family) → HasTally tally numbers → FamiliesTell numbers families → TellsTally tally families
 tells_tally tally numbers families has tell =
     let opened =
-        subst
-        (λ n. IsAmong (Tells (codes "mcgate_client_connections_total") (one_labelled (codes "verdict") (codes "accepted") n ∷ one_labelled (codes "verdict") (codes "refused") numbers.clients.refused ∷ [])) families)
-        has.opened tell.clients in
+    subst
+    (λ n. IsAmong (Tells (codes "mcgate_client_connections_total") (one_labelled (codes "verdict") (codes "accepted") n ∷ one_labelled (codes "verdict") (codes "refused") numbers.clients.refused ∷ [])) families)
+    has.opened tell.clients in
     let answered =
-        subst
-        (λ n. IsAmong (Tells (codes "mcgate_calls_total") (one_labelled (codes "outcome") (codes "answered") n ∷ one_labelled (codes "outcome") (codes "failed") numbers.calls.failed ∷ [])) families)
-        has.answered tell.calls.1 in
+    subst
+    (λ n. IsAmong (Tells (codes "mcgate_calls_total") (one_labelled (codes "outcome") (codes "answered") n ∷ one_labelled (codes "outcome") (codes "failed") numbers.calls.failed ∷ [])) families)
+    has.answered tell.calls.1 in
     record {
       clients =
           subst

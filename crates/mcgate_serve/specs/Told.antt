@@ -47,16 +47,16 @@ pub record TellsTally (tally : CoreTally) (families : List Family) : Type 0 wher
   pub clients :
       IsAmong
       (Tells
-        (codes "mcgate_client_connections_total")
-        (one_labelled (codes "verdict") (codes "accepted") tally.opened ∷ one_labelled (codes "verdict") (codes "refused") tally.refused ∷ []))
+      (codes "mcgate_client_connections_total")
+      (one_labelled (codes "verdict") (codes "accepted") tally.opened ∷ one_labelled (codes "verdict") (codes "refused") tally.refused ∷ []))
       families
   pub commands : IsAmong (Tells (codes "mcgate_commands_total") (flat_map (op_counts tally) all_ops)) families
   pub made : IsAmong (Tells (codes "mcgate_calls_made_total") (([], Count tally.calls) ∷ [])) families
   pub ended :
       IsAmong
       (Tells
-        (codes "mcgate_calls_total")
-        (one_labelled (codes "outcome") (codes "answered") tally.answered ∷ one_labelled (codes "outcome") (codes "failed") tally.failed ∷ []))
+      (codes "mcgate_calls_total")
+      (one_labelled (codes "outcome") (codes "answered") tally.answered ∷ one_labelled (codes "outcome") (codes "failed") tally.failed ∷ []))
       families
 
 -- the text is that of such families, in Prometheus' format or in JSON

@@ -116,10 +116,7 @@ fn numbers_of_ops(
     Ok(commands)
 }
 
-fn commands_of<W: Wire>(
-    alloc: Global,
-    end: &ProxyEnd<W>,
-) -> Result<Vec<CommandNumbers>, AllocError>
+fn commands_of<W: Wire>(alloc: Global, end: &ProxyEnd<W>) -> Result<Vec<CommandNumbers>, AllocError>
     ensures { IfOk result (λ commands. flat_map command_counts commands.items ≡ flat_map (op_counts end.now.core.value.tally) all_ops) }
 {
     let tally = end.core_tally();

@@ -202,12 +202,7 @@ fn label(alloc: Global, name: &'static str, value: &str) -> Result<Label, AllocE
 }
 
 // A number with one label.
-fn sample(
-    alloc: Global,
-    name: &'static str,
-    value: &str,
-    count: u64,
-) -> Result<Sample, AllocError>
+fn sample(alloc: Global, name: &'static str, value: &str, count: u64) -> Result<Sample, AllocError>
     ensures { IfOk result (λ sample. sample_read sample ≡ one_labelled name.now value.now count) }
 {
     let mut labels = Vec::new(alloc);
