@@ -3,3 +3,4 @@ pub mod Idle
 pub mod Commands
 pub mod Counting
 pub mod ByPlace
+pub mod Formed

@@ -34,6 +34,9 @@ HasRoom commands = 0 < map.spare commands
 abbrev pub Puts : {S : Type 0} → map.IndexMap ℕ Command S → ℕ → Command → map.IndexMap ℕ Command S → ℕ → Type 0
 Puts old number command new n = map.get nat_eq new n ≡ (if nat_eq number n then Some command else map.get nat_eq old n)
 
--- the call that a job shows
-abbrev pub ticket_of : ℕ → Job → Ticket
-ticket_of number job = record { ask = ask_under job.frames.items job.ask; number = number; origin = origin_under job.frames.items OfClient; server = server_in job.pending }
+-- a ticket of this number for the call that a job shows
+pub record IsTicketFor (number : ℕ) (job : Job) (ticket : Ticket) : Type 0 where
+  pub ask_is : ticket.ask ≡ ask_under job.frames.items job.ask
+  pub number_is : ticket.number ≡ number
+  pub origin_is : ticket.origin ≡ origin_under job.frames.items OfClient
+  pub server_is : ticket.server ≡ server_in job.pending

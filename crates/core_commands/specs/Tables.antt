@@ -5,7 +5,7 @@ use Rattle.mc_types.specs.declared.call.Outcome.{Outcome}
 use Rattle.route_job.specs.Jobs.{IsCalling}
 use Rattle.core_commands.specs.declared.command.Command.{Command}
 use Rattle.core_commands.specs.declared.ticket.Ticket.{Ticket}
-use Rattle.core_commands.specs.Begun.{ticket_of}
+use Rattle.core_commands.specs.Begun.{IsTicketFor}
 use Rattle.core_commands.specs.Counts.{ByNumber}
 use Rattle.core_commands.specs.Out.{has_call_out}
 use Rattle.core_commands.specs.Outcomes.{TakesOutcome}
@@ -25,7 +25,7 @@ Replaces old number command new = (n : ℕ) → map.get nat_eq new n ≡ (if nat
 pub record CallsOut (old : ByNumber) (number : ℕ) (ticket : Ticket) (new : ByNumber) : Type 0 where
   pub command : Command
   pub was : map.get nat_eq old number ≡ Some command
-  pub is : ticket ≡ ticket_of number command.job
+  pub is : IsTicketFor number command.job ticket
   pub out : Replaces old number (record command { is_out = true }) new
 
 -- whose call of this number is out

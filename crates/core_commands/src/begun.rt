@@ -7,14 +7,14 @@ ghost use Rattle.route_tree.specs.At.{tree_at};
 ghost use Rattle.route_tree.specs.Route.{IsTree};
 ghost use Rattle.route_tree.specs.Word.{Given, Word};
 ghost use Rattle.route_job.specs.Jobs.{Comes, IsCalling};
-ghost use Rattle.core_commands.specs.Begun.{IsBegun, ticket_of};
+ghost use Rattle.core_commands.specs.Begun.{IsBegun, IsTicketFor};
 
 use crate::claim::Claim;
 use crate::command::Command;
 use crate::held_job::HeldJob;
 use crate::ticket::Ticket;
 use mc_types::SharedAsk;
-use route_job::{Job, JobStep};
+use route_job::{FormedAsk, Job, JobStep};
 use route_tree::Tree;
 use std::alloc::{AllocError, Global};
 
@@ -31,7 +31,8 @@ fn job_anew(
     tree: &Tree,
     ask: &SharedAsk,
 ) -> Result<HeldJob, AllocError>
-    ensures { IfOk result (λ job. (calls : List Call) (given : Given) → Comes job calls given ↔ Word (tree_at tree.now ask.now.key) ask.now OfClient 0 calls given) }
+    ensures words { IfOk result (λ job. (calls : List Call) (given : Given) → Comes job calls given ↔ Word (tree_at tree.now ask.now.key) ask.now OfClient 0 calls given) }
+    ensures ask { IfOk result (λ job. job.ask ≡ ask.now) }
 {
     let ask = ask.copy()?;
     let job = Job::new(alloc, tree, ask)?;
@@ -45,7 +46,8 @@ fn job_of(
     tree: &Tree,
     ask: &SharedAsk,
 ) -> Result<HeldJob, AllocError>
-    ensures { IfOk result (λ job. (calls : List Call) (given : Given) → Comes job calls given ↔ Word (tree_at tree.now ask.now.key) ask.now OfClient 0 calls given) }
+    ensures words { IfOk result (λ job. (calls : List Call) (given : Given) → Comes job calls given ↔ Word (tree_at tree.now ask.now.key) ask.now OfClient 0 calls given) }
+    ensures ask { IfOk result (λ job. job.ask ≡ ask.now) }
 {
     let Some(mut room) = room else {
         return job_anew(alloc, None, tree, ask);
@@ -59,20 +61,21 @@ fn job_of(
 
 /// A command of a client for this ask with this claim, as it begins on this tree, with its job in the room of another where one is
 /// given. The only error is running out of memory.
+#[tactic(auto, using(crate::proofs::Formed::same_is_ask))]
 pub fn command_of(
     alloc: Global,
     room: Option<HeldJob>,
     tree: &Tree,
     client: usize,
-    ask: &SharedAsk,
+    ask: &FormedAsk,
     claim: Claim,
 ) -> Result<Command, AllocError>
-    ensures begun { IfOk result (λ command. IsBegun tree.now client ask.now claim command) }
+    ensures begun { IfOk result (λ command. IsBegun tree.now client ask.now.ask claim command) }
     ensures tree { IsTree tree.now }
 {
     let _form = tree.form();
-    let kept = ask.copy()?;
-    match job_of(alloc, room, tree, ask) {
+    let kept = ask.ask.copy()?;
+    match job_of(alloc, room, tree, &ask.ask) {
         Ok(job) => Ok(Command {
             job,
             ask: kept,
@@ -87,12 +90,12 @@ pub fn command_of(
     }
 }
 
-// The call that the job shows.
-fn ticket_of(number: u64, job: &HeldJob) -> Result<Ticket, AllocError>
-    requires { IsCalling job.now }
-    ensures { IfOk result (λ ticket. ticket ≡ ticket_of number job.now) }
+// The call that the command's job shows.
+fn ticket_of(number: u64, command: &Command) -> Result<Ticket, AllocError>
+    requires { IsCalling command.now.job }
+    ensures { IfOk result (IsTicketFor number command.now.job) }
 {
-    match job.next() {
+    match command.job.next() {
         JobStep::Call {
             server,
             ask,
@@ -112,11 +115,11 @@ impl Command {
     /// is refused only where the count of the ask's sharers is full.
     pub fn send(&mut self, number: u64) -> Result<Ticket, AllocError>
         requires { IsCalling self.old.job }
-        ensures ticket { IfOk result (λ ticket. ticket ≡ ticket_of number self.old.job) }
+        ensures ticket { IfOk result (IsTicketFor number self.old.job) }
         ensures out { IfOk result (λ ticket. self.new ≡ record self.old { is_out = true }) }
         ensures err { OnErr result (self.new ≡ self.old) }
     {
-        let ticket = ticket_of(number, &self.job)?;
+        let ticket = ticket_of(number, self)?;
         self.is_out = true;
         Ok(ticket)
     }

@@ -1,12 +1,11 @@
 //! A command that has begun and has not ended.
 
 ghost use Rattle.std.specs.Prelude.{◌≡◌, true, false, OnOk, IfSome, Some, option_map};
+ghost use Rattle.mc_types.specs.Asks.{IsAsk};
 ghost use Rattle.fresh_runs.specs.Single.{FitsOutcome};
+ghost use Rattle.route_job.specs.AtMostOne.{is_ask_prop};
 ghost use Rattle.route_job.specs.Jobs.{server_in};
 ghost use Rattle.route_job.specs.Rest.{ask_under};
-ghost use Rattle.core_commands.specs.Out.{has_call_out};
-ghost use Rattle.core_commands.specs.Counts.{is_called};
-ghost use Rattle.core_commands.specs.Outcomes.{TakesOutcome, asked_by, IsOutAs};
 
 use crate::claim::Claim;
 use crate::held_job::HeldJob;
@@ -25,9 +24,14 @@ pub struct Command {
     pub claim: Claim,
     /// Whether its next call is out.
     pub is_out: bool,
+    pub ghost formed: { IsAsk job.ask } by { is_ask_prop job.ask },
 }
 
 impl Command {
+    ghost use Rattle.core_commands.specs.Out.{has_call_out};
+    ghost use Rattle.core_commands.specs.Counts.{is_called};
+    ghost use Rattle.core_commands.specs.Outcomes.{TakesOutcome, asked_by, IsOutAs};
+
     /// The key of the command.
     pub fn key(&self) -> Key
         ensures { result ≡ self.now.ask.key }
@@ -70,7 +74,8 @@ impl Command {
 
     /// What the command's call that is out asks, if one is. It takes no memory.
     pub fn asked(&self) -> Option<&Ask>
-        ensures { option_map (λ ask. ask.now) result ≡ asked_by (Some self.now) }
+        ensures exact { option_map (λ ask. ask.now) result ≡ asked_by (Some self.now) }
+        ensures formed { IfSome result (λ ask. IsAsk ask.now) }
     {
         if !self.is_out {
             return None;
@@ -103,6 +108,7 @@ impl Command {
     }
 
     /// The call that is out had this outcome. The only error: memory was refused, and its job is broken then.
+    #[tactic(auto, using(crate::proofs::Formed::same_is_ask))]
     pub fn take(&mut self, alloc: Global, outcome: Outcome) -> Result<(), AllocError>
         requires out { has_call_out self.old ≡ true }
         requires fits { FitsOutcome (ask_under self.old.job.frames.items self.old.job.ask) outcome }

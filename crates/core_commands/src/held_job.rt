@@ -1,6 +1,6 @@
 //! A job that stays where it is while its command is moved.
 
-ghost use Rattle.std.specs.Prelude.{◌≡◌, ◌↔◌, MatchBool, List, [], ◌∷◌, IfNone, IfOk, IfSome, OnOk};
+ghost use Rattle.std.specs.Prelude.{◌≡◌, ◌↔◌, MatchBool, true, List, [], ◌∷◌, IfNone, IfOk, IfSome, OnOk};
 ghost use Rattle.mc_types.specs.declared.call.Origin.TheVariants.{Client};
 ghost use Rattle.fresh_runs.specs.Calls.{Call as CallMade};
 ghost use Rattle.fresh_runs.specs.Single.{FitsOutcome};
@@ -58,7 +58,8 @@ impl HeldJob {
 
     /// As `Job::begin_at_once`, in its room.
     pub fn begin_at_once(&mut self, tree: &Tree, ask: &SharedAsk) -> Result<bool, AllocError>
-        ensures { IfOk result (λ begun. MatchBool begun ((calls : List CallMade) (given : Given) → Comes self.new calls given ↔ Word (tree_at tree.now ask.now.key) ask.now Client 0 calls given) (self.new ≡ self.old)) }
+        ensures words { IfOk result (λ begun. MatchBool begun ((calls : List CallMade) (given : Given) → Comes self.new calls given ↔ Word (tree_at tree.now ask.now.key) ask.now Client 0 calls given) (self.new ≡ self.old)) }
+        ensures ask { IfOk result (λ begun. begun ≡ true → self.new.ask ≡ ask.now) }
     {
         self.job.begin_at_once(tree, ask)
     }
@@ -83,6 +84,7 @@ impl HeldJob {
         requires calling { IsCalling self.old }
         requires fits { FitsOutcome (call_of self.old outcome).ask outcome }
         ensures rest { OnOk result ((calls : List CallMade) (given : Given) → Comes self.new calls given ↔ Comes self.old (call_of self.old outcome ∷ calls) given) }
+        ensures ask { self.new.ask ≡ self.old.ask }
     {
         self.job.take(alloc, outcome)
     }

@@ -21,3 +21,4 @@ pub mod Resting
 pub mod Stalled
 pub mod AtOnce
 pub mod CallsStay
+pub mod Formed

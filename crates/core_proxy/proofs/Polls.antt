@@ -16,7 +16,8 @@ use Rattle.fresh_runs.proofs.OverlapSteps.{walks_lead}
 use Rattle.route_tree.specs.At.{tree_at}
 use Rattle.route_tree.specs.Route.{IsTree}
 use Rattle.route_tree.specs.Word.{Given, Word, tree_words}
-use Rattle.route_job.specs.Jobs.{Comes, IsCalling, IsDone}
+use Rattle.route_job.specs.Jobs.{server_in, Comes, IsCalling, IsDone}
+use Rattle.route_job.specs.Rest.{ask_under, origin_under}
 use Rattle.wire_stream.specs.declared.connection.front.Passed.{Passed}
 use Rattle.core_client.specs.declared.client.Client.{Client}
 use Rattle.core_commands.specs.declared.command.Command.{Command}
@@ -32,7 +33,7 @@ use Rattle.core_commands.specs.declared.ticket.Ticket.{Ticket}
 use Rattle.core_proxy.specs.Steps.{Turns}
 use Rattle.core_client.specs.Fronts.{Stays, PassesFront, BeginsKey}
 use Rattle.core_commands.specs.Ready.{IsIdle}
-use Rattle.core_commands.specs.Begun.{IsBegun, ticket_of}
+use Rattle.core_commands.specs.Begun.{IsBegun, IsTicketFor}
 use Rattle.core_proxy.specs.Polls.{ForClient, IsPassed, IsNothing, HasBegun, BeginsAt, CanSend, IsTicketOf, IsSent, IsEnded, IsServed, AreShown, IsShown, queue_len, ShowsNext, StopsFirst, StopsAfter, IsBelowDepth, BeginsBelow, MayAsk, NoneGoesOn, IsNextAsk, bars, stands_before, StandsStill, StandsInLine, Acts, Polls, IsPolled, IsActed, IsWhy, SoEnded, SoFar, ReadFault, Perhaps, BeginsOne, DropsAll, StopsPolling}
 use Rattle.core_proxy.specs.Settles.{freed}
 use Rattle.core_commands.specs.Lines as line
@@ -193,19 +194,21 @@ begun_goes old new client x y ask command was is others served first apart claim
     }
 
 -- a call went out
-pub sent_goes : (old new : Core) (number : ℕ) (can : CanSend old number) (ticket : Ticket) → ticket ≡ ticket_of number can.command.job → ((n : ℕ) → command_at new n ≡ (if nat_eq number n then Some (record can.command { is_out = true }) else command_at old n))
+pub sent_goes : (old new : Core) (number : ℕ) (can : CanSend old number) (ticket : Ticket) → IsTicketFor number can.command.job ticket → ((n : ℕ) → command_at new n ≡ (if nat_eq number n then Some (record can.command { is_out = true }) else command_at old n))
     → ((c : ℕ) → client_at new c ≡ client_at old c) → new.tree ≡ old.tree → new.limits ≡ old.limits → new.number ≡ old.number → GoesBy old (IsSent ticket) new
 sent_goes old new number can ticket is commands clients tree limits number_is =
-    goes_as old new (λ entries. entries ≡ (let t = ticket_of number can.command.job in Sends t.number t.server t.ask t.origin ∷ [])) (IsSent ticket) (λ entries e. e ∙ ap (λ (t : Ticket). Sends t.number t.server t.ask t.origin ∷ []) (sym is))
+    let job = can.command.job in
+    goes_as old new (λ entries. entries ≡ Sends number (server_in job.pending) (ask_under job.frames.items job.ask) (origin_under job.frames.items OfClient) ∷ []) (IsSent ticket)
+    (λ entries e. e ∙ (λ i. Sends (sym is.number_is i) (sym is.server_is i) (sym is.ask_is i) (sym is.origin_is i) ∷ []))
     (sends old new number can.command (record { was = can.was; idle = can.idle; calling = can.calling; commands = commands; clients = clients; tree = tree; limits = limits; number_is = number_is }))
 
 -- the call that was handed out is out then
-pub sent_out : (new : Core) (number : ℕ) (a : Command) (ticket : Ticket) → IsCalling a.job → ticket ≡ ticket_of number a.job → command_at new number ≡ Some (record a { is_out = true }) → IsTicketOf new ticket
+pub sent_out : (new : Core) (number : ℕ) (a : Command) (ticket : Ticket) → IsCalling a.job → IsTicketFor number a.job ticket → command_at new number ≡ Some (record a { is_out = true }) → IsTicketOf new ticket
 sent_out new number a ticket calling is now =
     record {
       command = record a { is_out = true };
-      was = ap (λ (t : Ticket). command_at new t.number) is ∙ now;
-      is = record { out = is_call_true a.job.pending calling; server_is = ap (λ (t : Ticket). t.server) is; ask_is = ap (λ (t : Ticket). t.ask) is; origin_is = ap (λ (t : Ticket). t.origin) is };
+      was = ap (command_at new) is.number_is ∙ now;
+      is = record { out = is_call_true a.job.pending calling; server_is = is.server_is; ask_is = is.ask_is; origin_is = is.origin_is };
     }
 
 -- what holds after an error, and after none

@@ -26,6 +26,7 @@ use core_client::Next;
 use core_commands::begun::{command_of, drop_ask, drop_command};
 use core_commands::{Claim, Command, Ticket, Turn, turn_of};
 use mc_types::{Key, SharedAsk};
+use route_job::FormedAsk;
 use wire_stream::connection::Passed;
 use wire_stream::{Read, Request, version_of};
 
@@ -105,10 +106,11 @@ impl Core {
         ensures kept { OnErr result (self.new.lines ≡ self.old.lines) }
     {
         let room = self.commands.take_room();
-        match command_of(self.alloc, room, &self.tree, client, &ask, claim) {
-            Ok(command) => self.begin_command(client, request, ask, command),
+        let formed = FormedAsk { ask };
+        match command_of(self.alloc, room, &self.tree, client, &formed, claim) {
+            Ok(command) => self.begin_command(client, request, formed.ask, command),
             Err(_) => {
-                drop_ask(ask);
+                drop_ask(formed.ask);
                 Err(CoreFault::NoMemory)
             }
         }

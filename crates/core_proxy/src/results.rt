@@ -1,6 +1,7 @@
 //! The result of a call of a server comes.
 
 ghost use Rattle.std.specs.Prelude.{◌≡◌, OnOk, IfErr, IfSome, option_map};
+ghost use Rattle.mc_types.specs.Asks.{IsAsk};
 ghost use Rattle.core_proxy.specs.CoreState.{client_at};
 ghost use Rattle.core_client.specs.ClientState.{dropped_by};
 ghost use Rattle.core_proxy.specs.Settles.{FitsCall, asked, IsCalled, TakesOut, Settles, SettleFault};
@@ -35,9 +36,10 @@ impl Core {
         }
     }
 
-    /// What the call of this number asks that is out in this core; `None` where none is out. It takes no memory.
+    /// What the call of this number asks that is out in this core, which a client can write; `None` where none is out. It takes no memory.
     pub fn asked(&self, number: u64) -> Option<&Ask>
-        ensures { option_map (λ ask. ask.now) result ≡ asked self.now number }
+        ensures exact { option_map (λ ask. ask.now) result ≡ asked self.now number }
+        ensures formed { IfSome result (λ ask. IsAsk ask.now) }
     {
         match self.commands.get(number) {
             None => None,

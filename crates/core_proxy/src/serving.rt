@@ -22,6 +22,7 @@ pub trait Servers {
 
 impl Core {
     // The servers answer the call of this ticket, which is settled by that.
+    #[tactic(auto, using(crate::proofs::Formed::same_is_ask))]
     fn answer_call<S: Servers>(&mut self, ticket: Ticket, servers: &mut S) -> Result<(), CoreFault>
         requires { IsTicketOf self.old ticket }
         ensures ok { OnOk result (IsSettledFitting self.old ticket self.new) }

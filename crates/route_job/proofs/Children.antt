@@ -10,7 +10,7 @@ use Rattle.fresh_runs.specs.Calls.{Call}
 use Rattle.route_tree.specs.Operation.{same_op}
 use Rattle.route_tree.specs.Plan.{Plan, Plans, PlanPolicies, Otherwise, Policy, End, More, AllSync, count, count_of_all, count_of_policies}
 use Rattle.route_tree.specs.Levels.{chosen_plan}
-use Rattle.route_tree.specs.Word.{Given, rank, Gives, Then, Word, WordOfFirst, WordOfPolicy, AfterWarm, IfGet}
+use Rattle.route_tree.specs.Word.{Given, rank, Gives, Then, Word, WordOfFirst, WordOfPolicy, AfterCold, AfterWarm, IfGet}
 use Rattle.route_job.specs.Parts.{SameAt, worse, WorstWith, AfterFirst, is_get}
 use Rattle.route_job.proofs.Same.{same_refl, same_trans, all_begin, worst_more, worst_one, first_begin, choice_true, choice_false}
 
@@ -69,6 +69,10 @@ chosen_count (Policy o p ps) ask = count_by (same_op o ask.op) p (chosen_plan as
 pub no_hit : (ask : Ask) (cold warm : ℕ → List Call → Given → Type 0) (add : Answer → ℕ → ℕ → List Call → Given → Type 0) (first g : Given) (r : ℕ) → (r ≡ 0 → ⊥) → (b : ℕ) → SameAt b (AfterWarm ask cold warm add first g r) (Gives first)
 no_hit ask cold warm add first g zero isnt b = absurd (isnt refl)
 no_hit ask cold warm add first g (suc r) isnt b = same_refl b (Gives first)
+
+pub goes_warm : (ask : Ask) (cold warm : ℕ → List Call → Given → Type 0) (add : Answer → ℕ → ℕ → List Call → Given → Type 0) (first : Given) (r : ℕ) → (r ≡ 0 → ⊥) → (b : ℕ) → SameAt b (AfterCold ask cold warm add first r) (Then warm (λ g. AfterWarm ask cold warm add first g (rank g)))
+goes_warm ask cold warm add first zero isnt b = absurd (isnt refl)
+goes_warm ask cold warm add first (suc r) isnt b = same_refl b (Then warm (λ g. AfterWarm ask cold warm add first g (rank g)))
 
 -- what holds of a get
 pub of_get : (op : Op) (X Y : ℕ → List Call → Given → Type 0) (b : ℕ) → is_get op ≡ true → SameAt b (λ n calls given. IfGet op (X n calls given) (Y n calls given)) X

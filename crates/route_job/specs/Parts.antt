@@ -1,12 +1,13 @@
 -- What is left of a plain tree when a child of it has given its reply.
-use Rattle.std.specs.Prelude.{◌≡◌, ◌↔◌, ℕ, nat_lt, Bool, true, false, List, ◌∷◌, Option, Some, None, if◌then◌else◌, MatchBool, IsSome}
+use Rattle.std.specs.Prelude.{◌≡◌, ◌↔◌, ℕ, nat_lt, Bool, true, false, List, [], ◌∷◌, Option, Some, None, if◌then◌else◌, MatchBool, IsSome}
 use Rattle.mc_types.specs.declared.ask.Op.{Op}
 use Rattle.mc_types.specs.declared.ask.Op.TheVariants.{Get}
 use Rattle.mc_types.specs.declared.ask.Ask.{Ask}
 use Rattle.mc_types.specs.declared.call.Origin.{Origin}
 use Rattle.mc_types.specs.Rank.{IsWorst}
 use Rattle.mc_types.specs.ErrorTexts.{own_text}
-use Rattle.mc_types.specs.declared.answer.Answer.TheVariants.{ServerError}
+use Rattle.mc_types.specs.declared.answer.Answer.{Answer}
+use Rattle.mc_types.specs.declared.answer.Answer.TheVariants.{Hit, ServerError}
 use Rattle.mc_types.specs.declared.error_text.OwnText.TheVariants.{OutOfMemory}
 use Rattle.fresh_runs.specs.Calls.{Call}
 use Rattle.route_tree.specs.Plan.{Plans, End, More}
@@ -38,6 +39,11 @@ AfterFirst (More p ps) limit ask origin g b calls given =
 -- a reply of rank 0 names the call whose hit it is
 abbrev pub NamesHit : Given → Type 0
 NamesHit given = rank given ≡ 0 → IsSome given.from
+
+-- the data of a hit
+abbrev pub data_of : Answer → List ℕ
+data_of (Hit flags body cas) = body
+data_of _ = []
 
 abbrev pub is_get : Op → Bool
 is_get Get = true

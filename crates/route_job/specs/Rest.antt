@@ -1,5 +1,6 @@
 -- What may still come of a command that is under way.
 use Rattle.std.specs.Prelude.{ℕ, List, [], ◌∷◌, Option, Some, None, option_map}
+use Rattle.mc_types.specs.Asks.{IsAsk}
 use Rattle.mc_types.specs.declared.ask.Ask.{Ask}
 use Rattle.mc_types.specs.declared.call.Origin.{Origin}
 use Rattle.mc_types.specs.declared.call.Origin.TheVariants.{CopyOf}
@@ -20,8 +21,8 @@ abbrev pub ask_in : Frame → Ask → Ask
 ask_in (All rest worst) ask = ask
 ask_in (First rest limit) ask = ask
 ask_in (Cold sides) ask = ask
-ask_in (Warm sides first get) ask = get
-ask_in (Refill sides from_warm from add) ask = add
+ask_in (Warm sides first get) ask = get.ask
+ask_in (Refill sides from_warm from add) ask = add.ask
 
 -- whose data that ask carries
 abbrev pub origin_in : Frame → Origin → Origin
@@ -35,6 +36,15 @@ origin_in (Refill sides from_warm from add) origin = CopyOf from
 abbrev pub ask_under : List Frame → Ask → Ask
 ask_under [] ask = ask
 ask_under (frame ∷ frames) ask = ask_under frames (ask_in frame ask)
+
+-- it is an ask that a client can write, where the command's is
+pub under_is_ask : (frames : List Frame) (ask : Ask) → IsAsk ask → IsAsk (ask_under frames ask)
+under_is_ask [] ask is = is
+under_is_ask (All rest worst ∷ frames) ask is = under_is_ask frames ask is
+under_is_ask (First rest limit ∷ frames) ask is = under_is_ask frames ask is
+under_is_ask (Cold sides ∷ frames) ask is = under_is_ask frames ask is
+under_is_ask (Warm sides first get ∷ frames) ask is = under_is_ask frames get.ask get.formed
+under_is_ask (Refill sides from_warm from add ∷ frames) ask is = under_is_ask frames add.ask add.formed
 
 -- whose data that ask carries
 abbrev pub origin_under : List Frame → Origin → Origin

@@ -1,92 +1,16 @@
-//! How a command, or a part of it, may end without asking any further route.
-ghost use Rattle.std.specs.Prelude.{◌≡◌, None};
-ghost use Rattle.route_tree.specs.Word.{given_by, answer_of_nothing, code_of_nothing, word_of_nothing, failing_reply};
-ghost use Rattle.route_job.specs.Given.{given_of};
-ghost use Rattle.route_job.specs.Parts.{worse, broken_reply};
+//! How a command, or a part of it, ended.
 
-use mc_types::{Answer, Code, Dialect, ErrorText, Fields, Op, Outcome, OwnText};
+ghost use Rattle.std.specs.Prelude.{◌≤◌, length};
+ghost use Rattle.mc_types.specs.Asks.{data_limit};
+ghost use Rattle.route_job.specs.Parts.{data_of};
 
-/// How a command, or a part of it, ended: the reply, and the number of the call whose item it shows, if it shows one.
+use mc_types::Answer;
+
+/// How a command, or a part of it, ended: the reply, and the number of the call whose item it shows, if it shows one. The data of a hit
+/// can be stored again.
 #[derive(Drop)]
 pub struct Done {
     pub from: Option<u64>,
     pub reply: Answer,
-}
-
-/// What the call of this number gives: its answer, or an error where it failed.
-pub fn done_by(b: u64, outcome: Outcome) -> Done
-    ensures { given_of result ≡ given_by b outcome }
-{
-    match outcome {
-        Outcome::Answered(reply) => {
-            let from = if reply.shows() { Some(b) } else { None };
-            Done { from, reply }
-        }
-        Outcome::Failed => Done {
-            from: None,
-            reply: Answer::ServerError(ErrorText::own(OwnText::CallFailed)),
-        },
-    }
-}
-
-fn code_of_nothing(op: Op) -> Code
-    ensures { result ≡ code_of_nothing op }
-{
-    match op {
-        Op::Get | Op::Gat => Code::En,
-        Op::Set | Op::Add | Op::Replace | Op::Append | Op::Prepend => Code::Ns,
-        Op::Cas | Op::Delete | Op::Incr | Op::Decr | Op::Touch => Code::Nf,
-    }
-}
-
-fn word_of_nothing(op: Op) -> Answer
-    ensures { result ≡ word_of_nothing op }
-{
-    match op {
-        Op::Get | Op::Gat => Answer::Miss,
-        Op::Set | Op::Add | Op::Replace | Op::Append | Op::Prepend => Answer::NotStored,
-        Op::Cas | Op::Delete | Op::Incr | Op::Decr | Op::Touch => Answer::NotFound,
-    }
-}
-
-/// The reply of a server that holds nothing and keeps nothing.
-pub fn null_done(dialect: Dialect, op: Op) -> Done
-    ensures { given_of result ≡ record { reply = answer_of_nothing dialect op; from = None } }
-{
-    let reply = match dialect {
-        Dialect::Classic => word_of_nothing(op),
-        Dialect::Meta => Answer::Meta(code_of_nothing(op), Fields::none()),
-    };
-    Done { from: None, reply }
-}
-
-/// The reply of the route that is an error.
-pub fn failing_done() -> Done
-    ensures { given_of result ≡ failing_reply }
-{
-    Done {
-        from: None,
-        reply: Answer::ServerError(ErrorText::own(OwnText::ErrorRoute)),
-    }
-}
-
-/// The end of a command that was refused memory.
-pub fn broken_done() -> Done
-    ensures { given_of result ≡ broken_reply }
-{
-    Done {
-        from: None,
-        reply: Answer::ServerError(ErrorText::own(OwnText::OutOfMemory)),
-    }
-}
-
-/// The first of the two that has the greater rank.
-pub fn worse_of(first: Done, second: Done) -> Done
-    ensures { given_of result ≡ worse (given_of first) (given_of second) }
-{
-    if first.reply.rank() < second.reply.rank() {
-        second
-    } else {
-        first
-    }
+    pub ghost short: { length (data_of reply) ≤ data_limit },
 }

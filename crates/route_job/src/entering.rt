@@ -14,8 +14,8 @@ ghost use Rattle.route_job.specs.Rest.{AdvanceOf};
 ghost use Rattle.route_job.specs.Settling.{IsSure, advance_work};
 
 use crate::asks::is_get;
-use crate::done::{failing_done, null_done};
 use crate::frame::{Advance, Frame, Pending, Sides};
+use crate::replies::{failing_done, null_done};
 use mc_types::{Ask, Key, Op, ServerId};
 use route_tree::at::longest;
 use route_tree::{Children, Level, Tree, TreeForm, key_hash, policy_of};

@@ -1,7 +1,8 @@
 //! What a command that is under way has still to do.
 
 use crate::done::Done;
-use mc_types::{ServerId, SharedAsk};
+use crate::formed_ask::FormedAsk;
+use mc_types::ServerId;
 use route_tree::{Children, Tree};
 
 /// The two sides of a warm-up. They are shared with the tree.
@@ -33,14 +34,14 @@ pub enum Frame {
     Warm {
         sides: Sides,
         first: Done,
-        get: SharedAsk,
+        get: FormedAsk,
     },
     /// WarmUp: the cold side is asked this add, of what call `from` of the warm side was answered.
     Refill {
         sides: Sides,
         from_warm: Done,
         from: u64,
-        add: SharedAsk,
+        add: FormedAsk,
     },
 }
 

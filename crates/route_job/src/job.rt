@@ -1,6 +1,6 @@
 //! A command as a value: it shows its next call, and takes the outcome.
 
-ghost use Rattle.std.specs.Prelude.{◌≡◌, ◌↔◌, MatchBool, ◌+◌, ◌≤◌, List, [], ◌∷◌, IfNone, IfOk, IfSome, OnOk, OnErr};
+ghost use Rattle.std.specs.Prelude.{◌≡◌, ◌↔◌, MatchBool, ◌+◌, ◌≤◌, List, [], ◌∷◌, IfNone, IfOk, IfSome, OnOk, OnErr, true};
 ghost use Rattle.mc_types.specs.declared.call.Origin.TheVariants.{Client};
 ghost use Rattle.fresh_runs.specs.Calls.{Call as CallMade};
 ghost use Rattle.fresh_runs.specs.Single.{FitsOutcome};
@@ -9,9 +9,10 @@ ghost use Rattle.route_tree.specs.Word.{Given, Word};
 ghost use Rattle.route_job.specs.Given.{given_of};
 ghost use Rattle.route_job.specs.Settling.{IsKept, kept_prop};
 
-use crate::done::{Done, broken_done, done_by};
+use crate::done::Done;
 use crate::entering::server_at_once;
 use crate::frame::{Frame, Pending};
+use crate::replies::{broken_done, done_by};
 use crate::walk::{ask_under, origin_under, settle};
 use mc_types::{Origin, Outcome, ServerId, SharedAsk};
 use route_tree::{Tree, key_hash};
@@ -57,7 +58,8 @@ impl Job {
     /// The command on this tree for this ask: what may come of it are the words of the key's plain tree. The only error:
     /// memory was refused.
     pub fn new(alloc: Global, tree: &Tree, ask: SharedAsk) -> Result<Job, AllocError>
-        ensures { IfOk result (λ job. (calls : List CallMade) (given : Given) → Comes job calls given ↔ Word (tree_at tree.now ask.key) ask Client 0 calls given) }
+        ensures words { IfOk result (λ job. (calls : List CallMade) (given : Given) → Comes job calls given ↔ Word (tree_at tree.now ask.key) ask Client 0 calls given) }
+        ensures ask { IfOk result (λ job. job.ask ≡ ask) }
     {
         let _form = tree.form();
         if let Some(server) = server_at_once(ask.key(), tree) {
@@ -87,7 +89,8 @@ impl Job {
     /// changes. What this job held is let go where it stands. It takes no memory, and is refused only where the count of the ask's sharers
     /// is full.
     pub fn begin_at_once(&mut self, tree: &Tree, ask: &SharedAsk) -> Result<bool, AllocError>
-        ensures { IfOk result (λ begun. MatchBool begun ((calls : List CallMade) (given : Given) → Comes self.new calls given ↔ Word (tree_at tree.now ask.now.key) ask.now Client 0 calls given) (self.new ≡ self.old)) }
+        ensures words { IfOk result (λ begun. MatchBool begun ((calls : List CallMade) (given : Given) → Comes self.new calls given ↔ Word (tree_at tree.now ask.now.key) ask.now Client 0 calls given) (self.new ≡ self.old)) }
+        ensures ask { IfOk result (λ begun. begun ≡ true → self.new.ask ≡ ask.now) }
     {
         let Some(server) = server_at_once(ask.key(), tree) else {
             return Ok(false);
@@ -129,12 +132,14 @@ impl Job {
 
     /// The call that is next had this outcome: what may come now is what is left of what began so. The only error: memory
     /// was refused; the job is broken then.
+    #[tactic(auto, using(crate::proofs::Asking::outcome_is_short))]
     pub fn take(&mut self, alloc: Global, outcome: Outcome) -> Result<(), AllocError>
         requires calling { IsCalling self.old }
         requires fits { FitsOutcome (call_of self.old outcome).ask outcome }
         ensures rest { OnOk result ((calls : List CallMade) (given : Given) → Comes self.new calls given ↔ Comes self.old (call_of self.old outcome ∷ calls) given) }
         ensures less { OnOk result (work_of self.new + 1 ≤ work_of self.old) }
         ensures broken { OnErr result (IsBroken self.new) }
+        ensures ask { self.new.ask ≡ self.old.ask }
     {
         if self.frames.is_empty() {
             // (nearly always: the reply is put in its place at once, as each hand that it goes through copies it)

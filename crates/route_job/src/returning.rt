@@ -13,10 +13,12 @@ ghost use Rattle.route_job.specs.Rest.{AdvanceOf, AfterFrame, NeedsHit};
 ghost use Rattle.route_job.specs.Settling.{IsSure, advance_work, frame_work};
 ghost use Rattle.route_job.specs.declared.frame.Frame.TheVariants.{Cold};
 
-use crate::asks::{is_plain_get, plain_get_of, refill_of};
-use crate::done::{Done, worse_of};
+use crate::asks::{get_of, is_plain_get, refill_of};
+use crate::done::Done;
+use crate::formed_ask::FormedAsk;
 use crate::frame::{Advance, Frame, Pending, Sides};
-use mc_types::{Ask, SharedAsk};
+use crate::replies::worse_of;
+use mc_types::Ask;
 use route_tree::Children;
 use std::alloc::{AllocError, Global};
 
@@ -59,7 +61,7 @@ fn next_of_all(rest: Children, worst: Done) -> Result<Advance, AllocError>
 fn let_go(_done: Done) {}
 
 // Lets an ask go.
-fn drop_ask(_ask: SharedAsk) {}
+fn drop_ask(_ask: FormedAsk) {}
 
 // The next child where the reply isn't good enough.
 fn back_first(rest: Children, limit: u8, done: Done) -> Result<Advance, AllocError>
@@ -101,7 +103,7 @@ fn back_cold(alloc: Global, ask: &Ask, sides: Sides, first: Done) -> Result<Adva
             pending: Pending::Back(first),
         });
     }
-    let get = SharedAsk::new(alloc, plain_get_of(alloc, ask))?;
+    let get = get_of(alloc, ask)?;
     let warm = sides.warm.copy()?;
     let pending = Pending::Enter(warm);
     Ok(Advance {
@@ -156,8 +158,7 @@ fn refill_frame(
     ensures sure { IfOk result (λ advance. (hash : ℕ) (text : List ℕ) (origin : Origin) (b : ℕ) → IsSure hash text advance ask.now origin b) }
     ensures less { IfOk result (λ advance. (hash : ℕ) (text : List ℕ) → advance_work hash text advance ≤ 6 * count (plain_for hash text sides.cold) + 1) }
 {
-    let add = refill_of(alloc, ask, &from_warm.reply, sides.exptime)?;
-    let add = SharedAsk::new(alloc, add)?;
+    let add = refill_of(alloc, ask, &from_warm, sides.exptime)?;
     let cold = sides.cold.copy()?;
     let pending = Pending::Enter(cold);
     Ok(Advance {

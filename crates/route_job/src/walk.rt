@@ -17,8 +17,8 @@ fn ask_in<'b>(frame: &'b Frame, ask: &'b SharedAsk) -> &'b SharedAsk
     ensures { result.now ≡ ask_in frame.now ask.now }
 {
     match frame {
-        Frame::Warm { get, .. } => get,
-        Frame::Refill { add, .. } => add,
+        Frame::Warm { get, .. } => &get.ask,
+        Frame::Refill { add, .. } => &add.ask,
         _ => ask,
     }
 }

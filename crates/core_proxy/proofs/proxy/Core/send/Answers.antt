@@ -4,7 +4,7 @@ use Rattle.indexmap.specs.IndexMap as map
 use Rattle.route_job.specs.Jobs.{IsCalling}
 use Rattle.core_commands.specs.declared.command.Command.{Command}
 use Rattle.core_proxy.specs.CoreState.{command_at}
-use Rattle.core_commands.specs.Begun.{ticket_of}
+use Rattle.core_commands.specs.Begun.{IsTicketFor}
 use Rattle.core_commands.proofs.Commands.{some_command}
 use Rattle.core_proxy.proofs.Polls.{sent_goes, sent_out, same_goes}
 use Rattle.core_proxy.proofs.proxy.Core.send.Goals as goal
@@ -18,7 +18,7 @@ returns-in-Ok-clause-ok c =
     let can = c.requires.can in
     let sent = c.in-Ok.ensures.ok in
     let same : sent.command ≡ can.command = some_command (sym sent.was ∙ can.was) in
-    sent_goes old _ c.args.number can c.in-Ok.ticket (sent.is ∙ ap (λ (b : Command). ticket_of c.args.number b.job) same)
+    sent_goes old _ c.args.number can c.in-Ok.ticket (subst (λ (b : Command). IsTicketFor c.args.number b.job c.in-Ok.ticket) same sent.is)
     (λ n. sent.out n ∙ ap (λ (b : Command). cond (nat_eq c.args.number n) (Some (record b { is_out = true })) (command_at old n)) same)
     (λ n. refl) refl refl refl
 

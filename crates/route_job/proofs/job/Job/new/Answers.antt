@@ -20,8 +20,8 @@ invariant_of-result c =
     let none = ap (frames_work 0 key) c.new.ensures.items in
     record { kept = record { rests = tt; sure = is.1; few = omega (arith, none) } }
 
-pub returns-in-Some : goal.returns-in-Some
-returns-in-Some c =
+pub returns-in-Some-clause-words : goal.returns-in-Some-clause-words
+returns-in-Some-clause-words c =
     let key = c.args.ask.key in
     let e = ap (λ k. tree_at c.args.tree.now k) (sym c.key.ensures) ∙ c.in-Some.ensures in
     (calls_at_once 0 key c.new.result.items c.args.ask c.in-Some.server (tree_at c.args.tree.now key) c.new.ensures.items e).0
@@ -37,8 +37,8 @@ invariant_of-result-2 c =
     let many = (plan_plain h key c.args.tree.now c.form-form.ensures.tree).many in
     record { kept = record { rests = c.in_ok-pending.ensures.rests; sure = is.1; few = omega (arith, less, none, same, many) } }
 
-pub returns : goal.returns
-returns c =
+pub returns-clause-words : goal.returns-clause-words
+returns-clause-words c =
     let h = c.key_hash-hash.result in
     let key = c.args.ask.key in
     let is = new_is h key c.new-frames.result.items c.settle.new.frames.items c.args.ask c.in_ok-root.root c.in_ok-pending.pending c.new-frames.ensures.items c.in_ok-pending.ensures.leads in
