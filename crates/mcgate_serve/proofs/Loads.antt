@@ -9,9 +9,9 @@ use Rattle.serve_links.specs.CoreSteps.{Step, Opened, NotOpened, Fed, Polled, St
 use Rattle.serve_links.specs.Story.{AnEnd, AllGo, AllGoFrom}
 use Rattle.serve_proxy.specs.declared.proxy.ProxyEnd.{ProxyEnd}
 use Rattle.serve_proxy.specs.Beginning.{LoadStops}
-use Rattle.serve_proxy.specs.Ends.{Stay, AllGoOn, AllGrowFrom, AllGrow, IsLoadOf}
+use Rattle.serve_proxy.specs.Ends.{Stay, StayButLimits, AllGoOn, AllGrowFrom, AllGrow, IsLoadOf}
 use Rattle.serve_proxy.proofs.Going.{still, and_then, stays, same_core as calls_still}
-use Rattle.serve_proxy.proofs.Growing.{grows}
+use Rattle.serve_proxy.proofs.Growing.{grows, then_grows, limited_grows}
 use Rattle.serve_proxy.proofs.Staying.{stay_still}
 use Rattle.gate_check.specs.declared.reloading.ReloadFault.TheVariants.{NoMemory}
 use Rattle.core_accepted.specs.declared.loading.LoadFault.{LoadFault}
@@ -52,7 +52,7 @@ each_of_turn (step ∷ steps) kinds = (of_turn step kinds.0, each_of_turn steps 
 
 -- a turn
 pub turned : {P Q : List Step → AnEnd → Type 0} {a b : AnEnd} → AllGoFrom P Q IsOfTurn a b → AllGrowFrom P Q IsServed a b
-turned g = grows (record { steps = g.steps; kinds = each_of_turn g.steps g.kinds; walks = g.walks; agree = g.agree; texts = g.texts })
+turned g = grows (record { steps = g.steps; kinds = each_of_turn g.steps g.kinds; walks = g.walks; agree = g.agree; servers = g.servers })
 
 -- nothing is done with the core, nor on any connection
 pub stays_on : {W : Type 0} {Is : Step → Type 0} (history : W → List Event) (old new : ProxyEnd W) → new.core ≡ old.core → Stay history old.sockets new.sockets → AllGo Is (proxy_of history old) (proxy_of history new)
@@ -60,6 +60,10 @@ stays_on history old new core ends = and_then (stays old.core.value ends) (calls
 
 pub stood : {W : Type 0} {Is : Step → Type 0} (history : W → List Event) (old new : ProxyEnd W) → new.core ≡ old.core → Stay history old.sockets new.sockets → AllGrow Is (proxy_of history old) (proxy_of history new)
 stood history old new core ends = grows (stays_on history old new core ends)
+
+-- the same where limits may have changed
+pub stood_but_limits : {W : Type 0} {Is : Step → Type 0} (history : W → List Event) (old new : ProxyEnd W) → new.core ≡ old.core → StayButLimits history old.sockets new.sockets → AllGrow Is (proxy_of history old) (proxy_of history new)
+stood_but_limits history old new core ends = then_grows (limited_grows old.core.value ends) (grows (calls_still (ap (λ c. c.value) core)))
 
 pub same_end : {W : Type 0} (history : W → List Event) (old new : ProxyEnd W) → new ≡ old → Serves history old new
 same_end history old new same = subst (λ x. Serves history old x) (sym same) (stood history old old refl (stay_still (history old.sockets.wire) old.sockets.clients old.sockets.links.all.items))

@@ -6,7 +6,7 @@ ghost use Rattle.serve_wire.specs.declared.outcomes.Lead.TheVariants.{Other};
 ghost use Rattle.serve_links.specs.Story.{HasHappened};
 ghost use Rattle.core_accepted.specs.declared.loading.LoadFault.TheVariants.{Refused};
 ghost use Rattle.gate_check.specs.declared.reloading.ReloadFault.TheVariants.{NoMemory};
-ghost use Rattle.serve_proxy.specs.Ends.{Stay, AllGoOn, AllGrow, IsLoadOf};
+ghost use Rattle.serve_proxy.specs.Ends.{Stay, StayButLimits, AllGoOn, AllGrow, IsLoadOf};
 ghost use Rattle.core_accepted.specs.Logs.{TreesAreSound};
 ghost use Rattle.serve_proxy.specs.LogsGoOn.{LogsAreFresh};
 ghost use Rattle.serve_proxy.specs.Stalls.{held_by_all};
@@ -571,7 +571,7 @@ impl<W: Listens> Serving<W> {
         job: &ServeJob<'_>,
     ) -> Result<(), Stop>
         ensures core { self.new.end.core ≡ self.old.end.core }
-        ensures ends { Stay W.history self.old.end.sockets self.new.end.sockets }
+        ensures ends { StayButLimits W.history self.old.end.sockets self.new.end.sockets }
     {
         let emptying = Emptying::read(rt, job.history, job.settings.flushes_new)?;
         self.emptying = Some(emptying);
@@ -631,7 +631,7 @@ impl<W: Listens> Serving<W> {
     // Calls go to servers as the configuration in use says it: while their epochs last, and within their limits.
     fn keep_servers(&mut self, alloc: Global)
         ensures core { self.new.end.core ≡ self.old.end.core }
-        ensures ends { Stay W.history self.old.end.sockets self.new.end.sockets }
+        ensures ends { StayButLimits W.history self.old.end.sockets self.new.end.sockets }
     {
         self.keep_epochs();
         self.keep_limits(alloc)
@@ -640,7 +640,7 @@ impl<W: Listens> Serving<W> {
     // Each server gets the limits that its pools say, where there is another configuration. Where memory is refused that is for the next turn.
     fn keep_limits(&mut self, alloc: Global)
         ensures core { self.new.end.core ≡ self.old.end.core }
-        ensures ends { Stay W.history self.old.end.sockets self.new.end.sockets }
+        ensures ends { StayButLimits W.history self.old.end.sockets self.new.end.sockets }
     {
         if self.are_limited {
             return;
@@ -654,7 +654,7 @@ impl<W: Listens> Serving<W> {
     // Each server gets the limits that its pools say.
     fn limit_servers(&mut self, config: &Value)
         ensures core { self.new.end.core ≡ self.old.end.core }
-        ensures ends { Stay W.history self.old.end.sockets self.new.end.sockets }
+        ensures ends { StayButLimits W.history self.old.end.sockets self.new.end.sockets }
     {
         for at in 0..self.servers.len() {
             self.limit_server(config, at);
@@ -663,7 +663,7 @@ impl<W: Listens> Serving<W> {
 
     fn limit_server(&mut self, config: &Value, at: usize)
         ensures core { self.new.end.core ≡ self.old.end.core }
-        ensures ends { Stay W.history self.old.end.sockets self.new.end.sockets }
+        ensures ends { StayButLimits W.history self.old.end.sockets self.new.end.sockets }
     {
         if let Some(text) = text_at(&self.servers, at) {
             let limits = own_limits(self.end.usual_limits(), limits_of(config, text));

@@ -98,7 +98,7 @@ line_foreign {P} {Is} {at} {a} {b} {h} {h'} {x} y d there off alone is g = recor
   agrees = λ past o tells was. let now = g.agrees past o tells was in (now.0, fails past tells now.1, now.2, now.3);
   shown = g.shown;
   shut = g.shut;
-  text = g.text;
+  server = g.server;
 }
   where
     fails : (past : List Step) → TellsCalls past a → LineAgrees at (g.steps ++ past) h' y → LineFails (Some causes.Foreign) at (g.steps ++ past) h' y

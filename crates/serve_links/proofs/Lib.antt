@@ -13,6 +13,7 @@ pub mod Story
 pub mod Ends
 pub mod Talking
 pub mod Showing
+pub mod ByLimits
 pub mod Due
 pub mod Answering
 pub mod LinkGoes

@@ -30,10 +30,11 @@ use Rattle.serve_links.specs.Settled.{SettlesSome}
 use Rattle.serve_links.specs.Talks.{SaidAsk, Talk, Apart, Ending, left_by, first_talk, with_ask, greeted, given_up, talk_in, AreDue, AreCalled, IsOrderly, IsOfServer}
 use Rattle.serve_links.specs.Called.{TellsCalls}
 use Rattle.serve_links.proofs.Called.{walks_tell_calls}
-use Rattle.serve_links.specs.Story.{said_asks, said_late, MayGo, MayAllGo, TalkAgrees, Unused, ConnAgrees, LineAgrees, LineLost, LineFails, ShowsWhy, WasShown, AreShown, LineCalled, LineState, line_of, KeepsOthers, LeavesCalls, LineGoesFrom, LineGoes}
+use Rattle.serve_links.specs.Story.{said_asks, said_late, MayGo, MayAllGo, TalkAgrees, Unused, ConnAgrees, LineAgrees, LineLost, LineFails, ShowsWhy, WasShown, AreShown, LineCalled, server_of, LineState, line_of, KeepsOthers, LeavesCalls, LineGoesFrom, LineGoes}
 use Rattle.serve_links.proofs.Talking.{calls_later, one_more, IsPlain, plain_talk, AreOut, sent_out, waiting_out, FailsInOrder, fail_in_order}
 use Rattle.serve_links.proofs.Due.{due_stays, called_stays, leaves_twice, due_last, called_last, due_behind, due_taken, SentGone, sent_gone, waiting_gone, AskedOne, asked_one}
 use Rattle.serve_links.proofs.Walked.{walked, of_both}
+use Rattle.serve_links.proofs.ByLimits.{unlost_late, same_server, same_text, server_then}
 use Rattle.serve_links.proofs.Showing.{plain_unlost, none_since, shown_since, shown_later}
 use Rattle.serve_links.proofs.Answering.{Answers, answers_some}
 use Rattle.serve_links.specs.Shut.{first_some, drain_of, conn_of, IsShutBut, StaysShut}
@@ -99,9 +100,9 @@ as_failing why at past h x shows a = record { lost = as_lost at past h x a; show
 
 -- nothing happened but at the connection, and no step is told of
 pub line_moves :
-    {Before After : ℕ → List Step → List Event → Link → Type 0} {Is : Step → Type 0} {at : ℕ} {a b : ServedCore} {h h' : List Event} {x y : Link} → b ≡ a → Extends h h' → StaysShut at h x h' y → y.text.items ≡ x.text.items
+    {Before After : ℕ → List Step → List Event → Link → Type 0} {Is : Step → Type 0} {at : ℕ} {a b : ServedCore} {h h' : List Event} {x y : Link} → b ≡ a → Extends h h' → StaysShut at h x h' y → server_of y ≡ server_of x
     → ((past : List Step) → Before at past h x → After at past h' y × KeepsOthers (1, at) h h') → LineGoesFrom Before After Is at a h x b h' y
-line_moves {h = h} {h' = h'} same more shut text moves = record { steps = []; kinds = tt; own = tt; walks = same; agrees = λ past o tells was. let m = moves past was in (o, m.0, m.1, λ j other n ask is. (refl, refl, refl)); shown = λ past o tells was shown. shown_since past h h' more shown; shut = shut; text = text }
+line_moves {h = h} {h' = h'} same more shut server moves = record { steps = []; kinds = tt; own = tt; walks = same; agrees = λ past o tells was. let m = moves past was in (o, m.0, m.1, λ j other n ask is. (refl, refl, refl)); shown = λ past o tells was shown. shown_since past h h' more shown; shut = shut; server = record { same = server; late = tt } }
 
 -- what is wanted before is there, and what is there after is more than is wanted
 pub line_between :
@@ -115,7 +116,7 @@ line_between before after g = record {
   agrees = λ past o tells was. let r = g.agrees past o tells (before past was) in (r.0, after (g.steps ++ past) r.1, r.2, r.3);
   shown = λ past o tells was shown. g.shown past o tells (before past was) shown;
   shut = g.shut;
-  text = g.text;
+  server = g.server;
 }
 
 -- what nobody but it may have touched, one after another
@@ -144,7 +145,7 @@ line_then {P} {Q} {R} {Is} {at} {a} {b} {c} {h} {h'} {h''} {x} {y} {z} g k = rec
       let first = g.agrees past o tells was in
       subst (λ l. AreShown l h'') (sym (append_assoc k.steps g.steps past)) (k.shown (g.steps ++ past) first.0 (told past tells) first.1 (g.shown past o tells was shown));
   shut = λ was. k.shut (g.shut was);
-  text = k.text ∙ g.text;
+  server = server_then g.steps k.steps x y z g.server k.server;
 }
   where
     told : (past : List Step) → TellsCalls past a → TellsCalls (g.steps ++ past) b
@@ -157,7 +158,7 @@ OfConn at past h text out awaits dialect late drain None = ((talk_in past at).ou
 OfConn at past h text out awaits dialect late drain (Some e) = TalkAgrees h at text (talk_in past at) e.0 e.1 e.2 out awaits dialect late × (is_over e.0 h ≡ false)
 
 abbrev OfLine : ℕ → List Step → List Event → LineState → Type 0
-OfLine at past h s = OfConn at past h s.0 s.2 s.4 s.5 s.6 s.7 s.1 × MayAllGo past at s.3 × AreDue past at (said_asks s.3) × AreCalled past at s.2
+OfLine at past h s = OfConn at past h s.0.0 s.2 s.4 s.5 s.6 s.7 s.1 × MayAllGo past at s.3 × AreDue past at (said_asks s.3) × AreCalled past at s.2
 
 to_line : (at : ℕ) (past : List Step) (h : List Event) (x : Link) → LineAgrees at past h x → OfLine at past h (line_of x)
 to_line at past h x a = (by x.conn refl, a.waiting, a.due, a.called)
@@ -205,7 +206,7 @@ of_eight {a = a} {a' = a'} {b = b} {b' = b'} {c = c} {c' = c'} {d = d} {d' = d'}
 -- what a link's own functions leave as it was
 pub keeps_line : (x y : Link) → KeepsLines x y → line_of y ≡ line_of x
 keeps_line x y k =
-    of_eight (ap (λ t. t.items) k.text) (conns x.conn y.conn k.conn) (ap (λ c. said_asks c.sent.items) k.calls) (ap (λ w. w.items) k.waiting) k.awaits k.dialect (ap (λ w. said_late w.items) k.late) k.draining
+    of_eight (same_server x y (ap (λ t. t.items) k.text) k.limits) (conns x.conn y.conn k.conn) (ap (λ c. said_asks c.sent.items) k.calls) (ap (λ w. w.items) k.waiting) k.awaits k.dialect (ap (λ w. said_late w.items) k.late) k.draining
   where
     ends : (c d : Conn) → d.number ≡ c.number → d.held.items ≡ c.held.items → bytes_of d.unsent ≡ bytes_of c.unsent → ◌≡◌ {A = ℕ × List ℕ × List ℕ} (d.number, d.held.items, bytes_of d.unsent) (c.number, c.held.items, bytes_of c.unsent)
     ends c d n l u =
@@ -251,7 +252,7 @@ line_reads_to :
     → ((past : List Step) → LineAgrees at past h x → ConnAgrees at past h' y d d.held.items → MayAllGo past at y.waiting.items → AreDue past at (said_asks y.waiting.items) → AreCalled past at (said_asks y.calls.sent.items) → After at past h' y)
     → LineGoesFrom LineAgrees After Is at core h x core h' y
 line_reads_to {After} {at = at} {h = h} {h' = h'} x y c d was is number unsent r after =
-    line_moves refl (only_after c.number h h' r.elsewhere) (shut_used c.number r.elsewhere (conn_is x c was) (ap conn_of is ∙ ap (λ n. Some n) number)) (ap (λ (z : Link). z.text.items) is) (λ past a. (agrees past a, keeps_others c.number (1, at) h h' (a.conn c was).is_to r.same_role r.elsewhere))
+    line_moves refl (only_after c.number h h' r.elsewhere) (shut_used c.number r.elsewhere (conn_is x c was) (ap conn_of is ∙ ap (λ n. Some n) number)) (ap server_of is) (λ past a. (agrees past a, keeps_others c.number (1, at) h h' (a.conn c was).is_to r.same_role r.elsewhere))
   where
     agrees : (past : List Step) → LineAgrees at past h x → After at past h' y
     agrees past a =
@@ -297,7 +298,7 @@ line_sends_to :
     → ((past : List Step) → LineAgrees at past h x → ConnAgrees at past h' y d d.held.items → MayAllGo past at y.waiting.items → AreDue past at (said_asks y.waiting.items) → AreCalled past at (said_asks y.calls.sent.items) → After at past h' y)
     → LineGoesFrom LineAgrees After Is at core h x core h' y
 line_sends_to {After} {at = at} {h = h} {h' = h'} x y c d was is number held s after =
-    line_moves refl (only_after c.number h h' s.elsewhere) (shut_used c.number s.elsewhere (conn_is x c was) (ap conn_of is ∙ ap (λ n. Some n) number)) (ap (λ (z : Link). z.text.items) is) (λ past a. (agrees past a, keeps_others c.number (1, at) h h' (a.conn c was).is_to s.same_role s.elsewhere))
+    line_moves refl (only_after c.number h h' s.elsewhere) (shut_used c.number s.elsewhere (conn_is x c was) (ap conn_of is ∙ ap (λ n. Some n) number)) (ap server_of is) (λ past a. (agrees past a, keeps_others c.number (1, at) h h' (a.conn c was).is_to s.same_role s.elsewhere))
   where
     agrees : (past : List Step) → LineAgrees at past h x → After at past h' y
     agrees past a =
@@ -357,7 +358,7 @@ begins at core h h' x y dialect number new noted has = record {
   agrees = λ past o tells a. ((subst (λ (d : Option Conn). Unused h at x.text.items (talk_in past at) (option_map (λ (z : Conn). z.number) d)) has.none_draining (a.unused has.none_there), o), by past a y.conn refl has.conn, keeps_by number (1, at) h h' (new_own number (1, at) h new.no_role) (ap (role number) noted ∙ ap (λ b. if b then Some (1, at) else role number h) (equal number)) only, λ j other n ask is. (refl, refl, refl));
   shown = λ past o tells a shown. shown_later (Linked at dialect ∷ []) past h h' (tt, tt) (connects number at x.text.items ∷ [], noted) shown;
   shut = shut_begun number only (conn_drains x has.none_there ∙ ap (option_map (λ (z : Conn). z.number)) has.none_draining) (ap (λ o. first_some o (drain_of y)) (has_number y.conn has.conn));
-  text = ap (λ t. t.items) has.text;
+  server = record { same = same_server x y (ap (λ t. t.items) has.text) has.limits; late = (tt, tt) };
 }
   where
     only : TouchesOnly number h h'
@@ -385,7 +386,7 @@ begins_in_vain :
 begins_in_vain at core h h' x y number new closed keeps =
     let same = keeps_line x y keeps in
     let only = only_twice number h (connects number at x.text.items ∷ h) h' (only_connects number at x.text.items h) (only_closed number (connects number at x.text.items ∷ h) h' closed) in
-    line_moves refl (only_after number h h' only) (shut_in_vain number only (closed_shut number (connects number at x.text.items ∷ h) h' closed) (same_conn x y same)) (ap (λ t. t.items) keeps.text) (λ past a. (
+    line_moves refl (only_after number h h' only) (shut_in_vain number only (closed_shut number (connects number at x.text.items ∷ h) h' closed) (same_conn x y same)) (ap (λ (s : LineState). s.0) same) (λ past a. (
       same_line at past h' x y same (line_stays h h' at [] past x (λ c of_c. only c (new_apart number c h (1, at) of_c new.no_role)) refl (λ n ask is. (refl, refl, refl)) a),
       keeps_by number (1, at) h h' (new_own number (1, at) h new.no_role) (closed_role number (connects number at x.text.items ∷ h) h' closed ∙ ap (λ b. if b then Some (1, at) else role number h) (equal number)) only,
     ))
@@ -430,7 +431,7 @@ line_learns {at} {core} {h} x y can l = by l.told
       agrees = λ past o tells a. ((subst (λ o. AnswersFirst o y.dialect takes.0) (sym (a.conn c was).awaits_is) takes.2, o), agreed past a, all_kept (1, at) h h (quiet h), λ j other n ask is. (refl, refl, refl));
       shown = λ past o tells a shown. shown_later (step ∷ []) past h h (tt, tt) (none_since h) shown;
       shut = shut_still (quiet h) (conn_is y d is ∙ ap (λ (z : Conn). Some z.number) takes.3 ∙ sym (conn_is x c was));
-      text = ap (λ (z : Link). z.text.items) learnt.rest;
+      server = record { same = ap server_of learnt.rest; late = (tt, tt) };
     }
       where
         step : Step
@@ -493,7 +494,7 @@ line_asks {at} {core} {h} x y c d call was is same alone ready more unsent = rec
       (((a.1, a.2.0, (a.0.conn c was).late_is ∙ ap said_late alone, ap awaits_flush (a.0.conn c was).awaits_is ∙ ready, a.2.3), o), agreed past a.0 one, all_kept (1, at) h h (quiet h), one.others);
   shown = λ past o tells a shown. shown_later (step ∷ []) past h h (tt, tt) (none_since h) shown;
   shut = shut_still (quiet h) (ap conn_of is ∙ ap (λ (z : Conn). Some z.number) same ∙ sym (conn_is x c was));
-  text = ap (λ (z : Link). z.text.items) is;
+  server = record { same = ap server_of is; late = (tt, tt) };
 }
   where
     step : Step
@@ -529,7 +530,7 @@ pub line_waits :
     {Is : Step → Type 0} {at : ℕ} {core : ServedCore} {h : List Event} (x y : Link) (call : SentCall) → y ≡ record x { waiting = y.waiting } → y.waiting.items ≡ x.waiting.items ++ call ∷ []
     → LineGoesFrom (LineCalled call) LineAgrees Is at core h x core h y
 line_waits {at = at} {h = h} x y call is more =
-    line_moves refl (none_since h) (shut_still (quiet h) (ap conn_of is)) (ap (λ (z : Link). z.text.items) is)
+    line_moves refl (none_since h) (shut_still (quiet h) (ap conn_of is)) (ap server_of is)
     (λ past a. (
       waits_with at past h x y is a.0 (subst (λ w. MayAllGo past at w) (sym more) (one_more past at x.waiting.items call a.0.waiting a.1)) (subst (λ w. AreDue past at (said_asks w)) (sym more) (due_behind past at x.waiting.items call a.2)),
       all_kept (1, at) h h (quiet h),
@@ -544,7 +545,7 @@ pub line_takes :
     {Is : Step → Type 0} {at : ℕ} {core : ServedCore} {h : List Event} (x y : Link) (call : SentCall) (before after : List SentCall) → y ≡ record x { waiting = y.waiting } → x.waiting.items ≡ before ++ call ∷ after
     → y.waiting.items ≡ before ++ after → LineGoesFrom LineAgrees (LineCalled call) Is at core h x core h y
 line_takes {at = at} {h = h} x y call before after is was now =
-    line_moves refl (none_since h) (shut_still (quiet h) (ap conn_of is)) (ap (λ (z : Link). z.text.items) is)
+    line_moves refl (none_since h) (shut_still (quiet h) (ap conn_of is)) (ap server_of is)
     (λ past a.
     let all = called_between past at before call after (subst (λ w. MayAllGo past at w) was a.waiting) in
     let due = due_taken past at before call after (subst (λ w. AreDue past at (said_asks w)) was a.due) in (
@@ -575,10 +576,10 @@ talk_answers h at text t c spelled held unsent out out' awaits dialect was = rec
 -- the answers in front of what is held settle calls, and this is left of it
 settles_to :
     {After : ℕ → List Step → List Event → Link → Type 0} {at : ℕ} {core core' : ServedCore} {h : List Event} (x y : Link) (c d : Conn) (rest : List ℕ) → x.conn ≡ Some c → y.conn ≡ Some d → x.awaits_dialect ≡ None → x.late.items ≡ []
-    → y.text.items ≡ x.text.items → y.waiting.items ≡ x.waiting.items → y.awaits_dialect ≡ x.awaits_dialect → y.dialect ≡ x.dialect → y.late.items ≡ x.late.items → d.number ≡ c.number → bytes_of d.unsent ≡ bytes_of c.unsent
+    → server_of y ≡ server_of x → y.waiting.items ≡ x.waiting.items → y.awaits_dialect ≡ x.awaits_dialect → y.dialect ≡ x.dialect → y.late.items ≡ x.late.items → d.number ≡ c.number → bytes_of d.unsent ≡ bytes_of c.unsent
     → ((past : List Step) → ConnAgrees at past h y d rest → is_over d.number h ≡ false → MayAllGo past at y.waiting.items → AreDue past at (said_asks y.waiting.items) → AreCalled past at (said_asks y.calls.sent.items) → After at past h y)
     → SettlesSome x.calls.sent.items c.held.items core y.calls.sent.items rest core' → LineGoesFrom LineAgrees After IsOfTurn at core h x core' h y
-settles_to {After} {at} {core} {core'} {h} x y c d rest was is off alone text waiting awaits speaks late number unsent after s = record {
+settles_to {After} {at} {core} {core'} {h} x y c d rest was is off alone server waiting awaits speaks late number unsent after s = record {
   steps = g.steps;
   kinds = g.kinds;
   own = g.own;
@@ -586,7 +587,7 @@ settles_to {After} {at} {core} {core'} {h} x y c d rest was is off alone text wa
   agrees = λ past o tells a. let t = a.conn c was in let r = g.orderly past o tells a.called t.out_is (t.awaits_is ∙ off) (t.late_is ∙ ap said_late alone) in (r.0, agreed past a r.1, all_kept (1, at) h h (quiet h), (left past a).others);
   shown = λ past o tells a shown. shown_later g.steps past h h g.unlost (none_since h) shown;
   shut = shut_still (quiet h) (conn_is y d is ∙ ap (λ n. Some n) number ∙ sym (conn_is x c was));
-  text = text;
+  server = record { same = server; late = unlost_late _ g.steps g.unlost };
 }
   where
     g : Answers at x.calls.sent.items c.held.items core y.calls.sent.items rest core'
@@ -599,34 +600,34 @@ settles_to {After} {at} {core} {core'} {h} x y c d rest was is off alone text wa
     agreed past a talk =
         let before = talk_as refl refl refl (sym g.whole) refl refl refl refl refl (a.conn c was) in
         let now = talk_answers h at x.text.items (talk_in past at) c.number g.spelled rest (bytes_of c.unsent) (said_asks x.calls.sent.items) (said_asks y.calls.sent.items) x.awaits_dialect x.dialect before in
-        after (g.steps ++ past) (talk_as text talk number refl unsent refl awaits speaks (ap said_late late) now) (ap (λ n. is_over n h) number ∙ a.goes_on c was) (calls_later g.steps past at y.waiting.items (subst (λ w. MayAllGo past at w) (sym waiting) a.waiting))
+        after (g.steps ++ past) (talk_as (same_text x y server) talk number refl unsent refl awaits speaks (ap said_late late) now) (ap (λ n. is_over n h) number ∙ a.goes_on c was) (calls_later g.steps past at y.waiting.items (subst (λ w. MayAllGo past at w) (sym waiting) a.waiting))
         (subst (λ w. AreDue (g.steps ++ past) at (said_asks w)) (sym waiting) (left past a).due) (left past a).called
 
 -- what is left of it is held
 pub line_settles :
-    {at : ℕ} {core core' : ServedCore} {h : List Event} (x y : Link) (c d : Conn) → x.conn ≡ Some c → y.conn ≡ Some d → x.awaits_dialect ≡ None → x.late.items ≡ [] → y.text.items ≡ x.text.items → y.waiting.items ≡ x.waiting.items
+    {at : ℕ} {core core' : ServedCore} {h : List Event} (x y : Link) (c d : Conn) → x.conn ≡ Some c → y.conn ≡ Some d → x.awaits_dialect ≡ None → x.late.items ≡ [] → server_of y ≡ server_of x → y.waiting.items ≡ x.waiting.items
     → y.awaits_dialect ≡ x.awaits_dialect → y.dialect ≡ x.dialect → y.late.items ≡ x.late.items → d.number ≡ c.number → bytes_of d.unsent ≡ bytes_of c.unsent → SettlesSome x.calls.sent.items c.held.items core y.calls.sent.items d.held.items core'
     → LineGoes IsOfTurn at core h x core' h y
-line_settles {at} {core} {core'} {h} x y c d was is off alone text waiting awaits speaks late number unsent s =
-    settles_to x y c d d.held.items was is off alone text waiting awaits speaks late number unsent (λ past agrees goes_on waits due called. has_conn at past h y d is agrees goes_on waits due called) s
+line_settles {at} {core} {core'} {h} x y c d was is off alone server waiting awaits speaks late number unsent s =
+    settles_to x y c d d.held.items was is off alone server waiting awaits speaks late number unsent (λ past agrees goes_on waits due called. has_conn at past h y d is agrees goes_on waits due called) s
 
 -- or it is lost
 pub line_loses :
-    {at : ℕ} {core core' : ServedCore} {h : List Event} (x y : Link) (c d : Conn) (rest : List ℕ) → x.conn ≡ Some c → y.conn ≡ Some d → x.awaits_dialect ≡ None → x.late.items ≡ [] → y.text.items ≡ x.text.items
+    {at : ℕ} {core core' : ServedCore} {h : List Event} (x y : Link) (c d : Conn) (rest : List ℕ) → x.conn ≡ Some c → y.conn ≡ Some d → x.awaits_dialect ≡ None → x.late.items ≡ [] → server_of y ≡ server_of x
     → y.waiting.items ≡ x.waiting.items → y.awaits_dialect ≡ x.awaits_dialect → y.dialect ≡ x.dialect → y.late.items ≡ x.late.items → d.number ≡ c.number → bytes_of d.unsent ≡ bytes_of c.unsent → SettlesSome x.calls.sent.items c.held.items core y.calls.sent.items rest core'
     → LineGoesFrom LineAgrees LineLost IsOfTurn at core h x core' h y
-line_loses {at} {core} {core'} {h} x y c d rest was is off alone text waiting awaits speaks late number unsent s =
-    settles_to x y c d rest was is off alone text waiting awaits speaks late number unsent
+line_loses {at} {core} {core'} {h} x y c d rest was is off alone server waiting awaits speaks late number unsent s =
+    settles_to x y c d rest was is off alone server waiting awaits speaks late number unsent
     (λ past agrees goes_on waits due called. record { conn = λ conn there. subst (λ (z : Conn). (held : List ℕ) × ConnAgrees at past h y z held) (same_some (sym is ∙ there)) (rest, agrees); waiting = waits; due = due; none_out = λ none. absurd (none_some (sym none ∙ is)); unused = λ none. absurd (none_some (sym none ∙ is)); called = called }) s
 
 -- ---- the end of a connection
 
 -- it had no connection in use, and nothing happened
 gives_none :
-    {at : ℕ} {core : ServedCore} {h h' : List Event} (why : Option Cause) (x y : Link) → x.conn ≡ None → h' ≡ h → y.conn ≡ None → y.draining ≡ x.draining → y.text.items ≡ x.text.items → y.waiting.items ≡ x.waiting.items
+    {at : ℕ} {core : ServedCore} {h h' : List Event} (why : Option Cause) (x y : Link) → x.conn ≡ None → h' ≡ h → y.conn ≡ None → y.draining ≡ x.draining → server_of y ≡ server_of x → y.waiting.items ≡ x.waiting.items
     → y.calls.sent.items ≡ x.calls.sent.items → LineGoesFrom (LineFails why) LineAgrees (IsGivingUp why) at core h x core h' y
-gives_none {at} {core} {h} {h'} why x y had same closed draining text waiting sent =
-    line_moves refl ([], same) (shut_still still (conns_same x y (closed ∙ sym had) draining)) text (λ past a. (left past a, all_kept (1, at) h h' still))
+gives_none {at} {core} {h} {h'} why x y had same closed draining server waiting sent =
+    line_moves refl ([], same) (shut_still still (conns_same x y (closed ∙ sym had) draining)) server (λ past a. (left past a, all_kept (1, at) h h' still))
   where
     still : (d : ℕ) → IsUntouched d h h'
     still d = subst (IsUntouched d h) (sym same) (untouched d h)
@@ -634,15 +635,15 @@ gives_none {at} {core} {h} {h'} why x y had same closed draining text waiting se
     left : (past : List Step) → LineFails why at past h x → LineAgrees at past h' y
     left past a =
         has_none at past h' y closed (subst (λ w. MayAllGo past at w) (sym waiting) a.lost.waiting) (subst (λ w. AreDue past at (said_asks w)) (sym waiting) a.lost.due) (a.lost.none_out had)
-        (subst (λ k. Unused k at y.text.items (talk_in past at) (drain_of y)) (sym same) (subst (λ t. Unused h at t (talk_in past at) (drain_of y)) (sym text) (subst (λ (o : Option Conn). Unused h at x.text.items (talk_in past at) (option_map (λ (z : Conn). z.number) o)) (sym draining) (a.lost.unused had))))
+        (subst (λ k. Unused k at y.text.items (talk_in past at) (drain_of y)) (sym same) (subst (λ t. Unused h at t (talk_in past at) (drain_of y)) (sym (same_text x y server)) (subst (λ (o : Option Conn). Unused h at x.text.items (talk_in past at) (option_map (λ (z : Conn). z.number) o)) (sym draining) (a.lost.unused had))))
         (subst (λ (l : List SentCall). AreCalled past at (said_asks l)) (sym sent) a.lost.called)
 
 -- it was given up, for what its connection showed, whatever that held; and so the connections that it has stand now
 gives_up :
-    {at : ℕ} {core : ServedCore} {h h' : List Event} (why : Option Cause) (x y : Link) (c : Conn) → x.conn ≡ Some c → TouchesOnly c.number h h' → role c.number h' ≡ role c.number h → y.conn ≡ None → y.text.items ≡ x.text.items
+    {at : ℕ} {core : ServedCore} {h h' : List Event} (why : Option Cause) (x y : Link) (c : Conn) → x.conn ≡ Some c → TouchesOnly c.number h h' → role c.number h' ≡ role c.number h → y.conn ≡ None → server_of y ≡ server_of x
     → y.waiting.items ≡ x.waiting.items → y.calls.sent.items ≡ x.calls.sent.items → StaysShut at h x h' y
     → ((past : List Step) → LineFails why at past h x → Unused h' at y.text.items (talk_in (Lost at why ∷ past) at) (drain_of y)) → LineGoesFrom (LineFails why) LineAgrees (IsGivingUp why) at core h x core h' y
-gives_up {at} {core} {h} {h'} why x y c e only same_role closed text waiting sent shut unused = record {
+gives_up {at} {core} {h} {h'} why x y c e only same_role closed server waiting sent shut unused = record {
   steps = Lost at why ∷ [];
   kinds = (refl, tt);
   own = (refl, tt);
@@ -650,7 +651,7 @@ gives_up {at} {core} {h} {h'} why x y c e only same_role closed text waiting sen
   agrees = λ past o tells a. ((tt, o), left past a, keeps_others c.number (1, at) h h' (a.lost.conn c e).1.is_to same_role only, λ j other n ask is. (refl, refl, refl));
   shown = λ past o tells a shown. (was_shown past a, shown_since past h h' (only_after c.number h h' only) shown);
   shut = shut;
-  text = text;
+  server = record { same = server; late = (tt, tt) };
 }
   where
     talk : (past : List Step) → talk_in (Lost at why ∷ past) at ≡ given_up why (talk_in past at)
@@ -677,14 +678,14 @@ gives_up {at} {core} {h} {h'} why x y c e only same_role closed text waiting sen
 -- its connection was closed, whatever it held, for what it showed
 pub line_closes :
     {at : ℕ} {core : ServedCore} {h h' : List Event} (why : Option Cause) → left_by why ≡ Apart → (x y : Link) (r : Option ℕ) → r ≡ option_map (λ (z : Conn). z.number) x.conn → IfSome r (λ c. Closes c h h') → (r ≡ None → h' ≡ h) → y.conn ≡ None
-    → MatchOption x.conn (y.draining ≡ x.draining) (λ c. y.draining ≡ None) → y.text.items ≡ x.text.items → y.waiting.items ≡ x.waiting.items → y.calls.sent.items ≡ x.calls.sent.items
+    → MatchOption x.conn (y.draining ≡ x.draining) (λ c. y.draining ≡ None) → server_of y ≡ server_of x → y.waiting.items ≡ x.waiting.items → y.calls.sent.items ≡ x.calls.sent.items
     → LineGoesFrom (LineFails why) LineAgrees (IsGivingUp why) at core h x core h' y
-line_closes {at} {core} {h} {h'} why apart x y r r_is some none closed draining text waiting sent = by x.conn refl draining
+line_closes {at} {core} {h} {h'} why apart x y r r_is some none closed draining server waiting sent = by x.conn refl draining
   where
     by : (o : Option Conn) → x.conn ≡ o → MatchOption o (y.draining ≡ x.draining) (λ c. y.draining ≡ None) → LineGoesFrom (LineFails why) LineAgrees (IsGivingUp why) at core h x core h' y
-    by None e same = gives_none why x y e (none (r_is ∙ ap (option_map (λ (z : Conn). z.number)) e)) closed same text waiting sent
+    by None e same = gives_none why x y e (none (r_is ∙ ap (option_map (λ (z : Conn). z.number)) e)) closed same server waiting sent
     by (Some c) e undrained =
-        gives_up why x y c e only (closed_role c.number h h' closes_it) closed text waiting sent (shut_closed c.number only (closed_shut c.number h h' closes_it) (conn_is x c e))
+        gives_up why x y c e only (closed_role c.number h h' closes_it) closed server waiting sent (shut_closed c.number only (closed_shut c.number h h' closes_it) (conn_is x c e))
         (λ past a. subst (λ (o : Option Conn). Unused h' at y.text.items (talk_in (Lost at why ∷ past) at) (option_map (λ (z : Conn). z.number) o)) (sym undrained)
         (ap (λ b. (if b then given_up why (talk_in past at) else talk_in past at).stands) (equal at) ∙ apart))
       where
@@ -696,17 +697,17 @@ line_closes {at} {core} {h} {h'} why apart x y r r_is some none closed draining 
 
 -- or it can't be kept, and its end is awaited
 pub line_drains :
-    {at : ℕ} {core : ServedCore} {h h' : List Event} (why : Option Cause) → left_by why ≡ Ending → (x y : Link) → h' ≡ h → y.conn ≡ None → conn_of y ≡ conn_of x → (x.conn ≡ None → y.draining ≡ x.draining) → y.text.items ≡ x.text.items
+    {at : ℕ} {core : ServedCore} {h h' : List Event} (why : Option Cause) → left_by why ≡ Ending → (x y : Link) → h' ≡ h → y.conn ≡ None → conn_of y ≡ conn_of x → (x.conn ≡ None → y.draining ≡ x.draining) → server_of y ≡ server_of x
     → y.waiting.items ≡ x.waiting.items → y.calls.sent.items ≡ x.calls.sent.items → LineGoesFrom (LineFails why) LineAgrees (IsGivingUp why) at core h x core h' y
-line_drains {at} {core} {h} {h'} why ending x y same closed conns draining text waiting sent = by x.conn refl
+line_drains {at} {core} {h} {h'} why ending x y same closed conns draining server waiting sent = by x.conn refl
   where
     still : (d : ℕ) → IsUntouched d h h'
     still d = subst (IsUntouched d h) (sym same) (untouched d h)
 
     by : (o : Option Conn) → x.conn ≡ o → LineGoesFrom (LineFails why) LineAgrees (IsGivingUp why) at core h x core h' y
-    by None e = gives_none why x y e same closed (draining e) text waiting sent
+    by None e = gives_none why x y e same closed (draining e) server waiting sent
     by (Some c) e =
-        gives_up why x y c e (λ d other. still d) (still c.number).same_role closed text waiting sent (shut_still still conns)
+        gives_up why x y c e (λ d other. still d) (still c.number).same_role closed server waiting sent (shut_still still conns)
         (λ past a. subst (Unused h' at y.text.items (talk_in (Lost at why ∷ past) at)) (sym (sym (conn_drains y closed) ∙ conns ∙ conn_is x c e)) (awaited past a))
       where
         awaited : (past : List Step) → LineFails why at past h x → Unused h' at y.text.items (talk_in (Lost at why ∷ past) at) (Some c.number)
@@ -716,7 +717,7 @@ line_drains {at} {core} {h} {h'} why ending x y same closed conns draining text 
             let now : TalkAgrees h at x.text.items (given_up why (talk_in past at)) c.number (a.lost.conn c e).0 (bytes_of c.unsent) [] None (talk_in past at).dialect [] =
             record { is_to = t.is_to; address = t.address; sent_is = t.sent_is; told_is = t.told_is; out_is = refl; awaits_is = refl; dialect_is = refl; late_is = refl } in
             subst (λ k. Unused k at y.text.items (talk_in (Lost at why ∷ past) at) (Some c.number)) (sym same)
-            (subst (λ w. Unused h at w (talk_in (Lost at why ∷ past) at) (Some c.number)) (sym text)
+            (subst (λ w. Unused h at w (talk_in (Lost at why ∷ past) at) (Some c.number)) (sym (same_text x y server))
             (subst (λ u. Unused h at x.text.items u (Some c.number)) (sym talk) (ending, (a.lost.conn c e).0, bytes_of c.unsent, now)))
 
 -- ---- the end of one that can't be kept
@@ -726,7 +727,7 @@ pub line_away :
     {Is : Step → Type 0} {at : ℕ} {core : ServedCore} {h h' : List Event} (x y : Link) (c d : Conn) (bytes : List ℕ) → x.conn ≡ None → x.draining ≡ Some c → y ≡ record x { draining = Some d } → d.number ≡ c.number
     → ReadsOn c.number [] bytes h h' → LineGoes Is at core h x core h' y
 line_away {at = at} {h = h} {h' = h'} x y c d bytes none was is number r =
-    line_moves refl (only_after c.number h h' r.elsewhere) (shut_used c.number r.elsewhere (conn_drains x none ∙ ap (option_map (λ (z : Conn). z.number)) was) (conn_drains y (ap (λ (z : Link). z.conn) is ∙ none) ∙ drains)) (ap (λ (z : Link). z.text.items) is)
+    line_moves refl (only_after c.number h h' r.elsewhere) (shut_used c.number r.elsewhere (conn_drains x none ∙ ap (option_map (λ (z : Conn). z.number)) was) (conn_drains y (ap (λ (z : Link). z.conn) is ∙ none) ∙ drains)) (ap server_of is)
     (λ past a. (agrees past a, keeps_others c.number (1, at) h h' (before past a).3.is_to r.same_role r.elsewhere))
   where
     drains : drain_of y ≡ Some c.number
@@ -772,7 +773,7 @@ line_ends {Is} {at} {core} {h} {k} {h'} why kind apart x y c none was is r shows
   agrees = λ past o tells a. ((tt, o), left past a, keeps_others c.number (1, at) h h' (before past a).3.is_to (closed_role c.number k h' closes_it ∙ r.same_role) only, λ j other n ask is. (refl, refl, refl));
   shown = λ past o tells a shown. (was_shown past a, shown_since past h h' (only_after c.number h h' only) shown);
   shut = shut_closed c.number only (closed_shut c.number k h' closes_it) (conn_drains x none ∙ ap (option_map (λ (z : Conn). z.number)) was);
-  text = ap (λ (z : Link). z.text.items) is;
+  server = record { same = ap server_of is; late = (tt, tt) };
 }
   where
     only : TouchesOnly c.number h h'
@@ -818,8 +819,8 @@ line_ends {Is} {at} {core} {h} {k} {h'} why kind apart x y c none was is r shows
 -- it had none in use, and has none then
 pub line_shuts :
     {Before : ℕ → List Step → List Event → Link → Type 0} {Is : Step → Type 0} {at : ℕ} {a b : ServedCore} {h h' : List Event} {x y z : Link} → LineGoesFrom Before LineAgrees Is at a h x b h' y → y.conn ≡ None → z.conn ≡ None
-    → z.draining ≡ y.draining → z.text.items ≡ y.text.items → z.waiting.items ≡ y.waiting.items → z.calls.sent.items ≡ y.calls.sent.items → LineGoesFrom Before LineAgrees Is at a h x b h' z
-line_shuts {at = at} {h' = h'} {y = y} {z = z} g none closed draining text waiting sent = record {
+    → z.draining ≡ y.draining → server_of z ≡ server_of y → z.waiting.items ≡ y.waiting.items → z.calls.sent.items ≡ y.calls.sent.items → LineGoesFrom Before LineAgrees Is at a h x b h' z
+line_shuts {at = at} {h' = h'} {x = x} {y = y} {z = z} g none closed draining server waiting sent = record {
   steps = g.steps;
   kinds = g.kinds;
   own = g.own;
@@ -827,14 +828,14 @@ line_shuts {at = at} {h' = h'} {y = y} {z = z} g none closed draining text waiti
   agrees = λ past o tells was. let r = g.agrees past o tells was in (
     r.0,
     has_none at (g.steps ++ past) h' z closed (subst (λ w. MayAllGo (g.steps ++ past) at w) (sym waiting) r.1.waiting) (subst (λ w. AreDue (g.steps ++ past) at (said_asks w)) (sym waiting) r.1.due) (r.1.none_out none)
-        (subst (λ t. Unused h' at t (talk_in (g.steps ++ past) at) (drain_of z)) (sym text) (subst (λ (o : Option Conn). Unused h' at y.text.items (talk_in (g.steps ++ past) at) (option_map (λ (c : Conn). c.number) o)) (sym draining) (r.1.unused none)))
+        (subst (λ t. Unused h' at t (talk_in (g.steps ++ past) at) (drain_of z)) (sym (same_text y z server)) (subst (λ (o : Option Conn). Unused h' at y.text.items (talk_in (g.steps ++ past) at) (option_map (λ (c : Conn). c.number) o)) (sym draining) (r.1.unused none)))
         (subst (λ (l : List SentCall). AreCalled (g.steps ++ past) at (said_asks l)) (sym sent) r.1.called),
     r.2,
     r.3,
   );
   shown = g.shown;
   shut = λ was. subst (λ o. IsShutBut (1, at) o h') (sym (conns_same y z (closed ∙ sym none) draining)) (g.shut was);
-  text = text ∙ g.text;
+  server = server_then g.steps [] x y z g.server (record { same = server; late = tt });
 }
 
 failed_own : (at : ℕ) (steps : List Step) → AreOf IsFailure steps → AreOf (IsOfServer at) steps × AreOf IsPlain steps
@@ -892,8 +893,8 @@ last_called past at (call ∷ first) later are = last_called past at first later
 -- calls of it fail, while it has no connection: of those that were sent, and of those that wait, the first do
 pub line_fails :
     {why : Option Cause} {at : ℕ} {core core' : ServedCore} {h : List Event} (x y : Link) (mid : ServedCore) → FailsTo x.calls.sent.items y.calls.sent.items core mid → FailsTo x.waiting.items y.waiting.items mid core'
-    → x.conn ≡ None → y.conn ≡ None → y.draining ≡ x.draining → y.text.items ≡ x.text.items → LineGoes (IsGivingUp why) at core h x core' h y
-line_fails {why} {at} {core} {core'} {h} x y mid sent waiting had none draining text = record {
+    → x.conn ≡ None → y.conn ≡ None → y.draining ≡ x.draining → server_of y ≡ server_of x → LineGoes (IsGivingUp why) at core h x core' h y
+line_fails {why} {at} {core} {core'} {h} x y mid sent waiting had none draining server = record {
   steps = w.steps ++ f.steps;
   kinds = failed_giving why (w.steps ++ f.steps) kinds;
   own = own.0;
@@ -905,7 +906,7 @@ line_fails {why} {at} {core} {core'} {h} x y mid sent waiting had none draining 
     has_none at ((w.steps ++ f.steps) ++ past) h y none (calls_later (w.steps ++ f.steps) past at y.waiting.items (last_called past at waiting.0 y.waiting.items (subst (λ l. MayAllGo past at l) waiting.1 a.waiting)))
         (left past a).due
         (ap (λ (t : Talk). t.out) (plain_talk (w.steps ++ f.steps) own.1 past at) ∙ a.none_out had)
-        (subst (λ t. Unused h at t (talk_in ((w.steps ++ f.steps) ++ past) at) (drain_of y)) (sym text)
+        (subst (λ t. Unused h at t (talk_in ((w.steps ++ f.steps) ++ past) at) (drain_of y)) (sym (same_text x y server))
         (subst (λ (o : Option Conn). Unused h at x.text.items (talk_in ((w.steps ++ f.steps) ++ past) at) (option_map (λ (z : Conn). z.number) o)) (sym draining)
         (subst (λ u. Unused h at x.text.items u (drain_of x)) (sym (plain_talk (w.steps ++ f.steps) own.1 past at)) (a.unused had))))
         (left past a).called,
@@ -914,7 +915,7 @@ line_fails {why} {at} {core} {core'} {h} x y mid sent waiting had none draining 
   );
   shown = λ past o tells a shown. shown_later (w.steps ++ f.steps) past h h (plain_unlost (w.steps ++ f.steps) own.1) (none_since h) shown;
   shut = shut_still (quiet h) (conns_same x y (none ∙ sym had) draining);
-  text = text;
+  server = record { same = server; late = unlost_late _ (w.steps ++ f.steps) (plain_unlost (w.steps ++ f.steps) own.1) };
 }
   where
     f : FailsInOrder at sent.0 core mid

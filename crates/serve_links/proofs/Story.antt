@@ -20,12 +20,13 @@ use Rattle.serve_links.specs.declared.settings.Greeting.{Greeting}
 use Rattle.serve_links.specs.declared.link.Link.{Link}
 use Rattle.serve_links.specs.CoreSteps.{Step, Closed, Opened, Polled, AreOf, IsSending}
 use Rattle.serve_links.specs.Talks.{SaidAsk, Talk, Apart, talk_in, AreDue, AreCalled}
-use Rattle.serve_links.specs.Story.{fed_in, gave_in, is_open_in, is_broken_in, AgreesWith, IsTold, AreTold, TellsNone, TookAll, EndsBy, IsGone, HasOrHad, TalkAgrees, Unused, said_asks, StayOut, LineAgrees, LinesAgree, texts_of, OneGoes, LineGoesFrom, LineGoes, AnEnd, Agrees, AgreesBut, AgreesCalled, AllGoFrom, AllGo, StoriesGoOn}
+use Rattle.serve_links.specs.Story.{fed_in, gave_in, is_open_in, is_broken_in, AgreesWith, IsTold, AreTold, TellsNone, TookAll, EndsBy, IsGone, HasOrHad, TalkAgrees, Unused, said_asks, StayOut, LineAgrees, LinesAgree, servers_of, OneGoes, LineGoesFrom, LineGoes, AnEnd, Agrees, AgreesBut, AgreesCalled, AllGoFrom, AllGo, StoriesGoOn}
 use Rattle.serve_links.specs.Called.{TellsCalls, GiveOnce}
 use Rattle.serve_links.proofs.Called.{walks_tell_calls}
 use Rattle.serve_links.proofs.Talking.{calls_later, IsPlain, clients_plain, plain_talk, clients_orderly, clients_clock, server_tells_none, server_clock, sending_clock, sending_given, talk_elsewhere}
 use Rattle.serve_links.proofs.Due.{due_stays, called_stays, clients_stay}
 use Rattle.serve_links.proofs.Showing.{plain_unlost, shown_later}
+use Rattle.serve_links.proofs.ByLimits.{servers_same, servers_then, clients_servers, line_servers}
 use Rattle.serve_links.specs.Shut.{drain_of, conn_of, link_conn, IsShutBut, AreShut}
 use Rattle.serve_links.proofs.Shutting.{shut_line, shut_client}
 use Rattle.serve_links.proofs.Walked.{walked, of_both}
@@ -323,14 +324,14 @@ pub one_of_all :
     {Is : Step → Type 0} (id : ℕ) (old new : AnEnd) (x y : Client) → client_of old.clients id ≡ Some x → client_of new.clients id ≡ Some y
     → ((j : ℕ) → nat_eq id j ≡ false → client_of new.clients j ≡ client_of old.clients j) → new.links ≡ old.links
     → OneGoes Is id old.core old.history x new.core new.history y → AllGo Is old new
-one_of_all id old new x y was is others links g = record { steps = g.steps; kinds = g.kinds; walks = g.walks; agree = one_agrees id old new x y was is others links g; texts = ap texts_of links }
+one_of_all id old new x y was is others links g = record { steps = g.steps; kinds = g.kinds; walks = g.walks; agree = one_agrees id old new x y was is others links g; servers = clients_servers g.steps old.links new.links g.own (ap servers_of links) }
 
 -- one link's end goes on, and the others are as they were
 pub line_among :
     {Before After : ℕ → List Step → List Event → Link → Type 0} {Is : Step → Type 0} (at : ℕ) (old new : AnEnd) (x y : Link) → slice_get old.links at ≡ Some x → slice_get new.links at ≡ Some y
-    → ((j : ℕ) → nat_eq at j ≡ false → slice_get new.links j ≡ slice_get old.links j) → texts_of new.links ≡ texts_of old.links → ((j : ℕ) → client_of new.clients j ≡ client_of old.clients j)
+    → ((j : ℕ) → nat_eq at j ≡ false → slice_get new.links j ≡ slice_get old.links j) → servers_of new.links ≡ servers_of old.links → ((j : ℕ) → client_of new.clients j ≡ client_of old.clients j)
     → LineGoesFrom Before After Is at old.core old.history x new.core new.history y → AllGoFrom (AgreesBut Before at) (AgreesBut After at) Is old new
-line_among {Before} {After} {Is} at old new x y was is others texts clients_are g = record { steps = g.steps; kinds = g.kinds; walks = g.walks; agree = agree; texts = texts }
+line_among {Before} {After} {Is} at old new x y was is others servers clients_are g = record { steps = g.steps; kinds = g.kinds; walks = g.walks; agree = agree; servers = line_servers at g.steps old.links new.links x y was servers g.own g.server }
   where
     h : List Event
     h = old.history
@@ -401,19 +402,19 @@ all_but at past x a = record { orderly = a.orderly; calls = a.calls; clients = a
 pub go_between :
     {P P' Q Q' : List Step → AnEnd → Type 0} {Is : Step → Type 0} {a b : AnEnd} → ((past : List Step) → P' past a → P past a) → ((past : List Step) → Q past b → Q' past b) → AllGoFrom P Q Is a b
     → AllGoFrom P' Q' Is a b
-go_between before after g = record { steps = g.steps; kinds = g.kinds; walks = g.walks; agree = λ past was. after (g.steps ++ past) (g.agree past (before past was)); texts = g.texts }
+go_between before after g = record { steps = g.steps; kinds = g.kinds; walks = g.walks; agree = λ past was. after (g.steps ++ past) (g.agree past (before past was)); servers = g.servers }
 
 pub line_of_all :
     {Is : Step → Type 0} (at : ℕ) (old new : AnEnd) (x y : Link) → slice_get old.links at ≡ Some x → slice_get new.links at ≡ Some y
-    → ((j : ℕ) → nat_eq at j ≡ false → slice_get new.links j ≡ slice_get old.links j) → texts_of new.links ≡ texts_of old.links → ((j : ℕ) → client_of new.clients j ≡ client_of old.clients j)
+    → ((j : ℕ) → nat_eq at j ≡ false → slice_get new.links j ≡ slice_get old.links j) → servers_of new.links ≡ servers_of old.links → ((j : ℕ) → client_of new.clients j ≡ client_of old.clients j)
     → LineGoes Is at old.core old.history x new.core new.history y → AllGo Is old new
-line_of_all at old new x y was is others texts clients_are g = go_between (λ past a. all_but at past old a) (λ past a. but_all at past new a) (line_among at old new x y was is others texts clients_are g)
+line_of_all at old new x y was is others servers clients_are g = go_between (λ past a. all_but at past old a) (λ past a. but_all at past new a) (line_among at old new x y was is others servers clients_are g)
 
 -- ---- one after another
 
 -- nothing was done
 pub all_still : {Is : Step → Type 0} (old new : AnEnd) → new ≡ old → AllGo Is old new
-all_still {Is} old new same = subst (λ x. AllGo Is old x) (sym same) (record { steps = []; kinds = tt; walks = refl; agree = λ past a. a; texts = refl })
+all_still {Is} old new same = subst (λ x. AllGo Is old x) (sym same) (record { steps = []; kinds = tt; walks = refl; agree = λ past a. a; servers = servers_same old.links old.links refl })
 
 pub from_then : {P Q R : List Step → AnEnd → Type 0} {Is : Step → Type 0} (a b c : AnEnd) → AllGoFrom P Q Is a b → AllGoFrom Q R Is b c → AllGoFrom P R Is a c
 from_then {P} {Q} {R} {Is} a b c g k =
@@ -422,7 +423,7 @@ from_then {P} {Q} {R} {Is} a b c g k =
       kinds = of_both Is k.steps g.steps k.kinds g.kinds;
       walks = walked k.steps g.steps a.core b.core c.core g.walks k.walks;
       agree = λ past was. subst (λ l. R l c) (sym (append_assoc k.steps g.steps past)) (k.agree (g.steps ++ past) (g.agree past was));
-      texts = k.texts ∙ g.texts;
+      servers = servers_then g.steps k.steps a.links b.links c.links g.servers k.servers;
     }
 
 pub all_then : {Is : Step → Type 0} (a b c : AnEnd) → AllGo Is a b → AllGo Is b c → AllGo Is a c
@@ -449,7 +450,7 @@ still_called {a = a} {b = b} number at ask g = record {
     subst (λ l. Agrees l b) (sym (append_assoc g.steps call.later call.earlier)) (g.agree (call.later ++ call.earlier) was.2),
     sending_given g.steps g.kinds past number ∙ was.3 ∙ sym (sending_clock g.steps g.kinds past),
   );
-  texts = g.texts;
+  servers = g.servers;
 }
 
 -- the laws, by calls of any kind
@@ -458,5 +459,5 @@ stories_go_on Is = record {
   still = λ x. all_still x x refl;
   both = λ a b c g k. all_then a b c g k;
   one = λ id old new x y was is others links g. one_of_all id old new x y was is others links g;
-  line = λ at old new x y was is others texts clients g. line_of_all at old new x y was is others texts clients g;
+  line = λ at old new x y was is others servers clients g. line_of_all at old new x y was is others servers clients g;
 }

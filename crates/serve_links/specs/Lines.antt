@@ -63,9 +63,10 @@ SameLine None y = y ≡ None
 SameLine (Some x) None = ⊥
 SameLine (Some x) (Some y) = SameEnd x y
 
--- a link is to the server that it was to, has the connections that it had, the one in use with the same bytes, and the same calls, late ones too, asks in the same dialect, and awaits of its server's dialects what it did
+-- a link is to the server that it was to, with the limits that it had, has the connections that it had, the one in use with the same bytes, and the same calls, late ones too, asks in the same dialect, and awaits of its server's dialects what it did
 pub record KeepsLines (old new : Link) : Type 0 where
   pub text : new.text ≡ old.text
+  pub limits : new.limits ≡ old.limits
   pub conn : SameLine old.conn new.conn
   pub draining : drain_of new ≡ drain_of old
   pub calls : new.calls ≡ old.calls
@@ -84,6 +85,7 @@ pub record HasNewEnd (number : ℕ) (greeting : Greeting) (old new : Link) : Typ
   pub none_there : old.conn ≡ None
   pub none_draining : old.draining ≡ None
   pub text : new.text ≡ old.text
+  pub limits : new.limits ≡ old.limits
   pub conn : IsNewEnd number greeting new.conn
   pub none_out : old.calls.sent.items ≡ []
   pub calls : new.calls ≡ old.calls

@@ -12,6 +12,7 @@ use Rattle.serve_clients.specs.declared.clients.Clients.{Clients}
 use Rattle.serve_clients.specs.Agrees.{EndAgrees, AllAgree}
 use Rattle.serve_clients.specs.Marks.{client_of}
 use Rattle.serve_links.specs.declared.settings.Greeting.{Greeting}
+use Rattle.serve_links.specs.declared.settings.LinkLimits.{LinkLimits}
 use Rattle.serve_links.specs.Dialects.{IsForeignIn, GreetsNone}
 use Rattle.serve_links.specs.declared.calls.calls.SentCall.{SentCall}
 use Rattle.serve_links.specs.declared.calls.calls.LateCall.{LateCall}
@@ -309,13 +310,44 @@ LineCalled call at past h link = LineAgrees at past h link × MayGo past at call
 abbrev pub LinesAgree : List Step → List Event → List Link → Type 0
 LinesAgree past h links = (at : ℕ) (link : Link) → slice_get links at ≡ Some link → LineAgrees at past h link
 
--- all that a link has to do with its connections and its calls: what names its server's address, the connection's number, what is held of it and what is to be sent, the calls that are out, those that wait,
+-- what names the address of a link's server, and the limits that it has
+abbrev pub server_of : Link → List ℕ × LinkLimits
+server_of link = (link.text.items, link.limits)
+
+-- all that a link has to do with its connections and its calls: its server's address and limits, the connection's number, what is held of it and what is to be sent, the calls that are out, those that wait,
 -- what its server was asked first and is still to answer, in which dialect calls are asked, those that were late, and the number of the connection whose end is awaited
 abbrev pub LineState : Type 0
-LineState = List ℕ × Option (ℕ × List ℕ × List ℕ) × List SaidAsk × List SentCall × Option Greeting × Dialect × List SaidAsk × Option ℕ
+LineState = (List ℕ × LinkLimits) × Option (ℕ × List ℕ × List ℕ) × List SaidAsk × List SentCall × Option Greeting × Dialect × List SaidAsk × Option ℕ
 
 abbrev pub line_of : Link → LineState
-line_of link = (link.text.items, option_map (λ (x : Conn). (x.number, x.held.items, bytes_of x.unsent)) link.conn, said_asks link.calls.sent.items, link.waiting.items, link.awaits_dialect, link.dialect, said_late link.late.items, drain_of link)
+line_of link = (server_of link, option_map (λ (x : Conn). (x.number, x.held.items, bytes_of x.unsent)) link.conn, said_asks link.calls.sent.items, link.waiting.items, link.awaits_dialect, link.dialect, said_late link.late.items, drain_of link)
+
+-- a step by which a call is late tells for how long those of its server may take, where this says it of each server
+abbrev pub IsByLimit : (ℕ → Option ℕ) → Step → Type 0
+IsByLimit most (Late at number limit now) = most at ≡ Some limit
+IsByLimit most (Opened client) = Unit {0}
+IsByLimit most (NotOpened fault) = Unit {0}
+IsByLimit most (Fed client piece) = Unit {0}
+IsByLimit most (Polled client poll) = Unit {0}
+IsByLimit most (Stopped client fault) = Unit {0}
+IsByLimit most (Settled number outcome) = Unit {0}
+IsByLimit most (Gave client bytes) = Unit {0}
+IsByLimit most (Closed client) = Unit {0}
+IsByLimit most (LeftLine client) = Unit {0}
+IsByLimit most (Ticked now) = Unit {0}
+IsByLimit most (Broke client) = Unit {0}
+IsByLimit most (Loaded configuration generation) = Unit {0}
+IsByLimit most (Linked at dialect) = Unit {0}
+IsByLimit most (Asked at number dialect ask since) = Unit {0}
+IsByLimit most (Greeted at dialect bytes) = Unit {0}
+IsByLimit most (CameLate at number ask answer bytes) = Unit {0}
+IsByLimit most (Spelled at number ask answer bytes) = Unit {0}
+IsByLimit most (Lost at why) = Unit {0}
+
+-- a link is to the server that it was to, which has the limits that it had, and by these steps, which tell of that one alone, calls are late by its limit
+pub record KeepsServer (steps : List Step) (old new : Link) : Type 0 where
+  pub same : server_of new ≡ server_of old
+  pub late : AreOf (IsByLimit (λ at. Some old.limits.call_ms)) steps
 
 -- all connections that were of others than this one, and all that aren't its now, are as they were, and the clock wasn't looked at
 pub record KeepsOthers (its : ℕ × ℕ) (h h' : List Event) : Type 0 where
@@ -344,7 +376,7 @@ abbrev pub LeavesCalls : ℕ → List Step → List Step → Type 0
 LeavesCalls at past past' = (j : ℕ) → nat_eq at j ≡ false → StayOut j past past'
 
 -- by calls of this kind, which tell of this server alone, the core goes on, and the server's link on the wire with it: where the one held of it and of all calls before, and the core has those out that they tell to be, the other
--- holds of it and of all calls after, and all happened in order if it had before. No other's connection is touched, nor its calls, of its own none is left open but the one that it has, and where a connection is given up the wire showed why
+-- holds of it and of all calls after, and all happened in order if it had before. No other's connection is touched, nor its calls, of its own none is left open but the one that it has, where a connection is given up the wire showed why, and where a call is late it is so by the server's limit
 pub record LineGoesFrom (Before After : ℕ → List Step → List Event → Link → Type 0) (Is : Step → Type 0) (at : ℕ) (core : ServedCore) (h : List Event) (link : Link) (core' : ServedCore) (h' : List Event) (link' : Link) : Type 0 where
   pub steps : List Step
   pub kinds : AreOf Is steps
@@ -353,7 +385,7 @@ pub record LineGoesFrom (Before After : ℕ → List Step → List Event → Lin
   pub agrees : (past : List Step) → IsOrderly past → TellsCalls past core → Before at past h link → IsOrderly (steps ++ past) × After at (steps ++ past) h' link' × KeepsOthers (1, at) h h' × LeavesCalls at past (steps ++ past)
   pub shown : (past : List Step) → IsOrderly past → TellsCalls past core → Before at past h link → AreShown past h → AreShown (steps ++ past) h'
   pub shut : StaysShut at h link h' link'
-  pub text : link'.text.items ≡ link.text.items
+  pub server : KeepsServer steps link link'
 
 -- a link that agrees goes on to agree
 abbrev pub LineGoes : (Step → Type 0) → ℕ → ServedCore → List Event → Link → ServedCore → List Event → Link → Type 0
@@ -366,9 +398,21 @@ pub record AnEnd : Type 0 where
   pub clients : Clients
   pub links : List Link
 
--- the texts of the links' addresses, in their order
+-- the texts of the links' addresses, in their order; and with the limits of their servers
 abbrev pub texts_of : List Link → List (List ℕ)
 texts_of links = each (λ link. link.text.items) links
+
+abbrev pub servers_of : List Link → List (List ℕ × LinkLimits)
+servers_of links = each server_of links
+
+-- how long a call to the server of this number may take, in milliseconds, if there is one
+abbrev pub most_of : List (List ℕ × LinkLimits) → ℕ → Option ℕ
+most_of servers at = option_map (λ (server : List ℕ × LinkLimits). server.1.call_ms) (slice_get servers at)
+
+-- all links are to the servers that they were to, which have the limits that they had, and by these steps each call is late by the limit of its own server
+pub record KeepsServers (steps : List Step) (old new : List Link) : Type 0 where
+  pub same : servers_of new ≡ servers_of old
+  pub late : AreOf (IsByLimit (most_of (servers_of old))) steps
 
 -- all happened in order by these calls, the core has those out that they tell to be, the clock showed last what they tell, and each end agrees with them, and so does each connection that was a client's; the wire showed why each of a server's was given up; and none is open but what ends have
 pub record Agrees (past : List Step) (x : AnEnd) : Type 0 where
@@ -421,13 +465,13 @@ pub record IsInHand (number : ℕ) (past : List Step) (links : List Link) : Type
 abbrev pub AgreesDue : ℕ → List Step → AnEnd → Type 0
 AgreesDue number past x = Agrees past x × IsInHand number past x.links
 
--- by calls of this kind it goes on: where the one held of it and of all calls before, the other holds of it and of all calls after. The links are to the servers that they were to
+-- by calls of this kind it goes on: where the one held of it and of all calls before, the other holds of it and of all calls after. The links are to the servers that they were to, with the limits that they had, and each call that is late is so by its server's
 pub record AllGoFrom (Before After : List Step → AnEnd → Type 0) (Is : Step → Type 0) (old new : AnEnd) : Type 0 where
   pub steps : List Step
   pub kinds : AreOf Is steps
   pub walks : Walks steps old.core new.core
   pub agree : (past : List Step) → Before past old → After (steps ++ past) new
-  pub texts : texts_of new.links ≡ texts_of old.links
+  pub servers : KeepsServers steps old.links new.links
 
 -- where its ends agreed with all calls before, they agree with all calls after
 abbrev pub AllGo : (Step → Type 0) → AnEnd → AnEnd → Type 0
@@ -443,5 +487,5 @@ pub record StoriesGoOn (Is : Step → Type 0) : Type 0 where
       → OneGoes Is id old.core old.history x new.core new.history y → AllGo Is old new
   pub line :
       (at : ℕ) (old new : AnEnd) (x y : Link) → slice_get old.links at ≡ Some x → slice_get new.links at ≡ Some y
-      → ((j : ℕ) → nat_eq at j ≡ false → slice_get new.links j ≡ slice_get old.links j) → texts_of new.links ≡ texts_of old.links → ((j : ℕ) → client_of new.clients j ≡ client_of old.clients j)
+      → ((j : ℕ) → nat_eq at j ≡ false → slice_get new.links j ≡ slice_get old.links j) → servers_of new.links ≡ servers_of old.links → ((j : ℕ) → client_of new.clients j ≡ client_of old.clients j)
       → LineGoes Is at old.core old.history x new.core new.history y → AllGo Is old new

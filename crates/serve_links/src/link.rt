@@ -389,8 +389,7 @@ impl Link {
 
     /// Its server has these limits from now on.
     pub fn limit(&mut self, limits: LinkLimits)
-        ensures limits { self.new ≡ record self.old { limits = limits } }
-        ensures line { line_of self.new ≡ line_of self.old }
+        ensures { self.new ≡ record self.old { limits = limits } }
     {
         self.limits = limits;
     }
@@ -888,6 +887,7 @@ impl Link {
         ensures conn { self.new.conn ≡ None }
         ensures draining { MatchOption self.old.conn (self.new.draining ≡ self.old.draining) (λ _. self.new.draining ≡ None) }
         ensures text { self.new.text ≡ self.old.text }
+        ensures limits { self.new.limits ≡ self.old.limits }
         ensures calls { self.new.calls ≡ self.old.calls }
         ensures late { self.new.late.items ≡ [] }
         ensures waiting { self.new.waiting ≡ self.old.waiting }
@@ -915,6 +915,7 @@ impl Link {
         ensures drains { conn_of self.new ≡ conn_of self.old }
         ensures draining { self.old.conn ≡ None → self.new.draining ≡ self.old.draining }
         ensures text { self.new.text ≡ self.old.text }
+        ensures limits { self.new.limits ≡ self.old.limits }
         ensures calls { self.new.calls ≡ self.old.calls }
         ensures late { self.new.late.items ≡ [] }
         ensures waiting { self.new.waiting ≡ self.old.waiting }
@@ -985,6 +986,7 @@ impl Link {
         ensures conn { self.new.conn ≡ self.old.conn }
         ensures draining { self.new.draining ≡ self.old.draining }
         ensures text { self.new.text ≡ self.old.text }
+        ensures limits { self.new.limits ≡ self.old.limits }
         ensures calls { self.new.calls ≡ self.old.calls }
         ensures late { self.new.late.items ≡ [] }
         ensures waiting { self.new.waiting ≡ self.old.waiting }

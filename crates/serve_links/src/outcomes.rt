@@ -72,6 +72,7 @@ pub fn fail_all(link: &mut Link, core: &mut ServedCore, clients: &mut Clients)
     ensures closed { link.new.conn ≡ None }
     ensures draining { link.new.draining ≡ link.old.draining }
     ensures text { link.new.text ≡ link.old.text }
+    ensures limits { link.new.limits ≡ link.old.limits }
     ensures first { (mid : ServedCore) × FailsTo link.old.calls.sent.items link.new.calls.sent.items core.old mid × FailsTo link.old.waiting.items link.new.waiting.items mid core.new }
     ensures ends { KeepsEnds clients.old clients.new }
 {

@@ -4,6 +4,7 @@ use Rattle.std.specs.Prelude.{slice_get, map as each}
 use Rattle.std.specs.Option.{option_map, option_flatten}
 use Rattle.serve_wire.specs.declared.conn.conn.Conn.{Conn}
 use Rattle.wire_parts.specs.Sending.{bytes_of}
+use Rattle.serve_links.specs.declared.settings.LinkLimits.{LinkLimits}
 use Rattle.serve_links.specs.declared.link.Link.{Link}
 use Rattle.serve_links.specs.Shut.{first_some, drain_of, link_conn}
 use Rattle.serve_links.specs.Story.{LineState}
@@ -28,12 +29,12 @@ conn_line (link ∷ links) (suc at) = conn_line links at
 pub conns_kept : (ls ls' : List Link) → lines_of ls' ≡ lines_of ls → (at : ℕ) → link_conn ls' at ≡ link_conn ls at
 conns_kept ls ls' same at = sym (conn_line ls' at) ∙ ap (λ l. conn_in l at) same ∙ conn_line ls at
 
-down_in : (lines : List LineState) (texts : List (List ℕ)) (at : ℕ) → conn_in (lines ++ each down_line texts) at ≡ conn_in lines at
+down_in : (lines : List LineState) (servers : List (List ℕ × LinkLimits)) (at : ℕ) → conn_in (lines ++ each down_line servers) at ≡ conn_in lines at
 down_in [] [] at = refl
-down_in [] (text ∷ texts) zero = refl
-down_in [] (text ∷ texts) (suc at) = down_in [] texts at
-down_in (line ∷ lines) texts zero = refl
-down_in (line ∷ lines) texts (suc at) = down_in lines texts at
+down_in [] (server ∷ servers) zero = refl
+down_in [] (server ∷ servers) (suc at) = down_in [] servers at
+down_in (line ∷ lines) servers zero = refl
+down_in (line ∷ lines) servers (suc at) = down_in lines servers at
 
 -- links that are added have none
 pub conns_grow : (ls ls' : List Link) → AddsLines ls ls' → (at : ℕ) → link_conn ls' at ≡ link_conn ls at

@@ -23,6 +23,7 @@ use Rattle.serve_links.specs.CoreSteps.{Step, Opened, NotOpened, Fed, Polled, St
 use Rattle.serve_links.specs.Talks.{SaidAsk, IsStoreFirst, talk_in}
 use Rattle.serve_links.specs.Story.{said_asks, said_late, line_of, IsForeign, LineIsForeign, LineAgrees, LineLost, LineFails, LineGoesFrom, AnEnd, Agrees, AgreesBut, AllGoFrom, ShowsWhy}
 use Rattle.serve_links.proofs.LinkGoes.{as_failing, line_between, line_keeps}
+use Rattle.serve_links.proofs.ByLimits.{servers_same}
 use Rattle.serve_links.proofs.Foreign.{fails_foreign, none_awaited}
 use Rattle.serve_links.proofs.Story.{go_between, all_but, but_all}
 use Rattle.serve_proxy.specs.declared.sockets.Sockets.{Sockets}
@@ -246,7 +247,7 @@ sent_not {h} {h'} {cs} {cs'} {ls} {ls'} at has_sent is did = subst (λ b. EndsGo
 
 -- nothing more was done
 pub as_before : {P : List Step → AnEnd → Type 0} {Is : Step → Type 0} {a : AnEnd} → AllGoFrom P P Is a a
-as_before = record { steps = []; kinds = tt; walks = refl; agree = λ past was. was; texts = refl }
+as_before {a = a} = record { steps = []; kinds = tt; walks = refl; agree = λ past was. was; servers = servers_same a.links a.links refl }
 
 -- a read gave what it is known to have given
 pub given_by : {Q : List Step → AnEnd → Type 0} {Is : Step → Type 0} {a b : AnEnd} (at : ℕ) (gave what : Got) → gave ≡ what → AllGoFrom (AgreesUnless at (over_by what)) Q Is a b → AllGoFrom (AgreesUnless at (over_by gave)) Q Is a b

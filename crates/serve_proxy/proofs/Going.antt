@@ -31,6 +31,7 @@ use Rattle.serve_clients.specs.Agrees.{KeepsEnds, said_of, Breaks, StateAgrees, 
 use Rattle.serve_clients.specs.Lending.{with_client}
 use Rattle.serve_clients.proofs.Agreeing.{state_stays, agree_still}
 use Rattle.serve_links.specs.declared.calls.calls.SentCall.{SentCall}
+use Rattle.serve_links.specs.declared.settings.LinkLimits.{LinkLimits}
 use Rattle.serve_links.specs.declared.link.Link.{Link}
 use Rattle.serve_links.specs.declared.news.Cause.{Cause}
 use Rattle.serve_links.specs.CoreSteps.{Step, Opened, NotOpened, Fed, Polled, Stopped, Settled, Gave, Closed, LeftLine, Broke, Ticked, Loaded, Linked, Asked, Greeted, Spelled, Late, CameLate, Lost, Does, Walks, AreOf, GoesBy, IsOfTurn, IsFailure, IsSending, IsGivingUp, Fails}
@@ -38,10 +39,11 @@ use Rattle.serve_links.specs.Called.{clock_in, given_in, TellsCalls, GiveOnce}
 use Rattle.serve_links.specs.Talks.{Talk, IsNotAmong, AreDue, MaySettle, IsOrderly, IsOfClients}
 use Rattle.serve_links.proofs.Called.{given_besides, walks_tell_calls}
 use Rattle.serve_links.specs.Pieces.{FeedsHeld}
-use Rattle.serve_links.specs.Story.{fed_in, gave_in, is_open_in, is_broken_in, AgreesWith, IsTold, AreTold, TellsNone, HasOrHad, said_asks, StayOut, IsInHand, LineState, line_of, LineAgrees, LineCalled, LinesAgree, OneGoes, LineGoesFrom, LineGoes, AnEnd, Agrees, AgreesGiven, AgreesBut, AgreesCalled, AgreesDue, AllGoFrom, AllGo, texts_of, AgreesSent}
+use Rattle.serve_links.specs.Story.{fed_in, gave_in, is_open_in, is_broken_in, AgreesWith, IsTold, AreTold, TellsNone, HasOrHad, said_asks, StayOut, IsInHand, server_of, LineState, line_of, LineAgrees, LineCalled, LinesAgree, OneGoes, LineGoesFrom, LineGoes, AnEnd, Agrees, AgreesGiven, AgreesBut, AgreesCalled, AgreesDue, AllGoFrom, AllGo, texts_of, servers_of, AgreesSent}
 use Rattle.serve_links.proofs.Reading.{breaks_now}
 use Rattle.serve_links.proofs.Talking.{IsPlain, plain_talk, clients_orderly, clients_clock}
 use Rattle.serve_links.proofs.Story.{one_agrees, at_told, each_told, all_told, same_told, had_stays, one_of_all, line_among, line_stays_by, line_stays, unlinked_stays, all_still, from_then, go_between, all_but, but_all}
+use Rattle.serve_links.proofs.ByLimits.{servers_same, clients_servers}
 use Rattle.serve_links.proofs.Showing.{plain_unlost, none_since, shown_since, shown_later}
 use Rattle.serve_links.proofs.Shutting.{shut_quiet}
 use Rattle.serve_links.proofs.Due.{due_out, keeps_settled, hand_gone, due_nowhere, clients_stay, one_due, one_apart}
@@ -76,12 +78,16 @@ get_line [] at = refl
 get_line (link ∷ links) zero = refl
 get_line (link ∷ links) (suc at) = get_line links at
 
-pub texts_by_lines : (links : List Link) → each (λ (p : LineState). p.0) (lines_of links) ≡ texts_of links
+pub texts_by_lines : (links : List Link) → each (λ (p : LineState). p.0.0) (lines_of links) ≡ texts_of links
 texts_by_lines [] = refl
 texts_by_lines (link ∷ links) = ap (λ l. link.text.items ∷ l) (texts_by_lines links)
 
-same_texts : (ls ls' : List Link) → lines_of ls' ≡ lines_of ls → texts_of ls' ≡ texts_of ls
-same_texts ls ls' same = sym (texts_by_lines ls') ∙ ap (each (λ (p : LineState). p.0)) same ∙ texts_by_lines ls
+servers_by_lines : (links : List Link) → each (λ (p : LineState). p.0) (lines_of links) ≡ servers_of links
+servers_by_lines [] = refl
+servers_by_lines (link ∷ links) = ap (λ l. server_of link ∷ l) (servers_by_lines links)
+
+same_servers : (ls ls' : List Link) → lines_of ls' ≡ lines_of ls → servers_of ls' ≡ servers_of ls
+same_servers ls ls' same = sym (servers_by_lines ls') ∙ ap (each (λ (p : LineState). p.0)) same ∙ servers_by_lines ls
 
 lines_stay : (h h' : List Event) (past : List Step) (ls ls' : List Link) → ((d : ℕ) → IsUntouched d h h') → lines_of ls' ≡ lines_of ls → LinesAgree past h ls → LinesAgree past h' ls'
 lines_stay h h' past ls ls' quiet same was at link there = by (slice_get ls at) refl (get_line ls at ∙ ap (λ l. slice_get l at) (sym same) ∙ sym (get_line ls' at) ∙ ap (option_map line_of) there)
@@ -165,7 +171,7 @@ stays {Is} {h} {h'} {cs} {cs'} {ls} {ls'} core s =
         unlinked = λ at none. a.unlinked at (none_there ls ls' s.links at none);
         clock = a.clock ∙ sym (s.quiet 0).same_time;
       };
-      texts = same_texts ls ls' s.links;
+      servers = servers_same ls ls' (same_servers ls ls' s.links);
     }
 
 pub stay_go : {h h' : List Event} {cs cs' : Clients} {ls ls' : List Link} → EndsStay h h' cs cs' ls ls' → EndsGo h h' cs cs' ls ls'
@@ -195,10 +201,10 @@ set_others (y ∷ xs) zero (suc k) x other = refl
 set_others (y ∷ xs) (suc i) zero x other = refl
 set_others (y ∷ xs) (suc i) (suc k) x other = set_others xs i k x (λ e. other (ap suc e))
 
-text_set : (links : List Link) (at : ℕ) (x y : Link) → x ≡ get_or links at x → y.text.items ≡ x.text.items → texts_of (set links at y) ≡ texts_of links
-text_set [] at x y was same = refl
-text_set (first ∷ links) zero x y was same = ap (λ t. t ∷ texts_of links) (same ∙ ap (λ (z : Link). z.text.items) was)
-text_set (first ∷ links) (suc at) x y was same = ap (λ ts. first.text.items ∷ ts) (text_set links at x y was same)
+server_set : (links : List Link) (at : ℕ) (x y : Link) → x ≡ get_or links at x → server_of y ≡ server_of x → servers_of (set links at y) ≡ servers_of links
+server_set [] at x y was same = refl
+server_set (first ∷ links) zero x y was same = ap (λ (s : List ℕ × LinkLimits). s ∷ servers_of links) (same ∙ ap server_of was)
+server_set (first ∷ links) (suc at) x y was same = ap (λ (l : List (List ℕ × LinkLimits)). server_of first ∷ l) (server_set links at x y was same)
 
 true_false : true ≡ false → ⊥
 true_false e = cc
@@ -410,26 +416,26 @@ all_of more (step ∷ steps) kinds = (more step kinds.0, all_of more steps kinds
 
 -- what is closed goes on, and so does what is broken off
 pub closing : {P Q : List Step → AnEnd → Type 0} {id : ℕ} {a b : AnEnd} → AllGoFrom P Q (IsClosing id) a b → AllGoFrom P Q IsOfTurn a b
-closing {id = id} g = record { steps = g.steps; kinds = all_of of_turn g.steps g.kinds; walks = g.walks; agree = g.agree; texts = g.texts }
+closing {id = id} g = record { steps = g.steps; kinds = all_of of_turn g.steps g.kinds; walks = g.walks; agree = g.agree; servers = g.servers }
   where
     of_turn : (step : Step) → IsClosing id step → IsOfTurn step
     of_turn step (inl gave) = subst IsOfTurn (sym gave.1) tt
     of_turn step (inr closed) = subst IsOfTurn (sym closed) tt
 
 pub breaking : {P Q : List Step → AnEnd → Type 0} {id : ℕ} {a b : AnEnd} → AllGoFrom P Q (λ step. step ≡ Broke id) a b → AllGoFrom P Q IsOfTurn a b
-breaking g = record { steps = g.steps; kinds = all_of (λ step is. subst IsOfTurn (sym is) tt) g.steps g.kinds; walks = g.walks; agree = g.agree; texts = g.texts }
+breaking g = record { steps = g.steps; kinds = all_of (λ step is. subst IsOfTurn (sym is) tt) g.steps g.kinds; walks = g.walks; agree = g.agree; servers = g.servers }
 
 -- what fails and goes out goes on
 pub failing : {P Q : List Step → AnEnd → Type 0} {a b : AnEnd} → AllGoFrom P Q IsSending a b → AllGoFrom P Q IsOfTurn a b
-failing g = record { steps = g.steps; kinds = sends_turn g.steps g.kinds; walks = g.walks; agree = g.agree; texts = g.texts }
+failing g = record { steps = g.steps; kinds = sends_turn g.steps g.kinds; walks = g.walks; agree = g.agree; servers = g.servers }
 
 -- and what fails alone is among it
 pub sending : {P Q : List Step → AnEnd → Type 0} {a b : AnEnd} → AllGoFrom P Q IsFailure a b → AllGoFrom P Q IsSending a b
-sending g = record { steps = g.steps; kinds = fails_send g.steps g.kinds; walks = g.walks; agree = g.agree; texts = g.texts }
+sending g = record { steps = g.steps; kinds = fails_send g.steps g.kinds; walks = g.walks; agree = g.agree; servers = g.servers }
 
 -- and so is what is given up for a cause
 pub giving_up : {P Q : List Step → AnEnd → Type 0} {cause : Cause} {a b : AnEnd} → AllGoFrom P Q (IsGivingUp (Some cause)) a b → AllGoFrom P Q IsSending a b
-giving_up {cause = cause} g = record { steps = g.steps; kinds = gives_up_send cause g.steps g.kinds; walks = g.walks; agree = g.agree; texts = g.texts }
+giving_up {cause = cause} g = record { steps = g.steps; kinds = gives_up_send cause g.steps g.kinds; walks = g.walks; agree = g.agree; servers = g.servers }
 
 -- what is handed a call goes on without it
 pub without_call : {Q : List Step → AnEnd → Type 0} {Is : Step → Type 0} {a b : AnEnd} (number at : ℕ) (ask : Ask) → AllGoFrom Agrees Q Is a b → AllGoFrom (AgreesCalled number at ask) Q Is a b
@@ -446,11 +452,11 @@ pub sent_clients :
 unfolding stays
 sent_clients {h} {ls} at call core cs cs' keeps =
     let g : AllGo IsSending (record { core = core; history = h; clients = cs; links = ls }) (record { core = core; history = h; clients = cs'; links = ls }) = stays core (record { quiet = λ d. untouched d h; clients = keeps; links = refl }) in
-    record { steps = []; kinds = tt; walks = refl; agree = λ past was. (g.agree past was.0, was.1, was.2, was.3); texts = refl }
+    record { steps = []; kinds = tt; walks = refl; agree = λ past was. (g.agree past was.0, was.1, was.2, was.3); servers = servers_same ls ls refl }
 
 -- nor does it matter when it is said to have begun, if that isn't earlier, or what is expected of it
 pub sent_renewed : {Is : Step → Type 0} {a : AnEnd} (at : ℕ) (call call' : SentCall) → call' ≡ record call { since = call'.since; bulk = call'.bulk } → call.since ≤ call'.since → AllGoFrom (AgreesSent at call) (AgreesSent at call') Is a a
-sent_renewed {a = a} at call call' is later = record { steps = []; kinds = tt; walks = refl; agree = λ past was. subst (λ c. AgreesSent at c past a) (sym is) (renewed past was); texts = refl }
+sent_renewed {a = a} at call call' is later = record { steps = []; kinds = tt; walks = refl; agree = λ past was. subst (λ c. AgreesSent at c past a) (sym is) (renewed past was); servers = servers_same a.links a.links refl }
   where
     given : (past : List Step) → given_in past call.ticket.number ≤ call.since → given_in past call.ticket.number ≤ call'.since
     given past was = omega (arith, was, later)
@@ -496,7 +502,7 @@ calls_go {Is} {h} {cs} {ls} a b steps kinds silent walks = record {
   kinds = kinds;
   walks = walks;
   agree = λ past was. let tells = walks_tell_calls.goes_on steps past a b was.calls walks in calls_agree a b past steps silent tells.0 tells.1 was;
-  texts = refl;
+  servers = clients_servers steps ls ls (silent_clients steps silent) refl;
 }
 
 -- a call failed that is still to be asked
@@ -521,7 +527,7 @@ refused_go {h} {cs} {ls} number a b is =
         unlinked = was.unlinked;
         clock = was.clock;
       };
-      texts = refl;
+      servers = record { same = refl; late = (tt, tt) };
     }
   where
     settles : (past : List Step) → IsOrderly past → IsInHand number past ls → MaySettle number past
@@ -544,7 +550,7 @@ pub sent_due :
 unfolding stays
 sent_due {h} {h'} {cs} {cs'} {ls} {ls'} at call core s =
     let g : AllGo IsSending (record { core = core; history = h; clients = cs; links = ls }) (record { core = core; history = h'; clients = cs'; links = ls' }) = stays core s in
-    record { steps = []; kinds = tt; walks = refl; agree = λ past was. (g.agree past was.0, hand_stays call.ticket.number past ls ls' s.links (record { at = at; ask = call.ticket.ask; due = was.3.0; apart = λ link there. (was.2 link there).1 })); texts = g.texts }
+    record { steps = []; kinds = tt; walks = refl; agree = λ past was. (g.agree past was.0, hand_stays call.ticket.number past ls ls' s.links (record { at = at; ask = call.ticket.ask; due = was.3.0; apart = λ link there. (was.2 link there).1 })); servers = g.servers }
 
 pub quietly_go : {h : List Event} {cs : Clients} {ls : List Link} {a b : ServedCore} → GoesBy IsSilent a b → AllGo IsOfTurn (record { core = a; history = h; clients = cs; links = ls }) (record { core = b; history = h; clients = cs; links = ls })
 quietly_go {a = a} {b = b} f = calls_go a b f.steps (silent_turn f.steps f.kinds) f.kinds f.walks
@@ -565,7 +571,7 @@ called_go {h} {cs} {ls} client ticket a b does =
         calls_agree a b past [] tt (given_besides client ticket past a b was.calls does) tt was,
         ap (λ (t : Bool). if t then clock_in past else given_in past ticket.number) (same_client ticket.number),
       );
-      texts = refl;
+      servers = record { same = refl; late = (tt, tt) };
     }
 
 pub nothing : {a : ServedCore} → GoesBy IsSilent a a
@@ -613,7 +619,7 @@ close_none {h} {cs} {ls} client (Ok done) a b nobody ok err fresh = record {
     unlinked = was.unlinked;
     clock = was.clock;
   };
-  texts = refl;
+  servers = record { same = refl; late = (tt, tt) };
 }
   where
     told : (past : List Step) (j : ℕ) (z : Client) → client_of cs j ≡ Some z → IsTold past j z → IsTold (Closed client ∷ past) j z
@@ -630,7 +636,7 @@ pub line_lends :
     → AllGoFrom (AgreesBut Before at) (AgreesBut After at) Is (record { core = a; history = h; clients = cs; links = links }) (record { core = b; history = h'; clients = cs; links = set links at y })
 line_lends {h = h} {h' = h'} {cs = cs} {a = a} {b = b} links at x y within was g =
     line_among at (record { core = a; history = h; clients = cs; links = links }) (record { core = b; history = h'; clients = cs; links = set links at y })
-    x y (slice_get_read links (length links) at x refl within was) (set_here links at y within) (λ j other. set_others links at j y (not_same at j other)) (text_set links at x y was g.text) (λ j. refl) g
+    x y (slice_get_read links (length links) at x refl within was) (set_here links at y within) (λ j other. set_others links at j y (not_same at j other)) (server_set links at x y was g.server.same) (λ j. refl) g
 
 -- it agrees before and after
 pub line_goes_on :
@@ -792,7 +798,7 @@ one_given {h} {h'} {ls} {a} {b} id s n x y was is given =
             x y was (lent_here s n id x y was is) (λ j other. lent_others s n id j y (not_same id j other) is) refl g past agreed,
         record { bytes = given.1; earlier = past; last = ap (λ l. l ++ past) given.2 },
       );
-      texts = refl;
+      servers = clients_servers g.steps ls ls g.own refl;
     }
 
 -- it is done to one among all

@@ -20,21 +20,22 @@ use Rattle.serve_clients.specs.Agrees.{EndAgrees}
 use Rattle.serve_clients.specs.Marks.{client_of}
 use Rattle.serve_links.specs.declared.calls.calls.SentCall.{SentCall}
 use Rattle.serve_links.specs.declared.calls.calls.LateCall.{LateCall}
+use Rattle.serve_links.specs.declared.settings.LinkLimits.{LinkLimits}
 use Rattle.serve_links.specs.declared.link.Link.{Link}
 use Rattle.serve_links.specs.Links.{IsDown}
 use Rattle.serve_links.specs.CoreSteps.{Step, Loaded}
 use Rattle.serve_links.specs.declared.settings.Greeting.{Greeting}
-use Rattle.serve_links.specs.Story.{fed_in, gave_in, IsTold, said_asks, said_late, LineState, line_of, Unused, LineAgrees, LinesAgree, AnEnd, Agrees, AllGoFrom, texts_of, MayAllGo}
-use Rattle.serve_links.specs.Shut.{drain_of}
+use Rattle.serve_links.specs.Story.{fed_in, gave_in, IsTold, said_asks, said_late, server_of, LineState, line_of, Unused, LineAgrees, LinesAgree, AnEnd, Agrees, AllGoFrom, AllGo, texts_of, servers_of, MayAllGo}
+use Rattle.serve_links.specs.Shut.{drain_of, link_conn, IsShutBut}
 use Rattle.serve_links.specs.Talks.{Apart, talk_in, AreDue, AreCalled, IsOrderly}
 use Rattle.serve_links.specs.Called.{TellsCalls}
 use Rattle.serve_links.proofs.Called.{walks_tell_calls}
 use Rattle.serve_links.proofs.Shutting.{shut_quiet}
 use Rattle.serve_links.proofs.Walked.{walked, of_both}
-use Rattle.serve_proxy.specs.Ends.{lines_of, down_line, AddsLines, AllGrowFrom, AllGrow, IsLoadOf, HasNoConns}
+use Rattle.serve_proxy.specs.Ends.{lines_of, down_line, AddsLines, EndsStay, with_limits, AllGrowFrom, AllGrow, IsLoadOf, HasNoConns}
 use Rattle.serve_proxy.specs.Beginning.{limits_by, BeginsFresh, BeginsUnchecked}
 use Rattle.serve_proxy.proofs.Conns.{conns_grow}
-use Rattle.serve_proxy.proofs.Going.{agree_told, had_quiet, lines_told, get_line, texts_by_lines}
+use Rattle.serve_proxy.proofs.Going.{stays, agree_told, had_quiet, lines_told, get_line, texts_by_lines}
 use Rattle.serve_links.proofs.LinkGoes.{same_line, has_none}
 
 -- ---- lines that are added
@@ -43,14 +44,14 @@ pub adds_none : (old new : List Link) → new ≡ old → AddsLines old new
 adds_none old new same = ([], ap lines_of same ∙ sym (append-nil (lines_of old)))
 
 -- the line of a link that is down
-down_of : (link : Link) → IsDown link → link.draining ≡ None → link.late.items ≡ [] → link.awaits_dialect ≡ None → link.dialect ≡ Classic → line_of link ≡ down_line link.text.items
+down_of : (link : Link) → IsDown link → link.draining ≡ None → link.late.items ≡ [] → link.awaits_dialect ≡ None → link.dialect ≡ Classic → line_of link ≡ down_line (server_of link)
 down_of link down undrained alone off classic =
-    ap (λ (o : Option Conn). let s : LineState = (link.text.items, option_map (λ (x : Conn). (x.number, x.held.items, bytes_of x.unsent)) o, said_asks link.calls.sent.items, link.waiting.items, link.awaits_dialect, link.dialect, said_late link.late.items, drain_of link) in s) down.closed
-    ∙ ap (λ (l : List SentCall). let s : LineState = (link.text.items, None, said_asks l, link.waiting.items, link.awaits_dialect, link.dialect, said_late link.late.items, drain_of link) in s) down.sent
-    ∙ ap (λ (l : List SentCall). let s : LineState = (link.text.items, None, [], l, link.awaits_dialect, link.dialect, said_late link.late.items, drain_of link) in s) down.waiting
-    ∙ ap (λ (b : Option Greeting). let s : LineState = (link.text.items, None, [], [], b, link.dialect, said_late link.late.items, drain_of link) in s) off
-    ∙ ap (λ (d : Dialect). let s : LineState = (link.text.items, None, [], [], None, d, said_late link.late.items, drain_of link) in s) classic ∙ ap (λ (l : List LateCall). let s : LineState = (link.text.items, None, [], [], None, Classic, said_late l, drain_of link) in s) alone
-    ∙ ap (λ (o : Option Conn). let s : LineState = (link.text.items, None, [], [], None, Classic, [], option_map (λ (x : Conn). x.number) o) in s) undrained
+    ap (λ (o : Option Conn). let s : LineState = (server_of link, option_map (λ (x : Conn). (x.number, x.held.items, bytes_of x.unsent)) o, said_asks link.calls.sent.items, link.waiting.items, link.awaits_dialect, link.dialect, said_late link.late.items, drain_of link) in s) down.closed
+    ∙ ap (λ (l : List SentCall). let s : LineState = (server_of link, None, said_asks l, link.waiting.items, link.awaits_dialect, link.dialect, said_late link.late.items, drain_of link) in s) down.sent
+    ∙ ap (λ (l : List SentCall). let s : LineState = (server_of link, None, [], l, link.awaits_dialect, link.dialect, said_late link.late.items, drain_of link) in s) down.waiting
+    ∙ ap (λ (b : Option Greeting). let s : LineState = (server_of link, None, [], [], b, link.dialect, said_late link.late.items, drain_of link) in s) off
+    ∙ ap (λ (d : Dialect). let s : LineState = (server_of link, None, [], [], None, d, said_late link.late.items, drain_of link) in s) classic ∙ ap (λ (l : List LateCall). let s : LineState = (server_of link, None, [], [], None, Classic, said_late l, drain_of link) in s) alone
+    ∙ ap (λ (o : Option Conn). let s : LineState = (server_of link, None, [], [], None, Classic, [], option_map (λ (x : Conn). x.number) o) in s) undrained
 
 lines_more : (links : List Link) (link : Link) → lines_of (links ++ link ∷ []) ≡ lines_of links ++ line_of link ∷ []
 lines_more [] link = refl
@@ -58,9 +59,9 @@ lines_more (x ∷ links) link = ap (λ l. line_of x ∷ l) (lines_more links lin
 
 -- one without a connection
 pub adds_one : (old new : List Link) (link : Link) → new ≡ old ++ link ∷ [] → IsDown link → link.draining ≡ None → link.late.items ≡ [] → link.awaits_dialect ≡ None → link.dialect ≡ Classic → AddsLines old new
-adds_one old new link more down undrained alone off classic = (link.text.items ∷ [], ap lines_of more ∙ lines_more old link ∙ ap (λ (s : LineState). lines_of old ++ s ∷ []) (down_of link down undrained alone off classic))
+adds_one old new link more down undrained alone off classic = (server_of link ∷ [], ap lines_of more ∙ lines_more old link ∙ ap (λ (s : LineState). lines_of old ++ s ∷ []) (down_of link down undrained alone off classic))
 
-down_both : (xs ys : List (List ℕ)) → each down_line (xs ++ ys) ≡ each down_line xs ++ each down_line ys
+down_both : (xs ys : List (List ℕ × LinkLimits)) → each down_line (xs ++ ys) ≡ each down_line xs ++ each down_line ys
 down_both [] ys = refl
 down_both (x ∷ xs) ys = ap (λ l. down_line x ∷ l) (down_both xs ys)
 
@@ -87,10 +88,10 @@ in_first [] ys at none = refl
 in_first (x ∷ xs) ys zero none = none
 in_first (x ∷ xs) ys (suc at) none = in_first xs ys at none
 
-is_down : (texts : List (List ℕ)) (k : ℕ) (line : LineState) → slice_get (each down_line texts) k ≡ Some line → (line.1 ≡ None) × (line.3 ≡ []) × (line.2 ≡ []) × (line.7 ≡ None)
+is_down : (servers : List (List ℕ × LinkLimits)) (k : ℕ) (line : LineState) → slice_get (each down_line servers) k ≡ Some line → (line.1 ≡ None) × (line.3 ≡ []) × (line.2 ≡ []) × (line.7 ≡ None)
 is_down [] k line is = absurd (none_some is)
-is_down (text ∷ texts) zero line is = (ap (λ (p : LineState). p.1) (sym (same_some is)), ap (λ (p : LineState). p.3) (sym (same_some is)), ap (λ (p : LineState). p.2) (sym (same_some is)), ap (λ (p : LineState). p.7) (sym (same_some is)))
-is_down (text ∷ texts) (suc k) line is = is_down texts k line is
+is_down (server ∷ servers) zero line is = (ap (λ (p : LineState). p.1) (sym (same_some is)), ap (λ (p : LineState). p.3) (sym (same_some is)), ap (λ (p : LineState). p.2) (sym (same_some is)), ap (λ (p : LineState). p.7) (sym (same_some is)))
+is_down (server ∷ servers) (suc k) line is = is_down servers k line is
 
 no_conn : (o : Option Conn) → option_map (λ (x : Conn). let e : ℕ × List ℕ × List ℕ = (x.number, x.held.items, bytes_of x.unsent) in e) o ≡ None → o ≡ None
 no_conn None is = refl
@@ -119,20 +120,30 @@ lines_grow h past ls ls' adds orderly unlinked was at link there = by (in_both (
     by (inl old) = of_old (slice_get ls at) refl (get_line ls at ∙ old)
     by (inr new) = let down = is_down adds.0 new.1 (line_of link) new.2 in has_none at past h link (no_conn link.conn down.0) (subst (λ w. MayAllGo past at w) (sym down.1) tt) (subst (λ w. AreDue past at (said_asks w)) (sym down.1) tt) (unlinked at (none_of ls at new.0)).0 (subst (Unused h at link.text.items (talk_in past at)) (sym down.3) (unlinked at (none_of ls at new.0)).1) (subst (λ l. AreCalled past at l) (sym down.2) tt)
 
-texts_both : (lines : List LineState) (texts : List (List ℕ)) → each (λ (p : LineState). p.0) (lines ++ each down_line texts) ≡ each (λ (p : LineState). p.0) lines ++ texts
-texts_both [] [] = refl
-texts_both [] (text ∷ texts) = ap (λ l. text ∷ l) (texts_both [] texts)
-texts_both (line ∷ lines) texts = ap (λ l. line.0 ∷ l) (texts_both lines texts)
+abbrev texts_in : List (List ℕ × LinkLimits) → List (List ℕ)
+texts_in servers = each (λ (s : List ℕ × LinkLimits). s.0) servers
 
-texts_grow : (ls ls' : List Link) (adds : AddsLines ls ls') → texts_of ls' ≡ texts_of ls ++ adds.0
+texts_both : (lines : List LineState) (servers : List (List ℕ × LinkLimits)) → each (λ (p : LineState). p.0.0) (lines ++ each down_line servers) ≡ each (λ (p : LineState). p.0.0) lines ++ texts_in servers
+texts_both [] [] = refl
+texts_both [] (server ∷ servers) = ap (λ l. server.0 ∷ l) (texts_both [] servers)
+texts_both (line ∷ lines) servers = ap (λ l. line.0.0 ∷ l) (texts_both lines servers)
+
+texts_grow : (ls ls' : List Link) (adds : AddsLines ls ls') → texts_of ls' ≡ texts_of ls ++ texts_in adds.0
 texts_grow ls ls' adds =
-    sym (texts_by_lines ls') ∙ ap (each (λ (p : LineState). p.0)) adds.1 ∙ texts_both (lines_of ls) adds.0 ∙ ap (λ l. l ++ adds.0) (texts_by_lines ls)
+    sym (texts_by_lines ls') ∙ ap (each (λ (p : LineState). p.0.0)) adds.1 ∙ texts_both (lines_of ls) adds.0 ∙ ap (λ l. l ++ texts_in adds.0) (texts_by_lines ls)
+
+texts_by_servers : (links : List Link) → texts_in (servers_of links) ≡ texts_of links
+texts_by_servers [] = refl
+texts_by_servers (link ∷ links) = ap (λ l. link.text.items ∷ l) (texts_by_servers links)
+
+texts_kept : (ls ls' : List Link) → servers_of ls' ≡ servers_of ls → texts_of ls' ≡ texts_of ls
+texts_kept ls ls' same = sym (texts_by_servers ls') ∙ ap texts_in same ∙ texts_by_servers ls
 
 -- ---- all ends
 
 -- without more links
 pub grows : {P Q : List Step → AnEnd → Type 0} {Is : Step → Type 0} {a b : AnEnd} → AllGoFrom P Q Is a b → AllGrowFrom P Q Is a b
-grows {a = a} g = record { steps = g.steps; kinds = g.kinds; walks = g.walks; agree = g.agree; texts = ([], g.texts ∙ sym (append-nil (texts_of a.links))) }
+grows {a = a} {b = b} g = record { steps = g.steps; kinds = g.kinds; walks = g.walks; agree = g.agree; texts = ([], texts_kept a.links b.links g.servers.same ∙ sym (append-nil (texts_of a.links))) }
 
 -- one after another
 pub then_grows : {P Q R : List Step → AnEnd → Type 0} {Is : Step → Type 0} {a b c : AnEnd} → AllGrowFrom P Q Is a b → AllGrowFrom Q R Is b c → AllGrowFrom P R Is a c
@@ -150,7 +161,7 @@ pub links_grow :
     {Is : Step → Type 0} {h : List Event} {cs : Clients} {ls ls' : List Link} (core : ServedCore) → AddsLines ls ls'
     → AllGrow Is (record { core = core; history = h; clients = cs; links = ls }) (record { core = core; history = h; clients = cs; links = ls' })
 links_grow {h = h} {ls = ls} {ls' = ls'} core adds =
-    record { steps = []; kinds = tt; walks = refl; agree = λ past was. record { orderly = was.orderly; calls = was.calls; clients = was.clients; told = was.told; links = lines_grow h past ls ls' adds was.orderly was.unlinked was.links; gone = was.gone; shown = was.shown; shut = shut_quiet (λ d. untouched d h) (λ j. refl) (conns_grow ls ls' adds) was.shut; unlinked = λ at none. was.unlinked at (none_before ls ls' adds at none); clock = was.clock }; texts = (adds.0, texts_grow ls ls' adds) }
+    record { steps = []; kinds = tt; walks = refl; agree = λ past was. record { orderly = was.orderly; calls = was.calls; clients = was.clients; told = was.told; links = lines_grow h past ls ls' adds was.orderly was.unlinked was.links; gone = was.gone; shown = was.shown; shut = shut_quiet (λ d. untouched d h) (λ j. refl) (conns_grow ls ls' adds) was.shut; unlinked = λ at none. was.unlinked at (none_before ls ls' adds at none); clock = was.clock }; texts = (texts_in adds.0, texts_grow ls ls' adds) }
 
 -- a configuration was loaded, which tells nothing of clients
 pub load_grows :
@@ -175,6 +186,85 @@ pub grow_from :
     {Is : Step → Type 0} {h : List Event} {cs : Clients} {ls : List Link} {a x : ServedCore} {b : AnEnd} → x ≡ a → AllGrow Is (record { core = x; history = h; clients = cs; links = ls }) b
     → AllGrow Is (record { core = a; history = h; clients = cs; links = ls }) b
 grow_from {Is} {h} {cs} {ls} {a} {x} {b} same g = subst (λ y. AllGrow Is (record { core = y; history = h; clients = cs; links = ls }) b) same g
+
+-- ---- links with other limits
+
+-- where a link stands, it stands with other limits
+get_limited : (any : LinkLimits) (links : List Link) (at : ℕ) → slice_get (with_limits any links) at ≡ option_map (λ (x : Link). record x { limits = any }) (slice_get links at)
+get_limited any [] at = refl
+get_limited any (link ∷ links) zero = refl
+get_limited any (link ∷ links) (suc at) = get_limited any links at
+
+texts_limited : (any : LinkLimits) (links : List Link) → texts_of (with_limits any links) ≡ texts_of links
+texts_limited any [] = refl
+texts_limited any (link ∷ links) = ap (λ l. link.text.items ∷ l) (texts_limited any links)
+
+conns_limited : (any : LinkLimits) (links : List Link) (at : ℕ) → link_conn (with_limits any links) at ≡ link_conn links at
+conns_limited any [] at = refl
+conns_limited any (link ∷ links) zero = refl
+conns_limited any (link ∷ links) (suc at) = conns_limited any links at
+
+to_limited : (any : LinkLimits) (at : ℕ) (past : List Step) (h : List Event) (x : Link) → LineAgrees at past h x → LineAgrees at past h (record x { limits = any })
+to_limited any at past h x a = record { conn = a.conn; goes_on = a.goes_on; waiting = a.waiting; due = a.due; none_out = a.none_out; unused = a.unused; called = a.called }
+
+from_limited : (any : LinkLimits) (at : ℕ) (past : List Step) (h : List Event) (x : Link) → LineAgrees at past h (record x { limits = any }) → LineAgrees at past h x
+from_limited any at past h x a = record { conn = a.conn; goes_on = a.goes_on; waiting = a.waiting; due = a.due; none_out = a.none_out; unused = a.unused; called = a.called }
+
+-- what agrees does so with other limits
+agrees_to : (any : LinkLimits) (past : List Step) (core : ServedCore) (h : List Event) (cs : Clients) (ls : List Link) → Agrees past (record { core = core; history = h; clients = cs; links = ls }) → Agrees past (record { core = core; history = h; clients = cs; links = with_limits any ls })
+agrees_to any past core h cs ls was = record {
+  orderly = was.orderly;
+  calls = was.calls;
+  clients = was.clients;
+  told = was.told;
+  links = λ at link there. here at link (slice_get ls at) refl (sym (get_limited any ls at) ∙ there);
+  gone = was.gone;
+  shown = was.shown;
+  unlinked = λ at none. was.unlinked at (nowhere (slice_get ls at) (sym (get_limited any ls at) ∙ none));
+  shut = record { clients = was.shut.clients; links = λ at. subst (λ o. IsShutBut (1, at) o h) (sym (conns_limited any ls at)) (was.shut.links at); nobodys = was.shut.nobodys };
+  clock = was.clock;
+}
+  where
+    here : (at : ℕ) (link : Link) (o : Option Link) → slice_get ls at ≡ o → option_map (λ (x : Link). record x { limits = any }) o ≡ Some link → LineAgrees at past h link
+    here at link None e is = absurd (none_some is)
+    here at link (Some x) e is = subst (LineAgrees at past h) (same_some is) (to_limited any at past h x (was.links at x e))
+
+    nowhere : (o : Option Link) → option_map (λ (x : Link). record x { limits = any }) o ≡ None → o ≡ None
+    nowhere None e = refl
+    nowhere (Some x) e = absurd (none_some (sym e))
+
+agrees_from : (any : LinkLimits) (past : List Step) (core : ServedCore) (h : List Event) (cs : Clients) (ls : List Link) → Agrees past (record { core = core; history = h; clients = cs; links = with_limits any ls }) → Agrees past (record { core = core; history = h; clients = cs; links = ls })
+agrees_from any past core h cs ls was = record {
+  orderly = was.orderly;
+  calls = was.calls;
+  clients = was.clients;
+  told = was.told;
+  links = λ at link there. from_limited any at past h link (was.links at (record link { limits = any }) (get_limited any ls at ∙ ap (option_map (λ (x : Link). record x { limits = any })) there));
+  gone = was.gone;
+  shown = was.shown;
+  unlinked = λ at none. was.unlinked at (get_limited any ls at ∙ ap (option_map (λ (x : Link). record x { limits = any })) none);
+  shut = record { clients = was.shut.clients; links = λ at. subst (λ o. IsShutBut (1, at) o h) (conns_limited any ls at) (was.shut.links at); nobodys = was.shut.nobodys };
+  clock = was.clock;
+}
+
+-- so ends go on that stay but for limits
+pub limited_grows :
+    {Is : Step → Type 0} {h h' : List Event} {cs cs' : Clients} {ls ls' : List Link} (core : ServedCore) → ((any : LinkLimits) → EndsStay h h' cs cs' (with_limits any ls) (with_limits any ls'))
+    → AllGrow Is (record { core = core; history = h; clients = cs; links = ls }) (record { core = core; history = h'; clients = cs'; links = ls' })
+limited_grows {Is} {h} {h'} {cs} {cs'} {ls} {ls'} core stay =
+    record {
+      steps = g.steps;
+      kinds = g.kinds;
+      walks = g.walks;
+      agree = λ past was. agrees_from any (g.steps ++ past) core h' cs' ls' (g.agree past (agrees_to any past core h cs ls was));
+      texts = ([], sym (texts_limited any ls') ∙ texts_kept (with_limits any ls) (with_limits any ls') g.servers.same ∙ texts_limited any ls ∙ sym (append-nil (texts_of ls)));
+    }
+  where
+    any : LinkLimits
+    any = record { call_ms = 0; connect_ms = 0; fail_limit = 0; retry_ms = 0; stores_wait = false }
+
+    g : AllGo Is (record { core = core; history = h; clients = cs; links = with_limits any ls }) (record { core = core; history = h'; clients = cs'; links = with_limits any ls' })
+    g = stays core (stay any)
 
 -- ---- an end that begins
 

@@ -18,13 +18,15 @@ use Rattle.serve_clients.specs.Agrees.{KeepsEnds}
 use Rattle.serve_clients.specs.Marks.{AreAlike}
 use Rattle.serve_clients.proofs.Agreeing.{keeps_none, keeps_twice, keeps_alike}
 use Rattle.serve_links.specs.declared.settings.ServerDialect.{ServerDialect}
+use Rattle.serve_links.specs.declared.settings.LinkLimits.{LinkLimits}
 use Rattle.serve_links.specs.declared.link.Link.{Link}
 use Rattle.serve_links.specs.declared.link.Opening.{Opening}
 use Rattle.std.specs.Option.{is_some}
+use Rattle.std.specs.Prelude.{map as each}
 use Rattle.serve_links.specs.Lines.{SameLine, KeepsLines, OpensBy}
-use Rattle.serve_links.specs.Story.{line_of}
+use Rattle.serve_links.specs.Story.{server_of, LineState, line_of}
 use Rattle.serve_links.proofs.LinkGoes.{keeps_line, line_keeps, line_reads, line_reads_over, line_sends, line_sends_over, line_opens as line_begins, line_shuts}
-use Rattle.serve_proxy.specs.Ends.{lines_of, over_by, broken_unless, IsQuiet, EndsStay, LineStands, LineStandsUnless}
+use Rattle.serve_proxy.specs.Ends.{lines_of, with_limits, over_by, broken_unless, IsQuiet, EndsStay, LineStands, LineStandsUnless}
 
 -- ---- lines of links
 
@@ -88,8 +90,8 @@ line_opens at dialect what h h' x y o = λ core. line_begins x y dialect what o
 
 -- or none, and its calls fail for a while
 pub line_opens_not :
-    (at : ℕ) (dialect : ServerDialect) (what : Opening) (h h' : List Event) (x y z : Link) → OpensBy at dialect what x y h h' → y.conn ≡ None → z.conn ≡ None → z.draining ≡ y.draining → z.text.items ≡ y.text.items → z.waiting.items ≡ y.waiting.items → z.calls.sent.items ≡ y.calls.sent.items → LineStands at h h' x z
-line_opens_not at dialect what h h' x y z o none closed draining text waiting sent = λ core. line_shuts (line_begins x y dialect what o) none closed draining text waiting sent
+    (at : ℕ) (dialect : ServerDialect) (what : Opening) (h h' : List Event) (x y z : Link) → OpensBy at dialect what x y h h' → y.conn ≡ None → z.conn ≡ None → z.draining ≡ y.draining → server_of z ≡ server_of y → z.waiting.items ≡ y.waiting.items → z.calls.sent.items ≡ y.calls.sent.items → LineStands at h h' x z
+line_opens_not at dialect what h h' x y z o none closed draining server waiting sent = λ core. line_shuts (line_begins x y dialect what o) none closed draining server waiting sent
 
 -- ---- all ends
 
@@ -117,3 +119,28 @@ stay_links h cs ls ls' keeps = record { quiet = quiet h; clients = keeps_none cs
 pub stay_then :
     {h h' h'' : List Event} {cs cs' cs'' : Clients} {ls ls' ls'' : List Link} → EndsStay h h' cs cs' ls ls' → EndsStay h' h'' cs' cs'' ls' ls'' → EndsStay h h'' cs cs'' ls ls''
 stay_then {h} {h'} {h''} {cs} {cs'} {cs''} a b = record { quiet = λ d. untouched_twice d h h' h'' (a.quiet d) (b.quiet d); clients = keeps_twice cs cs' cs'' a.clients b.clients; links = b.links ∙ a.links }
+
+-- ---- limits
+
+-- one link has others
+pub limits_lent : (any limits : LinkLimits) (links : List Link) (at : ℕ) (x y : Link) → x ≡ get_or links at x → y ≡ record x { limits = limits } → with_limits any (set links at y) ≡ with_limits any links
+limits_lent any limits [] at x y was is = refl
+limits_lent any limits (first ∷ links) zero x y was is =
+    ap (λ (z : Link). record z { limits = any } ∷ with_limits any links) is ∙ ap (λ (z : Link). record z { limits = any } ∷ with_limits any links) was
+limits_lent any limits (first ∷ links) (suc at) x y was is = ap (λ ls. record first { limits = any } ∷ ls) (limits_lent any limits links at x y was is)
+
+-- and so have all, of which nothing else has changed
+pub stay_limits :
+    (h : List Event) (cs : Clients) (ls ls' : List Link) → ((any : LinkLimits) → with_limits any ls' ≡ with_limits any ls) → (any : LinkLimits) → EndsStay h h cs cs (with_limits any ls) (with_limits any ls')
+stay_limits h cs ls ls' same any = stay_links h cs (with_limits any ls) (with_limits any ls') (ap lines_of (same any))
+
+abbrev limited : LinkLimits → LineState → LineState
+limited any s = ((s.0.0, any), s.1, s.2, s.3, s.4, s.5, s.6, s.7)
+
+lines_limited : (any : LinkLimits) (links : List Link) → lines_of (with_limits any links) ≡ each (limited any) (lines_of links)
+lines_limited any [] = refl
+lines_limited any (link ∷ links) = ap (λ l. line_of (record link { limits = any }) ∷ l) (lines_limited any links)
+
+-- what stays does so whatever limits links have
+pub stay_but_limits : {h h' : List Event} {cs cs' : Clients} {ls ls' : List Link} → EndsStay h h' cs cs' ls ls' → (any : LinkLimits) → EndsStay h h' cs cs' (with_limits any ls) (with_limits any ls')
+stay_but_limits {ls = ls} {ls' = ls'} s any = record { quiet = s.quiet; clients = s.clients; links = lines_limited any ls' ∙ ap (each (limited any)) s.links ∙ sym (lines_limited any ls) }

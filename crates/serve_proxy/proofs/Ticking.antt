@@ -79,5 +79,5 @@ ticked t h h' {cs} {ls} is core = subst (λ (k : List Event). AllGo IsOfTurn (re
     shut = record { clients = was.shut.clients; links = was.shut.links; nobodys = was.shut.nobodys };
     clock = refl;
   };
-  texts = refl;
+  servers = record { same = refl; late = (tt, tt) };
 })

@@ -26,8 +26,9 @@ use Rattle.serve_links.specs.CoreSteps.{Step, Opened, Gave, Closed, Does, AreOf,
 use Rattle.serve_links.specs.Story.{fed_in, gave_in, is_open_in, is_broken_in, IsTold, AreTold, TookAll, IsJustGiven, IsGone, IsUnused, HasOrHad, StayOut, LinesAgree, OneGoes, Agrees, AgreesGiven, AllGoFrom, AllGo}
 use Rattle.serve_links.specs.Shut.{client_conn}
 use Rattle.serve_links.proofs.Shutting.{closed_shut, shut_without, shut_opened, shut_turned}
+use Rattle.serve_links.proofs.ByLimits.{servers_same, clients_servers}
 use Rattle.serve_links.proofs.Showing.{plain_unlost, shown_later}
-use Rattle.serve_links.specs.Talks.{Talk}
+use Rattle.serve_links.specs.Talks.{Talk, IsOfClients}
 use Rattle.serve_links.specs.Called.{TellsCalls, GiveOnce}
 use Rattle.serve_links.proofs.Called.{walks_tell_calls}
 use Rattle.serve_links.proofs.Due.{clients_stay}
@@ -97,7 +98,7 @@ new_touched {h} {h'} {cs} {ls} c none none_now shut only = λ core. record {
     unlinked = was.unlinked;
     clock = was.clock ∙ sym (only_time c h h' only);
   };
-  texts = refl;
+  servers = servers_same ls ls refl;
 }
 
 none_is : {n : ℕ} → ◌≡◌ {A = Option ℕ} None (Some n) → ⊥
@@ -168,7 +169,7 @@ opened_go {h} {h1} {h2} {h'} {cs} {cs'} {ls} id c b last new is dropped only unu
     unlinked = λ at none. unlinked_stays (plain_talk q.steps (silent_plain q.steps q.kinds) (Opened id ∷ past) at) (was.unlinked at none);
     clock = clients_clock q.steps (silent_clients q.steps q.kinds) (Opened id ∷ past) ∙ was.clock ∙ sym same_time;
   });
-  texts = refl;
+  servers = clients_servers (q.steps ++ Opened id ∷ []) ls ls (of_both IsOfClients q.steps (Opened id ∷ []) (silent_clients q.steps q.kinds) (tt, tt)) refl;
 }
   where
     -- the core has those calls out that are told to be
@@ -352,7 +353,7 @@ gone_go {h} {h'} {cs} {cs'} {ls} id gone dropped before core does sent = record 
     unlinked = was.unlinked;
     clock = was.clock ∙ sym (dropped_time (client_conn cs id) h h' dropped);
   };
-  texts = refl;
+  servers = record { same = refl; late = (tt, tt) };
 }
   where
     one_zero : ◌≡◌ {A = ℕ} 1 0 → ⊥

@@ -13,6 +13,7 @@ use Rattle.serve_clients.specs.declared.clients.Clients.{Clients}
 use Rattle.serve_clients.specs.Marks.{client_of}
 use Rattle.serve_clients.specs.Agrees.{KeepsEnds}
 use Rattle.serve_links.specs.declared.calls.calls.SentCall.{SentCall}
+use Rattle.serve_links.specs.declared.settings.LinkLimits.{LinkLimits}
 use Rattle.serve_links.specs.declared.link.Link.{Link}
 use Rattle.serve_links.specs.CoreSteps.{Step, Opened, Gave, Closed, Broke, Loaded, Does, Walks, AreOf, IsOfTurn, IsGivingUp, IsSending}
 use Rattle.serve_links.specs.declared.news.Cause.{Cause}
@@ -133,6 +134,15 @@ LineGoesUnless cause core old core' new = (at : ℕ) (h : List Event) → LineGo
 abbrev pub Stay : {W : Type 0} → (W → List Event) → Sockets W → Sockets W → Type 0
 Stay history old new = EndsStay (history old.wire) (history new.wire) old.clients new.clients old.links.all.items new.links.all.items
 
+-- these links, but that each has these limits
+abbrev pub with_limits : LinkLimits → List Link → List Link
+with_limits limits links = each (λ (link : Link). record link { limits = limits }) links
+
+-- of all but a core the ends are as they were, whatever limits links had and have
+abbrev pub StayButLimits : {W : Type 0} → (W → List Event) → Sockets W → Sockets W → Type 0
+StayButLimits history old new =
+    (limits : LinkLimits) → EndsStay (history old.wire) (history new.wire) old.clients new.clients (with_limits limits old.links.all.items) (with_limits limits new.links.all.items)
+
 -- whatever a core is, the ends go on once the clock was looked at, or without that
 abbrev pub AllTick : {W : Type 0} → (W → List Event) → Sockets W → Sockets W → Type 0
 AllTick history old new = (core : ServedCore) → AllGo IsOfTurn (record { core = core; history = history old.wire; clients = old.clients; links = old.links.all.items }) (record { core = core; history = history new.wire; clients = new.clients; links = new.links.all.items })
@@ -235,13 +245,13 @@ AllGoBreaking history id sockets sockets' = (core : ServedCore) → AllGo (λ st
 abbrev pub HasNoConns : List Event → Type 0
 HasNoConns h = ((conn : ℕ) → (role conn h ≡ None) × (is_open conn h ≡ false)) × (time h ≡ 0)
 
--- the line of a link to the server whose address this text names, without a connection, and without calls
-abbrev pub down_line : List ℕ → LineState
-down_line text = (text, None, [], [], None, Classic, [], None)
+-- the line of a link to the server at the address that its text names, with its limits, without a connection, and without calls
+abbrev pub down_line : List ℕ × LinkLimits → LineState
+down_line server = (server, None, [], [], None, Classic, [], None)
 
--- behind the links that were there, which have the lines that they had, come links to these texts, without a connection
+-- behind the links that were there, which have the lines that they had, come links to these servers, without a connection
 abbrev pub AddsLines : List Link → List Link → Type 0
-AddsLines old new = (texts : List (List ℕ)) × (lines_of new ≡ lines_of old ++ each down_line texts)
+AddsLines old new = (servers : List (List ℕ × LinkLimits)) × (lines_of new ≡ lines_of old ++ each down_line servers)
 
 -- by calls of this kind it goes on: where the one held of it and of all calls before, the other holds of it and of all calls after. The links that were there are to the servers that they were to, and others may be there
 pub record AllGrowFrom (Before After : List Step → AnEnd → Type 0) (Is : Step → Type 0) (old new : AnEnd) : Type 0 where

@@ -2,6 +2,7 @@
 //! of them. Nothing here knows the core.
 
 ghost use Rattle.std.specs.Prelude.{◌≡◌, ◌↔◌, Bool, true, false, None, Some, [], ◌∷◌, ◌++◌, drop, length, IsTrue, IsSome, IfOk, IfErr, OnOk, MatchOption, slice_get};
+ghost use Rattle.serve_links.specs.declared.settings.LinkLimits.{LinkLimits};
 ghost use Rattle.serve_links.specs.declared.link.Link.{Link};
 ghost use Rattle.serve_clients.specs.declared.clients.Clients.{Clients};
 ghost use Rattle.serve_links.specs.Lateness.{IsConnectLateAt, IsReadAt};
@@ -12,7 +13,7 @@ ghost use Rattle.serve_proxy.specs.Epochs.{share_address, HaveEnded, IsInTurn, A
 ghost use Rattle.serve_proxy.specs.Emptying.{AddsEach, EmptiesAt};
 ghost use Rattle.serve_proxy.specs.Limiting.{LimitsAt};
 ghost use Rattle.serve_links.specs.Story.{line_of, texts_of};
-ghost use Rattle.serve_proxy.specs.Ends.{lines_of, LinksTake, LinksGive, LineStands, LineTakes, HoldsAwaited, HoldsAwaitedAt, IsOpenAt, AsksIn, AwaitsLateAt, AwaitsNoneAt, EndsGo, AddsLines};
+ghost use Rattle.serve_proxy.specs.Ends.{lines_of, LinksTake, LinksGive, LineStands, LineTakes, HoldsAwaited, HoldsAwaitedAt, IsOpenAt, AsksIn, AwaitsLateAt, AwaitsNoneAt, EndsGo, AddsLines, with_limits};
 
 use crate::clock::earlier;
 use crate::texts::{is_over, share_address, text_at};
@@ -254,7 +255,7 @@ impl Links {
     /// The server of this number has these limits from now on.
     pub fn limit(&mut self, at: usize, limits: LinkLimits)
         ensures limited { LimitsAt at limits self.old.all.items self.new.all.items }
-        ensures lines { lines_of self.new.all.items ≡ lines_of self.old.all.items }
+        ensures rest { (any : LinkLimits) → with_limits any self.new.all.items ≡ with_limits any self.old.all.items }
     {
         self.put_limits(at, limits);
         self.note_limit(at)
@@ -262,7 +263,7 @@ impl Links {
 
     fn put_limits(&mut self, at: usize, limits: LinkLimits)
         ensures limited { LimitsAt at limits self.old.all.items self.new.all.items }
-        ensures lines { lines_of self.new.all.items ≡ lines_of self.old.all.items }
+        ensures rest { (any : LinkLimits) → with_limits any self.new.all.items ≡ with_limits any self.old.all.items }
     {
         if let Some(link) = self.all.get_mut(at) {
             link.limit(limits);

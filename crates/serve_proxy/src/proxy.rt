@@ -8,7 +8,7 @@ ghost use Rattle.serve_links.specs.CoreSteps.{GoesOn, Fails};
 ghost use Rattle.serve_links.specs.Lateness.{usual_limits};
 ghost use Rattle.serve_links.specs.Links.{IsDownAt, IsClosedAt};
 ghost use Rattle.serve_links.specs.Story.{Agrees, texts_of};
-ghost use Rattle.serve_proxy.specs.Ends.{Stay, end_of, AllGoOn, AllDrop, AllLoad, HasNoConns};
+ghost use Rattle.serve_proxy.specs.Ends.{Stay, StayButLimits, end_of, AllGoOn, AllDrop, AllLoad, HasNoConns};
 ghost use Rattle.core_accepted.specs.Logs.{TreesAreSound};
 ghost use Rattle.serve_proxy.specs.LogsGoOn.{LogsAreFresh};
 ghost use Rattle.serve_proxy.specs.Stalls.{held_by_all};
@@ -200,7 +200,7 @@ impl<W: Wire> ProxyEnd<W> {
     pub fn limit(&mut self, server: usize, limits: LinkLimits)
         ensures limited { LimitsAt server limits self.old.sockets.links.all.items self.new.sockets.links.all.items }
         ensures core { self.new.core ≡ self.old.core }
-        ensures ends { Stay W.history self.old.sockets self.new.sockets }
+        ensures ends { StayButLimits W.history self.old.sockets self.new.sockets }
     {
         self.sockets.links.limit(server, limits);
     }

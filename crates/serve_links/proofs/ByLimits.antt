@@ -1,0 +1,108 @@
+-- Steps by which calls are late, and the limits of their servers.
+use Rattle.std.proofs.Common.{◌≡◌, ℕ, zero, suc, List, [], ◌∷◌, ◌++◌, Option, Some, None, sym, ap, ◌∙◌, subst}
+use Rattle.std.specs.Prelude.{slice_get}
+use Rattle.std.specs.Option.{option_map}
+use Rattle.serve_links.specs.declared.settings.LinkLimits.{LinkLimits}
+use Rattle.serve_links.specs.declared.link.Link.{Link}
+use Rattle.serve_links.specs.CoreSteps.{Step, Opened, NotOpened, Fed, Polled, Stopped, Settled, Gave, Closed, LeftLine, Broke, Ticked, Loaded, Linked, Asked, Greeted, Spelled, Late, CameLate, Lost, AreOf}
+use Rattle.serve_links.specs.Talks.{IsOfClients, IsOfServer}
+use Rattle.serve_links.specs.Story.{server_of, servers_of, most_of, IsByLimit, KeepsServer, KeepsServers}
+use Rattle.serve_links.proofs.Talking.{clients_plain}
+use Rattle.serve_links.proofs.Walked.{of_both}
+use Rattle.serve_links.proofs.Showing.{IsUnlost, plain_unlost}
+
+-- steps by which no call is late
+pub unlost_late : (most : ℕ → Option ℕ) (steps : List Step) → AreOf IsUnlost steps → AreOf (IsByLimit most) steps
+unlost_late most [] kinds = tt
+unlost_late most (step ∷ steps) kinds = (by step kinds.0, unlost_late most steps kinds.1)
+  where
+    by : (s : Step) → IsUnlost s → IsByLimit most s
+    by (Lost at why) is = tt
+    by (Opened client) is = tt
+    by (NotOpened fault) is = tt
+    by (Fed client piece) is = tt
+    by (Polled client poll) is = tt
+    by (Stopped client fault) is = tt
+    by (Settled number outcome) is = tt
+    by (Gave client bytes) is = tt
+    by (Closed client) is = tt
+    by (LeftLine client) is = tt
+    by (Ticked now) is = tt
+    by (Broke client) is = tt
+    by (Loaded configuration generation) is = tt
+    by (Linked at dialect) is = tt
+    by (Asked at number dialect ask since) is = tt
+    by (Greeted at dialect bytes) is = tt
+    by (Late at number limit now) is = absurd is
+    by (CameLate at number ask answer bytes) is = tt
+    by (Spelled at number ask answer bytes) is = tt
+
+-- steps of one server, of which both say the same
+own_late : (most most' : ℕ → Option ℕ) (i : ℕ) (steps : List Step) → most' i ≡ most i → AreOf (IsOfServer i) steps → AreOf (IsByLimit most) steps → AreOf (IsByLimit most') steps
+own_late most most' i [] same own late = tt
+own_late most most' i (step ∷ steps) same own late = (by step own.0 late.0, own_late most most' i steps same own.1 late.1)
+  where
+    by : (s : Step) → IsOfServer i s → IsByLimit most s → IsByLimit most' s
+    by (Lost at why) its is = tt
+    by (Opened client) its is = tt
+    by (NotOpened fault) its is = tt
+    by (Fed client piece) its is = tt
+    by (Polled client poll) its is = tt
+    by (Stopped client fault) its is = tt
+    by (Settled number outcome) its is = tt
+    by (Gave client bytes) its is = tt
+    by (Closed client) its is = tt
+    by (LeftLine client) its is = tt
+    by (Ticked now) its is = tt
+    by (Broke client) its is = tt
+    by (Loaded configuration generation) its is = tt
+    by (Linked at dialect) its is = tt
+    by (Asked at number dialect ask since) its is = tt
+    by (Greeted at dialect bytes) its is = tt
+    by (Late at number limit now) its is = ap most' its ∙ same ∙ sym (ap most its) ∙ is
+    by (CameLate at number ask answer bytes) its is = tt
+    by (Spelled at number ask answer bytes) its is = tt
+
+-- ---- one link
+
+pub same_server : (x y : Link) → y.text.items ≡ x.text.items → y.limits ≡ x.limits → server_of y ≡ server_of x
+same_server x y text limits = ap (λ (t : List ℕ). let s : List ℕ × LinkLimits = (t, y.limits) in s) text ∙ ap (λ (l : LinkLimits). let s : List ℕ × LinkLimits = (x.text.items, l) in s) limits
+
+pub same_text : (x y : Link) → server_of y ≡ server_of x → y.text.items ≡ x.text.items
+same_text x y same = ap (λ (s : List ℕ × LinkLimits). s.0) same
+
+-- one after another
+pub server_then : (first later : List Step) (x y z : Link) → KeepsServer first x y → KeepsServer later y z → KeepsServer (later ++ first) x z
+server_then first later x y z g k = record {
+  same = k.same ∙ g.same;
+  late = of_both (IsByLimit (λ at. Some x.limits.call_ms)) later first (subst (λ (s : List ℕ × LinkLimits). AreOf (IsByLimit (λ at. Some s.1.call_ms)) later) g.same k.late) g.late;
+}
+
+-- ---- all links
+
+-- where nothing is said of calls that are late
+pub servers_same : (xs ys : List Link) → servers_of ys ≡ servers_of xs → KeepsServers [] xs ys
+servers_same xs ys same = record { same = same; late = tt }
+
+pub servers_then : (first later : List Step) (xs ys zs : List Link) → KeepsServers first xs ys → KeepsServers later ys zs → KeepsServers (later ++ first) xs zs
+servers_then first later xs ys zs g k = record {
+  same = k.same ∙ g.same;
+  late = of_both (IsByLimit (most_of (servers_of xs))) later first (subst (λ (s : List (List ℕ × LinkLimits)). AreOf (IsByLimit (most_of s)) later) g.same k.late) g.late;
+}
+
+-- by steps that tell nothing of servers
+pub clients_servers : (steps : List Step) (xs ys : List Link) → AreOf IsOfClients steps → servers_of ys ≡ servers_of xs → KeepsServers steps xs ys
+clients_servers steps xs ys own same = record { same = same; late = unlost_late (most_of (servers_of xs)) steps (plain_unlost steps (clients_plain steps own)) }
+
+most_there : (links : List Link) (at : ℕ) (x : Link) → slice_get links at ≡ Some x → most_of (servers_of links) at ≡ Some x.limits.call_ms
+most_there [] at x is = absurd (none_some is)
+  where
+    none_some : None ≡ Some x → ⊥
+    none_some e = cc
+most_there (link ∷ links) zero x is = ap (option_map (λ (l : Link). l.limits.call_ms)) is
+most_there (link ∷ links) (suc at) x is = most_there links at x is
+
+-- by those of one of them
+pub line_servers :
+    (at : ℕ) (steps : List Step) (old new : List Link) (x y : Link) → slice_get old at ≡ Some x → servers_of new ≡ servers_of old → AreOf (IsOfServer at) steps → KeepsServer steps x y → KeepsServers steps old new
+line_servers at steps old new x y was same own g = record { same = same; late = own_late (λ i. Some x.limits.call_ms) (most_of (servers_of old)) at steps (most_there old at x was) own g.late }
