@@ -1,7 +1,8 @@
 //! The core that is served: with the configurations that the gate accepted, or on a tree of which no gate was asked.
 
-ghost use Rattle.std.specs.Prelude.{◌≡◌, [], ◌∷◌, ◌++◌, ◌↔◌, IsTrue, IfOk, IfErr, OnOk, OnErr, option_map};
+ghost use Rattle.std.specs.Prelude.{◌≡◌, [], ◌∷◌, ◌++◌, ◌↔◌, IsTrue, IfOk, IfErr, IfSome, OnOk, OnErr, option_map};
 ghost use Rattle.wire_parts.specs.Sending.{bytes_of};
+ghost use Rattle.mc_types.specs.Asks.{IsAsk};
 ghost use Rattle.fresh_runs.specs.Overlap as log;
 ghost use Rattle.core_proxy.specs.Faults.{IsClosed, CanOpen, CanFeed, CanClose, OpenFault, FeedFault, OutputFault, CloseFault};
 ghost use Rattle.core_proxy.specs.CoreState.{IsOut, Opens, Feeds, Gives, Closes, LeavesLine, client_at, dropped_by, held_by, output_by};
@@ -170,7 +171,8 @@ impl ServedCore {
 
     /// As `Core::asked`.
     pub fn asked(&self, number: u64) -> Option<&Ask>
-        ensures { option_map (λ ask. ask.now) result ≡ asked self.now.core number }
+        ensures exact { option_map (λ ask. ask.now) result ≡ asked self.now.core number }
+        ensures formed { IfSome result (λ ask. IsAsk ask.now) }
     {
         self.core.asked(number)
     }

@@ -2,6 +2,7 @@
 
 ghost use Rattle.std.specs.Prelude.{◌≡◌, ℕ, ◌<◌, ◌≤◌, ◌+◌, ◌++◌, ◌∷◌, ◌↔◌, [], nat_eq, if◌then◌else◌, IsTrue, IfOk, IfErr, OnOk, MatchOption};
 ghost use Rattle.std.specs.List.{position};
+ghost use Rattle.mc_types.specs.Asks.{IsAsk};
 ghost use Rattle.script_events.specs.declared.servers.event.FleetFault.TheVariants.{NoMemory};
 ghost use Rattle.core_proxy.specs.CoreState.{IsOut};
 ghost use Rattle.core_proxy.specs.Polls.{Polls};
@@ -21,7 +22,7 @@ use crate::log::laws::{
     feeds_go_on, gives_go_on, loads_go_on, openings_go_on, polls_go_on, results_go_on,
 };
 use core_proxy::{Core, CoreFault, CoreLimits, Note, Poll, Ticket};
-use mc_types::{Ask, ServerId, is_ask};
+use mc_types::{Ask, ServerId};
 use route_tree::Tree;
 use script_events::servers::{FleetFault, Made, ScriptServers};
 use std::alloc::Global;
@@ -80,19 +81,20 @@ fn fault_of(fault: CoreFault) -> FleetFault
     }
 }
 
-// What the server answers to a call, where it is one that a client can ask, at a server that is there.
+// What the server answers to a call, where it is there.
 fn answer(
     servers: &mut ScriptServers,
     stamp: u64,
     server: ServerId,
     ask: &Ask,
 ) -> Result<Made, FleetFault>
+    requires { IsAsk ask.now }
     ensures ok { IfOk result (λ made. Answers stamp servers.old server ask.now made servers.new) }
     ensures rest { servers.new ≡ record servers.old { caches = servers.new.caches; turn = servers.new.turn } }
     ensures count { count_of servers.new ≡ count_of servers.old }
     ensures err { IfErr result (λ fault. (turn_of servers.new ≡ turn_of servers.old) × AreGivenAll fault servers.old) }
 {
-    if !is_ask(ask) || server.number() as usize >= servers.servers() {
+    if server.number() as usize >= servers.servers() {
         return Err(FleetFault::NoMemory);
     }
     servers.answer(stamp, server, ask)
