@@ -1,5 +1,6 @@
 -- An outcome that fits what a core's call asks fits that call.
 use Rattle.std.proofs.Common.{◌≡◌, ℕ, Option, Some, sym, ◌∙◌, subst}
+use Rattle.mc_types.specs.Asks.{IsAsk}
 use Rattle.mc_types.specs.declared.ask.Ask.{Ask}
 use Rattle.mc_types.specs.declared.call.Origin.{Origin}
 use Rattle.mc_types.specs.declared.call.Outcome.{Outcome}
@@ -16,3 +17,6 @@ fits_called core number server ask origin outcome called fits =
     λ a was out.
     let is = subst (λ (x : Command). IsOutAs x server ask origin) (same_command (sym called.was ∙ was)) called.is in
     subst (λ (x : Ask). FitsOutcome x outcome) is.ask_is fits
+
+pub same_is_ask : (a b : Ask) → a ≡ b → IsAsk b → IsAsk a
+same_is_ask a b same is = subst IsAsk (sym same) is

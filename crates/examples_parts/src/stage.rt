@@ -5,11 +5,12 @@ ghost use Rattle.core_proxy.specs.Settles.{FitsCall};
 ghost use Rattle.route_tree.specs.Route as route;
 
 use crate::answering::FixedServers;
+use crate::reading::ask;
 use core_accepted::{Beginnings, LoadFault, ServedCore};
 use core_proxy::{Core, CoreFault, CoreLimits, Poll, ServedOne, Servers, Sharing, Ticket};
 use gate_check::judge;
 use gate_growth::ledger::Beginning;
-use mc_types::{Ask, Dialect, Key, Op, Origin, Outcome, ServerId, SharedAsk, Tokens};
+use mc_types::{Origin, Outcome, ServerId, SharedAsk};
 use route_json::{Config, read_config};
 use route_tree::{Tree, TreeForm};
 use std::alloc::{AllocError, Global};
@@ -320,16 +321,12 @@ fn core(alloc: Global, text: &str) -> Result<Played, Fail> {
     }
 }
 
-// An ask like that of the call that is out.
-fn ask(alloc: Global) -> Result<Ask, Fail> {
-    let key = Key::read(b"a").ok().ok_or("a is a key")?;
-    Ok(Ask::bare(Dialect::Classic, Op::Get, key, Tokens::new(alloc)))
-}
-
-// A ticket that no core gave out.
+// A ticket that no core gave out, with an ask like that of the call that is out.
+#[tactic(auto, using(crate::proofs::Fitting::same_is_ask))]
 fn forged(alloc: Global, number: u64) -> Result<Ticket, Fail> {
+    let ask = SharedAsk::new(alloc, ask(alloc, "get a|")?)?;
     Ok(Ticket {
-        ask: SharedAsk::new(alloc, ask(alloc)?)?,
+        ask,
         number,
         origin: Origin::Client,
         server: ServerId::new(0),

@@ -1,5 +1,8 @@
 -- What an answer that was read says of the core's call.
-use Rattle.std.proofs.Common.{◌≡◌, ℕ, true, false, cond, List, [], ◌∷◌, Option, Some, None, refl, sym, ap, ◌∙◌, subst}
+use Rattle.std.specs.Prelude.{slice_get}
+use Rattle.std.specs.List.{Any}
+use Rattle.std.proofs.Common.{◌≡◌, ℕ, zero, suc, arith, true, false, cond, List, [], ◌∷◌, Option, Some, None, refl, sym, ap, ◌∙◌, subst}
+use mathlib.Core.HLevel.{is_prop→PathP}
 use Rattle.mc_types.specs.Asks.{IsAsk}
 use Rattle.mc_types.specs.Fits.{Fits}
 use Rattle.mc_types.specs.declared.ask.Ask.{Ask}
@@ -14,6 +17,7 @@ use Rattle.wire_answers.specs.declared.reader.AnswerRead.{AnswerRead}
 use Rattle.wire_answers.specs.declared.reader.AnswerRead.TheVariants as reads
 use Rattle.wire_stream.specs.Form.{is_retrieval, meta_form}
 use Rattle.wire_stream.specs.Reading.{ReadsInMeta}
+use Rattle.route_job.specs.AtMostOne.{is_ask_prop}
 use Rattle.route_job.specs.Rest.{ask_under}
 use Rattle.core_commands.specs.declared.command.Command.{Command}
 use Rattle.core_proxy.specs.declared.proxy.Core.{Core}
@@ -23,7 +27,33 @@ use Rattle.core_accepted.specs.declared.served.ServedCore.{ServedCore}
 use Rattle.core_accepted.specs.Results.{IsSettled}
 use Rattle.serve_links.specs.Dialects.{asked_in, IsForeignIn}
 use Rattle.serve_links.specs.declared.calls.calls.SentCall.{SentCall}
+use Rattle.serve_links.specs.declared.calls.late_call.LateCall.{LateCall}
+use Rattle.serve_links.specs.Lateness.{IsLate}
 use Rattle.serve_links.specs.Calls.{IsReadFor, IsReadNext, first_asked, FitsFirst, SettlesFirst}
+
+pub same_is_ask : (a b : Ask) → a ≡ b → IsAsk b → IsAsk a
+same_is_ask a b same is = subst IsAsk (sym same) is
+
+-- one of them is late
+pub late_there : (most now : ℕ) (calls : List SentCall) (k : ℕ) (call : SentCall) → slice_get calls k ≡ Some call → IsLate most now call → Any (IsLate most now) calls
+late_there most now [] k call e is = absurd (none_some e)
+  where
+    none_some : ◌≡◌ {A = Option SentCall} None (Some call) → ⊥
+    none_some e = cc
+late_there most now (x ∷ xs) zero call e is = (0, x, omega arith, refl, subst (IsLate most now) (sym (same_call e)) is)
+  where
+    same_call : ◌≡◌ {A = Option SentCall} (Some x) (Some call) → x ≡ call
+    same_call e = cc
+late_there most now (x ∷ xs) (suc k) call e is = let r = late_there most now xs k call e is in (suc r.0, r.1, omega (arith, r.2), r.3, r.4)
+
+pub same_late : (a b : LateCall) → a.number ≡ b.number → a.dialect ≡ b.dialect → a.since ≡ b.since → a.ask ≡ b.ask → a ≡ b
+same_late a b number dialect since ask = λ i. record {
+  number = number i;
+  dialect = dialect i;
+  since = since i;
+  ask = ask i;
+  formed = is_prop→PathP (λ j. IsAsk (ask j)) (λ j. is_ask_prop (ask j)) a.formed b.formed i;
+}
 
 pub read_classic : SpelledAnswersFit → (ask : Ask) (bytes : List ℕ) (read : AnswerRead) → IsAsk ask → Reads ask bytes read → IsReadFor Classic ask bytes read
 read_classic fit ask bytes (reads.Answer answer used) is spells = (spells, fit ask bytes answer used is spells)

@@ -15,7 +15,7 @@ use Rattle.core_accepted.specs.declared.served.ServedCore.{ServedCore}
 use Rattle.core_accepted.specs.Late.{is_store}
 use Rattle.core_accepted.specs.Results.{IsSettled}
 use Rattle.serve_links.specs.declared.calls.calls.SentCall.{SentCall}
-use Rattle.serve_links.specs.declared.calls.calls.LateCall.{LateCall}
+use Rattle.serve_links.specs.declared.calls.late_call.LateCall.{LateCall}
 use Rattle.serve_links.specs.declared.calls.calls.LateRead.{LateRead}
 use Rattle.serve_links.specs.declared.calls.calls.LateRead.TheVariants as lates
 use Rattle.serve_links.specs.declared.settings.Greeting.{Greeting}

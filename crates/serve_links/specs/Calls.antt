@@ -16,7 +16,7 @@ use Rattle.core_accepted.specs.Late.{is_store}
 use Rattle.core_accepted.specs.Results.{IsSettled}
 use Rattle.serve_links.specs.Dialects.{SpellsIn, IsForeignIn, IsCutIn}
 use Rattle.serve_links.specs.declared.calls.calls.SentCall.{SentCall}
-use Rattle.serve_links.specs.declared.calls.calls.LateCall.{LateCall}
+use Rattle.serve_links.specs.declared.calls.late_call.LateCall.{LateCall}
 use Rattle.serve_links.specs.declared.calls.calls.LateRead.{LateRead}
 use Rattle.serve_links.specs.declared.calls.calls.LateRead.TheVariants as lates
 use Rattle.serve_links.specs.declared.calls.calls.Next.{Next}
@@ -90,7 +90,7 @@ SettlesNext sent bytes core nexts.NoMemory sent' core' = (sent' ≡ sent) × (co
 
 -- the same call as one that is late
 abbrev pub as_late : SentCall → LateCall
-as_late call = record { number = call.ticket.number; dialect = call.dialect; since = call.since; ask = call.ticket.ask }
+as_late call = record { number = call.ticket.number; dialect = call.dialect; since = call.since; ask = call.ticket.ask; formed = call.ticket.formed }
 
 -- it is the first of those that are out, if there is one
 abbrev pub IsFirstLate : List SentCall → Option LateCall → Type 0

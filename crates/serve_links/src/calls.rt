@@ -2,8 +2,10 @@
 //! No socket is known here; the bytes are values.
 
 mod calls;
+mod late_call;
 mod sending;
 mod times;
 
-pub use calls::{LateCall, LateRead, LinkCalls, Next, SentCall, fail_call};
+pub use calls::{LateRead, LinkCalls, Next, SentCall, fail_call};
+pub use late_call::LateCall;
 pub use sending::send_ask;

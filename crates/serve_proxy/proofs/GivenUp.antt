@@ -12,7 +12,7 @@ use Rattle.core_accepted.specs.declared.served.ServedCore.{ServedCore}
 use Rattle.serve_clients.specs.declared.clients.Clients.{Clients}
 use Rattle.serve_clients.specs.Agrees.{KeepsEnds}
 use Rattle.serve_links.specs.declared.calls.calls.SentCall.{SentCall}
-use Rattle.serve_links.specs.declared.calls.calls.LateCall.{LateCall}
+use Rattle.serve_links.specs.declared.calls.late_call.LateCall.{LateCall}
 use Rattle.serve_links.specs.declared.link.Link.{Link}
 use Rattle.serve_links.specs.declared.news.Cause.{Cause}
 use Rattle.serve_links.specs.declared.news.Cause.TheVariants as causes

@@ -9,18 +9,19 @@ ghost use Rattle.wire_stream.specs.Usual.{IsUsualTo};
 ghost use Rattle.serve_links.specs.Dialects.{asked_in};
 ghost use Rattle.core_accepted.specs.Late.{is_store};
 ghost use Rattle.core_accepted.specs.Results.{IsSettled};
-ghost use Rattle.serve_links.specs.Calls.{IsReadFor, IsReadNext, IsFirstLate, IsReadLate, first_asked, stores_first, FitsFirst, SettlesFirst, SettlesNext};
+ghost use Rattle.serve_links.specs.Calls.{IsReadFor, IsReadNext, IsFirstLate, IsReadLate, as_late, first_asked, stores_first, FitsFirst, SettlesFirst, SettlesNext};
 ghost use Rattle.mc_types.specs.declared.call.Outcome.TheVariants.{Failed};
 ghost use Rattle.std.specs.List.{Any};
 ghost use Rattle.serve_links.specs.Lateness.{IsLate};
 ghost use Rattle.serve_links.specs.Counting.{with_first, with_next};
 
+use crate::calls::late_call::LateCall;
 use crate::calls::sending::send_ask;
 use crate::calls::times::CallTimes;
 use crate::tally::CallTally;
 use core_accepted::ServedCore;
 use core_proxy::Ticket;
-use mc_types::{Ask, Dialect, Op, Outcome, SharedAsk, SpareBodies, is_ask};
+use mc_types::{Ask, Dialect, Op, Outcome, SpareBodies};
 use std::alloc::{AllocError, Global};
 use std::collections::VecDeque;
 use wire_answers::laws::spelled_answers_fit;
@@ -54,18 +55,6 @@ pub struct SentCall {
     pub bulk: usize,
     /// In which dialect its server is asked for a classic get; all else is asked as it is.
     pub dialect: Dialect,
-}
-
-/// A call that has failed, as it was late, and whose answer is still to come.
-#[derive(Drop)]
-pub struct LateCall {
-    /// The command's number.
-    pub number: u64,
-    /// In which dialect its server was asked.
-    pub dialect: Dialect,
-    /// When it began, in milliseconds.
-    pub since: u64,
-    pub ask: SharedAsk,
 }
 
 /// What of a server's bytes is the answer to a call that is late.
@@ -170,8 +159,7 @@ fn send_in(
     }
 }
 
-// Appends what a server is asked in this dialect: whether it was. A get without an expiry in the meta dialect, which is most of what is asked,
-// is one that a client can write, and isn't tested for that.
+// Appends what a server is asked in this dialect: whether it was. A get without an expiry in the meta dialect is most of what is asked.
 #[tactic(auto, using(crate::proofs::CallOrder::asked_get))]
 fn send_any(
     dialect: Dialect,
@@ -180,13 +168,14 @@ fn send_any(
     ask: &Ask,
     out: &mut SendBuffer,
 ) -> bool
+    requires { IsAsk ask.now }
     ensures sent { result ≡ true → bytes_of out.new ≡ bytes_of out.old ++ spelling_of (asked_in dialect ask.now) }
     ensures refused { result ≡ false → bytes_of out.new ≡ bytes_of out.old }
 {
     if dialect == Dialect::Meta && is_plain_get(ask) {
         return write_get(ask, &mut out.text).is_ok();
     }
-    is_ask(ask) && send_in(dialect, alloc, forms, ask, out).is_ok()
+    send_in(dialect, alloc, forms, ask, out).is_ok()
 }
 
 // The hit that the bytes begin with, where they are spelled as servers mostly do.
@@ -219,7 +208,7 @@ fn read_in(
     }
 }
 
-// The same, where memory isn't refused for that, and the ask is one that a client can write.
+// The same, where memory isn't refused for that.
 #[tactic(auto, using(crate::proofs::CallOrder::read_meta))]
 fn read_for(
     dialect: Dialect,
@@ -229,13 +218,11 @@ fn read_for(
     ask: &Ask,
     received: &Received,
 ) -> Option<AnswerRead>
+    requires { IsAsk ask.now }
     ensures { IfSome result (IsReadFor dialect ask.now received.now) }
 {
     if let Some(hit) = hit_in(dialect, ask, received.bytes()) {
         return read_hit(alloc, spares, ask, hit, received).ok();
-    }
-    if !is_ask(ask) {
-        return None;
     }
     read_in(dialect, alloc, forms, spares, ask, received).ok()
 }
@@ -257,6 +244,27 @@ fn read_next(
         None => Some(AnswerRead::Foreign),
         Some(ask) => read_for(dialect, alloc, forms, spares, ask, received),
     }
+}
+
+// Whether the call began more than so many milliseconds before now.
+fn is_late(call: &SentCall, most: u64, now: u64) -> bool
+    ensures { result ≡ true → IsLate most now call.now }
+{
+    call.since.saturating_add(most) < now
+}
+
+// The same call as one that is late.
+#[tactic(auto, using(crate::proofs::CallOrder::same_is_ask, crate::proofs::CallOrder::same_late))]
+fn late_of(call: &SentCall) -> Result<LateCall, AllocError>
+    ensures { IfOk result (λ late. late ≡ as_late call.now) }
+{
+    let ask = call.ticket.ask.copy()?;
+    Ok(LateCall {
+        number: call.ticket.number,
+        dialect: call.dialect,
+        since: call.since,
+        ask,
+    })
 }
 
 impl LinkCalls {
@@ -309,12 +317,23 @@ impl LinkCalls {
         oldest
     }
 
+    // Whether one is out at this place that began more than so many milliseconds before now.
+    #[tactic(auto, using(crate::proofs::CallOrder::late_there))]
+    fn is_late_at(&self, at: usize, most: u64, now: u64) -> bool
+        ensures { result ≡ true → Any (IsLate most now) self.now.sent.items }
+    {
+        match self.sent.get(at) {
+            None => false,
+            Some(call) => is_late(call, most, now),
+        }
+    }
+
     /// Whether one of those that are out began more than so many milliseconds before now.
     pub fn has_late(&self, most: u64, now: u64) -> bool
         ensures { result ≡ true → Any (IsLate most now) self.now.sent.items }
     {
-        for call in self.sent.iter() {
-            if call.since.saturating_add(most) < now {
+        for at in 0..self.sent.len() {
+            if self.is_late_at(at, most, now) {
                 return true;
             }
         }
@@ -380,6 +399,7 @@ impl LinkCalls {
     /// Where memory was refused the call is given back, and nothing has changed. `now` is in microseconds.
     ///
     /// Source: mcgate's own.
+    #[tactic(auto, using(crate::proofs::CallOrder::same_is_ask))]
     pub fn begin(&mut self, call: SentCall, now: u64, out: &mut SendBuffer) -> Result<(), SentCall>
         ensures ok { OnOk result ((self.new.sent.items ≡ self.old.sent.items ++ call ∷ []) × (bytes_of out.new ≡ bytes_of out.old ++ spelling_of (asked_in call.dialect call.ticket.ask))) }
         ensures err { IfErr result (λ given. (given ≡ call) × (self.new.sent.items ≡ self.old.sent.items) × (bytes_of out.new ≡ bytes_of out.old)) }
@@ -477,16 +497,11 @@ impl LinkCalls {
         let Some(call) = self.sent.front() else {
             return Ok(None);
         };
-        let ask = call.ticket.ask.copy()?;
-        Ok(Some(LateCall {
-            number: call.ticket.number,
-            dialect: call.dialect,
-            since: call.since,
-            ask,
-        }))
+        Ok(Some(late_of(call)?))
     }
 
     /// What of these bytes is the answer to a call that is late.
+    #[tactic(auto, using(crate::proofs::CallOrder::same_is_ask))]
     pub fn read_late(&mut self, call: &LateCall, received: &Received) -> LateRead
         ensures sent { self.new.sent ≡ self.old.sent }
         ensures read { IsReadLate call.now received.now result }
