@@ -210,12 +210,14 @@ fn server_of<W: Wire>(
         return Ok(None);
     };
     let calls = link.calls.tally();
+    let is_unknown = seen.is_unknown(text);
     Ok(Some(ServerNumbers {
         text: String::from_str(alloc, text)?,
         limits: limits_told(link),
         is_up: link.is_connected && !link.is_late(),
         is_late: link.is_late(),
-        is_unknown: seen.is_unknown(text),
+        is_unknown,
+        fails_at_once: is_unknown || link.is_held_back(end.wire().last_millis()),
         connections: link.tally.stood,
         calls_out: link.calls.len() as u64,
         failures: failures_by_cause(alloc, link)?,

@@ -130,6 +130,8 @@ pub struct ServerNumbers {
     pub is_late: bool,
     /// Whether its name has led to no machine so far.
     pub is_unknown: bool,
+    /// Whether its calls fail at once.
+    pub fails_at_once: bool,
     /// How many connections to it stood.
     pub connections: u64,
     /// How many calls are out.
@@ -524,6 +526,7 @@ enum ServerCount {
     Up,
     Late,
     Unknown,
+    AtOnce,
     Connections,
     CallsOut,
     CallLimit,
@@ -537,6 +540,7 @@ fn server_amount(server: &ServerNumbers, what: ServerCount) -> Amount {
         ServerCount::Up => Amount::Count(u64::from(server.is_up)),
         ServerCount::Late => Amount::Count(u64::from(server.is_late)),
         ServerCount::Unknown => Amount::Count(u64::from(server.is_unknown)),
+        ServerCount::AtOnce => Amount::Count(u64::from(server.fails_at_once)),
         ServerCount::Connections => Amount::Count(server.connections),
         ServerCount::CallsOut => Amount::Count(server.calls_out),
         ServerCount::CallLimit => Amount::Millis(server.limits.call_ms),
@@ -739,6 +743,12 @@ fn add_states(
         MetricKind::Gauge,
         "1 while the server's name has led to no machine: its calls fail at once.",
         server_samples(alloc, servers, ServerCount::Unknown)?,
+    ))?;
+    families.push(each(
+        "mcgate_server_fails_at_once",
+        MetricKind::Gauge,
+        "1 while calls of the server fail at once, without being sent.",
+        server_samples(alloc, servers, ServerCount::AtOnce)?,
     ))?;
     Ok(())
 }

@@ -77,6 +77,9 @@ mcgate_server_late{server="\"a\\:1?"} 0
 # HELP mcgate_server_unknown 1 while the server's name has led to no machine: its calls fail at once.
 # TYPE mcgate_server_unknown gauge
 mcgate_server_unknown{server="\"a\\:1?"} 1
+# HELP mcgate_server_fails_at_once 1 while calls of the server fail at once, without being sent.
+# TYPE mcgate_server_fails_at_once gauge
+mcgate_server_fails_at_once{server="\"a\\:1?"} 1
 # HELP mcgate_server_connections_total Connections to the server that stood.
 # TYPE mcgate_server_connections_total counter
 mcgate_server_connections_total{server="\"a\\:1?"} 14
@@ -133,6 +136,7 @@ fn stats() -> &'static str {
 "mcgate_server_up":[{"server":"\"a\\:1?","value":1}],
 "mcgate_server_late":[{"server":"\"a\\:1?","value":0}],
 "mcgate_server_unknown":[{"server":"\"a\\:1?","value":1}],
+"mcgate_server_fails_at_once":[{"server":"\"a\\:1?","value":1}],
 "mcgate_server_connections_total":[{"server":"\"a\\:1?","value":14}],
 "mcgate_server_calls_out":[{"server":"\"a\\:1?","value":15}],
 "mcgate_server_failures_total":[{"server":"\"a\\:1?","cause":"closed","value":16}],
@@ -199,6 +203,7 @@ fn servers(alloc: Global) -> Result<Vec<ServerNumbers>, AllocError> {
         is_up: true,
         is_late: false,
         is_unknown: true,
+        fails_at_once: true,
         connections: 14,
         calls_out: 15,
         failures,
