@@ -9,9 +9,9 @@ use Rattle.core_proxy.specs.declared.fault.CoreFault.{CoreFault}
 use Rattle.core_proxy.specs.declared.fault.CoreFault.TheVariants as faults
 use Rattle.core_proxy.specs.declared.proxy.Core.{Core}
 use Rattle.core_proxy.specs.CoreState.{dialect, state_of}
-use Rattle.core_proxy.specs.Steps.{event_of}
+use Rattle.core_proxy.specs.Steps.{event_of_call}
 use Rattle.core_proxy.specs.Settles.{SettlesBy, Settles, SettleFault, freed}
-use Rattle.core_proxy.specs.Polls.{PollFault, SoFar, Then}
+use Rattle.core_proxy.specs.Polls.{PollFault, SoFar, EntriesThen}
 use Rattle.core_accepted.specs.declared.served.ServedCore.{ServedCore}
 use Rattle.core_accepted.specs.declared.tally.CoreTally.{CoreTally}
 use Rattle.core_accepted.specs.Tallies.{is_answer, with_outcome, with_settling}
@@ -27,7 +27,7 @@ uncounted : (old : ServedCore) (x : Core) (t : CoreTally) → x ≡ old.core →
 uncounted old x t e k = ap₂ (λ (y : Core) (s : CoreTally). record old { core = y; tally = s }) e k
 
 pub poll_stops : (old : ServedCore) (x : Core) (client : ℕ) (fault : CoreFault) → PollFault old.core client fault x → PollStops old client fault (record old { core = x })
-poll_stops old x client faults.NoMemory f = record { stops = f; goes = goes old x (Then (SoFar client) (λ entries. entries ≡ freed f.numbers ++ log.Drops client ∷ [])) f.goes }
+poll_stops old x client faults.NoMemory f = record { stops = f; goes = goes old x (EntriesThen (SoFar client) (λ entries. entries ≡ freed f.numbers ++ log.Drops client ∷ [])) f.goes }
 poll_stops old x client faults.NoClient f = same old x f.1
 poll_stops old x client faults.Spent f = same old x f.1
 poll_stops old x client faults.TooManyClients f = absurd f
@@ -49,7 +49,7 @@ settles_on old x t number a outcome IsMore by opening past led end is ends =
         beside = s.0;
         plain = at ∙ led.plain;
         fits = s.2;
-        leads = led_there old.core x opening led.beside.at s.0.at ((s.1 ++ Happens (event_of number a end) ∷ []) ++ past) (state_of x s.0) at s.6 (s.5 opening past led.leads);
+        leads = led_there old.core x opening led.beside.at s.0.at ((s.1 ++ Happens (event_of_call number a end) ∷ []) ++ past) (state_of x s.0) at s.6 (s.5 opening past led.leads);
       },
       s.3,
     )

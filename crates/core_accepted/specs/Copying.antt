@@ -21,9 +21,9 @@ pub record CopiesKeys (tree : Route) (prefix : Option (List ℕ)) : Type 0 where
   pub copies : (key : List ℕ) → IsLongest (prefixes tree) key prefix → may_copy Get (tree_at tree key) ≡ true
 
 -- no key, or some
-abbrev pub IsCopied : Route → Copied → Type 0
-IsCopied tree kinds.Nothing = CopiesNothing tree
-IsCopied tree (kinds.Keys prefix) = CopiesKeys tree prefix
+abbrev pub CopiesSome : Route → Copied → Type 0
+CopiesSome tree kinds.Nothing = CopiesNothing tree
+CopiesSome tree (kinds.Keys prefix) = CopiesKeys tree prefix
 
 -- whether a get copies by what is left of the tree for a text
 abbrev pub CopiesText : Route → List ℕ → Type 0

@@ -57,17 +57,17 @@ fault_of (reasons.Left generation gap) number = gate.Uncovered generation gap
 fault_of reasons.NoMemory number = gate.NoMemory
 
 -- why the gate doesn't let the tree follow: with it there would be more generations than have a number; all trees together have too many places, which is told of the new one; or its first gap, by which they aren't sound
-abbrev pub IsRefusal : Core → Known → Route → ReloadFault → Type 0
-IsRefusal core known tree gate.TooManyGenerations = most_generations ≤ length (trees_of known.configs)
-IsRefusal core known tree (gate.TooManyPlaces generation) = (generation ≡ core.generation + 1) × AreTooManyPlaces (trees_of known.configs ++ tree ∷ [])
-IsRefusal core known tree (gate.Uncovered generation gap) = IsFirstLeftGap (is_arbitrary known) (trees_of known.configs) tree generation gap
-IsRefusal core known tree gate.NoMemory = Unit {0}
+abbrev pub IsLoadRefusal : Core → Known → Route → ReloadFault → Type 0
+IsLoadRefusal core known tree gate.TooManyGenerations = most_generations ≤ length (trees_of known.configs)
+IsLoadRefusal core known tree (gate.TooManyPlaces generation) = (generation ≡ core.generation + 1) × AreTooManyPlaces (trees_of known.configs ++ tree ∷ [])
+IsLoadRefusal core known tree (gate.Uncovered generation gap) = IsFirstLeftGap (is_arbitrary known) (trees_of known.configs) tree generation gap
+IsLoadRefusal core known tree gate.NoMemory = Unit {0}
 
 -- why the next configuration is refused: the servers don't keep their numbers; or the gate's fault, or the core has no number for one more tree
 abbrev pub RefusesNext : Core → Known → Configuration → LoadFault → Type 0
 RefusesNext core known config OtherServers = KeepsNumbers known.configs config → ⊥
 RefusesNext core known config (Refused fault) =
-    KeepsNumbers known.configs config × (IsRefusal core known config.tree fault ⊎ ((core.generation ≡ LAST_GENERATION) × (fault ≡ gate.TooManyGenerations)))
+    KeepsNumbers known.configs config × (IsLoadRefusal core known config.tree fault ⊎ ((core.generation ≡ LAST_GENERATION) × (fault ≡ gate.TooManyGenerations)))
 
 -- why a configuration is refused where no gate was asked: memory was refused, or the core has no number for one more tree
 abbrev pub RefusesAny : Core → LoadFault → Type 0

@@ -8,16 +8,16 @@ use Rattle.core_accepted.specs.declared.served.ServedCore.{ServedCore}
 use Rattle.core_accepted.specs.Logs.{MayHaveLed}
 
 -- a server loses what it holds of a key, or all that it holds; or somebody else writes what it holds of a key
-abbrev pub IsLoss : Event → Type 0
-IsLoss (Turns server key turned) = Unit {0}
-IsLoss (Restarts server) = Unit {0}
-IsLoss (Begins number ask) = ⊥
-IsLoss (Calls number server ask origin end) = ⊥
-IsLoss (Replies number key reply from) = ⊥
-IsLoss (Breaks number) = ⊥
+abbrev pub IsLossEvent : Event → Type 0
+IsLossEvent (Turns server key turned) = Unit {0}
+IsLossEvent (Restarts server) = Unit {0}
+IsLossEvent (Begins number ask) = ⊥
+IsLossEvent (Calls number server ask origin end) = ⊥
+IsLossEvent (Replies number key reply from) = ⊥
+IsLossEvent (Breaks number) = ⊥
 
 -- whatever servers lose and whatever others write there, at any moment: each log that may have led to a core goes on by it, and may have led to that core
 abbrev pub ServersMayLose : Type 0
 ServersMayLose =
-    (served : ServedCore) (opening : ℕ → List ℕ → Option Item) (past : List (Entry dialect)) (led : MayHaveLed opening past served) (event : Event) → IsLoss event
+    (served : ServedCore) (opening : ℕ → List ℕ → Option Item) (past : List (Entry dialect)) (led : MayHaveLed opening past served) (event : Event) → IsLossEvent event
     → (led' : MayHaveLed opening (Happens event ∷ past) served) × (led'.beside ≡ record led.beside { holds = after_event event led.beside.holds })

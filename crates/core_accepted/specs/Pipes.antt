@@ -34,10 +34,10 @@ behind_first [] = []
 behind_first (ticket ∷ tickets) = tickets
 
 -- what a call leaves there: one that was applied is gone, one that was given up stays
-abbrev pub after_end : End → List Ticket → List Ticket
-after_end (Read stamp answer spaces) tickets = behind_first tickets
-after_end (Unread stamp answer spaces) tickets = behind_first tickets
-after_end Never tickets = tickets
+abbrev pub tickets_after : End → List Ticket → List Ticket
+tickets_after (Read stamp answer spaces) tickets = behind_first tickets
+tickets_after (Unread stamp answer spaces) tickets = behind_first tickets
+tickets_after Never tickets = tickets
 
 -- the connection's first call is this one
 abbrev pub IsFirstIn : List Ticket → ℕ → Ask → Origin → Type 0
@@ -54,7 +54,7 @@ module _ (line : ℕ → ℕ → ℕ) where
   -- the calls that stand in a connection to a server, in order, after something happens
   abbrev pub pipe_after : Moment → ℕ → ℕ → List Ticket → List Ticket
   pipe_after (Does (Begins number ask)) p s tickets = tickets
-  pipe_after (Does (Calls number server ask origin end)) p s tickets = if is_pipe (line number server) server p s then after_end end tickets else tickets
+  pipe_after (Does (Calls number server ask origin end)) p s tickets = if is_pipe (line number server) server p s then tickets_after end tickets else tickets
   pipe_after (Does (Replies number key reply from)) p s tickets = tickets
   pipe_after (Does (Breaks number)) p s tickets = tickets
   pipe_after (Does (Turns server key turned)) p s tickets = tickets
@@ -81,17 +81,17 @@ module _ (line : ℕ → ℕ → ℕ) where
 
   module _ (words : ℕ → Ask → List Call → Answer → Option ℕ → Type 0) (Bars : ℕ → Ask → ℕ → Ask → Type 0) (opening : ℕ → List ℕ → Option Item) where
     -- the step may come after the past
-    abbrev pub MayStep : List PipeStep → PipeStep → Type 0
+    abbrev pub PipeMayStep : List PipeStep → PipeStep → Type 0
     -- a call is sent for a command under way, on its key
-    MayStep past (Sends number server ask origin) = (client : Ask) × (under_way (seen (moments_of past)) number ≡ Some client) × (ask.key ≡ client.key)
+    PipeMayStep past (Sends number server ask origin) = (client : Ask) × (under_way (seen (moments_of past)) number ≡ Some client) × (ask.key ≡ client.key)
     -- a call that had failed may land at any time, but in its turn
-    MayStep past (Moves moment) = MayCome words Bars opening LandsEver (moments_of past) moment × Obeys past moment
-    MayStep past (Closes q server) = Unit {0}
+    PipeMayStep past (Moves moment) = MayCome words Bars opening LandsEver (moments_of past) moment × Obeys past moment
+    PipeMayStep past (Closes q server) = Unit {0}
 
     -- one step after another
     abbrev pub Steps : List PipeStep → Type 0
     Steps [] = Unit {0}
-    Steps (step ∷ past) = MayStep past step × Steps past
+    Steps (step ∷ past) = PipeMayStep past step × Steps past
 
   -- its command was over; and each store of it that had failed was sent over the connection over which the delete sends its calls to that server
   abbrev pub WasOverOn : List Event → ℕ → ℕ → Type 0

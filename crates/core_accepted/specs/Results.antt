@@ -8,15 +8,15 @@ use Rattle.fresh_runs.specs.Fleet.{EndsIn}
 use Rattle.fresh_runs.specs.Overlap as log
 use Rattle.fresh_runs.specs.Overlap.{Entry, Happens}
 use Rattle.route_job.specs.Rest.{ask_under, origin_under}
-use Rattle.route_job.specs.Jobs.{server_in}
+use Rattle.route_job.specs.Jobs.{server_of_pending}
 use Rattle.core_commands.specs.declared.command.Command.{Command}
 use Rattle.core_proxy.specs.declared.fault.CoreFault.{CoreFault}
 use Rattle.core_proxy.specs.declared.fault.CoreFault.TheVariants as faults
 use Rattle.core_proxy.specs.declared.note.Poll.{Poll}
 use Rattle.core_proxy.specs.CoreState.{dialect, client_at, dropped_by, IsBeside}
-use Rattle.core_proxy.specs.Steps.{event_of, settled}
-use Rattle.core_proxy.specs.Settles.{HasNoCall, Settles, SettlesRefused, freed}
-use Rattle.core_proxy.specs.Polls.{StopsPolling, SoFar, Then, Perhaps, BeginsOne, IsPolled}
+use Rattle.core_proxy.specs.Steps.{event_of_call, settled_beside}
+use Rattle.core_proxy.specs.Settles.{IsNotOut, Settles, SettlesRefused, freed}
+use Rattle.core_proxy.specs.Polls.{StopsPolling, SoFar, EntriesThen, Perhaps, BeginsOne, IsPolled}
 use Rattle.core_accepted.specs.declared.tally.CoreTally.{CoreTally}
 use Rattle.core_accepted.specs.declared.served.ServedCore.{ServedCore}
 use Rattle.core_accepted.specs.Logs.{MayHaveLed, LogsGoCounting, LogsGoBy}
@@ -28,12 +28,12 @@ StaysCounting count old new = LogsGoCounting count old (λ entries. entries ≡ 
 
 -- a poll told this: each log goes on by it, a command may have begun before it, and one that ended is counted, and a call that was given out
 abbrev pub PollGoes : ServedCore → ℕ → Poll → ServedCore → Type 0
-PollGoes old client poll new = LogsGoCounting (with_poll poll) old (Then (Perhaps (BeginsOne client)) (IsPolled client poll)) new
+PollGoes old client poll new = LogsGoCounting (with_poll poll) old (EntriesThen (Perhaps (BeginsOne client)) (IsPolled client poll)) new
 
 -- memory was refused in a poll: nothing is done for the client any more
 pub record StopsFor (old : ServedCore) (client : ℕ) (new : ServedCore) : Type 0 where
   pub stops : StopsPolling old.core client new.core
-  pub goes : LogsGoBy old (Then (SoFar client) (λ entries. entries ≡ freed stops.numbers ++ log.Drops client ∷ [])) new
+  pub goes : LogsGoBy old (EntriesThen (SoFar client) (λ entries. entries ≡ freed stops.numbers ++ log.Drops client ∷ [])) new
 
 -- after a fault of a poll all is as it was, but where memory was refused
 abbrev pub PollStops : ServedCore → ℕ → CoreFault → ServedCore → Type 0
@@ -49,8 +49,8 @@ PollStops old client faults.NoTicket new = new ≡ old
 abbrev pub SettlesOn : ServedCore → ℕ → Command → Outcome → (List (Entry dialect) → Type 0) → ServedCore → Type 0
 SettlesOn old number a outcome IsMore new =
     (opening : ℕ → List ℕ → Option Item) (past : List (Entry dialect)) (led : MayHaveLed opening past old) (end : End) → outcome ≡ outcome_of end
-    → EndsIn (led.beside.holds (server_in a.job.pending) (ask_under a.job.frames.items a.job.ask).key) (led.beside.found number) number (ask_under a.job.frames.items a.job.ask) (origin_under a.job.frames.items OfClient) end
-    → (more : List (Entry dialect)) × IsMore more × (led' : MayHaveLed opening ((more ++ Happens (event_of number a end) ∷ []) ++ past) new) × IsBeside (settled (event_of number a end) led.beside) led'.beside
+    → EndsIn (led.beside.holds (server_of_pending a.job.pending) (ask_under a.job.frames.items a.job.ask).key) (led.beside.found number) number (ask_under a.job.frames.items a.job.ask) (origin_under a.job.frames.items OfClient) end
+    → (more : List (Entry dialect)) × IsMore more × (led' : MayHaveLed opening ((more ++ Happens (event_of_call number a end) ∷ []) ++ past) new) × IsBeside (settled_beside (event_of_call number a end) led.beside) led'.beside
 
 -- the command of this number has the result of its call, which is counted; where nothing is done for its client any more, it is broken off
 pub record TakesResult (old : ServedCore) (number : ℕ) (outcome : Outcome) (new : ServedCore) : Type 0 where
@@ -69,7 +69,7 @@ pub record BreaksWith (old : ServedCore) (number : ℕ) (outcome : Outcome) (new
 -- no call of this number was out, and all is as it was; or memory was refused
 abbrev pub SettleStops : ServedCore → ℕ → Outcome → CoreFault → ServedCore → Type 0
 SettleStops old number outcome faults.NoMemory new = BreaksWith old number outcome new
-SettleStops old number outcome faults.NoTicket new = HasNoCall old.core number × (new ≡ old)
+SettleStops old number outcome faults.NoTicket new = IsNotOut old.core number × (new ≡ old)
 SettleStops old number outcome faults.TooManyClients new = ⊥
 SettleStops old number outcome faults.NoClient new = ⊥
 SettleStops old number outcome faults.InputFull new = ⊥

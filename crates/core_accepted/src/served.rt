@@ -5,7 +5,7 @@ ghost use Rattle.wire_parts.specs.Sending.{bytes_of};
 ghost use Rattle.mc_types.specs.Asks.{IsAsk};
 ghost use Rattle.fresh_runs.specs.Overlap as log;
 ghost use Rattle.core_proxy.specs.Faults.{IsClosed, CanOpen, CanFeed, CanClose, OpenFault, FeedFault, OutputFault, CloseFault};
-ghost use Rattle.core_proxy.specs.CoreState.{IsOut, Opens, Feeds, Gives, Closes, LeavesLine, client_at, dropped_by, held_by, output_by};
+ghost use Rattle.core_proxy.specs.CoreState.{IsOut, Opens, Feeds, Gives, ClosesClient, LeavesLine, client_at, dropped_by, held_by, output_by};
 ghost use Rattle.core_commands.specs.Lines.{is_standing};
 ghost use Rattle.core_proxy.specs.Polls.{Polls, PollFault};
 ghost use Rattle.core_proxy.specs.Settles.{FitsCall, asked, SettleFault};
@@ -133,7 +133,7 @@ impl ServedCore {
 
     /// As `Core::close`.
     pub fn close(&mut self, client: usize) -> Result<(), CoreFault>
-        ensures ok { OnOk result (CanClose self.old.core client × Closes self.old.core client self.new.core) }
+        ensures ok { OnOk result (CanClose self.old.core client × ClosesClient self.old.core client self.new.core) }
         ensures err { IfErr result (λ fault. CloseFault self.old.core client fault × (self.new ≡ self.old)) }
         ensures fresh { OnOk result (LogsGoBy self.old (λ entries. entries ≡ log.Resets client ∷ []) self.new) }
     {

@@ -16,7 +16,7 @@ use Rattle.std.proofs.lemmas.Option.{get_or_from_slice_get}
 use Rattle.indexmap.specs.IndexMap as indexmap
 use Rattle.indexmap.specs.IndexMap.{swap_remove_entry}
 use Rattle.indexmap.proofs.MapLemmas.{Found-position, Missing-position, swap_remove_entry-found}
-use Rattle.route_job.specs.Jobs.{server_in, IsCalling}
+use Rattle.route_job.specs.Jobs.{server_of_pending, IsCalling}
 use Rattle.core_commands.specs.declared.command.Command.{Command}
 use Rattle.core_commands.specs.Out.{is_call, has_call_out}
 use Rattle.core_commands.specs.Claims.{clears_key, copies_key}
@@ -116,10 +116,10 @@ same_at s q e xs = ap (λ n. count_by (is_called n) xs) (eqb-true s q e)
 
 -- a command of which no call is out is at no server
 idle_called : (a : Command) → has_call_out a ≡ false → (s : ℕ) → is_called s a ≡ false
-idle_called a idle s = ap (λ b. cond b (nat_eq (server_in a.job.pending) s) false) idle
+idle_called a idle s = ap (λ b. cond b (nat_eq (server_of_pending a.job.pending) s) false) idle
 
-out_called : (a : Command) → has_call_out a ≡ true → (s : ℕ) → is_called s a ≡ nat_eq (server_in a.job.pending) s
-out_called a out s = ap (λ b. cond b (nat_eq (server_in a.job.pending) s) false) out
+out_called : (a : Command) → has_call_out a ≡ true → (s : ℕ) → is_called s a ≡ nat_eq (server_of_pending a.job.pending) s
+out_called a out s = ap (λ b. cond b (nat_eq (server_of_pending a.job.pending) s) false) out
 
 -- no call of a command is out where its next one isn't
 pub unsent : (a : Command) → a.is_out ≡ false → has_call_out a ≡ false
@@ -273,10 +273,10 @@ module _ {S T : Type 0} (old new : indexmap.IndexMap ℕ Command S) (clearing co
 
     -- all is counted after a command's call went out
     pub counted_sent :
-        (calls' waiting' : List ℕ) → b.ask ≡ a.ask → b.claim ≡ a.claim → a.is_out ≡ false → b.is_out ≡ true → b.job ≡ a.job → IsCalling a.job → SetsCountAt (server_in a.job.pending) (slice_index_or calls (server_in a.job.pending) 0 + 1) calls calls'
+        (calls' waiting' : List ℕ) → b.ask ≡ a.ask → b.claim ≡ a.claim → a.is_out ≡ false → b.is_out ≡ true → b.job ≡ a.job → IsCalling a.job → SetsCountAt (server_of_pending a.job.pending) (slice_index_or calls (server_of_pending a.job.pending) 0 + 1) calls calls'
         → SetsCountAt a.client (slice_index_or waiting a.client 0 - 1) waiting waiting' → AreCounted new clearing copying calls' waiting'
     counted_sent calls' waiting' ask claim idle out job calling sets waited =
-        let s = server_in a.job.pending in
+        let s = server_of_pending a.job.pending in
         let none = unsent a idle in
         let b_out : has_call_out b ≡ true = (λ i. cond (out i) (is_call (job i).pending) false) ∙ is_call_true a.job.pending calling in
         record {
@@ -284,7 +284,7 @@ module _ {S T : Type 0} (old new : indexmap.IndexMap ℕ Command S) (clearing co
           copies = copies_stays ask claim;
           at =
               one_more nat_eq is_called same_at (at_place calls) (at_place calls') s (indexmap.values old) (indexmap.values new) counted.at sets
-              (comes is_called s (λ q. ap (λ x. weight x) (idle_called a none q)) (λ q. ap (λ x. weight x) (out_called b b_out q) ∙ (λ i. cond (nat_eq (server_in (job i).pending) q) 1 0)));
+              (comes is_called s (λ q. ap (λ x. weight x) (idle_called a none q)) (λ q. ap (λ x. weight x) (out_called b b_out q) ∙ (λ i. cond (nat_eq (server_of_pending (job i).pending) q) 1 0)));
           without =
               one_less nat_eq is_without_call same_of (at_place waiting) (at_place waiting') a.client (indexmap.values old) (indexmap.values new) counted.without waited
               (goes is_without_call a.client (idle_without a none) (out_without b b_out));
@@ -292,10 +292,10 @@ module _ {S T : Type 0} (old new : indexmap.IndexMap ℕ Command S) (clearing co
 
     -- all is counted after a command's call had its outcome
     pub counted_taken :
-        (calls' waiting' : List ℕ) → b.ask ≡ a.ask → b.claim ≡ a.claim → has_call_out a ≡ true → b.is_out ≡ false → SetsCountAt (server_in a.job.pending) (slice_index_or calls (server_in a.job.pending) 0 - 1) calls calls'
+        (calls' waiting' : List ℕ) → b.ask ≡ a.ask → b.claim ≡ a.claim → has_call_out a ≡ true → b.is_out ≡ false → SetsCountAt (server_of_pending a.job.pending) (slice_index_or calls (server_of_pending a.job.pending) 0 - 1) calls calls'
         → SetsCountAt b.client (slice_index_or waiting b.client 0 + 1) waiting waiting' → AreCounted new clearing copying calls' waiting'
     counted_taken calls' waiting' ask claim out idle sets waits =
-        let s = server_in a.job.pending in
+        let s = server_of_pending a.job.pending in
         let none = unsent b idle in
         record {
           clears = clears_stays ask claim;

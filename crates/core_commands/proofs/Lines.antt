@@ -10,7 +10,7 @@ use Rattle.std.proofs.lemmas.List.{drop_more}
 use Rattle.std.proofs.lemmas.List.Sums.{take_while-cons}
 use Rattle.core_commands.specs.declared.claim.Claim.{Claim}
 use Rattle.core_commands.specs.declared.key_lines.Standing.{Standing}
-use Rattle.core_commands.specs.Lines.{is_place, is_in_way, before, is_behind, others, put_at, NobodyIsPassed}
+use Rattle.core_commands.specs.Lines.{is_place, is_in_way, standing_before, is_behind, others, standing_put_at, NobodyIsPassed}
 
 -- what claims nothing has nobody in its way
 pub nobody_in_way : (key : List ℕ) (claim : Claim) (lines : List Standing) → not claim.clears ≡ true → not claim.copies ≡ true → list_any (is_in_way key claim) lines ≡ false
@@ -34,15 +34,15 @@ pub seen :
 seen client key claim lines i it lt e = ap (is_behind client key claim) (drop_more lines i it lt ∙ ap (λ (x : Standing). x ∷ drop (i + 1) lines) (sym e))
 
 module _ (client : ℕ) (key : List ℕ) (claim : Claim) (it : Standing) (rest : List Standing) where
-  cons : is_behind client key claim (it ∷ rest) ≡ list_any (is_in_way key claim) (cond (not (is_place client key it)) (it ∷ before client key rest) [])
+  cons : is_behind client key claim (it ∷ rest) ≡ list_any (is_in_way key claim) (cond (not (is_place client key it)) (it ∷ standing_before client key rest) [])
   cons = ap (list_any (is_in_way key claim)) (take_while-cons (λ (e : Standing). not (is_place client key e)) it rest)
 
   -- nobody stands before the first
   pub first_is : is_place client key it ≡ true → is_behind client key claim (it ∷ rest) ≡ false
-  first_is e = cons ∙ ap (λ b. list_any (is_in_way key claim) (cond (not b) (it ∷ before client key rest) [])) e
+  first_is e = cons ∙ ap (λ b. list_any (is_in_way key claim) (cond (not b) (it ∷ standing_before client key rest) [])) e
 
   other : is_place client key it ≡ false → is_behind client key claim (it ∷ rest) ≡ (is_in_way key claim it || is_behind client key claim rest)
-  other e = cons ∙ ap (λ b. list_any (is_in_way key claim) (cond (not b) (it ∷ before client key rest) [])) e
+  other e = cons ∙ ap (λ b. list_any (is_in_way key claim) (cond (not b) (it ∷ standing_before client key rest) [])) e
 
   -- a client stands behind one in the way
   pub in_way_is : is_place client key it ≡ false → is_in_way key claim it ≡ true → is_behind client key claim (it ∷ rest) ≡ true
@@ -62,17 +62,17 @@ others_again client (it ∷ rest) =
     ]) refl
 
 module _ (client : ℕ) (key : List ℕ) where
-  before_first : (it : Standing) (rest : List Standing) → is_place client key it ≡ true → before client key (it ∷ rest) ≡ []
-  before_first it rest e = take_while-cons (λ (x : Standing). not (is_place client key x)) it rest ∙ ap (λ b. cond (not b) (it ∷ before client key rest) []) e
+  before_first : (it : Standing) (rest : List Standing) → is_place client key it ≡ true → standing_before client key (it ∷ rest) ≡ []
+  before_first it rest e = take_while-cons (λ (x : Standing). not (is_place client key x)) it rest ∙ ap (λ b. cond (not b) (it ∷ standing_before client key rest) []) e
 
-  before_more : (it : Standing) (rest : List Standing) → is_place client key it ≡ false → before client key (it ∷ rest) ≡ it ∷ before client key rest
-  before_more it rest e = take_while-cons (λ (x : Standing). not (is_place client key x)) it rest ∙ ap (λ b. cond (not b) (it ∷ before client key rest) []) e
+  before_more : (it : Standing) (rest : List Standing) → is_place client key it ≡ false → standing_before client key (it ∷ rest) ≡ it ∷ standing_before client key rest
+  before_more it rest e = take_while-cons (λ (x : Standing). not (is_place client key x)) it rest ∙ ap (λ b. cond (not b) (it ∷ standing_before client key rest) []) e
 
   -- who comes to the end of a line stands before nobody who is there
-  before_end : (xs ys : List Standing) → list_any (is_place client key) xs ≡ true → before client key (xs ++ ys) ≡ before client key xs
+  before_end : (xs ys : List Standing) → list_any (is_place client key) xs ≡ true → standing_before client key (xs ++ ys) ≡ standing_before client key xs
   before_end [] ys e = absurd cc
   before_end (it ∷ xs) ys e =
-      (elim (is_place client key it) as (λ b. is_place client key it ≡ b → (b || list_any (is_place client key) xs) ≡ true → before client key (it ∷ (xs ++ ys)) ≡ before client key (it ∷ xs)) [
+      (elim (is_place client key it) as (λ b. is_place client key it ≡ b → (b || list_any (is_place client key) xs) ≡ true → standing_before client key (it ∷ (xs ++ ys)) ≡ standing_before client key (it ∷ xs)) [
         | true ↦ λ is e. before_first it (xs ++ ys) is ∙ sym (before_first it xs is)
         | false ↦ λ is e. before_more it (xs ++ ys) is ∙ ap (λ l. it ∷ l) (before_end xs ys e) ∙ sym (before_more it xs is)
       ]) refl e
@@ -89,15 +89,15 @@ module _ (client : ℕ) (key : List ℕ) where
           | false ↦ λ differs e. absurd cc
         ]) refl e
 
-    before_others : (lines : List Standing) → before client key (others c lines) ≡ others c (before client key lines)
+    before_others : (lines : List Standing) → standing_before client key (others c lines) ≡ others c (standing_before client key lines)
     before_others [] = refl
     before_others (it ∷ rest) =
-        (elim (is_place client key it) as (λ b. is_place client key it ≡ b → before client key (others c (it ∷ rest)) ≡ others c (before client key (it ∷ rest))) [
-          | true ↦ λ is. ap (before client key) (others_cons it rest false (place_kept it is)) ∙ before_first it (others c rest) is ∙ sym (ap (others c) (before_first it rest is))
-          | false ↦ λ is. (elim (nat_eq it.client c) as (λ b. nat_eq it.client c ≡ b → before client key (others c (it ∷ rest)) ≡ others c (before client key (it ∷ rest))) [
-            | true ↦ λ same. ap (before client key) (others_cons it rest true same) ∙ before_others rest ∙ sym (ap (others c) (before_more it rest is) ∙ others_cons it (before client key rest) true same)
+        (elim (is_place client key it) as (λ b. is_place client key it ≡ b → standing_before client key (others c (it ∷ rest)) ≡ others c (standing_before client key (it ∷ rest))) [
+          | true ↦ λ is. ap (standing_before client key) (others_cons it rest false (place_kept it is)) ∙ before_first it (others c rest) is ∙ sym (ap (others c) (before_first it rest is))
+          | false ↦ λ is. (elim (nat_eq it.client c) as (λ b. nat_eq it.client c ≡ b → standing_before client key (others c (it ∷ rest)) ≡ others c (standing_before client key (it ∷ rest))) [
+            | true ↦ λ same. ap (standing_before client key) (others_cons it rest true same) ∙ before_others rest ∙ sym (ap (others c) (before_more it rest is) ∙ others_cons it (standing_before client key rest) true same)
             | false ↦ λ differs.
-                ap (before client key) (others_cons it rest false differs) ∙ before_more it (others c rest) is ∙ ap (λ l. it ∷ l) (before_others rest) ∙ sym (ap (others c) (before_more it rest is) ∙ others_cons it (before client key rest) false differs)
+                ap (standing_before client key) (others_cons it rest false differs) ∙ before_more it (others c rest) is ∙ ap (λ l. it ∷ l) (before_others rest) ∙ sym (ap (others c) (before_more it rest is) ∙ others_cons it (standing_before client key rest) false differs)
           ]) refl
         ]) refl
 
@@ -116,7 +116,7 @@ pub nobody_is_passed : NobodyIsPassed
 nobody_is_passed client key it lines apart = (
   before_others client key it.client apart lines,
   λ there none.
-      ap (λ place. before client key (put_at place it lines)) none ∙ before_end client key (others it.client lines) (it ∷ []) (place_stays client key it.client apart lines there) ∙ before_others client key it.client apart lines,
+      ap (λ place. standing_before client key (standing_put_at place it lines)) none ∙ before_end client key (others it.client lines) (it ∷ []) (place_stays client key it.client apart lines there) ∙ before_others client key it.client apart lines,
 )
 
 -- who stands in its place with the claim that it has changes nothing

@@ -9,7 +9,7 @@ use Rattle.route_tree.specs.At.{tree_at}
 use Rattle.route_tree.specs.Route.{Route}
 use Rattle.route_tree.specs.Word.{Given, Word}
 use Rattle.route_job.specs.Rest.{ask_under, origin_under}
-use Rattle.route_job.specs.Jobs.{server_in, Comes}
+use Rattle.route_job.specs.Jobs.{server_of_pending, Comes}
 use Rattle.route_job.specs.declared.job.Job.{Job}
 use Rattle.core_commands.specs.declared.claim.Claim.{Claim}
 use Rattle.core_commands.specs.declared.command.Command.{Command}
@@ -27,16 +27,16 @@ pub record IsBegun (tree : Route) (client : ℕ) (ask : Ask) (claim : Claim) (co
   pub idle : command.is_out ≡ false
 
 -- one more fits without memory
-abbrev pub HasRoom : {S : Type 0} → map.IndexMap ℕ Command S → Type 0
-HasRoom commands = 0 < map.spare commands
+abbrev pub FitsOneMore : {S : Type 0} → map.IndexMap ℕ Command S → Type 0
+FitsOneMore commands = 0 < map.spare commands
 
 -- the command of this number is that one, and every other one stays
-abbrev pub Puts : {S : Type 0} → map.IndexMap ℕ Command S → ℕ → Command → map.IndexMap ℕ Command S → ℕ → Type 0
-Puts old number command new n = map.get nat_eq new n ≡ (if nat_eq number n then Some command else map.get nat_eq old n)
+abbrev pub PutsCommand : {S : Type 0} → map.IndexMap ℕ Command S → ℕ → Command → map.IndexMap ℕ Command S → ℕ → Type 0
+PutsCommand old number command new n = map.get nat_eq new n ≡ (if nat_eq number n then Some command else map.get nat_eq old n)
 
 -- a ticket of this number for the call that a job shows
 pub record IsTicketFor (number : ℕ) (job : Job) (ticket : Ticket) : Type 0 where
   pub ask_is : ticket.ask ≡ ask_under job.frames.items job.ask
   pub number_is : ticket.number ≡ number
   pub origin_is : ticket.origin ≡ origin_under job.frames.items OfClient
-  pub server_is : ticket.server ≡ server_in job.pending
+  pub server_is : ticket.server ≡ server_of_pending job.pending

@@ -5,7 +5,7 @@ use Rattle.std.specs.Map.{count_at}
 use Rattle.std.specs.declared.hash.FoldHasher.{FoldHasher}
 use Rattle.std.specs.declared.hash.BuildHasherDefault.{BuildHasherDefault}
 use Rattle.indexmap.specs.IndexMap as map
-use Rattle.route_job.specs.Jobs.{server_in}
+use Rattle.route_job.specs.Jobs.{server_of_pending}
 use Rattle.core_commands.specs.declared.command.Command.{Command}
 use Rattle.core_commands.specs.Claims.{clears_key, copies_key}
 use Rattle.core_commands.specs.Out.{has_call_out}
@@ -20,7 +20,7 @@ SetsCount {K} eq key n old new = (q : K) → count_at (map.get eq new) q ≡ (if
 
 -- the call of a command is out at this server
 abbrev pub is_called : ℕ → Command → Bool
-is_called server command = if has_call_out command then nat_eq (server_in command.job.pending) server else false
+is_called server command = if has_call_out command then nat_eq (server_of_pending command.job.pending) server else false
 
 -- where it counts, there are so many of it now, and of all else as many as before
 abbrev pub SetsCountWhere : Bool → {K S : Type 0} → (K → K → Bool) → K → ℕ → map.IndexMap K ℕ S → map.IndexMap K ℕ S → Type 0

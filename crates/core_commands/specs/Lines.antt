@@ -14,24 +14,24 @@ abbrev pub is_in_way : List ℕ → Claim → Standing → Bool
 is_in_way key claim it = if pointwise nat_eq it.key key then ((if claim.clears then it.claim.copies else false) || (if claim.copies then it.claim.clears else false)) else false
 
 -- who stands before the client, or would if it came now
-abbrev pub before : ℕ → List ℕ → List Standing → List Standing
-before client key lines = take_while (λ it. not (is_place client key it)) lines
+abbrev pub standing_before : ℕ → List ℕ → List Standing → List Standing
+standing_before client key lines = take_while (λ it. not (is_place client key it)) lines
 
 -- one of those before the client stands in the line of the key, and its claim is in the way
 abbrev pub is_behind : ℕ → List ℕ → Claim → List Standing → Bool
-is_behind client key claim lines = list_any (is_in_way key claim) (before client key lines)
+is_behind client key claim lines = list_any (is_in_way key claim) (standing_before client key lines)
 
 -- all that stand but this client, in their order
 abbrev pub others : ℕ → List Standing → List Standing
 others client lines = filter (λ it. not (nat_eq it.client client)) lines
 
 -- a client that stands there keeps its place; any other one comes to the end, and stands nowhere else
-abbrev pub put_at : Option ℕ → Standing → List Standing → List Standing
-put_at None it lines = others it.client lines ++ it ∷ []
-put_at (Some place) it lines = slice_set lines place it
+abbrev pub standing_put_at : Option ℕ → Standing → List Standing → List Standing
+standing_put_at None it lines = others it.client lines ++ it ∷ []
+standing_put_at (Some place) it lines = slice_set lines place it
 
 abbrev pub joined : Standing → List Standing → List Standing
-joined it lines = put_at (position (is_place it.client it.key) lines) it lines
+joined it lines = standing_put_at (position (is_place it.client it.key) lines) it lines
 
 -- the client stands in a line
 abbrev pub is_standing : ℕ → List Standing → Bool
@@ -41,5 +41,5 @@ is_standing client lines = list_any (λ it. nat_eq it.client client) lines
 abbrev pub NobodyIsPassed : Type 0
 NobodyIsPassed =
     (client : ℕ) (key : List ℕ) (it : Standing) (lines : List Standing) → nat_eq client it.client ≡ false
-    → (before client key (others it.client lines) ≡ others it.client (before client key lines))
-    × (list_any (is_place client key) lines ≡ true → position (is_place it.client it.key) lines ≡ None → before client key (joined it lines) ≡ others it.client (before client key lines))
+    → (standing_before client key (others it.client lines) ≡ others it.client (standing_before client key lines))
+    × (list_any (is_place client key) lines ≡ true → position (is_place it.client it.key) lines ≡ None → standing_before client key (joined it lines) ≡ others it.client (standing_before client key lines))

@@ -7,7 +7,7 @@ use Rattle.mc_types.specs.declared.call.Origin.TheVariants.{Client as OfClient}
 use Rattle.fresh_runs.specs.Calls.{Call}
 use Rattle.route_tree.specs.Word.{Given}
 use Rattle.route_job.specs.Rest.{ask_under, origin_under}
-use Rattle.route_job.specs.Jobs.{server_in, call_of, Comes}
+use Rattle.route_job.specs.Jobs.{server_of_pending, call_of, Comes}
 use Rattle.core_commands.specs.declared.command.Command.{Command}
 use Rattle.core_commands.specs.Begun.{owner_by}
 use Rattle.core_commands.specs.Out.{has_call_out}
@@ -20,7 +20,7 @@ asked_by (Some a) = if has_call_out a then Some (ask_under a.job.frames.items a.
 -- the call of a command that is out
 pub record IsOutAs (command : Command) (server : ℕ) (ask : Ask) (origin : Origin) : Type 0 where
   pub out : has_call_out command ≡ true
-  pub server_is : server ≡ server_in command.job.pending
+  pub server_is : server ≡ server_of_pending command.job.pending
   pub ask_is : ask ≡ ask_under command.job.frames.items command.job.ask
   pub origin_is : origin ≡ origin_under command.job.frames.items OfClient
 

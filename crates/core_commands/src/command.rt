@@ -4,7 +4,7 @@ ghost use Rattle.std.specs.Prelude.{◌≡◌, true, false, OnOk, IfSome, Some, 
 ghost use Rattle.mc_types.specs.Asks.{IsAsk};
 ghost use Rattle.fresh_runs.specs.Single.{FitsOutcome};
 ghost use Rattle.route_job.specs.AtMostOne.{is_ask_prop};
-ghost use Rattle.route_job.specs.Jobs.{server_in};
+ghost use Rattle.route_job.specs.Jobs.{server_of_pending};
 ghost use Rattle.route_job.specs.Rest.{ask_under};
 
 use crate::claim::Claim;
@@ -64,7 +64,7 @@ impl Command {
     /// The server of the command's call that is out. It takes no memory.
     pub fn server(&self) -> ServerId
         requires { has_call_out self.now ≡ true }
-        ensures { result ≡ server_in self.now.job.pending }
+        ensures { result ≡ server_of_pending self.now.job.pending }
     {
         match self.job.server() {
             Some(server) => server,

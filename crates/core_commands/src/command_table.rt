@@ -6,10 +6,10 @@ ghost use Rattle.indexmap.specs.IndexMap.{get, index_of_by, values, index_map_le
 ghost use Rattle.fresh_runs.specs.Calls.{Call as CallMade};
 ghost use Rattle.fresh_runs.specs.Single.{FitsOutcome};
 ghost use Rattle.route_tree.specs.Word.{Given};
-ghost use Rattle.route_job.specs.Given.{given_of};
+ghost use Rattle.route_job.specs.Given.{given_when_done};
 ghost use Rattle.route_job.specs.Jobs.{Comes, IsDone};
 ghost use Rattle.route_job.specs.Rest.{ask_under};
-ghost use Rattle.core_commands.specs.Begun.{HasRoom, Puts};
+ghost use Rattle.core_commands.specs.Begun.{FitsOneMore, PutsCommand};
 ghost use Rattle.core_commands.specs.Claims.{clears_key, copies_key, is_barred};
 ghost use Rattle.core_commands.specs.Counts.{is_without_call, HasAllCallsOut};
 ghost use Rattle.core_commands.specs.Ready.{calls_at};
@@ -80,8 +80,8 @@ fn is_none(old: Option<Command>) -> bool
 
 // One more command. Whether no other had its number.
 fn put_new(number: u64, command: Command, commands: &mut IndexMap<u64, Command>) -> bool
-    requires { HasRoom commands.old }
-    ensures puts { (n : ℕ) → Puts commands.old number command commands.new n }
+    requires { FitsOneMore commands.old }
+    ensures puts { (n : ℕ) → PutsCommand commands.old number command commands.new n }
     ensures last { result ≡ true → commands.new.entries ≡ commands.old.entries ++ (number, command) ∷ [] }
 {
     let Ok(old) = commands.insert(number, command) else {
@@ -233,7 +233,7 @@ impl CommandTable {
     /// How the command of this ask and this job ended, which isn't among these any more. Their memory is kept for others.
     pub fn end(&mut self, alloc: Global, ask: &SharedAsk, job: HeldJob) -> Done
         requires { IsDone job }
-        ensures done { (calls : List CallMade) (given : Given) → Comes job calls given ↔ ((calls ≡ []) × (given ≡ given_of result)) }
+        ensures done { (calls : List CallMade) (given : Given) → Comes job calls given ↔ ((calls ≡ []) × (given ≡ given_when_done result)) }
         ensures same { self.new ≡ self.old }
     {
         self.spares.keep_shared(ask);
@@ -273,7 +273,7 @@ impl CommandTable {
     /// Makes room for one more.
     pub fn make_room(&mut self) -> Result<(), AllocError>
         ensures entries { self.new.entries ≡ self.old.entries }
-        ensures ok { OnOk result (HasRoom self.new) }
+        ensures ok { OnOk result (FitsOneMore self.new) }
     {
         self.guesses.make_room();
         self.by_number.reserve(1)
@@ -281,9 +281,9 @@ impl CommandTable {
 
     /// One more command, of which no call is out, in the room that was made for it.
     pub fn put(&mut self, number: u64, command: Command)
-        requires room { HasRoom self.old }
+        requires room { FitsOneMore self.old }
         requires idle { command.is_out ≡ false }
-        ensures { (n : ℕ) → Puts self.old number command self.new n }
+        ensures { (n : ℕ) → PutsCommand self.old number command self.new n }
     {
         let claim = command.claim;
         let clears = count_where(claim.clears, command.ask.key(), &mut self.clearing);

@@ -6,8 +6,8 @@ ghost use Rattle.fresh_runs.specs.Calls.{Call as CallMade};
 ghost use Rattle.fresh_runs.specs.Single.{FitsOutcome};
 ghost use Rattle.route_tree.specs.At.{tree_at};
 ghost use Rattle.route_tree.specs.Word.{Given, Word};
-ghost use Rattle.route_job.specs.Given.{given_of};
-ghost use Rattle.route_job.specs.Jobs.{Comes, call_of, server_in, IsBroken, IsNext, IsCalling, IsDone};
+ghost use Rattle.route_job.specs.Given.{given_when_done};
+ghost use Rattle.route_job.specs.Jobs.{Comes, call_of, server_of_pending, IsBroken, IsNext, IsCalling, IsDone};
 
 use mc_types::{Outcome, ServerId, SharedAsk};
 use route_job::{Done, Job, JobStep};
@@ -73,7 +73,7 @@ impl HeldJob {
 
     /// As `Job::server`.
     pub fn server(&self) -> Option<ServerId>
-        ensures call { IfSome result (λ server. IsCalling self.now × (server ≡ server_in self.now.pending)) }
+        ensures call { IfSome result (λ server. IsCalling self.now × (server ≡ server_of_pending self.now.pending)) }
         ensures done { IfNone result (IsDone self.now) }
     {
         self.job.as_ref().server()
@@ -92,7 +92,7 @@ impl HeldJob {
     /// As `Job::take_done`, and the job's room, which holds nothing of the command any more, but this ask. It takes no memory.
     pub fn end(mut self, blank: SharedAsk) -> (Done, HeldJob)
         requires { IsDone self }
-        ensures { (calls : List CallMade) (given : Given) → Comes self calls given ↔ ((calls ≡ []) × (given ≡ given_of result.0)) }
+        ensures { (calls : List CallMade) (given : Given) → Comes self calls given ↔ ((calls ≡ []) × (given ≡ given_when_done result.0)) }
     {
         let done = self.job.take_done(blank);
         (done, self)
@@ -108,7 +108,7 @@ impl HeldJob {
     /// As `Job::into_done`.
     pub fn into_done(self) -> Done
         requires { IsDone self }
-        ensures { (calls : List CallMade) (given : Given) → Comes self calls given ↔ ((calls ≡ []) × (given ≡ given_of result)) }
+        ensures { (calls : List CallMade) (given : Given) → Comes self calls given ↔ ((calls ≡ []) × (given ≡ given_when_done result)) }
     {
         let HeldJob { job } = self;
         Box::into_inner(job).into_done()

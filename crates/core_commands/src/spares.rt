@@ -3,7 +3,7 @@
 ghost use Rattle.std.specs.Prelude.{◌≡◌, ◌↔◌, List, []};
 ghost use Rattle.fresh_runs.specs.Calls.{Call as CallMade};
 ghost use Rattle.route_tree.specs.Word.{Given};
-ghost use Rattle.route_job.specs.Given.{given_of};
+ghost use Rattle.route_job.specs.Given.{given_when_done};
 ghost use Rattle.route_job.specs.Jobs.{Comes, IsDone};
 
 use crate::held_job::HeldJob;
@@ -142,7 +142,7 @@ impl Spares {
     /// How the command of this job ended. Its room is kept, where not many are.
     pub fn end_job(&mut self, alloc: Global, job: HeldJob) -> Done
         requires { IsDone job }
-        ensures { (calls : List CallMade) (given : Given) → Comes job calls given ↔ ((calls ≡ []) × (given ≡ given_of result)) }
+        ensures { (calls : List CallMade) (given : Given) → Comes job calls given ↔ ((calls ≡ []) × (given ≡ given_when_done result)) }
     {
         if self.jobs.len() >= SPARES {
             return job.into_done();

@@ -1,7 +1,7 @@
 //! What a command that is under way can do next.
 
 ghost use Rattle.std.specs.Prelude.{◌≡◌};
-ghost use Rattle.core_commands.specs.Ready.{IsTurn, goes_on};
+ghost use Rattle.core_commands.specs.Ready.{IsCommandTurn, goes_on};
 
 use crate::command_table::CommandTable;
 
@@ -32,7 +32,7 @@ impl Turn {
 
 /// What the command of this number can do, where it is this client's.
 pub fn turn_of(client: usize, window: usize, number: u64, commands: &CommandTable) -> Turn
-    ensures { IsTurn client window commands.now number result }
+    ensures { IsCommandTurn client window commands.now number result }
 {
     let Some(command) = commands.get(number) else {
         return Turn::Rests;

@@ -27,7 +27,7 @@ use Rattle.core_commands.specs.declared.claim.Claim.{Claim}
 use Rattle.core_proxy.specs.Claims.{claim_by, clears_key, copies_key}
 use Rattle.core_client.specs.Clients.{has_own}
 use Rattle.core_client.specs.ClientState.{dialect, front_by, output_by, dropped_by, IsSlot}
-use Rattle.core_proxy.specs.CoreState.{bars_of, client_at, command_at, Beside, owner_by, MayComeOf, state_of, is_call, AreSlots, IsAtFront, IsWaitedFor, IsQueue, IsHeld, IsOnItsWay, ticket_by, FitsBeside, GoesByOne, version_by}
+use Rattle.core_proxy.specs.CoreState.{bars_of, client_at, command_at, Beside, owner_by, MayComeOf, state_of, is_call, ArePendingSlots, IsAtFront, IsWaitedFor, IsQueue, IsHeld, IsOnItsWay, ticket_by, FitsBeside, GoesByOne, version_by}
 use Rattle.core_commands.proofs.Commands.{some_command}
 use Rattle.core_proxy.proofs.Commands.{by_number}
 use Rattle.core_proxy.proofs.Claims.{own_there, none_of}
@@ -35,7 +35,7 @@ use Rattle.core_proxy.proofs.Clients.{on_its_way_kept}
 use Rattle.core_proxy.proofs.Slots.{in_front, at_end, none_more, waited_more, held_then}
 use Rattle.core_proxy.proofs.Tickets.{contrary}
 
-slots_more : (xs : List Pending) (ys : List (Slot dialect)) (x : Pending) (y : Slot dialect) → AreSlots xs ys → IsSlot x y → AreSlots (xs ++ x ∷ []) (ys ++ y ∷ [])
+slots_more : (xs : List Pending) (ys : List (Slot dialect)) (x : Pending) (y : Slot dialect) → ArePendingSlots xs ys → IsSlot x y → ArePendingSlots (xs ++ x ∷ []) (ys ++ y ∷ [])
 slots_more [] [] x y h one = (one, tt)
 slots_more [] (b ∷ ys) x y h one = absurd h
 slots_more (a ∷ xs) [] x y h one = absurd h
@@ -71,9 +71,9 @@ module _ (old new : Core) (client : ℕ) (x y : Client) (part : Part dialect) (p
   queues_then beside fits c =
       (elim (nat_eq client c) as (λ b. nat_eq client c ≡ b → IsQueue (client_at new c) (cond b (beside.queue c ++ slot ∷ []) (beside.queue c))) [
         | true ↦ λ same. subst (λ d. IsQueue (client_at new d) (beside.queue d ++ slot ∷ [])) (eqb-true client c same)
-            (let a : AreSlots x.queue.items (beside.queue client) × IsAtFront x (beside.queue client) × IsWaitedFor x.waits (beside.queue client) = subst (λ o. IsQueue o (beside.queue client)) r.was (fits.queues client) in
+            (let a : ArePendingSlots x.queue.items (beside.queue client) × IsAtFront x (beside.queue client) × IsWaitedFor x.waits (beside.queue client) = subst (λ o. IsQueue o (beside.queue client)) r.was (fits.queues client) in
             subst (λ o. IsQueue o (beside.queue client ++ slot ∷ [])) (sym r.is)
-            (subst (λ l. AreSlots l (beside.queue client ++ slot ∷ [])) (sym r.queue) (slots_more x.queue.items (beside.queue client) pending slot a.0 r.slot), last_front y (beside.queue client) slot waiting, waited_more x.waits y.waits (beside.queue client) slot r.next.ready a.2 (λ _ more. now_waits more)))
+            (subst (λ l. ArePendingSlots l (beside.queue client ++ slot ∷ [])) (sym r.queue) (slots_more x.queue.items (beside.queue client) pending slot a.0 r.slot), last_front y (beside.queue client) slot waiting, waited_more x.waits y.waits (beside.queue client) slot r.next.ready a.2 (λ _ more. now_waits more)))
         | false ↦ λ differs. subst (λ o. IsQueue o (beside.queue c)) (sym (r.others c differs)) (fits.queues c)
       ]) refl
 

@@ -14,8 +14,8 @@ use Rattle.core_client.specs.declared.client.Client.{Client}
 use Rattle.core_commands.specs.declared.command.Command.{Command}
 use Rattle.core_proxy.specs.declared.proxy.Core.{Core}
 use Rattle.core_client.specs.ClientState.{dialect, front_by, output_by, dropped_by}
-use Rattle.core_proxy.specs.CoreState.{bars_of, client_at, command_at, Beside, owner_by, MayComeOf, state_of, AreSlots, IsWaitedFor, IsQueue, IsHeld, IsOnItsWay, ticket_by, FitsBeside, GoesBy, version_by}
-use Rattle.core_proxy.specs.Steps.{event_of, settled, Resolves}
+use Rattle.core_proxy.specs.CoreState.{bars_of, client_at, command_at, Beside, owner_by, MayComeOf, state_of, ArePendingSlots, IsWaitedFor, IsQueue, IsHeld, IsOnItsWay, ticket_by, FitsBeside, GoesBy, version_by}
+use Rattle.core_proxy.specs.Steps.{event_of_call, settled_beside, Resolves}
 use Rattle.core_proxy.specs.Ending.{Drops}
 use Rattle.core_proxy.specs.OutSince.{out_since}
 use Rattle.core_proxy.specs.Settles.{SettlesBy, StandsWithout, freed, DropsBy, TakesOut}
@@ -33,11 +33,11 @@ use Rattle.core_proxy.proofs.Tickets.{contrary}
 pub settles_alone : (old new : Core) (number : ℕ) (a b : Command) (outcome : Outcome) → Resolves old new number a b outcome → SettlesBy old number a outcome (λ more. more ≡ []) new
 settles_alone old new number a b outcome r = λ beside end fits is ends.
     let s = settles old new number a b outcome r beside end fits is ends in
-    (settled (event_of number a end) beside, [], s.0, record { at = refl; holds = refl; found = refl; turn = refl }, refl, s.1, r.limits)
+    (settled_beside (event_of_call number a end) beside, [], s.0, record { at = refl; holds = refl; found = refl; turn = refl }, refl, s.1, r.limits)
 
 -- and what could stand beside the core can without that call
 pub stands_alone : (old new : Core) (number : ℕ) (a b : Command) (outcome : Outcome) → Resolves old new number a b outcome → StandsWithout old number a new
-stands_alone old new number a b outcome r = λ beside fits. (settled (event_of number a Never) beside, still_stands old new number a b outcome r beside Never fits, λ s. refl)
+stands_alone old new number a b outcome r = λ beside fits. (settled_beside (event_of_call number a Never) beside, still_stands old new number a b outcome r beside Never fits, λ s. refl)
 
 -- and then more comes that tells of no call
 pub stands_then :
@@ -59,10 +59,10 @@ settles_then old mid new number a outcome IsFirst IsSecond s g = λ beside end f
     let x = s beside end fits is ends in
     let y = g x.0 x.2 in
     let words = tree_words beside.at in
-    let happens : List (Entry dialect) = Happens (event_of number a end) ∷ [] in
+    let happens : List (Entry dialect) = Happens (event_of_call number a end) ∷ [] in
     let second = leads_there mid old new beside x.0 y.1 y.0 x.3.at x.6 y.5 in
     let both : Leads words (bars_of old beside) (state_of old beside) (y.1 ++ (x.1 ++ happens)) (state_of new y.0) = leads_on words (bars_of old beside) (state_of old beside) (state_of mid x.0) (state_of new y.0) (x.1 ++ happens) y.1 x.5 second in
-    (y.0, y.1 ++ x.1, y.2, beside_on (settled (event_of number a end) beside) x.0 y.0 x.3 y.3, (x.1, y.1, x.4, y.4, refl), subst (λ l. Leads words (bars_of old beside) (state_of old beside) l (state_of new y.0)) (sym (append_assoc y.1 x.1 happens)) both, y.6 ∙ x.6)
+    (y.0, y.1 ++ x.1, y.2, beside_on (settled_beside (event_of_call number a end) beside) x.0 y.0 x.3 y.3, (x.1, y.1, x.4, y.4, refl), subst (λ l. Leads words (bars_of old beside) (state_of old beside) l (state_of new y.0)) (sym (append_assoc y.1 x.1 happens)) both, y.6 ∙ x.6)
 
 pub settles_as : (old new : Core) (number : ℕ) (a : Command) (outcome : Outcome) (IsOne IsOther : List (Entry dialect) → Type 0) → ((entries : List (Entry dialect)) → IsOne entries → IsOther entries) → SettlesBy old number a outcome IsOne new → SettlesBy old number a outcome IsOther new
 settles_as old new number a outcome IsOne IsOther f s = λ beside end fits is ends.
@@ -75,7 +75,7 @@ module _ (old new : Core) (number : ℕ) (a : Command) (outcome : Outcome) (came
     front_is = λ i. record { place = d.stream i; index = d.index i; waits = d.waits i }
 
     queue_then : (slots : List (Slot dialect)) → IsQueue (Some x) slots → IsQueue (Some y) slots
-    queue_then slots q = (subst (λ l. AreSlots l slots) (sym d.queue) q.0, front_same x y front_is slots q.1, subst (λ w. IsWaitedFor w slots) (sym d.waits) q.2)
+    queue_then slots q = (subst (λ l. ArePendingSlots l slots) (sym d.queue) q.0, front_same x y front_is slots q.1, subst (λ w. IsWaitedFor w slots) (sym d.waits) q.2)
 
     same_of : {A : Type 0} (f : Option Client → A) → f (Some y) ≡ f (Some x) → (c : ℕ) → f (client_at new c) ≡ f (client_at old c)
     same_of f e c = by_client a.client c (λ d. f (client_at new d) ≡ f (client_at old d)) (ap f now ∙ e ∙ ap f (sym was)) (λ differs. ap f (r.others c differs))
@@ -90,10 +90,10 @@ module _ (old new : Core) (number : ℕ) (a : Command) (outcome : Outcome) (came
         by_number old new number None r.commands (λ n command. IsHeld n command (client_at new command.client) (beside.queue command.client)) (λ command e. no_command e)
         (λ n command _ e. held_then (client_at old) (client_at new) a.client (Some x) (Some y) was now r.others beside.queue beside.queue n command (λ _ _ served. contrary y.dropped d.dropped served) (λ _. refl) (fits.held n command e))
 
-    tickets_then : (beside : Beside) → FitsBeside old beside → (end : End) → (s n : ℕ) → ticket_in (out_after (event_of number a end) s (beside.out s)) n ≡ ticket_by (command_at new n) n s
+    tickets_then : (beside : Beside) → FitsBeside old beside → (end : End) → (s n : ℕ) → ticket_in (out_after (event_of_call number a end) s (beside.out s)) n ≡ ticket_by (command_at new n) n s
     tickets_then beside fits end s n =
-        (elim (nat_eq number n) as (λ z. nat_eq number n ≡ z → ticket_in (out_after (event_of number a end) s (beside.out s)) n ≡ ticket_by (cond z None (command_at old n)) n s) [
-          | true ↦ λ same. subst (λ m. ticket_in (out_after (event_of number a end) s (beside.out s)) m ≡ None) (eqb-true number n same) (none_then old number a outcome came beside fits end s)
+        (elim (nat_eq number n) as (λ z. nat_eq number n ≡ z → ticket_in (out_after (event_of_call number a end) s (beside.out s)) n ≡ ticket_by (cond z None (command_at old n)) n s) [
+          | true ↦ λ same. subst (λ m. ticket_in (out_after (event_of_call number a end) s (beside.out s)) m ≡ None) (eqb-true number n same) (none_then old number a outcome came beside fits end s)
           | false ↦ λ differs. other_then old number a outcome came beside end s n differs ∙ fits.tickets s n
         ]) refl ∙ ap (λ o. ticket_by o n s) (sym (r.commands n))
 
@@ -104,7 +104,7 @@ module _ (old new : Core) (number : ℕ) (a : Command) (outcome : Outcome) (came
           | false ↦ λ l. l
         ]) (subst (λ o. MayComeOf o calls reply from) (r.commands n) l)
 
-    stands_there : (beside : Beside) (end : End) → FitsBeside old beside → FitsBeside new (settled (event_of number a end) beside)
+    stands_there : (beside : Beside) (end : End) → FitsBeside old beside → FitsBeside new (settled_beside (event_of_call number a end) beside)
     stands_there beside end fits = record {
       queues = queues_then beside fits;
       held = held_still beside fits;
@@ -121,13 +121,13 @@ module _ (old new : Core) (number : ℕ) (a : Command) (outcome : Outcome) (came
 
     breaks_there : SettlesBy old number a outcome (λ more. more ≡ log.Frees number ∷ log.Drops a.client ∷ []) new
     breaks_there = λ beside end fits is ends.
-        let beside' : Beside = settled (event_of number a end) beside in (
+        let beside' : Beside = settled_beside (event_of_call number a end) beside in (
           beside',
           log.Frees number ∷ log.Drops a.client ∷ [],
           stands_there beside end fits,
           record { at = refl; holds = refl; found = refl; turn = refl },
           refl,
-          walks_lead (tree_words beside.at) (bars_of old beside) (state_of old beside) (state_of new beside') (log.Frees number ∷ log.Drops a.client ∷ Happens (event_of number a end) ∷ []) (record {
+          walks_lead (tree_words beside.at) (bars_of old beside) (state_of old beside) (state_of new beside') (log.Frees number ∷ log.Drops a.client ∷ Happens (event_of_call number a end) ∷ []) (record {
             may = (
               (
                 (owner_by a, ap (option_map owner_by) came.was, dropped_now (dropped_by (client_at old a.client))),
@@ -165,7 +165,7 @@ module _ (old new : Core) (number : ℕ) (a : Command) (outcome : Outcome) (came
     where
       by : (o : Option Client) → client_at old a.client ≡ o → (slots : List (Slot dialect)) → IsHeld number a o slots → DropsBy o (client_at new a.client) → StandsWithout old number a new
       by None was slots held drops = absurd held
-      by (Some x) was slots held drops = λ beside fits. (settled (event_of number a Never) beside, stands_there x drops.0 was drops.1 drops.2 beside Never fits, λ s. refl)
+      by (Some x) was slots held drops = λ beside fits. (settled_beside (event_of_call number a Never) beside, stands_there x drops.0 was drops.1 drops.2 beside Never fits, λ s. refl)
 
   -- the command is broken off, and its client is dropped
   pub breaks : SettlesBy old number a outcome (λ more. more ≡ log.Frees number ∷ log.Drops a.client ∷ []) new

@@ -10,7 +10,7 @@ use Rattle.route_tree.specs.At.{tree_at}
 use Rattle.route_tree.specs.Plan.{Plan}
 use Rattle.route_tree.specs.Route.{Route}
 use Rattle.route_job.specs.Rest.{ask_under, origin_under}
-use Rattle.route_job.specs.Jobs.{server_in}
+use Rattle.route_job.specs.Jobs.{server_of_pending}
 use Rattle.wire_stream.specs.declared.connection.front.Passed.{Passed}
 use Rattle.wire_stream.specs.declared.connection.front.Passed.TheVariants.{Own, Refused}
 use Rattle.core_client.specs.ClientState.{dialect, dropped_by}
@@ -26,8 +26,8 @@ use Rattle.core_proxy.specs.CoreState as core_state
 use Rattle.core_proxy.specs.CoreState.{client_at, command_at, has_call_out, ticket_by, Beside, FitsBeside, FeedsOpen, Reloads, IsTakenOver, GoesBy}
 use Rattle.core_proxy.specs.OutSince.{out_since}
 use Rattle.core_proxy.specs.Faults.{OpenFault}
-use Rattle.core_proxy.specs.Polls.{IsPassed, IsNothing, HasBegun, IsTicketOf, IsSent, IsEnded, AreShown, Then, Perhaps, BeginsOne, BeginsBelow, EndsOne, SoEnded, SoFar, Polls, PollFault}
-use Rattle.core_proxy.specs.Settles.{asked, asked_by, HasNoCall, StandsWithout, freed, SettleFault}
+use Rattle.core_proxy.specs.Polls.{IsPassed, NothingHappened, HasBegun, IsTicketOf, IsSent, CommandIsEnded, AreShown, EntriesThen, Perhaps, BeginsOne, BeginsBelow, EndsOne, SoEnded, SoFar, Polls, PollFault}
+use Rattle.core_proxy.specs.Settles.{asked, asked_by, IsNotOut, StandsWithout, freed, SettleFault}
 use Rattle.core_proxy.specs.CallsStay.{called_by, called, CanStand, KeepsCalls, GivesCall, EndsCall, PollsCalls, CallsStay}
 use Rattle.core_proxy.proofs.Chains.{out_on}
 use Rattle.core_proxy.proofs.Polls.{same_goes}
@@ -54,7 +54,7 @@ abbrev ticket_at : Command → ℕ → Ticket
 ticket_at a n = record { number = n; ask = ask_in a; origin = origin_under a.job.frames.items OfClient }
 
 abbrev pair_in : Command → ℕ × Ask
-pair_in a = (server_in a.job.pending, ask_in a)
+pair_in a = (server_of_pending a.job.pending, ask_in a)
 
 ticket_if : (a : Command) (n s : ℕ) (b d : Bool) (t : Ticket) → cond b (cond d (Some (ticket_at a n)) None) None ≡ Some t → (b ≡ true) × (d ≡ true) × (ticket_at a n ≡ t)
 ticket_if a n s true true t e = (refl, refl, same_ticket e)
@@ -64,8 +64,8 @@ ticket_if a n s false d t e = some_none t (sym e)
 ticket_of : (c : Option Command) (n s : ℕ) (t : Ticket) → ticket_by c n s ≡ Some t → called_by c ≡ Some (s, t.ask)
 ticket_of None n s t e = some_none t (sym e)
 ticket_of (Some a) n s t e =
-    let is = ticket_if a n s (has_call_out a) (nat_eq (server_in a.job.pending) s) t e in
-    ap (λ b. cond b (Some (pair_in a)) None) is.0 ∙ ap (λ (p : ℕ × Ask). Some p) (both_are (server_in a.job.pending) s (ask_in a) t.ask (eqb-true (server_in a.job.pending) s is.1) (ap (λ (x : Ticket). x.ask) is.2))
+    let is = ticket_if a n s (has_call_out a) (nat_eq (server_of_pending a.job.pending) s) t e in
+    ap (λ b. cond b (Some (pair_in a)) None) is.0 ∙ ap (λ (p : ℕ × Ask). Some p) (both_are (server_of_pending a.job.pending) s (ask_in a) t.ask (eqb-true (server_of_pending a.job.pending) s is.1) (ap (λ (x : Ticket). x.ask) is.2))
 
 called_if : (a : Command) (b : Bool) (p : ℕ × Ask) → cond b (Some (pair_in a)) None ≡ Some p → (b ≡ true) × (pair_in a ≡ p)
 called_if a true p e = (refl, same_pair e)
@@ -76,8 +76,8 @@ call_of None n p e = absurd (no_pair e)
 call_of (Some a) n p e =
     let is = called_if a (has_call_out a) p e in (
       ticket_at a n,
-      ap (λ b. cond b (cond (nat_eq (server_in a.job.pending) p.0) (Some (ticket_at a n)) None) None) is.0
-          ∙ ap (λ b. cond b (Some (ticket_at a n)) None) (eq-eqb (server_in a.job.pending) p.0 (ap (λ (q : ℕ × Ask). q.0) is.1)),
+      ap (λ b. cond b (cond (nat_eq (server_of_pending a.job.pending) p.0) (Some (ticket_at a n)) None) None) is.0
+          ∙ ap (λ b. cond b (Some (ticket_at a n)) None) (eq-eqb (server_of_pending a.job.pending) p.0 (ap (λ (q : ℕ × Ask). q.0) is.1)),
       ap (λ (q : ℕ × Ask). q.1) is.1,
     )
 
@@ -113,7 +113,7 @@ quiet_is l h entries e out s = ap (λ k. out_since k out s) e ∙ h out s
 quiet_none : Quiet (λ entries. entries ≡ [])
 quiet_none = quiet_is [] (λ out s. refl)
 
-quiet_then : (A B : List (Entry dialect) → Type 0) → Quiet A → Quiet B → Quiet (Then A B)
+quiet_then : (A B : List (Entry dialect) → Type 0) → Quiet A → Quiet B → Quiet (EntriesThen A B)
 quiet_then A B qa qb entries t out s =
     ap (λ k. out_since k out s) t.4 ∙ sym (out_on t.1 t.0 out (λ z. out_since t.0 out z) (λ z. refl) s) ∙ qb t.1 t.3 (λ z. out_since t.0 out z) s ∙ qa t.0 t.2 out s
 
@@ -130,7 +130,7 @@ quiet_one client entries h out s = quiet_begun client h.0 h.1 entries h.2 out s
 quiet_below : (core : Core) (client : ℕ) → Quiet (BeginsBelow core client)
 quiet_below core client entries h out s = quiet_one client entries h.1 out s
 
-quiet_ended : (client : ℕ) (note : Note) → Quiet (IsEnded client note)
+quiet_ended : (client : ℕ) (note : Note) → Quiet (CommandIsEnded client note)
 quiet_ended client note entries h out s = quiet_is (Ends client note.number h.0 h.1 note.from ∷ []) (λ out s. refl) entries h.4 out s
 
 quiet_shown : (client : ℕ) → Quiet (AreShown client)
@@ -177,7 +177,7 @@ unopened_keeps old new faults.TooManyClients can is = same_core old new can is.1
 unopened_keeps old new faults.NoMemory can is =
     let client = λ (c : ℕ). ap (λ k. client_at k c) is in
     let command = λ (n : ℕ). ap (λ k. command_at k n) is in
-    keeps old new IsNothing quiet_none can (same_goes old new client command (ap (λ (k : Core). k.tree) is) (ap (λ (k : Core). k.limits) is) (ap (λ (k : Core). k.number) is))
+    keeps old new NothingHappened quiet_none can (same_goes old new client command (ap (λ (k : Core). k.tree) is) (ap (λ (k : Core). k.limits) is) (ap (λ (k : Core). k.number) is))
 unopened_keeps old new faults.NoTicket can is = absurd is
 unopened_keeps old new faults.NoClient can is = absurd is
 unopened_keeps old new faults.InputFull can is = absurd is
@@ -188,7 +188,7 @@ stopped_keeps : (old new : Core) (client : ℕ) (fault : CoreFault) → CanStand
 stopped_keeps old new client faults.NoClient can is = same_core old new can is.1
 stopped_keeps old new client faults.Spent can is = same_core old new can is.1
 stopped_keeps old new client faults.NoMemory can is =
-    keeps old new (Then (SoFar client) (λ entries. entries ≡ freed is.numbers ++ Drops client ∷ []))
+    keeps old new (EntriesThen (SoFar client) (λ entries. entries ≡ freed is.numbers ++ Drops client ∷ []))
     (quiet_then (SoFar client) (λ entries. entries ≡ freed is.numbers ++ Drops client ∷ []) (quiet_so_far client) (quiet_freed is.numbers client)) can is.goes
 stopped_keeps old new client faults.TooManyClients can is = absurd is
 stopped_keeps old new client faults.InputFull can is = absurd is
@@ -230,7 +230,7 @@ second (x ∷ l) t given n own was none = second_if x l t given n (nat_eq x.numb
 
 is_called : (core : Core) (ticket : OutTicket) → IsTicketOf core ticket → called core ticket.number ≡ Some (ticket.server, ticket.ask)
 is_called core ticket c =
-    ap called_by c.was ∙ ap (λ z. cond z (Some (server_in c.command.job.pending, ask_under c.command.job.frames.items c.command.job.ask)) None) c.is.out
+    ap called_by c.was ∙ ap (λ z. cond z (Some (server_of_pending c.command.job.pending, ask_under c.command.job.frames.items c.command.job.ask)) None) c.is.out
     ∙ (λ k. Some (sym c.is.server_is k, sym c.is.ask_is k))
 
 abbrev given_of : OutTicket → Ticket
@@ -278,7 +278,7 @@ module _
           there s true = more_other (beside.out s) (given_of ticket) n other
           there s false = refl
 
-called_keeps : (old new : Core) (client : ℕ) (ticket : OutTicket) → CanStand old → GoesBy old (Then (Perhaps (BeginsBelow old client)) (IsSent ticket)) new → IsTicketOf new ticket → GivesCall old ticket new
+called_keeps : (old new : Core) (client : ℕ) (ticket : OutTicket) → CanStand old → GoesBy old (EntriesThen (Perhaps (BeginsBelow old client)) (IsSent ticket)) new → IsTicketOf new ticket → GivesCall old ticket new
 called_keeps old new client ticket can goes is =
     let x = goes can.0 can.1 in
     let quiet = quiet_perhaps (BeginsBelow old client) (quiet_below old client) x.4.0 x.4.2 can.0.out in
@@ -287,46 +287,46 @@ called_keeps old new client ticket can goes is =
 
 polled_keeps : (old new : Core) (client : ℕ) (poll : Poll) → CanStand old → Polls old client poll new → PollsCalls old poll new
 polled_keeps old new client (polls.Call ticket) can p = called_keeps old new client ticket can p.goes p.why
-polled_keeps old new client polls.Idle can p = keeps old new (Then (Perhaps (BeginsBelow old client)) IsNothing) (quiet_then (Perhaps (BeginsBelow old client)) IsNothing (quiet_perhaps (BeginsBelow old client) (quiet_below old client)) quiet_none) can p.goes
+polled_keeps old new client polls.Idle can p = keeps old new (EntriesThen (Perhaps (BeginsBelow old client)) NothingHappened) (quiet_then (Perhaps (BeginsBelow old client)) NothingHappened (quiet_perhaps (BeginsBelow old client) (quiet_below old client)) quiet_none) can p.goes
 polled_keeps old new client polls.Own can p =
-    keeps old new (Then (Perhaps (BeginsBelow old client)) (IsPassed client Own)) (quiet_then (Perhaps (BeginsBelow old client)) (IsPassed client Own) (quiet_perhaps (BeginsBelow old client) (quiet_below old client)) (quiet_passed client Own)) can p.goes
+    keeps old new (EntriesThen (Perhaps (BeginsBelow old client)) (IsPassed client Own)) (quiet_then (Perhaps (BeginsBelow old client)) (IsPassed client Own) (quiet_perhaps (BeginsBelow old client) (quiet_below old client)) (quiet_passed client Own)) can p.goes
 polled_keeps old new client polls.Refused can p =
-    keeps old new (Then (Perhaps (BeginsBelow old client)) (IsPassed client Refused)) (quiet_then (Perhaps (BeginsBelow old client)) (IsPassed client Refused) (quiet_perhaps (BeginsBelow old client) (quiet_below old client)) (quiet_passed client Refused)) can p.goes
-polled_keeps old new client polls.Waiting can p = keeps old new (Then (Perhaps (BeginsBelow old client)) IsNothing) (quiet_then (Perhaps (BeginsBelow old client)) IsNothing (quiet_perhaps (BeginsBelow old client) (quiet_below old client)) quiet_none) can p.goes
-polled_keeps old new client polls.Queued can p = keeps old new (Then (Perhaps (BeginsBelow old client)) IsNothing) (quiet_then (Perhaps (BeginsBelow old client)) IsNothing (quiet_perhaps (BeginsBelow old client) (quiet_below old client)) quiet_none) can p.goes
-polled_keeps old new client polls.Busy can p = keeps old new (Then (Perhaps (BeginsBelow old client)) IsNothing) (quiet_then (Perhaps (BeginsBelow old client)) IsNothing (quiet_perhaps (BeginsBelow old client) (quiet_below old client)) quiet_none) can p.goes
+    keeps old new (EntriesThen (Perhaps (BeginsBelow old client)) (IsPassed client Refused)) (quiet_then (Perhaps (BeginsBelow old client)) (IsPassed client Refused) (quiet_perhaps (BeginsBelow old client) (quiet_below old client)) (quiet_passed client Refused)) can p.goes
+polled_keeps old new client polls.Waiting can p = keeps old new (EntriesThen (Perhaps (BeginsBelow old client)) NothingHappened) (quiet_then (Perhaps (BeginsBelow old client)) NothingHappened (quiet_perhaps (BeginsBelow old client) (quiet_below old client)) quiet_none) can p.goes
+polled_keeps old new client polls.Queued can p = keeps old new (EntriesThen (Perhaps (BeginsBelow old client)) NothingHappened) (quiet_then (Perhaps (BeginsBelow old client)) NothingHappened (quiet_perhaps (BeginsBelow old client) (quiet_below old client)) quiet_none) can p.goes
+polled_keeps old new client polls.Busy can p = keeps old new (EntriesThen (Perhaps (BeginsBelow old client)) NothingHappened) (quiet_then (Perhaps (BeginsBelow old client)) NothingHappened (quiet_perhaps (BeginsBelow old client) (quiet_below old client)) quiet_none) can p.goes
 polled_keeps old new client (polls.Did note) can p =
-    keeps old new (Then (Perhaps (BeginsBelow old client)) (Then (IsEnded client note) (AreShown client)))
-    (quiet_then (Perhaps (BeginsBelow old client)) (Then (IsEnded client note) (AreShown client)) (quiet_perhaps (BeginsBelow old client) (quiet_below old client))
-    (quiet_then (IsEnded client note) (AreShown client) (quiet_ended client note) (quiet_shown client))) can p.goes
+    keeps old new (EntriesThen (Perhaps (BeginsBelow old client)) (EntriesThen (CommandIsEnded client note) (AreShown client)))
+    (quiet_then (Perhaps (BeginsBelow old client)) (EntriesThen (CommandIsEnded client note) (AreShown client)) (quiet_perhaps (BeginsBelow old client) (quiet_below old client))
+    (quiet_then (CommandIsEnded client note) (AreShown client) (quiet_ended client note) (quiet_shown client))) can p.goes
 
 -- ---- a call has its result
 
-out_pair : (a : Command) → has_call_out a ≡ true → called_by (Some a) ≡ Some (server_in a.job.pending, ask_under a.job.frames.items a.job.ask)
-out_pair a out = ap (λ z. cond z (Some (server_in a.job.pending, ask_under a.job.frames.items a.job.ask)) None) out
+out_pair : (a : Command) → has_call_out a ≡ true → called_by (Some a) ≡ Some (server_of_pending a.job.pending, ask_under a.job.frames.items a.job.ask)
+out_pair a out = ap (λ z. cond z (Some (server_of_pending a.job.pending, ask_under a.job.frames.items a.job.ask)) None) out
 
 module _
     (old new : Core) (number : ℕ) (a : Command) (beside beside' : Beside) (there : command_at old number ≡ Some a) (is_out : has_call_out a ≡ true) (was : FitsBeside old beside) (now : FitsBeside new beside')
-    (out : (s : ℕ) → beside'.out s ≡ cond (nat_eq (server_in a.job.pending) s) (without number (beside.out s)) (beside.out s)) where
+    (out : (s : ℕ) → beside'.out s ≡ cond (nat_eq (server_of_pending a.job.pending) s) (without number (beside.out s)) (beside.out s)) where
   none_after : called new number ≡ None
   none_after = by (some_pair (called new number))
     where
       by : (called new number ≡ None) ⊎ ((p : ℕ × Ask) × (called new number ≡ Some p)) → called new number ≡ None
       by (inl e) = e
-      by (inr e) = absurd (at (nat_eq (server_in a.job.pending) e.0.0) refl)
+      by (inr e) = absurd (at (nat_eq (server_of_pending a.job.pending) e.0.0) refl)
         where
           t : (t : Ticket) × (ticket_by (command_at new number) number e.0.0 ≡ Some t) × (t.ask ≡ e.0.1)
           t = call_of (command_at new number) number e.0 e.1
 
-          in_out : ticket_in (cond (nat_eq (server_in a.job.pending) e.0.0) (without number (beside.out e.0.0)) (beside.out e.0.0)) number ≡ Some t.0
+          in_out : ticket_in (cond (nat_eq (server_of_pending a.job.pending) e.0.0) (without number (beside.out e.0.0)) (beside.out e.0.0)) number ≡ Some t.0
           in_out = ap (λ l. ticket_in l number) (sym (out e.0.0)) ∙ now.tickets e.0.0 number ∙ t.1
 
-          at : (b : Bool) → nat_eq (server_in a.job.pending) e.0.0 ≡ b → ⊥
+          at : (b : Bool) → nat_eq (server_of_pending a.job.pending) e.0.0 ≡ b → ⊥
           at true same = some_none t.0 (sym in_out ∙ ap (λ b. ticket_in (cond b (without number (beside.out e.0.0)) (beside.out e.0.0)) number) same ∙ was.single e.0.0 number)
           at false other =
               let before = sym (was.tickets e.0.0 number) ∙ sym (ap (λ b. ticket_in (cond b (without number (beside.out e.0.0)) (beside.out e.0.0)) number) other) ∙ in_out in
               let two = same_pair (sym (ap called_by there ∙ out_pair a is_out) ∙ ticket_of (command_at old number) number e.0.0 t.0 before) in
-              contrary (nat_eq (server_in a.job.pending) e.0.0) (eq-eqb (server_in a.job.pending) e.0.0 (ap (λ (q : ℕ × Ask). q.0) two)) other
+              contrary (nat_eq (server_of_pending a.job.pending) e.0.0) (eq-eqb (server_of_pending a.job.pending) e.0.0 (ap (λ (q : ℕ × Ask). q.0) two)) other
 
   ends_call : EndsCall old number new
   ends_call = record { stands = (beside', now); calls = λ n. by n (nat_eq number n) refl }
@@ -334,7 +334,7 @@ module _
       by : (n : ℕ) (b : Bool) → nat_eq number n ≡ b → called new n ≡ cond (nat_eq number n) None (called old n)
       by n true same = ap (λ k. called new k) (sym (eqb-true number n same)) ∙ none_after ∙ sym (ap (λ b. cond b None (called old n)) same)
       by n false other =
-          same_called (command_at new n) (command_at old n) n (λ s. sym (now.tickets s n) ∙ ap (λ l. ticket_in l n) (out s) ∙ left s (nat_eq (server_in a.job.pending) s) ∙ was.tickets s n)
+          same_called (command_at new n) (command_at old n) n (λ s. sym (now.tickets s n) ∙ ap (λ l. ticket_in l n) (out s) ∙ left s (nat_eq (server_of_pending a.job.pending) s) ∙ was.tickets s n)
           ∙ sym (ap (λ b. cond b None (called old n)) other)
         where
           left : (s : ℕ) (b : Bool) → ticket_in (cond b (without number (beside.out s)) (beside.out s)) n ≡ ticket_in (beside.out s) n
@@ -345,12 +345,12 @@ settled_ends : (old new : Core) (number : ℕ) (a : Command) → CanStand old �
 settled_ends old new number a can there is_out stands = let x = stands can.0 can.1 in ends_call old new number a can.0 x.0 there is_out can.1 x.1 x.2
 
 -- where none is out nothing ends
-pub none_out : (core : Core) (number : ℕ) → HasNoCall core number → called core number ≡ None
+pub none_out : (core : Core) (number : ℕ) → IsNotOut core number → called core number ≡ None
 none_out core number none = by (command_at core number) refl
   where
     by : (o : Option Command) → command_at core number ≡ o → called_by o ≡ None
     by None e = refl
-    by (Some a) e = ap (λ z. cond z (Some (server_in a.job.pending, ask_under a.job.frames.items a.job.ask)) None) (none a e)
+    by (Some a) e = ap (λ z. cond z (Some (server_of_pending a.job.pending, ask_under a.job.frames.items a.job.ask)) None) (none a e)
 
 unsettled_ends : (old new : Core) (number : ℕ) (outcome : Outcome) (fault : CoreFault) → CanStand old → SettleFault old number outcome fault new → EndsCall old number new
 unsettled_ends old new number outcome faults.NoTicket can is = record { stands = subst CanStand (sym is.1) can; calls = λ n. ap (λ c. called c n) is.1 ∙ by n (nat_eq number n) refl }
@@ -370,7 +370,7 @@ unsettled_ends old new number outcome faults.Spent can is = absurd is
 asked_is : (core : Core) (n : ℕ) → asked core n ≡ option_map (λ c. c.1) (called core n)
 asked_is core n = by (command_at core n)
   where
-    out : (a : Command) (b : Bool) → cond b (Some (ask_under a.job.frames.items a.job.ask)) None ≡ option_map (λ (c : ℕ × Ask). c.1) (cond b (Some (server_in a.job.pending, ask_under a.job.frames.items a.job.ask)) None)
+    out : (a : Command) (b : Bool) → cond b (Some (ask_under a.job.frames.items a.job.ask)) None ≡ option_map (λ (c : ℕ × Ask). c.1) (cond b (Some (server_of_pending a.job.pending, ask_under a.job.frames.items a.job.ask)) None)
     out a true = refl
     out a false = refl
 
@@ -384,12 +384,12 @@ calls_stay = record {
   begins = λ tree limits core fresh.
       let at : ℕ → List ℕ → Plan = λ n key. tree_at tree key in
       ((core_state.nothing_beside at (λ s k. None), fresh.fits at (λ s k. None) (λ n key lt. refl)), λ n. ap called_by (fresh.commands n));
-  opens = λ old new client can is. keeps old new IsNothing quiet_none can is.goes;
+  opens = λ old new client can is. keeps old new NothingHappened quiet_none can is.goes;
   unopened = unopened_keeps;
   feeds = λ old new client bytes can is. fed_keeps (dropped_by (client_at old client)) old new client bytes can is;
   gives = λ old new client bytes can is. keeps old new (λ entries. entries ≡ Gives client bytes ∷ []) (quiet_is (Gives client bytes ∷ []) (λ out s. refl)) can is.1;
   closes = λ old new client can is. keeps old new (λ entries. entries ≡ Resets client ∷ []) (quiet_is (Resets client ∷ []) (λ out s. refl)) can is.1;
-  leaves = λ old new client can is. keeps old new IsNothing quiet_none can is.1;
+  leaves = λ old new client can is. keeps old new NothingHappened quiet_none can is.1;
   reloads = reloaded_keeps;
   polls = polled_keeps;
   stops = stopped_keeps;

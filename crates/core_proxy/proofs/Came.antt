@@ -12,7 +12,7 @@ use Rattle.fresh_runs.specs.Run.{Event, Calls, after_event}
 use Rattle.fresh_runs.specs.Overlap.{ticket_in, without, out_after}
 use Rattle.fresh_runs.specs.OverlapState.{HasResult, found_after}
 use Rattle.route_job.specs.Rest.{ask_under, origin_under}
-use Rattle.route_job.specs.Jobs.{server_in, call_of, IsCalling}
+use Rattle.route_job.specs.Jobs.{server_of_pending, call_of, IsCalling}
 use Rattle.core_commands.specs.declared.command.Command.{Command}
 use Rattle.core_proxy.specs.declared.proxy.Core.{Core}
 use Rattle.core_proxy.specs.CoreState.{command_at, Beside, owner_by, MayComeOf, state_of, is_call, ticket_by, FitsBeside}
@@ -35,7 +35,7 @@ module _ (old : Core) (number : ℕ) (a : Command) (outcome : Outcome) (r : Came
   origin = origin_under a.job.frames.items OfClient
 
   abbrev pub server : ℕ
-  server = server_in a.job.pending
+  server = server_of_pending a.job.pending
 
   abbrev pub event : End → Event
   event end = Calls number server ask origin end

@@ -9,7 +9,7 @@ use Rattle.core_client.specs.declared.client.Pending.{Pending}
 use Rattle.core_commands.specs.declared.command.Command.{Command}
 use Rattle.core_client.specs.Clients.{waits_on, has_own}
 use Rattle.core_client.specs.ClientState.{dialect}
-use Rattle.core_proxy.specs.CoreState.{AreSlots}
+use Rattle.core_proxy.specs.CoreState.{ArePendingSlots}
 use Rattle.core_commands.proofs.Commands.{some_command}
 use Rattle.core_proxy.proofs.Slots.{some_slot, no_slot}
 
@@ -39,7 +39,7 @@ waits key p s ask reply none is =
     ap (λ o. cond (is_none o) (pointwise nat_eq p.ask.key key) false) (sym reply ∙ none) ∙ ap (λ k. pointwise nat_eq k key) (ap (λ (a : Ask). a.key) (sym ask) ∙ is) ∙ nat_list_eq_equiv.refl key
 
 -- a client's command without a reply is one of its own on its key
-pub own_there : (key : List ℕ) (ps : List Pending) (slots : List (Slot dialect)) (n : ℕ) (s : Slot dialect) → AreSlots ps slots → slot_in slots n ≡ Some s → s.reply ≡ None → s.ask.key ≡ key → has_own key ps ≡ true
+pub own_there : (key : List ℕ) (ps : List Pending) (slots : List (Slot dialect)) (n : ℕ) (s : Slot dialect) → ArePendingSlots ps slots → slot_in slots n ≡ Some s → s.reply ≡ None → s.ask.key ≡ key → has_own key ps ≡ true
 own_there key [] [] n s h at none is = no_slot at
 own_there key [] (t ∷ slots) n s h at none is = absurd h
 own_there key (p ∷ ps) [] n s h at none is = absurd h

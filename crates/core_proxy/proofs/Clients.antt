@@ -27,7 +27,7 @@ use Rattle.core_proxy.specs.Steps.{Turns}
 use Rattle.core_proxy.proofs.Slots.{held_then, same_held}
 use Rattle.core_proxy.proofs.Tickets.{contrary}
 use Rattle.core_client.specs.ClientState.{dialect, front_by, output_by, dropped_by}
-use Rattle.core_proxy.specs.CoreState.{bars_of, client_at, command_at, Beside, owner_by, MayComeOf, state_of, AreSlots, IsAtFront, IsWaitedFor, IsQueue, IsHeld, IsOnItsWay, ticket_by, FitsBeside, GoesByOne, Opens, Feeds, FeedsOpen, Gives, Closes, version_by}
+use Rattle.core_proxy.specs.CoreState.{bars_of, client_at, command_at, Beside, owner_by, MayComeOf, state_of, ArePendingSlots, IsAtFront, IsWaitedFor, IsQueue, IsHeld, IsOnItsWay, ticket_by, FitsBeside, GoesByOne, Opens, Feeds, FeedsOpen, Gives, ClosesClient, version_by}
 
 -- what is left of a command stays so where the limits stay
 pub on_its_way_kept : (old new : Core) (plan : Plan) (command : Command) → new.limits ≡ old.limits → IsOnItsWay old.limits.sharing plan command → IsOnItsWay new.limits.sharing plan command
@@ -79,8 +79,8 @@ module _ (old new : Core) (client : ℕ) (a b : Option Client) (t : Turns old ne
   owners n = ap (option_map owner_by) (command_stays n)
 
 -- where a client's commands stay, and where the starting of them stands goes on by bytes at most
-same_slots : (x y : Client) (slots : List (Slot dialect)) → y.queue.items ≡ x.queue.items → AreSlots x.queue.items slots → AreSlots y.queue.items slots
-same_slots x y slots e h = subst (λ l. AreSlots l slots) (sym e) h
+same_slots : (x y : Client) (slots : List (Slot dialect)) → y.queue.items ≡ x.queue.items → ArePendingSlots x.queue.items slots → ArePendingSlots y.queue.items slots
+same_slots x y slots e h = subst (λ l. ArePendingSlots l slots) (sym e) h
 
 fed_at_front : (x y : Client) (bytes : List ℕ) (slots : List (Slot dialect)) → TakesPiece x bytes y → IsAtFront x slots → IsAtFront y slots
 fed_at_front x y bytes [] t h = t.waits ∙ h
@@ -158,7 +158,7 @@ new_front : (x : Client) → IsNewClient x → front_by (Some x) ≡ start_front
 new_front x n i = record { place = n.stream i; index = n.index i; waits = n.waits i }
 
 new_queue : (x : Client) → IsNewClient x → (slots : List (Slot dialect)) → IsQueue None slots → IsQueue (Some x) slots
-new_queue x n [] e = (subst (λ l. AreSlots l []) (sym n.queue) tt, n.waits, tt)
+new_queue x n [] e = (subst (λ l. ArePendingSlots l []) (sym n.queue) tt, n.waits, tt)
 new_queue x n (slot ∷ slots) e = absurd cc
 
 -- a new client has a place that was free
@@ -228,7 +228,7 @@ none_is client (x ∷ rest) n o e f =
         no e f = absurd cc
 
 -- a client's place was freed
-pub closes : (old new : Core) (client : ℕ) (x : Client) → Turns old new client (Some x) None → has_commands client old.commands ≡ false → new.lines ≡ others client old.lines → Closes old client new
+pub closes : (old new : Core) (client : ℕ) (x : Client) → Turns old new client (Some x) None → has_commands client old.commands ≡ false → new.lines ≡ others client old.lines → ClosesClient old client new
 closes old new client x t none left = (
   t.is,
   λ beside fits.

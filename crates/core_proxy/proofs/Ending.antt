@@ -16,7 +16,7 @@ use Rattle.core_client.specs.declared.client.Client.{Client}
 use Rattle.core_commands.specs.declared.command.Command.{Command}
 use Rattle.core_proxy.specs.declared.proxy.Core.{Core}
 use Rattle.core_client.specs.ClientState.{dialect, front_by, output_by, dropped_by}
-use Rattle.core_proxy.specs.CoreState.{bars_of, client_at, command_at, Beside, owner_by, MayComeOf, state_of, is_call, has_call_out, AreSlots, IsAtFront, IsWaitedFor, IsQueue, IsHeld, IsOnItsWay, ticket_by, FitsBeside, GoesBy, GoesByOne, version_by}
+use Rattle.core_proxy.specs.CoreState.{bars_of, client_at, command_at, Beside, owner_by, MayComeOf, state_of, is_call, has_call_out, ArePendingSlots, IsAtFront, IsWaitedFor, IsQueue, IsHeld, IsOnItsWay, ticket_by, FitsBeside, GoesBy, GoesByOne, version_by}
 use Rattle.core_proxy.specs.Steps.{Turns}
 use Rattle.core_client.specs.Replying.{pending_in, replied_in, GoesOn}
 use Rattle.core_proxy.specs.Ending.{Ends, Drops, Frees}
@@ -36,7 +36,7 @@ some_pending : {x y : Pending} → ◌≡◌ {A = Option Pending} (Some x) (Some
 some_pending e = cc
 
 -- the pending command of a number is that of the log's queue
-same_last : (ps : List Pending) (slots : List (Slot dialect)) (n : ℕ) (p : Pending) (slot : Slot dialect) → AreSlots ps slots → pending_in n ps ≡ Some p → slot_in slots n ≡ Some slot → is_last_slot slot ≡ p.last
+same_last : (ps : List Pending) (slots : List (Slot dialect)) (n : ℕ) (p : Pending) (slot : Slot dialect) → ArePendingSlots ps slots → pending_in n ps ≡ Some p → slot_in slots n ≡ Some slot → is_last_slot slot ≡ p.last
 same_last [] slots n p slot h there is = no_pending there
 same_last (q ∷ ps) [] n p slot h there is = absurd h
 same_last (q ∷ ps) (s ∷ slots) n p slot h there is =
@@ -45,13 +45,13 @@ same_last (q ∷ ps) (s ∷ slots) n p slot h there is =
       | false ↦ λ e f. same_last ps slots n p slot h.1 e f
     ]) there (ap (λ m. cond (nat_eq m n) (Some s) (slot_in slots n)) (sym h.0.number) ∙ is)
 
-slots_answered : (ps : List Pending) (slots : List (Slot dialect)) (n : ℕ) (reply : Answer) → AreSlots ps slots → AreSlots (replied_in n reply ps) (answered_in n reply slots)
+slots_answered : (ps : List Pending) (slots : List (Slot dialect)) (n : ℕ) (reply : Answer) → ArePendingSlots ps slots → ArePendingSlots (replied_in n reply ps) (answered_in n reply slots)
 slots_answered [] [] n reply h = tt
 slots_answered [] (slot ∷ slots) n reply h = absurd h
 slots_answered (p ∷ ps) [] n reply h = absurd h
 slots_answered (p ∷ ps) (slot ∷ slots) n reply h =
-    subst (λ m. AreSlots (cond (nat_eq p.number n) (record p { reply = Some reply } ∷ ps) (p ∷ replied_in n reply ps)) (cond (nat_eq m n) (answered slot reply ∷ slots) (slot ∷ answered_in n reply slots))) (sym h.0.number)
-    (elim (nat_eq p.number n) as (λ b. AreSlots (cond b (record p { reply = Some reply } ∷ ps) (p ∷ replied_in n reply ps)) (cond b (answered slot reply ∷ slots) (slot ∷ answered_in n reply slots))) [
+    subst (λ m. ArePendingSlots (cond (nat_eq p.number n) (record p { reply = Some reply } ∷ ps) (p ∷ replied_in n reply ps)) (cond (nat_eq m n) (answered slot reply ∷ slots) (slot ∷ answered_in n reply slots))) (sym h.0.number)
+    (elim (nat_eq p.number n) as (λ b. ArePendingSlots (cond b (record p { reply = Some reply } ∷ ps) (p ∷ replied_in n reply ps)) (cond b (answered slot reply ∷ slots) (slot ∷ answered_in n reply slots))) [
       | true ↦ (record { number = h.0.number; ask = h.0.ask; reply = refl; quiet = h.0.quiet; last = h.0.last; asks = h.0.asks }, h.1)
       | false ↦ (h.0, slots_answered ps slots n reply h.1)
     ])
@@ -197,7 +197,7 @@ module _ (old new : Core) (number : ℕ) (a : Command) (x y : Client) (pending :
   mine beside = beside.queue a.client
 
   module _ (beside : Beside) (fits : FitsBeside old beside) where
-    queue_is : AreSlots x.queue.items (mine beside) × IsAtFront x (mine beside) × IsWaitedFor x.waits (mine beside)
+    queue_is : ArePendingSlots x.queue.items (mine beside) × IsAtFront x (mine beside) × IsWaitedFor x.waits (mine beside)
     queue_is = subst (λ o. IsQueue o (mine beside)) r.client_was (fits.queues a.client)
 
     slot_is : (slot : Slot dialect) × (slot_in (mine beside) number ≡ Some slot) × (slot.ask ≡ a.ask) × (slot.reply ≡ None)
@@ -250,7 +250,7 @@ module _ (old new : Core) (number : ℕ) (a : Command) (x y : Client) (pending :
         (elim (nat_eq a.client c) as (λ b. nat_eq a.client c ≡ b → IsQueue (client_at new c) (cond b (answered_in number reply (beside.queue c)) (beside.queue c))) [
           | true ↦ λ same. subst (λ d. IsQueue (client_at new d) (answered_in number reply (beside.queue d))) (eqb-true a.client c same)
               (subst (λ o. IsQueue o (answered_in number reply (mine beside))) (sym r.client_is)
-              (subst (λ l. AreSlots l (answered_in number reply (mine beside))) (sym r.queue) (slots_answered x.queue.items (mine beside) number reply queue_is.0), parted.at_front, parted.waited))
+              (subst (λ l. ArePendingSlots l (answered_in number reply (mine beside))) (sym r.queue) (slots_answered x.queue.items (mine beside) number reply queue_is.0), parted.at_front, parted.waited))
           | false ↦ λ differs. subst (λ o. IsQueue o (beside.queue c)) (sym (r.others c differs)) (fits.queues c)
         ]) refl
 
@@ -367,7 +367,7 @@ module _ (old new : Core) (client : ℕ) (x y : Client) (t : Turns old new clien
     beside,
     log.Drops client ∷ [],
     still_fits old new client (Some x) (Some y) t beside fits
-        (λ slots q. (subst (λ l. AreSlots l slots) (sym d.queue) q.0, front_same x y front_is slots q.1, subst (λ w. IsWaitedFor w slots) (sym d.waits) q.2))
+        (λ slots q. (subst (λ l. ArePendingSlots l slots) (sym d.queue) q.0, front_same x y front_is slots q.1, subst (λ w. IsWaitedFor w slots) (sym d.waits) q.2))
         (λ n command slots h served. contrary y.dropped d.dropped served),
     record { at = refl; holds = refl; found = refl; turn = refl },
     refl,

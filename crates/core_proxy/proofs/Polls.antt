@@ -16,7 +16,7 @@ use Rattle.fresh_runs.proofs.OverlapSteps.{walks_lead}
 use Rattle.route_tree.specs.At.{tree_at}
 use Rattle.route_tree.specs.Route.{IsTree}
 use Rattle.route_tree.specs.Word.{Given, Word, tree_words}
-use Rattle.route_job.specs.Jobs.{server_in, Comes, IsCalling, IsDone}
+use Rattle.route_job.specs.Jobs.{server_of_pending, Comes, IsCalling, IsDone}
 use Rattle.route_job.specs.Rest.{ask_under, origin_under}
 use Rattle.wire_stream.specs.declared.connection.front.Passed.{Passed}
 use Rattle.core_client.specs.declared.client.Client.{Client}
@@ -34,7 +34,7 @@ use Rattle.core_proxy.specs.Steps.{Turns}
 use Rattle.core_client.specs.Fronts.{Stays, PassesFront, BeginsKey}
 use Rattle.core_commands.specs.Ready.{IsIdle}
 use Rattle.core_commands.specs.Begun.{IsBegun, IsTicketFor}
-use Rattle.core_proxy.specs.Polls.{ForClient, IsPassed, IsNothing, HasBegun, BeginsAt, CanSend, IsTicketOf, IsSent, IsEnded, IsServed, AreShown, IsShown, queue_len, ShowsNext, StopsFirst, StopsAfter, IsBelowDepth, BeginsBelow, MayAsk, NoneGoesOn, IsNextAsk, bars, stands_before, StandsStill, StandsInLine, Acts, Polls, IsPolled, IsActed, IsWhy, SoEnded, SoFar, ReadFault, Perhaps, BeginsOne, DropsAll, StopsPolling}
+use Rattle.core_proxy.specs.Polls.{ForClient, IsPassed, NothingHappened, HasBegun, BeginsAt, CanSend, IsTicketOf, IsSent, CommandIsEnded, ClientIsServed, AreShown, HasShownAll, queue_len, ShowsNext, StopsFirst, StopsAfter, IsBelowDepth, BeginsBelow, MayAsk, NoCommandGoesOn, IsNextAsk, bars, stands_before, StandsStill, StandsInLine, Acts, Polls, IsPolled, IsActed, IsWhy, SoEnded, SoFar, ReadFault, Perhaps, BeginsOne, DropsAll, StopsPolling}
 use Rattle.core_proxy.specs.Settles.{freed}
 use Rattle.core_commands.specs.Lines as line
 use Rattle.core_commands.proofs.Lines.{others_again}
@@ -43,7 +43,7 @@ use Rattle.core_client.specs.Nexts.{HasCommand}
 use Rattle.core_client.specs.Replying.{IsPlace, AnswersAt}
 use Rattle.core_proxy.specs.Finishing.{CanEnd, IsNote}
 use Rattle.core_client.specs.ClientState.{dialect, front_by, output_by, dropped_by}
-use Rattle.core_proxy.specs.CoreState.{bars_of, client_at, command_at, owner_by, MayComeOf, state_of, is_call, AreSlots, IsAtFront, IsQueue, IsHeld, IsWaitedFor, ticket_by, GoesBy, version_by}
+use Rattle.core_proxy.specs.CoreState.{bars_of, client_at, command_at, owner_by, MayComeOf, state_of, is_call, ArePendingSlots, IsAtFront, IsQueue, IsHeld, IsWaitedFor, ticket_by, GoesBy, version_by}
 use Rattle.core_proxy.specs.Claims.{claim_by, is_barred}
 use Rattle.core_client.specs.Clients.{has_own}
 use Rattle.core_proxy.proofs.Clients.{on_its_way_kept, stays, command_stays, still_fits, owners}
@@ -63,10 +63,10 @@ stays_at_front x y (slot ∷ []) t h = λ waits. let a = h (sym t.waits ∙ wait
 stays_at_front x y (slot ∷ next ∷ slots) t h = stays_at_front x y (next ∷ slots) t h
 
 stays_queue : (x y : Client) (slots : List (Slot dialect)) → Stays x y → IsQueue (Some x) slots → IsQueue (Some y) slots
-stays_queue x y slots t q = (subst (λ l. AreSlots l slots) (sym t.queue) q.0, stays_at_front x y slots t q.1, subst (λ w. IsWaitedFor w slots) (sym t.waits) q.2)
+stays_queue x y slots t q = (subst (λ l. ArePendingSlots l slots) (sym t.queue) q.0, stays_at_front x y slots t q.1, subst (λ w. IsWaitedFor w slots) (sym t.waits) q.2)
 
 -- a client of whom nothing changed
-pub still_goes : (old new : Core) (client : ℕ) (x y : Client) → Turns old new client (Some x) (Some y) → Stays x y → GoesBy old IsNothing new
+pub still_goes : (old new : Core) (client : ℕ) (x y : Client) → Turns old new client (Some x) (Some y) → Stays x y → GoesBy old NothingHappened new
 still_goes old new client x y t p = λ beside fits. (
   beside,
   [],
@@ -104,7 +104,7 @@ passed_goes old new client x y passed t p =
     goes_as old new (λ entries. entries ≡ Passes client p.message p.next ∷ []) (IsPassed client passed) (λ entries is. (p.message, p.next, p.told, is)) (passes old new client x y p.message p.next t p.passes)
 
 -- nothing changed that the log knows
-pub same_goes : (old new : Core) → ((c : ℕ) → client_at new c ≡ client_at old c) → ((n : ℕ) → command_at new n ≡ command_at old n) → new.tree ≡ old.tree → new.limits ≡ old.limits → new.number ≡ old.number → GoesBy old IsNothing new
+pub same_goes : (old new : Core) → ((c : ℕ) → client_at new c ≡ client_at old c) → ((n : ℕ) → command_at new n ≡ command_at old n) → new.tree ≡ old.tree → new.limits ≡ old.limits → new.number ≡ old.number → GoesBy old NothingHappened new
 same_goes old new clients commands tree limits number = λ beside fits. (
   beside,
   [],
@@ -163,7 +163,7 @@ begun_goes old new client x y ask command was is others served first apart claim
           own = ap (λ (o : Owner). o.client) begun.owner;
           idle = ap (λ b. if b then is_call command.job.pending else false) begun.idle;
         };
-        served = subst (λ o. MatchOption o ⊥ IsServed) (sym is) (k.dropped ∙ served);
+        served = subst (λ o. MatchOption o ⊥ ClientIsServed) (sym is) (k.dropped ∙ served);
         some = subst (λ o. MatchOption o ⊥ HasCommand) (sym is) (some_more x.queue.items k.pending y.queue.items k.queue);
       };
       goes = goes_as old new (λ entries. entries ≡ Starts client (old.number + 1) part ∷ []) (HasBegun client new.number ask) (λ entries e. (part, k.ask_is, e ∙ ap (λ n. Starts client n part ∷ []) (sym number)))
@@ -198,7 +198,7 @@ pub sent_goes : (old new : Core) (number : ℕ) (can : CanSend old number) (tick
     → ((c : ℕ) → client_at new c ≡ client_at old c) → new.tree ≡ old.tree → new.limits ≡ old.limits → new.number ≡ old.number → GoesBy old (IsSent ticket) new
 sent_goes old new number can ticket is commands clients tree limits number_is =
     let job = can.command.job in
-    goes_as old new (λ entries. entries ≡ Sends number (server_in job.pending) (ask_under job.frames.items job.ask) (origin_under job.frames.items OfClient) ∷ []) (IsSent ticket)
+    goes_as old new (λ entries. entries ≡ Sends number (server_of_pending job.pending) (ask_under job.frames.items job.ask) (origin_under job.frames.items OfClient) ∷ []) (IsSent ticket)
     (λ entries e. e ∙ (λ i. Sends (sym is.number_is i) (sym is.server_is i) (sym is.ask_is i) (sym is.origin_is i) ∷ []))
     (sends old new number can.command (record { was = can.was; idle = can.idle; calling = can.calling; commands = commands; clients = clients; tree = tree; limits = limits; number_is = number_is }))
 
@@ -221,7 +221,7 @@ when_ok (Ok a) P e h = h
 when_ok (Err x) P e h = absurd cc
 
 -- a command that was written back as it was
-pub written_back : (old new : Core) (number : ℕ) (a : Command) → command_at old number ≡ Some a → ((n : ℕ) → command_at new n ≡ cond (nat_eq number n) (Some a) (command_at old n)) → ((c : ℕ) → client_at new c ≡ client_at old c) → new.tree ≡ old.tree → new.limits ≡ old.limits → new.number ≡ old.number → GoesBy old IsNothing new
+pub written_back : (old new : Core) (number : ℕ) (a : Command) → command_at old number ≡ Some a → ((n : ℕ) → command_at new n ≡ cond (nat_eq number n) (Some a) (command_at old n)) → ((c : ℕ) → client_at new c ≡ client_at old c) → new.tree ≡ old.tree → new.limits ≡ old.limits → new.number ≡ old.number → GoesBy old NothingHappened new
 written_back old new number a was commands clients tree limits number_is =
     same_goes old new clients (λ n. commands n ∙ (elim (nat_eq number n) as (λ b. nat_eq number n ≡ b → cond b (Some a) (command_at old n) ≡ command_at old n) [
       | true ↦ λ same. sym was ∙ ap (command_at old) (eqb-true number n same)
@@ -233,12 +233,12 @@ pub ended_goes :
     (old new : Core) (client number : ℕ) (x y : Client) (can : CanEnd old client number) (place : ReplyPlace) (is : IsPlace x number place) (given : Given) (ask : Ask) (note : Note) (reply : Answer)
     → client_at old client ≡ Some x → client_at new client ≡ Some y → ((c : ℕ) → nat_eq client c ≡ false → client_at new c ≡ client_at old c) → x.dropped ≡ false
     → Comes can.command.job [] given → ask ≡ can.command.ask → IsNote number ask given note reply → AnswersAt x place.at is.pending.last reply y
-    → ((n : ℕ) → command_at new n ≡ cond (nat_eq number n) None (command_at old n)) → new.tree ≡ old.tree → new.limits ≡ old.limits → new.number ≡ old.number → GoesBy old (IsEnded client note) new
+    → ((n : ℕ) → command_at new n ≡ cond (nat_eq number n) None (command_at old n)) → new.tree ≡ old.tree → new.limits ≡ old.limits → new.number ≡ old.number → GoesBy old (CommandIsEnded client note) new
 ended_goes old new client number x y can place is given ask note reply was here others served comes ask_is told replies commands tree limits number_is =
     let a = can.command in
     let own : a.client ≡ client = can.idle.own in
     let r : AnswersAt x place.at is.pending.last given.reply y = subst (λ (z : Answer). AnswersAt x place.at is.pending.last z y) told.reply_is replies in
-    goes_as old new (λ entries. (part : Part dialect) × (part.ask ≡ a.ask) × (entries ≡ Ends a.client number part given.reply given.from ∷ [])) (IsEnded client note)
+    goes_as old new (λ entries. (part : Part dialect) × (part.ask ≡ a.ask) × (entries ≡ Ends a.client number part given.reply given.from ∷ [])) (CommandIsEnded client note)
     (λ entries h.
     let same : ask ≡ h.0.ask = ask_is ∙ sym h.1 in (
       h.0,
@@ -280,7 +280,7 @@ ends_as core client number can a was =
 pub shown_goes : (old new : Core) (client : ℕ) (x y : Client) (shown : Bool) → Turns old new client (Some x) (Some y) → x.dropped ≡ false → ShowsOne x shown y → ShowsNext old client shown new
 shown_goes old new client x y true t served p = (
   goes_as old new (λ entries. (slot : Slot dialect) × (slot.number ≡ p.0.number) × (entries ≡ Shows client slot p.1 ∷ [])) (AreShown client) (λ entries h. ((h.0, p.1) ∷ [], h.2)) (shows old new client x y p.0 p.1 t p.2),
-  subst (λ o. MatchOption o ⊥ IsServed) (sym t.is) (p.2.dropped ∙ served),
+  subst (λ o. MatchOption o ⊥ ClientIsServed) (sym t.is) (p.2.dropped ∙ served),
   (
       let was = ap queue_len t.was ∙ ap length p.2.head in
       let is = ap queue_len t.is ∙ ap length p.2.queue in
@@ -292,7 +292,7 @@ shown_goes old new client x y true t served p = (
     less a b rest q e f = omega (arith, e, f)
 shown_goes old new client x y false t served p = (
   still_goes old new client x y t (record { stream = ap (λ (z : Client). z.stream) p.1; index = ap (λ (z : Client). z.index) p.1; waits = ap (λ (z : Client). z.waits) p.1; queue = ap (λ (z : Client). z.queue.items) p.1; output = ap (λ (z : Client). bytes_of z.output) p.1; dropped = ap (λ (z : Client). z.dropped) p.1 }),
-  subst (λ o. MatchOption o ⊥ IsServed) (sym t.is) (ap (λ (z : Client). z.dropped) p.1 ∙ served),
+  subst (λ o. MatchOption o ⊥ ClientIsServed) (sym t.is) (ap (λ (z : Client). z.dropped) p.1 ∙ served),
   subst (λ o. MatchOption o ⊥ (λ z. HasNoReply z.queue.items)) (sym t.is) (subst (λ (z : Client). HasNoReply z.queue.items) (sym p.1) p.0),
 )
 
@@ -307,7 +307,7 @@ shown_more client entries h =
     let second = h.3 in
     (second.0 ++ first.0, h.4 ∙ (λ i. second.1 i ++ first.1 i) ∙ sym (map-append (λ s. Shows client s.0 s.1) second.0 first.0))
 
-pub none_shown : (client : ℕ) (entries : List (Entry dialect)) → IsNothing entries → AreShown client entries
+pub none_shown : (client : ℕ) (entries : List (Entry dialect)) → NothingHappened entries → AreShown client entries
 none_shown client entries e = ([], e)
 
 -- some more were shown
@@ -315,8 +315,8 @@ pub show_on : (old mid new : Core) (client : ℕ) → GoesBy old (AreShown clien
 show_on old mid new client a b = goes_as old new (Then (AreShown client) (AreShown client)) (AreShown client) (shown_more client) (goes_then old mid new (AreShown client) (AreShown client) a b)
 
 -- none more was
-pub show_none : (old mid new : Core) (client : ℕ) → GoesBy old (AreShown client) mid → GoesBy mid IsNothing new → GoesBy old (AreShown client) new
-show_none old mid new client a b = show_on old mid new client a (goes_as mid new IsNothing (AreShown client) (none_shown client) b)
+pub show_none : (old mid new : Core) (client : ℕ) → GoesBy old (AreShown client) mid → GoesBy mid NothingHappened new → GoesBy old (AreShown client) new
+show_none old mid new client a b = show_on old mid new client a (goes_as mid new NothingHappened (AreShown client) (none_shown client) b)
 
 -- memory was refused after some
 pub show_stops : (old mid new : Core) (client : ℕ) (fault : CoreFault) → GoesBy old (AreShown client) mid → StopsFirst client mid fault new → StopsAfter client (AreShown client) old fault new
@@ -333,7 +333,7 @@ append_nil [] = refl
 append_nil (x ∷ entries) = ap (λ l. x ∷ l) (append_nil entries)
 
 -- a command ended and replies were shown, and after that some more
-shown_after : (client : ℕ) (note : Note) (entries : List (Entry dialect)) → Then (Then (IsEnded client note) (AreShown client)) (AreShown client) entries → Then (IsEnded client note) (AreShown client) entries
+shown_after : (client : ℕ) (note : Note) (entries : List (Entry dialect)) → Then (Then (CommandIsEnded client note) (AreShown client)) (AreShown client) entries → Then (CommandIsEnded client note) (AreShown client) entries
 shown_after client note entries h =
     let before = h.2 in
     let first : List (Entry dialect) = before.0 in
@@ -346,24 +346,24 @@ shown_after client note entries h =
       h.4 ∙ ap (λ l. third ++ l) before.4 ∙ sym (append_assoc third second first),
     )
 
-ended_on : (old mid new : Core) (client : ℕ) (note : Note) → GoesBy old (Then (IsEnded client note) (AreShown client)) mid → GoesBy mid (AreShown client) new → GoesBy old (Then (IsEnded client note) (AreShown client)) new
+ended_on : (old mid new : Core) (client : ℕ) (note : Note) → GoesBy old (Then (CommandIsEnded client note) (AreShown client)) mid → GoesBy mid (AreShown client) new → GoesBy old (Then (CommandIsEnded client note) (AreShown client)) new
 ended_on old mid new client note a b =
-    goes_as old new (Then (Then (IsEnded client note) (AreShown client)) (AreShown client)) (Then (IsEnded client note) (AreShown client)) (shown_after client note) (goes_then old mid new (Then (IsEnded client note) (AreShown client)) (AreShown client) a b)
+    goes_as old new (Then (Then (CommandIsEnded client note) (AreShown client)) (AreShown client)) (Then (CommandIsEnded client note) (AreShown client)) (shown_after client note) (goes_then old mid new (Then (CommandIsEnded client note) (AreShown client)) (AreShown client) a b)
 
 -- a command ended after nothing, and nothing was shown
-pub ended_unshown : (old mid new : Core) (client : ℕ) (note : Note) → GoesBy old IsNothing mid → GoesBy mid (IsEnded client note) new → GoesBy old (Then (IsEnded client note) (AreShown client)) new
+pub ended_unshown : (old mid new : Core) (client : ℕ) (note : Note) → GoesBy old NothingHappened mid → GoesBy mid (CommandIsEnded client note) new → GoesBy old (Then (CommandIsEnded client note) (AreShown client)) new
 ended_unshown old mid new client note a b =
-    goes_as old new (Then IsNothing (IsEnded client note)) (Then (IsEnded client note) (AreShown client))
+    goes_as old new (Then NothingHappened (CommandIsEnded client note)) (Then (CommandIsEnded client note) (AreShown client))
     (λ entries h. (h.1, [], h.3, ([], refl), h.4 ∙ ap (λ l. h.1 ++ l) h.2 ∙ sym (append_nil h.1)))
-    (goes_then old mid new IsNothing (IsEnded client note) a b)
+    (goes_then old mid new NothingHappened (CommandIsEnded client note) a b)
 
 -- a command ended, and replies were shown
-pub finish_goes : (old mid new : Core) (client : ℕ) (note : Note) → GoesBy old (Then (IsEnded client note) (AreShown client)) mid → GoesBy mid (AreShown client) new → IsShown new client → StandsStill old new → Acts old client (polls.Did note) new
+pub finish_goes : (old mid new : Core) (client : ℕ) (note : Note) → GoesBy old (Then (CommandIsEnded client note) (AreShown client)) mid → GoesBy mid (AreShown client) new → HasShownAll new client → StandsStill old new → Acts old client (polls.Did note) new
 finish_goes old mid new client note a b shown still = record { goes = ended_on old mid new client note a b; why = shown; still = still }
 
-pub finish_stops : (old mid new : Core) (client : ℕ) (note : Note) (fault : CoreFault) → GoesBy old (Then (IsEnded client note) (AreShown client)) mid → StopsAfter client (AreShown client) mid fault new → StopsAfter client (SoEnded client) old fault new
+pub finish_stops : (old mid new : Core) (client : ℕ) (note : Note) (fault : CoreFault) → GoesBy old (Then (CommandIsEnded client note) (AreShown client)) mid → StopsAfter client (AreShown client) mid fault new → StopsAfter client (SoEnded client) old fault new
 finish_stops old mid new client note faults.NoMemory a b =
-    (goes_as old new (Then (IsEnded client note) (AreShown client)) (SoEnded client) (λ entries h. (h.0, h.1, inr (note, h.2), h.3, h.4)) (ended_on old mid new client note a b.0), b.1)
+    (goes_as old new (Then (CommandIsEnded client note) (AreShown client)) (SoEnded client) (λ entries h. (h.0, h.1, inr (note, h.2), h.3, h.4)) (ended_on old mid new client note a b.0), b.1)
 finish_stops old mid new client note faults.TooManyClients a b = absurd b
 finish_stops old mid new client note faults.NoClient a b = absurd b
 finish_stops old mid new client note faults.InputFull a b = absurd b
@@ -371,7 +371,7 @@ finish_stops old mid new client note faults.UnderWay a b = absurd b
 finish_stops old mid new client note faults.NoTicket a b = absurd b
 finish_stops old mid new client note faults.Spent a b = absurd b
 
-ended_nothing : (client : ℕ) (entries : List (Entry dialect)) → IsNothing entries → SoEnded client entries
+ended_nothing : (client : ℕ) (entries : List (Entry dialect)) → NothingHappened entries → SoEnded client entries
 ended_nothing client entries e = ([], [], inl refl, ([], refl), e)
 
 -- a command ended so far
@@ -386,7 +386,7 @@ ended_stops old new client faults.Spent a kept = absurd a
 
 -- nothing happened so far
 pub first_ended : (old new : Core) (client : ℕ) (fault : CoreFault) → StopsFirst client old fault new → StopsAfter client (SoEnded client) old fault new
-first_ended old new client faults.NoMemory a = (goes_as old new IsNothing (SoEnded client) (λ entries e. ended_nothing client entries e) a.0, a.1)
+first_ended old new client faults.NoMemory a = (goes_as old new NothingHappened (SoEnded client) (λ entries e. ended_nothing client entries e) a.0, a.1)
 first_ended old new client faults.TooManyClients a = absurd a
 first_ended old new client faults.NoClient a = absurd a
 first_ended old new client faults.InputFull a = absurd a
@@ -428,7 +428,7 @@ acts_polls old new client poll a = record { goes = polled_as old new client poll
   where
     polled_as : (old new : Core) (client : ℕ) (poll : Poll) → GoesBy old (IsPolled client poll) new → GoesBy old (Then (Perhaps (BeginsBelow old client)) (IsPolled client poll)) new
     polled_as old new client poll g =
-        goes_as old new (Then IsNothing (IsPolled client poll)) (Then (Perhaps (BeginsBelow old client)) (IsPolled client poll)) (λ entries h. (h.0, h.1, inl h.2, h.3, h.4)) (goes_then old old new IsNothing (IsPolled client poll) (goes_nowhere old) g)
+        goes_as old new (Then NothingHappened (IsPolled client poll)) (Then (Perhaps (BeginsBelow old client)) (IsPolled client poll)) (λ entries h. (h.0, h.1, inl h.2, h.3, h.4)) (goes_then old old new NothingHappened (IsPolled client poll) (goes_nowhere old) g)
 
 -- a command that went on answers the poll, where one began before it
 pub begun_polls : (old mid new : Core) (client : ℕ) (ask : Ask) (poll : Poll) → IsBelowDepth old client → IsNextAsk old client ask false → bars old ask ≡ false → stands_before old client ask ≡ false → BeginsAt old client ask mid → Acts mid client poll new → Polls old client poll new
@@ -450,17 +450,17 @@ polls_goes old new client poll polled =
     goes_as old new (Then (Perhaps (BeginsBelow old client)) (IsPolled client poll)) (Then (Perhaps (BeginsOne client)) (IsPolled client poll)) (λ entries h. (h.0, h.1, begins_one old client h.0 h.2, h.3, h.4)) polled.goes
 
 -- an answer by which nothing happened
-pub nothing_polls : (old : Core) (client : ℕ) (poll : Poll) → ((entries : List (Entry dialect)) → IsNothing entries → IsPolled client poll entries) → IsWhy old client poll old → Polls old client poll old
+pub nothing_polls : (old : Core) (client : ℕ) (poll : Poll) → ((entries : List (Entry dialect)) → NothingHappened entries → IsPolled client poll entries) → IsWhy old client poll old → Polls old client poll old
 nothing_polls old client poll f why =
-    record { goes = goes_as old old IsNothing (Then (Perhaps (BeginsBelow old client)) (IsPolled client poll)) (λ entries e. ([], [], inl refl, f [] refl, e)) (goes_nowhere old); why = why; order = inl (refl, refl) }
+    record { goes = goes_as old old NothingHappened (Then (Perhaps (BeginsBelow old client)) (IsPolled client poll)) (λ entries e. ([], [], inl refl, f [] refl, e)) (goes_nowhere old); why = why; order = inl (refl, refl) }
 
 -- a poll by which nothing happened but that the client came to the line of its key
-pub line_polls : (old new : Core) (client : ℕ) → GoesBy old IsNothing new → StandsInLine old client new → MayAsk old client → NoneGoesOn new client → Polls old client polls.Queued new
+pub line_polls : (old new : Core) (client : ℕ) → GoesBy old NothingHappened new → StandsInLine old client new → MayAsk old client → NoCommandGoesOn new client → Polls old client polls.Queued new
 line_polls old new client goes stands may held =
-    record { goes = goes_as old new IsNothing (Then (Perhaps (BeginsBelow old client)) (IsPolled client polls.Queued)) (λ entries e. ([], [], inl refl, refl, e)) goes; why = (held, inr (stands, may)); order = inr (inr stands) }
+    record { goes = goes_as old new NothingHappened (Then (Perhaps (BeginsBelow old client)) (IsPolled client polls.Queued)) (λ entries e. ([], [], inl refl, refl, e)) goes; why = (held, inr (stands, may)); order = inr (inr stands) }
 
 -- a poll by which nothing happened, as the client stood in the line of its key already
-pub stood_polls : (old new : Core) (client : ℕ) → new ≡ old → StandsInLine old client new → MayAsk old client → NoneGoesOn old client → Polls old client polls.Busy new
+pub stood_polls : (old new : Core) (client : ℕ) → new ≡ old → StandsInLine old client new → MayAsk old client → NoCommandGoesOn old client → Polls old client polls.Busy new
 stood_polls old new client same stands may held =
     subst (λ (core : Core). Polls old client polls.Busy core) (sym same)
     (nothing_polls old client polls.Busy (λ entries e. e) (refl, held, inr (inr (subst (StandsInLine old client) same stands), may)))
@@ -489,8 +489,8 @@ if_ok (Ok a) P Q f h = f a h
 if_ok (Err e) P Q f h = tt
 
 -- a client of whom nothing changed is served still
-pub still_served : (old new : Core) (client : ℕ) (x y : Client) → Turns old new client (Some x) (Some y) → Stays x y → x.dropped ≡ false → ForClient new client IsServed
-still_served old new client x y t p served = subst (λ o. MatchOption o ⊥ IsServed) (sym t.is) (p.dropped ∙ served)
+pub still_served : (old new : Core) (client : ℕ) (x y : Client) → Turns old new client (Some x) (Some y) → Stays x y → x.dropped ≡ false → ForClient new client ClientIsServed
+still_served old new client x y t p served = subst (λ o. MatchOption o ⊥ ClientIsServed) (sym t.is) (p.dropped ∙ served)
 
 -- memory was refused for one that was served
 pub refused : (old mid new : Core) (client : ℕ) (drops : DropsAll mid client new) → ReadFault old client faults.NoMemory mid → StopsPolling old client new

@@ -12,10 +12,10 @@ use Rattle.core_commands.specs.declared.turns.Turn.TheVariants as turns
 use Rattle.core_proxy.specs.declared.proxy.Core.{Core}
 use Rattle.core_client.specs.Replying.{pending_in, HasPlace}
 use Rattle.core_commands.specs.Out.{is_call, has_call_out}
-use Rattle.core_commands.specs.Ready.{IsIdle, IsTurn}
+use Rattle.core_commands.specs.Ready.{IsIdle, IsCommandTurn}
 use Rattle.core_proxy.specs.Resting.{goes_on, IsHeldUp}
 use Rattle.core_client.specs.ClientState.{dialect, IsSlot}
-use Rattle.core_proxy.specs.CoreState.{Beside, client_at, command_at, AreSlots, IsAtFront, IsWaitedFor, IsQueue, IsHeld, FitsBeside}
+use Rattle.core_proxy.specs.CoreState.{Beside, client_at, command_at, ArePendingSlots, IsAtFront, IsWaitedFor, IsQueue, IsHeld, FitsBeside}
 use Rattle.core_commands.proofs.Commands.{is_call_true}
 use Rattle.core_proxy.proofs.Ending.{waited_for}
 use Rattle.core_proxy.proofs.Slots.{some_slot, no_slot}
@@ -33,25 +33,25 @@ if_none None P Q f h = f h
 if_none (Some a) P Q f h = tt
 
 -- who can't go on is held up
-pub held_up : {S : Type 0} (client window : ℕ) (commands : map.IndexMap ℕ Command S) (number : ℕ) (turn : Turn) → IsTurn client window commands number turn → goes_on turn ≡ false → IsHeldUp client window commands number
+pub held_up : {S : Type 0} (client window : ℕ) (commands : map.IndexMap ℕ Command S) (number : ℕ) (turn : Turn) → IsCommandTurn client window commands number turn → goes_on turn ≡ false → IsHeldUp client window commands number
 held_up client window commands number turns.Sends t e = absurd cc
 held_up client window commands number turns.Ends t e = absurd cc
 held_up client window commands number turns.Full t e = inr t
 held_up client window commands number turns.Rests t e = inl t
 
 -- one of whom no call is out waits for its server then
-pub is_full : {S : Type 0} (client window : ℕ) (commands : map.IndexMap ℕ Command S) (number : ℕ) (a : Command) (turn : Turn) → IsIdle client commands number a → IsTurn client window commands number turn → goes_on turn ≡ false → IsTurn client window commands number turns.Full
+pub is_full : {S : Type 0} (client window : ℕ) (commands : map.IndexMap ℕ Command S) (number : ℕ) (a : Command) (turn : Turn) → IsIdle client commands number a → IsCommandTurn client window commands number turn → goes_on turn ≡ false → IsCommandTurn client window commands number turns.Full
 is_full client window commands number a turns.Sends idle t e = absurd cc
 is_full client window commands number a turns.Ends idle t e = absurd cc
 is_full client window commands number a turns.Full idle t e = t
 is_full client window commands number a turns.Rests idle t e = absurd (let out = t a idle.was idle.own in let none = idle.idle in cc)
 
 -- one of which a call is out doesn't wait for its server
-pub called_not_full : {S : Type 0} (client window : ℕ) (commands : map.IndexMap ℕ Command S) (number : ℕ) → IsTurn client window commands number turns.Rests → IsTurn client window commands number turns.Full → ⊥
+pub called_not_full : {S : Type 0} (client window : ℕ) (commands : map.IndexMap ℕ Command S) (number : ℕ) → IsCommandTurn client window commands number turns.Rests → IsCommandTurn client window commands number turns.Full → ⊥
 called_not_full client window commands number rests (a, idle, calling, at) = let out = rests a idle.was idle.own in let none = idle.idle in absurd cc
 
 -- a command's place in the log's queue is one in the client's
-placed_in : (ps : List Pending) (slots : List (Slot dialect)) (n : ℕ) (slot : Slot dialect) → AreSlots ps slots → slot_in slots n ≡ Some slot → (p : Pending) × (pending_in n ps ≡ Some p) × IsSlot p slot
+placed_in : (ps : List Pending) (slots : List (Slot dialect)) (n : ℕ) (slot : Slot dialect) → ArePendingSlots ps slots → slot_in slots n ≡ Some slot → (p : Pending) × (pending_in n ps ≡ Some p) × IsSlot p slot
 placed_in [] [] n slot h is = no_slot is
 placed_in [] (s ∷ slots) n slot h is = absurd h
 placed_in (q ∷ ps) [] n slot h is = absurd h
@@ -65,7 +65,7 @@ placed_in (q ∷ ps) (s ∷ slots) n slot h is =
 pub placed : (core : Core) (beside : Beside) → FitsBeside core beside → (client number : ℕ) (a : Command) (x : Client) → command_at core number ≡ Some a → a.client ≡ client → client_at core client ≡ Some x → x.dropped ≡ false → (pending : Pending) × HasPlace x number pending
 placed core beside fits client number a x is own was served =
     let slots = beside.queue client in
-    let q : AreSlots x.queue.items slots × IsAtFront x slots × IsWaitedFor x.waits slots = subst (λ o. IsQueue o slots) was (fits.queues client) in
+    let q : ArePendingSlots x.queue.items slots × IsAtFront x slots × IsWaitedFor x.waits slots = subst (λ o. IsQueue o slots) was (fits.queues client) in
     let held : (slot : Slot dialect) × (slot_in slots number ≡ Some slot) × (slot.ask ≡ a.ask) × (slot.reply ≡ None) =
     subst (λ o. IsHeld number a o slots) was (subst (λ c. IsHeld number a (client_at core c) (beside.queue c)) own (fits.held number a is)) served in
     let p = placed_in x.queue.items slots number held.0 q.0 held.1 in (

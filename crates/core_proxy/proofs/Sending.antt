@@ -11,7 +11,7 @@ use Rattle.fresh_runs.proofs.OverlapSteps.{walks_lead}
 use Rattle.route_tree.specs.At.{tree_at}
 use Rattle.route_tree.specs.Word.{tree_words}
 use Rattle.route_job.specs.Rest.{ask_under, origin_under}
-use Rattle.route_job.specs.Jobs.{server_in}
+use Rattle.route_job.specs.Jobs.{server_of_pending}
 use Rattle.core_commands.specs.declared.command.Command.{Command}
 use Rattle.core_proxy.specs.declared.proxy.Core.{Core}
 use Rattle.core_proxy.specs.Steps.{SendsOut}
@@ -31,7 +31,7 @@ module _ (old new : Core) (number : ℕ) (a : Command) (r : SendsOut old new num
   origin = origin_under a.job.frames.items OfClient
 
   abbrev server : ℕ
-  server = server_in a.job.pending
+  server = server_of_pending a.job.pending
 
   abbrev ticket : Ticket
   ticket = record { number = number; ask = ask; origin = origin }

@@ -15,7 +15,7 @@ use Rattle.fresh_runs.proofs.OverlapSteps.{walks_lead}
 use Rattle.route_tree.specs.At.{tree_at}
 use Rattle.route_tree.specs.Word.{tree_words}
 use Rattle.route_job.specs.Rest.{ask_under, origin_under}
-use Rattle.route_job.specs.Jobs.{server_in, call_of}
+use Rattle.route_job.specs.Jobs.{server_of_pending, call_of}
 use Rattle.core_commands.specs.declared.command.Command.{Command}
 use Rattle.core_proxy.specs.declared.proxy.Core.{Core}
 use Rattle.core_proxy.specs.Steps.{Resolves}
@@ -36,7 +36,7 @@ module _ (old new : Core) (number : ℕ) (a b : Command) (outcome : Outcome) (r 
   origin = origin_under a.job.frames.items OfClient
 
   abbrev server : ℕ
-  server = server_in a.job.pending
+  server = server_of_pending a.job.pending
 
   abbrev event : End → Event
   event end = Calls number server ask origin end

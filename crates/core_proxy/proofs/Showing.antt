@@ -17,7 +17,7 @@ use Rattle.core_proxy.specs.declared.proxy.Core.{Core}
 use Rattle.core_proxy.specs.Steps.{Turns}
 use Rattle.core_client.specs.Heads.{ShowsHead}
 use Rattle.core_client.specs.ClientState.{dialect, Message, quiet_in, front_by, output_by, dropped_by, IsSlot}
-use Rattle.core_proxy.specs.CoreState.{bars_of, Beside, client_at, MayComeOf, state_of, AreSlots, IsAtFront, IsWaitedFor, IsQueue, ticket_by, GoesBy, version_by}
+use Rattle.core_proxy.specs.CoreState.{bars_of, Beside, client_at, MayComeOf, state_of, ArePendingSlots, IsAtFront, IsWaitedFor, IsQueue, ticket_by, GoesBy, version_by}
 use Rattle.core_proxy.proofs.Slots.{no_reply, behind, none_behind, held_then}
 use Rattle.core_proxy.proofs.Clients.{on_its_way_kept, changed, stays, command_stays, owners}
 
@@ -34,7 +34,7 @@ slot_shown pending slot reply s =
     shown_is slot.message slot.index pending.ask reply s.asks ∙ ap (λ q. shown_text q (is_last (asks_in slot.message) slot.index) pending.ask reply) s.quiet ∙ ap (λ l. shown_text pending.quiet l pending.ask reply) s.last
 
 -- the slots of a queue with a head
-split : (pending : Pending) (rest : List Pending) (slots : List (Slot dialect)) → AreSlots (pending ∷ rest) slots → (slot : Slot dialect) × (more : List (Slot dialect)) × (slots ≡ slot ∷ more) × IsSlot pending slot × AreSlots rest more
+split : (pending : Pending) (rest : List Pending) (slots : List (Slot dialect)) → ArePendingSlots (pending ∷ rest) slots → (slot : Slot dialect) × (more : List (Slot dialect)) × (slots ≡ slot ∷ more) × IsSlot pending slot × ArePendingSlots rest more
 split pending rest [] h = absurd h
 split pending rest (slot ∷ more) h = (slot, more, refl, h.0, h.1)
 
@@ -63,15 +63,15 @@ module _ (old new : Core) (client : ℕ) (x y : Client) (pending : Pending) (rep
   shows = λ beside fits.
       let queue = beside.queue in
       let beside' : Beside = record beside { queue = less queue } in
-      let mine : AreSlots x.queue.items (queue client) × IsAtFront x (queue client) × IsWaitedFor x.waits (queue client) = subst (λ o. IsQueue o (queue client)) t.was (fits.queues client) in
-      let cut = split pending p.rest (queue client) (subst (λ l. AreSlots l (queue client)) p.head mine.0) in
+      let mine : ArePendingSlots x.queue.items (queue client) × IsAtFront x (queue client) × IsWaitedFor x.waits (queue client) = subst (λ o. IsQueue o (queue client)) t.was (fits.queues client) in
+      let cut = split pending p.rest (queue client) (subst (λ l. ArePendingSlots l (queue client)) p.head mine.0) in
       let slot = cut.0 in
       let is : queue client ≡ slot ∷ cut.1 = cut.2 in
       let has : slot.reply ≡ Some reply = cut.3.reply ∙ p.replied in
       let text : bytes_of y.output ≡ bytes_of x.output ++ shown_of slot.message slot.index reply = p.output ∙ ap (λ l. bytes_of x.output ++ l) (sym (slot_shown pending slot reply cut.3)) in
       let here : IsQueue (client_at new client) (behind_head (queue client)) =
       subst (λ o. IsQueue o (behind_head (queue client))) (sym t.is)
-      (subst (λ l. AreSlots y.queue.items (behind_head l) × IsAtFront y (behind_head l) × IsWaitedFor y.waits (behind_head l)) (sym is) (subst (λ l. AreSlots l cut.1) (sym p.queue) cut.4, behind_front x y slot cut.1 reply has p.stream p.index p.waits (subst (IsAtFront x) is mine.1), subst (λ w. IsWaitedFor w cut.1) (sym p.waits) (subst (IsWaitedFor x.waits) is mine.2).1)) in (
+      (subst (λ l. ArePendingSlots y.queue.items (behind_head l) × IsAtFront y (behind_head l) × IsWaitedFor y.waits (behind_head l)) (sym is) (subst (λ l. ArePendingSlots l cut.1) (sym p.queue) cut.4, behind_front x y slot cut.1 reply has p.stream p.index p.waits (subst (IsAtFront x) is mine.1), subst (λ w. IsWaitedFor w cut.1) (sym p.waits) (subst (IsWaitedFor x.waits) is mine.2).1)) in (
         beside',
         Shows client slot reply ∷ [],
         record {

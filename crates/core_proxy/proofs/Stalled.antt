@@ -27,13 +27,13 @@ use Rattle.route_tree.specs.Route.{Route}
 use Rattle.core_proxy.specs.Claims.{claim_by, is_barred}
 use Rattle.core_proxy.specs.declared.proxy.Core.{Core}
 use Rattle.core_proxy.specs.CoreState.{client_at}
-use Rattle.core_proxy.specs.Polls.{ForClient, IsServed, IsDone, IsNextAsk, StandsInLine, HasNoKey, NoneGoesOn, MayAsk, IsStalled, claim_of}
+use Rattle.core_proxy.specs.Polls.{ForClient, ClientIsServed, ClientIsDone, IsNextAsk, StandsInLine, HasNoKey, NoCommandGoesOn, MayAsk, IsStalled, claim_of}
 use Rattle.core_proxy.specs.Resting.{AreHeldUp}
 use Rattle.core_proxy.specs.Steps.{Turns}
 
 -- ---- what holds of a client whatever its output
 
-done_still : (x y : Client) → LosesOutput x y → IsDone x → IsDone y
+done_still : (x y : Client) → LosesOutput x y → ClientIsDone x → ClientIsDone y
 done_still x y p (inl dropped) = inl (p.dropped ∙ dropped)
 done_still x y p (inr h) = inr (p.queue ∙ h.0, subst (IsStuck dialect) (sym p.stream) h.1)
 
@@ -102,14 +102,14 @@ module _ (old : Core) (clients : slab.Slab Client) (client : ℕ) (x y : Client)
   may_ask_still : (c : ℕ) → MayAsk old c → MayAsk new c
   may_ask_still c h = (h.0, still c (CanAskBelow old.limits.depth h.0) (λ a b q k. (can_ask_still h.0 a b q k.0, subst (λ (items : List Pending). length items < old.limits.depth) (sym q.queue) k.1)) h.1)
 
-  none_goes_on_still : (c : ℕ) → NoneGoesOn old c → NoneGoesOn new c
+  none_goes_on_still : (c : ℕ) → NoCommandGoesOn old c → NoCommandGoesOn new c
   none_goes_on_still c h = (
-    still c IsServed (λ a b q k. q.dropped ∙ k) h.0,
+    still c ClientIsServed (λ a b q k. q.dropped ∙ k) h.0,
     still c (λ (a : Client). AreHeldUp c old.limits.window old.commands a.queue.items) (λ a b q k. subst (AreHeldUp c old.limits.window old.commands) (sym q.queue) k) h.1,
   )
 
   pub still_stalled : (c : ℕ) → IsStalled old c → IsStalled new c
-  still_stalled c (inl done) = inl (still c IsDone done_still done)
+  still_stalled c (inl done) = inl (still c ClientIsDone done_still done)
   still_stalled c (inr (held, inl later)) = inr (none_goes_on_still c held, inl (still c (IsLater old.limits.depth) (later_still old.limits.depth) later))
   still_stalled c (inr (held, inr (no_key, may))) = inr (none_goes_on_still c held, inr (no_key_still c no_key, may_ask_still c may))
 

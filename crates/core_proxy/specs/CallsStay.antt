@@ -4,7 +4,7 @@ use Rattle.mc_types.specs.declared.ask.Ask.{Ask}
 use Rattle.mc_types.specs.declared.call.Outcome.{Outcome}
 use Rattle.route_tree.specs.Route.{Route}
 use Rattle.route_job.specs.Rest.{ask_under}
-use Rattle.route_job.specs.Jobs.{server_in}
+use Rattle.route_job.specs.Jobs.{server_of_pending}
 use Rattle.core_commands.specs.declared.command.Command.{Command}
 use Rattle.core_commands.specs.declared.ticket.Ticket.{Ticket}
 use Rattle.core_proxy.specs.declared.fault.CoreFault.{CoreFault}
@@ -12,7 +12,7 @@ use Rattle.core_proxy.specs.declared.limits.CoreLimits.{CoreLimits}
 use Rattle.core_proxy.specs.declared.note.Poll.{Poll}
 use Rattle.core_proxy.specs.declared.note.Poll.TheVariants as polls
 use Rattle.core_proxy.specs.declared.proxy.Core.{Core}
-use Rattle.core_proxy.specs.CoreState.{command_at, has_call_out, Beside, FitsBeside, IsFresh, Opens, Feeds, Gives, Closes, LeavesLine, Reloads}
+use Rattle.core_proxy.specs.CoreState.{command_at, has_call_out, Beside, FitsBeside, IsFresh, Opens, Feeds, Gives, ClosesClient, LeavesLine, Reloads}
 use Rattle.core_proxy.specs.Faults.{OpenFault}
 use Rattle.core_proxy.specs.Polls.{Polls, PollFault}
 use Rattle.core_proxy.specs.Settles.{asked, Settles, SettleFault}
@@ -20,7 +20,7 @@ use Rattle.core_proxy.specs.Settles.{asked, Settles, SettleFault}
 -- at which server the command's call is that is out, and what it asks
 abbrev pub called_by : Option Command → Option (ℕ × Ask)
 called_by None = None
-called_by (Some command) = if has_call_out command then Some (server_in command.job.pending, ask_under command.job.frames.items command.job.ask) else None
+called_by (Some command) = if has_call_out command then Some (server_of_pending command.job.pending, ask_under command.job.frames.items command.job.ask) else None
 
 -- the same of the command of this number
 abbrev pub called : Core → ℕ → Option (ℕ × Ask)
@@ -64,7 +64,7 @@ pub record CallsStay : Type 0 where
   pub unopened : (old new : Core) (fault : CoreFault) → CanStand old → OpenFault old fault new → KeepsCalls old new
   pub feeds : (old new : Core) (client : ℕ) (bytes : List ℕ) → CanStand old → Feeds old client bytes new → KeepsCalls old new
   pub gives : (old new : Core) (client : ℕ) (bytes : List ℕ) → CanStand old → Gives old client bytes new → KeepsCalls old new
-  pub closes : (old new : Core) (client : ℕ) → CanStand old → Closes old client new → KeepsCalls old new
+  pub closes : (old new : Core) (client : ℕ) → CanStand old → ClosesClient old client new → KeepsCalls old new
   pub leaves : (old new : Core) (client : ℕ) → CanStand old → LeavesLine old client new → KeepsCalls old new
   pub reloads : (old new : Core) (tree : Route) → CanStand old → Reloads old tree new → KeepsCalls old new
   pub polls : (old new : Core) (client : ℕ) (poll : Poll) → CanStand old → Polls old client poll new → PollsCalls old poll new

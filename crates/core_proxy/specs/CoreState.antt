@@ -18,7 +18,7 @@ use Rattle.route_tree.specs.Plan.{Plan, IsGood}
 use Rattle.route_tree.specs.Word.{Given, Word, tree_words}
 use Rattle.route_job.specs.Jobs.{Comes}
 use Rattle.route_job.specs.Rest.{ask_under, origin_under}
-use Rattle.route_job.specs.Jobs.{server_in}
+use Rattle.route_job.specs.Jobs.{server_of_pending}
 use Rattle.core_client.specs.declared.client.Pending.{Pending}
 use Rattle.core_client.specs.declared.client.Client.{Client}
 use Rattle.core_commands.specs.declared.command.Command.{Command}
@@ -80,11 +80,11 @@ state_of core beside =
       version = version_by core.limits;
     }
 
-abbrev pub AreSlots : List Pending → List (Slot dialect) → Type 0
-AreSlots [] [] = Unit {0}
-AreSlots [] (slot ∷ slots) = ⊥
-AreSlots (pending ∷ rest) [] = ⊥
-AreSlots (pending ∷ rest) (slot ∷ slots) = IsSlot pending slot × AreSlots rest slots
+abbrev pub ArePendingSlots : List Pending → List (Slot dialect) → Type 0
+ArePendingSlots [] [] = Unit {0}
+ArePendingSlots [] (slot ∷ slots) = ⊥
+ArePendingSlots (pending ∷ rest) [] = ⊥
+ArePendingSlots (pending ∷ rest) (slot ∷ slots) = IsSlot pending slot × ArePendingSlots rest slots
 
 -- where a client waits for a reply, it is that of the last command of its queue, which asks a key of the message at its front
 abbrev pub IsAtFront : Client → List (Slot dialect) → Type 0
@@ -101,7 +101,7 @@ IsWaitedFor waits (slot ∷ slots) = (slot.reply ≡ None → is_last_slot slot 
 -- these can be the commands of a client
 abbrev pub IsQueue : Option Client → List (Slot dialect) → Type 0
 IsQueue None slots = slots ≡ []
-IsQueue (Some x) slots = AreSlots x.queue.items slots × IsAtFront x slots × IsWaitedFor x.waits slots
+IsQueue (Some x) slots = ArePendingSlots x.queue.items slots × IsAtFront x slots × IsWaitedFor x.waits slots
 
 -- a command is that of its number in the queue of its client, without a reply; where nothing is done for the client any more, it need not be
 abbrev pub IsHeld : ℕ → Command → Option Client → List (Slot dialect) → Type 0
@@ -121,7 +121,7 @@ abbrev pub ticket_by : Option Command → ℕ → ℕ → Option Ticket
 ticket_by None n s = None
 ticket_by (Some command) n s =
     if has_call_out command
-    then if nat_eq (server_in command.job.pending) s
+    then if nat_eq (server_of_pending command.job.pending) s
     then Some (record { number = n; ask = ask_under command.job.frames.items command.job.ask; origin = origin_under command.job.frames.items OfClient })
     else None
     else None
@@ -197,8 +197,8 @@ abbrev pub Gives : Core → ℕ → List ℕ → Core → Type 0
 Gives old client bytes new = (bytes ≡ output_by (client_at old client)) × GoesByOne old (log.Gives client bytes) new
 
 -- the client's place is free, and the client stands in no line of a key
-abbrev pub Closes : Core → ℕ → Core → Type 0
-Closes old client new = (client_at new client ≡ None) × GoesByOne old (Resets client) new × (new.lines ≡ others client old.lines)
+abbrev pub ClosesClient : Core → ℕ → Core → Type 0
+ClosesClient old client new = (client_at new client ≡ None) × GoesByOne old (Resets client) new × (new.lines ≡ others client old.lines)
 
 -- the client stands in no line of a key, and nothing else changes
 abbrev pub LeavesLine : Core → ℕ → Core → Type 0

@@ -9,7 +9,7 @@ use Rattle.core_proxy.specs.declared.limits.CoreLimits.{CoreLimits}
 use Rattle.core_commands.specs.declared.sharing.Sharing.TheVariants.{Alone}
 use Rattle.core_proxy.specs.declared.proxy.Core.{Core}
 use Rattle.core_client.specs.Clients.{IsEnded}
-use Rattle.core_proxy.specs.Feeding.{HasRoom, RoomFault}
+use Rattle.core_proxy.specs.Feeding.{HoldsAtMost, RoomFault}
 use Rattle.core_proxy.specs.CoreState.{client_at}
 pub use Rattle.core_commands.specs.Owned.{has_commands}
 
@@ -27,7 +27,7 @@ abbrev pub CanOpen : Core → Type 0
 CanOpen core = slab_len core.clients < core.limits.clients
 
 abbrev pub CanFeed : Core → ℕ → List ℕ → Type 0
-CanFeed core client bytes = MatchOption (client_at core client) ⊥ (λ x. HasRoom core.limits.held x bytes)
+CanFeed core client bytes = MatchOption (client_at core client) ⊥ (λ x. HoldsAtMost core.limits.held x bytes)
 
 abbrev pub CanClose : Core → ℕ → Type 0
 CanClose core client = HasClient core client × (has_commands client core.commands ≡ false)

@@ -11,8 +11,8 @@ abbrev pub Takes : Client → List ℕ → Client → Type 0
 Takes x bytes y = MatchBool x.dropped (y ≡ x) (TakesPiece x bytes y)
 
 -- what is held and the piece are no more than this
-abbrev pub HasRoom : ℕ → Client → List ℕ → Type 0
-HasRoom limit x bytes = IsEnded x ⊎ (length (held_at x.stream) + length bytes ≤ limit)
+abbrev pub HoldsAtMost : ℕ → Client → List ℕ → Type 0
+HoldsAtMost limit x bytes = IsEnded x ⊎ (length (held_at x.stream) + length bytes ≤ limit)
 
 -- why a client takes no piece
 abbrev pub RoomFault : ℕ → Client → List ℕ → CoreFault → Type 0

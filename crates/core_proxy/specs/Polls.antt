@@ -34,7 +34,7 @@ use Rattle.core_proxy.specs.Claims.{claim_by, is_barred}
 use Rattle.core_client.specs.Clients.{has_own}
 use Rattle.core_commands.specs.Lines.{is_behind, others, joined}
 use Rattle.core_client.specs.Heads.{HasNoReply}
-use Rattle.core_commands.specs.Ready.{IsIdle, IsTurn}
+use Rattle.core_commands.specs.Ready.{IsIdle, IsCommandTurn}
 use Rattle.core_proxy.specs.Resting.{AreHeldUp, AreNotFull}
 use Rattle.core_client.specs.Nexts.{CanAskBelow, HasCommand, IsLater}
 
@@ -42,20 +42,20 @@ use Rattle.core_client.specs.Nexts.{CanAskBelow, HasCommand, IsLater}
 abbrev pub ForClient : Core → ℕ → (Client → Type 0) → Type 0
 ForClient core client Is = MatchOption (client_at core client) ⊥ Is
 
-abbrev pub IsServed : Client → Type 0
-IsServed x = x.dropped ≡ false
+abbrev pub ClientIsServed : Client → Type 0
+ClientIsServed x = x.dropped ≡ false
 
 -- a message that asks no server was passed, and is told so
 abbrev pub IsPassed : ℕ → Passed → List (Entry dialect) → Type 0
 IsPassed client passed entries = (message : Message) × (next : Place) × (passed ≡ told_of message) × (entries ≡ Passes client message next ∷ [])
 
 -- nothing happened
-abbrev pub IsNothing : List (Entry dialect) → Type 0
-IsNothing entries = entries ≡ []
+abbrev pub NothingHappened : List (Entry dialect) → Type 0
+NothingHappened entries = entries ≡ []
 
 -- memory was refused after entries of this kind, and the client is served still
 abbrev pub StopsAfter : ℕ → (List (Entry dialect) → Type 0) → Core → CoreFault → Core → Type 0
-StopsAfter client IsKind old faults.NoMemory new = GoesBy old IsKind new × ForClient new client IsServed
+StopsAfter client IsKind old faults.NoMemory new = GoesBy old IsKind new × ForClient new client ClientIsServed
 StopsAfter client IsKind old faults.TooManyClients new = ⊥
 StopsAfter client IsKind old faults.NoClient new = ⊥
 StopsAfter client IsKind old faults.InputFull new = ⊥
@@ -65,7 +65,7 @@ StopsAfter client IsKind old faults.Spent new = ⊥
 
 -- memory was refused before anything happened
 abbrev pub StopsFirst : ℕ → Core → CoreFault → Core → Type 0
-StopsFirst client = StopsAfter client IsNothing
+StopsFirst client = StopsAfter client NothingHappened
 
 -- a command of this ask began
 abbrev pub HasBegun : ℕ → ℕ → Ask → List (Entry dialect) → Type 0
@@ -75,7 +75,7 @@ HasBegun client number ask entries = (part : Part dialect) × (part.ask ≡ ask)
 pub record IsAtLast (core : Core) (client : ℕ) : Type 0 where
   pub command : Command
   pub idle : IsIdle client core.commands core.number command
-  pub served : ForClient core client IsServed
+  pub served : ForClient core client ClientIsServed
   pub some : ForClient core client HasCommand
 
 -- a command of the client began: it has the next number, and its client stands in no line of a key
@@ -101,8 +101,8 @@ abbrev pub IsSent : Ticket → List (Entry dialect) → Type 0
 IsSent ticket entries = entries ≡ Sends ticket.number ticket.server ticket.ask ticket.origin ∷ []
 
 -- a command ended that is told so
-abbrev pub IsEnded : ℕ → Note → List (Entry dialect) → Type 0
-IsEnded client note entries =
+abbrev pub CommandIsEnded : ℕ → Note → List (Entry dialect) → Type 0
+CommandIsEnded client note entries =
     (part : Part dialect) × (reply : Answer) × (note.ask ≡ part.ask) × (IsTrue note.acknowledged ↔ Acknowledges part.ask reply) × (entries ≡ Ends client note.number part reply note.from ∷ [])
     × (note.is_error ≡ is_error reply)
 
@@ -115,20 +115,20 @@ queue_len None = 0
 queue_len (Some x) = length x.queue.items
 
 -- each reply of the client's that could be shown was
-abbrev pub IsShown : Core → ℕ → Type 0
-IsShown core client = ForClient core client (λ x. HasNoReply x.queue.items)
+abbrev pub HasShownAll : Core → ℕ → Type 0
+HasShownAll core client = ForClient core client (λ x. HasNoReply x.queue.items)
 
 -- whether the head of the client's commands had a reply, which was shown then
 abbrev pub ShowsNext : Core → ℕ → Bool → Core → Type 0
-ShowsNext old client true new = GoesBy old (AreShown client) new × ForClient new client IsServed × (queue_len (client_at new client) < queue_len (client_at old client))
-ShowsNext old client false new = GoesBy old IsNothing new × ForClient new client IsServed × IsShown new client
+ShowsNext old client true new = GoesBy old (AreShown client) new × ForClient new client ClientIsServed × (queue_len (client_at new client) < queue_len (client_at old client))
+ShowsNext old client false new = GoesBy old NothingHappened new × ForClient new client ClientIsServed × HasShownAll new client
 
 -- entries of the one kind, and after them some of the other
-abbrev pub Then : (List (Entry dialect) → Type 0) → (List (Entry dialect) → Type 0) → List (Entry dialect) → Type 0
-Then IsFirst IsSecond entries = (first second : List (Entry dialect)) × IsFirst first × IsSecond second × (entries ≡ second ++ first)
+abbrev pub EntriesThen : (List (Entry dialect) → Type 0) → (List (Entry dialect) → Type 0) → List (Entry dialect) → Type 0
+EntriesThen IsFirst IsSecond entries = (first second : List (Entry dialect)) × IsFirst first × IsSecond second × (entries ≡ second ++ first)
 
 abbrev pub Perhaps : (List (Entry dialect) → Type 0) → List (Entry dialect) → Type 0
-Perhaps IsKind entries = IsNothing entries ⊎ IsKind entries
+Perhaps IsKind entries = NothingHappened entries ⊎ IsKind entries
 
 abbrev pub BeginsOne : ℕ → List (Entry dialect) → Type 0
 BeginsOne client entries = (number : ℕ) × (ask : Ask) × HasBegun client number ask entries
@@ -142,22 +142,22 @@ abbrev pub BeginsBelow : Core → ℕ → List (Entry dialect) → Type 0
 BeginsBelow core client entries = IsBelowDepth core client × BeginsOne client entries
 
 abbrev pub EndsOne : ℕ → List (Entry dialect) → Type 0
-EndsOne client entries = (note : Note) × IsEnded client note entries
+EndsOne client entries = (note : Note) × CommandIsEnded client note entries
 
 -- what happened by this answer; a command may have begun before it
 abbrev pub IsPolled : ℕ → Poll → List (Entry dialect) → Type 0
-IsPolled client polls.Idle = IsNothing
+IsPolled client polls.Idle = NothingHappened
 IsPolled client polls.Own = IsPassed client Own
 IsPolled client polls.Refused = IsPassed client Refused
 IsPolled client (polls.Call ticket) = IsSent ticket
-IsPolled client polls.Waiting = IsNothing
-IsPolled client polls.Queued = IsNothing
-IsPolled client polls.Busy = IsNothing
-IsPolled client (polls.Did note) = Then (IsEnded client note) (AreShown client)
+IsPolled client polls.Waiting = NothingHappened
+IsPolled client polls.Queued = NothingHappened
+IsPolled client polls.Busy = NothingHappened
+IsPolled client (polls.Did note) = EntriesThen (CommandIsEnded client note) (AreShown client)
 
 -- nothing is done for the client any more, or no whole message is held of it and none of its commands is under way
-abbrev pub IsDone : Client → Type 0
-IsDone x = (x.dropped ≡ true) ⊎ ((x.queue.items ≡ []) × IsStuck dialect x.stream)
+abbrev pub ClientIsDone : Client → Type 0
+ClientIsDone x = (x.dropped ≡ true) ⊎ ((x.queue.items ≡ []) × IsStuck dialect x.stream)
 
 -- what a command of this ask claims of its key where it begins now
 abbrev pub claim_of : Core → Ask → Claim
@@ -209,11 +209,11 @@ KeepsOrder old client new = StandsStill old new ⊎ (BeginsInTurn old client new
 
 -- a command of the client waits for its server, which has as many calls out as it may have
 abbrev pub HasNoRoom : Core → ℕ → Type 0
-HasNoRoom core client = (number : ℕ) × IsTurn client core.limits.window core.commands number Full
+HasNoRoom core client = (number : ℕ) × IsCommandTurn client core.limits.window core.commands number Full
 
 -- the client is served, and none of its commands whose reply hasn't come can go on
-abbrev pub NoneGoesOn : Core → ℕ → Type 0
-NoneGoesOn core client = ForClient core client IsServed × ForClient core client (λ x. AreHeldUp client core.limits.window core.commands x.queue.items)
+abbrev pub NoCommandGoesOn : Core → ℕ → Type 0
+NoCommandGoesOn core client = ForClient core client ClientIsServed × ForClient core client (λ x. AreHeldUp client core.limits.window core.commands x.queue.items)
 
 -- none of the client's commands waits for its server
 abbrev pub NoneWaits : Core → ℕ → Type 0
@@ -237,18 +237,18 @@ IsQueued old client new = (HasNoRoom new client × ForClient new client HasComma
 
 -- nothing can be done for the client without a result of a call: it is done, or none of its commands can go on, and nothing at its front can be done or its next command waits for its key
 abbrev pub IsStalled : Core → ℕ → Type 0
-IsStalled core client = ForClient core client IsDone ⊎ (NoneGoesOn core client × (NothingBegins core client ⊎ (HasNoKey core client × MayAsk core client)))
+IsStalled core client = ForClient core client ClientIsDone ⊎ (NoCommandGoesOn core client × (NothingBegins core client ⊎ (HasNoKey core client × MayAsk core client)))
 
 -- what holds after an answer: why nothing can be done, that the call that is handed out is out, or that no reply is left to be shown
 abbrev pub IsWhy : Core → ℕ → Poll → Core → Type 0
-IsWhy old client polls.Idle new = (new ≡ old) × ForClient old client IsDone
+IsWhy old client polls.Idle new = (new ≡ old) × ForClient old client ClientIsDone
 IsWhy old client polls.Own new = Unit {0}
 IsWhy old client polls.Refused new = Unit {0}
 IsWhy old client (polls.Call ticket) new = IsTicketOf new ticket
-IsWhy old client polls.Waiting new = (new ≡ old) × NoneGoesOn old client × NothingBegins old client × NoneWaits old client
-IsWhy old client polls.Queued new = NoneGoesOn new client × IsQueued old client new
-IsWhy old client polls.Busy new = (new ≡ old) × NoneGoesOn old client × IsBusy old client
-IsWhy old client (polls.Did note) new = IsShown new client
+IsWhy old client polls.Waiting new = (new ≡ old) × NoCommandGoesOn old client × NothingBegins old client × NoneWaits old client
+IsWhy old client polls.Queued new = NoCommandGoesOn new client × IsQueued old client new
+IsWhy old client polls.Busy new = (new ≡ old) × NoCommandGoesOn old client × IsBusy old client
+IsWhy old client (polls.Did note) new = HasShownAll new client
 
 -- what holds after a command went on as it could: that the call that is handed out is out, that the command waits for its server, or that no reply is left to be shown
 abbrev pub IsActed : ℕ → Poll → Core → Type 0
@@ -257,9 +257,9 @@ IsActed client polls.Own new = ⊥
 IsActed client polls.Refused new = ⊥
 IsActed client (polls.Call ticket) new = IsTicketOf new ticket
 IsActed client polls.Waiting new = ⊥
-IsActed client polls.Queued new = NoneGoesOn new client × HasNoRoom new client × ForClient new client HasCommand
+IsActed client polls.Queued new = NoCommandGoesOn new client × HasNoRoom new client × ForClient new client HasCommand
 IsActed client polls.Busy new = ⊥
-IsActed client (polls.Did note) new = IsShown new client
+IsActed client (polls.Did note) new = HasShownAll new client
 
 -- what was done for a command that can go on
 pub record Acts (old : Core) (client : ℕ) (poll : Poll) (new : Core) : Type 0 where
@@ -268,17 +268,17 @@ pub record Acts (old : Core) (client : ℕ) (poll : Poll) (new : Core) : Type 0 
   pub still : StandsStill old new
 
 pub record Polls (old : Core) (client : ℕ) (poll : Poll) (new : Core) : Type 0 where
-  pub goes : GoesBy old (Then (Perhaps (BeginsBelow old client)) (IsPolled client poll)) new
+  pub goes : GoesBy old (EntriesThen (Perhaps (BeginsBelow old client)) (IsPolled client poll)) new
   pub why : IsWhy old client poll new
   pub order : KeepsOrder old client new
 
 -- a command ended, perhaps, and replies were shown
 abbrev pub SoEnded : ℕ → List (Entry dialect) → Type 0
-SoEnded client = Then (Perhaps (EndsOne client)) (AreShown client)
+SoEnded client = EntriesThen (Perhaps (EndsOne client)) (AreShown client)
 
 -- what may have happened before memory was refused: a command began, perhaps, one ended, perhaps, and replies were shown
 abbrev pub SoFar : ℕ → List (Entry dialect) → Type 0
-SoFar client = Then (Perhaps (BeginsOne client)) (SoEnded client)
+SoFar client = EntriesThen (Perhaps (BeginsOne client)) (SoEnded client)
 
 -- nothing is done for the client any more, which stands in no line of a key
 pub record DropsOne (old : Core) (client : ℕ) (new : Core) : Type 0 where
@@ -300,7 +300,7 @@ pub record DropsAll (old : Core) (client : ℕ) (new : Core) : Type 0 where
 pub record StopsPolling (old : Core) (client : ℕ) (new : Core) : Type 0 where
   pub numbers : List ℕ
   pub lines : new.lines ≡ others client old.lines
-  pub goes : GoesBy old (Then (SoFar client) (λ entries. entries ≡ freed numbers ++ Drops client ∷ [])) new
+  pub goes : GoesBy old (EntriesThen (SoFar client) (λ entries. entries ≡ freed numbers ++ Drops client ∷ [])) new
   pub gone : HasNoIdle new client
   pub dropped : dropped_by (client_at new client) ≡ true
 
@@ -315,7 +315,7 @@ PollFault old client faults.NoTicket new = ⊥
 
 -- why a poll of a client that is served stopped, before the client is dropped for that
 abbrev pub ReadFault : Core → ℕ → CoreFault → Core → Type 0
-ReadFault old client faults.NoMemory new = GoesBy old (SoFar client) new × ForClient new client IsServed × (others client new.lines ≡ others client old.lines)
+ReadFault old client faults.NoMemory new = GoesBy old (SoFar client) new × ForClient new client ClientIsServed × (others client new.lines ≡ others client old.lines)
 ReadFault old client faults.Spent new = (old.number ≡ LAST_COMMAND) × (new ≡ old)
 ReadFault old client faults.NoClient new = ⊥
 ReadFault old client faults.TooManyClients new = ⊥

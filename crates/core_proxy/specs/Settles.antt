@@ -12,7 +12,7 @@ use Rattle.fresh_runs.specs.Overlap.{Entry, Happens, without}
 use Rattle.fresh_runs.specs.OverlapState.{Leads}
 use Rattle.route_tree.specs.Word.{tree_words}
 use Rattle.route_job.specs.Rest.{ask_under, origin_under}
-use Rattle.route_job.specs.Jobs.{server_in}
+use Rattle.route_job.specs.Jobs.{server_of_pending}
 use Rattle.core_client.specs.declared.client.Client.{Client}
 use Rattle.core_commands.specs.declared.command.Command.{Command}
 use Rattle.core_proxy.specs.declared.fault.CoreFault.{CoreFault}
@@ -20,7 +20,7 @@ use Rattle.core_proxy.specs.declared.fault.CoreFault.TheVariants as faults
 use Rattle.core_proxy.specs.declared.proxy.Core.{Core}
 use Rattle.core_client.specs.ClientState.{dialect, output_by, dropped_by}
 use Rattle.core_proxy.specs.CoreState.{bars_of, client_at, command_at, Beside, state_of, has_call_out, FitsBeside, IsBeside, GoesBy}
-use Rattle.core_proxy.specs.Steps.{event_of, settled}
+use Rattle.core_proxy.specs.Steps.{event_of_call, settled_beside}
 use Rattle.core_proxy.specs.Ending.{Drops}
 use Rattle.core_commands.specs.Lines as line
 pub use Rattle.core_commands.specs.Outcomes.{TakesOutcome, asked_by, IsOutAs}
@@ -41,22 +41,22 @@ pub record IsCalled (core : Core) (number server : ℕ) (ask : Ask) (origin : Or
   pub is : IsOutAs command server ask origin
 
 -- no call of this number is out
-abbrev pub HasNoCall : Core → ℕ → Type 0
-HasNoCall core number = (a : Command) → command_at core number ≡ Some a → has_call_out a ≡ false
+abbrev pub IsNotOut : Core → ℕ → Type 0
+IsNotOut core number = (a : Command) → command_at core number ≡ Some a → has_call_out a ≡ false
 
 -- the call of this number that is out had this outcome: however it ended, if its server held what agrees with that, the log goes on by it, and after it by entries of this kind
 abbrev pub SettlesBy : Core → ℕ → Command → Outcome → (List (Entry dialect) → Type 0) → Core → Type 0
 SettlesBy old number a outcome IsMore new =
     (beside : Beside) (end : End) → FitsBeside old beside → outcome ≡ outcome_of end
-    → EndsIn (beside.holds (server_in a.job.pending) (ask_under a.job.frames.items a.job.ask).key) (beside.found number) number (ask_under a.job.frames.items a.job.ask) (origin_under a.job.frames.items OfClient) end
-    → (beside' : Beside) × (more : List (Entry dialect)) × FitsBeside new beside' × IsBeside (settled (event_of number a end) beside) beside' × IsMore more
-    × Leads (tree_words beside.at) (bars_of old beside) (state_of old beside) (more ++ Happens (event_of number a end) ∷ []) (state_of new beside') × (new.limits ≡ old.limits)
+    → EndsIn (beside.holds (server_of_pending a.job.pending) (ask_under a.job.frames.items a.job.ask).key) (beside.found number) number (ask_under a.job.frames.items a.job.ask) (origin_under a.job.frames.items OfClient) end
+    → (beside' : Beside) × (more : List (Entry dialect)) × FitsBeside new beside' × IsBeside (settled_beside (event_of_call number a end) beside) beside' × IsMore more
+    × Leads (tree_words beside.at) (bars_of old beside) (state_of old beside) (more ++ Happens (event_of_call number a end) ∷ []) (state_of new beside') × (new.limits ≡ old.limits)
 
 -- the call of this number that was out is out no more, and all others stay: whatever could stand beside the core, the same without that call can
 abbrev pub StandsWithout : Core → ℕ → Command → Core → Type 0
 StandsWithout old number a new =
     (beside : Beside) → FitsBeside old beside
-    → (beside' : Beside) × FitsBeside new beside' × ((s : ℕ) → beside'.out s ≡ (if nat_eq (server_in a.job.pending) s then without number (beside.out s) else beside.out s))
+    → (beside' : Beside) × FitsBeside new beside' × ((s : ℕ) → beside'.out s ≡ (if nat_eq (server_of_pending a.job.pending) s then without number (beside.out s) else beside.out s))
 
 -- the command of this number has the result of its call; where nothing is done for its client any more, it is broken off
 pub record Settles (old : Core) (number : ℕ) (outcome : Outcome) (new : Core) : Type 0 where
@@ -65,7 +65,7 @@ pub record Settles (old : Core) (number : ℕ) (outcome : Outcome) (new : Core) 
   pub out : has_call_out command ≡ true
   pub goes : SettlesBy old number command outcome (λ more. more ≡ (if dropped_by (client_at old command.client) then log.Frees number ∷ [] else [])) new
   pub stands : StandsWithout old number command new
-  pub idle : HasNoCall new number
+  pub idle : IsNotOut new number
   pub others : (n : ℕ) → nat_eq number n ≡ false → command_at new n ≡ command_at old n
   pub clients : (c : ℕ) → client_at new c ≡ client_at old c
   pub lines : new.lines ≡ old.lines
@@ -129,7 +129,7 @@ pub record SettlesRefused (old : Core) (number : ℕ) (outcome : Outcome) (new :
   pub lines : new.lines ≡ line.others command.client old.lines
 
 abbrev pub SettleFault : Core → ℕ → Outcome → CoreFault → Core → Type 0
-SettleFault old number outcome faults.NoTicket new = HasNoCall old number × (new ≡ old)
+SettleFault old number outcome faults.NoTicket new = IsNotOut old number × (new ≡ old)
 SettleFault old number outcome faults.NoMemory new = SettlesRefused old number outcome new
 SettleFault old number outcome faults.TooManyClients new = ⊥
 SettleFault old number outcome faults.NoClient new = ⊥

@@ -17,7 +17,7 @@ use Rattle.route_tree.specs.At.{tree_at}
 use Rattle.route_tree.specs.Route.{IsTree}
 use Rattle.route_tree.specs.Word.{Given, Word, tree_words}
 use Rattle.route_job.specs.Rest.{ask_under, origin_under}
-use Rattle.route_job.specs.Jobs.{server_in, call_of, Comes, IsCalling}
+use Rattle.route_job.specs.Jobs.{server_of_pending, call_of, Comes, IsCalling}
 use Rattle.core_client.specs.declared.client.Pending.{Pending}
 use Rattle.core_client.specs.declared.client.Client.{Client}
 use Rattle.core_commands.specs.declared.command.Command.{Command}
@@ -108,15 +108,15 @@ BeginningIsAStep =
 abbrev pub SendingIsAStep : Type 0
 SendingIsAStep =
     (old new : Core) (number : ℕ) (a : Command) → SendsOut old new number a
-    → GoesByOne old (Sends number (server_in a.job.pending) (ask_under a.job.frames.items a.job.ask) (origin_under a.job.frames.items OfClient)) new
+    → GoesByOne old (Sends number (server_of_pending a.job.pending) (ask_under a.job.frames.items a.job.ask) (origin_under a.job.frames.items OfClient)) new
 
 -- what the call of a command is, with this end
-abbrev pub event_of : ℕ → Command → End → Event
-event_of number a end = Calls number (server_in a.job.pending) (ask_under a.job.frames.items a.job.ask) (origin_under a.job.frames.items OfClient) end
+abbrev pub event_of_call : ℕ → Command → End → Event
+event_of_call number a end = Calls number (server_of_pending a.job.pending) (ask_under a.job.frames.items a.job.ask) (origin_under a.job.frames.items OfClient) end
 
 -- what stands beside the core after this event
-abbrev pub settled : Event → Beside → Beside
-settled event beside =
+abbrev pub settled_beside : Event → Beside → Beside
+settled_beside event beside =
     record beside {
       out = λ s. out_after event s (beside.out s);
       holds = after_event event beside.holds;
@@ -129,9 +129,9 @@ abbrev pub SettlingIsAStep : Type 0
 SettlingIsAStep =
     (old new : Core) (number : ℕ) (a b : Command) (outcome : Outcome) → Resolves old new number a b outcome
     → (beside : Beside) (end : End) → FitsBeside old beside → outcome ≡ outcome_of end
-    → EndsIn (beside.holds (server_in a.job.pending) (ask_under a.job.frames.items a.job.ask).key) (beside.found number) number (ask_under a.job.frames.items a.job.ask) (origin_under a.job.frames.items OfClient) end
-    → FitsBeside new (settled (event_of number a end) beside)
-    × Leads (tree_words beside.at) (bars_of old beside) (state_of old beside) (Happens (event_of number a end) ∷ []) (state_of new (settled (event_of number a end) beside))
+    → EndsIn (beside.holds (server_of_pending a.job.pending) (ask_under a.job.frames.items a.job.ask).key) (beside.found number) number (ask_under a.job.frames.items a.job.ask) (origin_under a.job.frames.items OfClient) end
+    → FitsBeside new (settled_beside (event_of_call number a end) beside)
+    × Leads (tree_words beside.at) (bars_of old beside) (state_of old beside) (Happens (event_of_call number a end) ∷ []) (state_of new (settled_beside (event_of_call number a end) beside))
 
 -- the reply at the head of a client's commands is shown
 abbrev pub ShowingIsAStep : Type 0

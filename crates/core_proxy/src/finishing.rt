@@ -1,10 +1,10 @@
 //! A command ends, and replies are shown.
 
 ghost use Rattle.std.specs.Prelude.{◌≡◌, ◌↔◌, [], IsTrue, None, false, OnOk, IfOk, IfErr, IfSome, IfNone, IsSome, MatchBool};
-ghost use Rattle.route_job.specs.Given.{given_of};
+ghost use Rattle.route_job.specs.Given.{given_when_done};
 ghost use Rattle.route_job.specs.Jobs.{Comes, IsDone};
 ghost use Rattle.core_proxy.specs.CoreState.{GoesBy, command_at};
-ghost use Rattle.core_proxy.specs.Polls.{ForClient, IsServed, IsEnded, AreShown, IsShown, IsNothing, Then, ShowsNext, StandsStill, StopsFirst, StopsAfter};
+ghost use Rattle.core_proxy.specs.Polls.{ForClient, ClientIsServed, CommandIsEnded, AreShown, HasShownAll, NothingHappened, EntriesThen, ShowsNext, StandsStill, StopsFirst, StopsAfter};
 ghost use Rattle.core_proxy.specs.Finishing.{CanEnd, IsNote, ShowsDone, TakesAway};
 ghost use Rattle.core_client.specs.Fronts.{Stays};
 ghost use Rattle.mc_types.specs.Acknowledged.{Acknowledges};
@@ -39,9 +39,9 @@ fn says_error(reply: &Answer) -> bool
 
 // What is told of a command of this ask that ended with this reply.
 fn told_of(ask: &Ask, done: &Done) -> EndedCommand
-    ensures from { result.from ≡ (given_of done.now).from }
-    ensures acknowledged { IsTrue result.acknowledged ↔ Acknowledges ask.now (given_of done.now).reply }
-    ensures error { result.is_error ≡ is_error (given_of done.now).reply }
+    ensures from { result.from ≡ (given_when_done done.now).from }
+    ensures acknowledged { IsTrue result.acknowledged ↔ Acknowledges ask.now (given_when_done done.now).reply }
+    ensures error { result.is_error ≡ is_error (given_when_done done.now).reply }
 {
     EndedCommand {
         from: done.from,
@@ -71,7 +71,7 @@ fn show_done(number: u64, command: &Command, client: &mut Client) -> Option<Ende
 fn done_of(alloc: Global, command: Command, commands: &mut CommandTable) -> (SharedAsk, Done)
     requires { IsDone command.job }
     ensures ask { result.0 ≡ command.ask }
-    ensures done { Comes command.job [] (given_of result.1) }
+    ensures done { Comes command.job [] (given_when_done result.1) }
     ensures same { commands.new ≡ commands.old }
 {
     let Command {
@@ -87,7 +87,7 @@ fn done_of(alloc: Global, command: Command, commands: &mut CommandTable) -> (Sha
 
 // What is told of a command that ended, and its reply.
 fn note_of(number: u64, ask: SharedAsk, done: Done) -> (Note, Answer)
-    ensures { IsNote number ask (given_of done) result.0 result.1 }
+    ensures { IsNote number ask (given_when_done done) result.0 result.1 }
 {
     let Done { from, reply } = done;
     let acknowledged = reply.acknowledges(ask.get());
@@ -124,10 +124,10 @@ impl Core {
 
     // A command of the client whose job is done has its reply, which isn't shown yet.
     fn end_unshown(&mut self, client: usize, number: u64) -> Note
-        requires served { ForClient self.old client IsServed }
+        requires served { ForClient self.old client ClientIsServed }
         requires done { CanEnd self.old client number }
-        ensures ended { GoesBy self.old (IsEnded client result) self.new }
-        ensures served { ForClient self.new client IsServed }
+        ensures ended { GoesBy self.old (CommandIsEnded client result) self.new }
+        ensures served { ForClient self.new client ClientIsServed }
         ensures still { StandsStill self.old self.new }
     {
         let Some(command) = self.commands.remove(number) else {
@@ -145,11 +145,11 @@ impl Core {
     // The reply of a command of the client whose job is done is shown at once, where nothing stands before it, and the command is over:
     // what is told of it. Else nothing has changed.
     fn end_at_once(&mut self, client: usize, number: u64) -> Option<Note>
-        requires served { ForClient self.old client IsServed }
+        requires served { ForClient self.old client ClientIsServed }
         requires done { CanEnd self.old client number }
-        ensures some { IfSome result (λ note. GoesBy self.old (Then (IsEnded client note) (AreShown client)) self.new) }
-        ensures none { IfNone result (GoesBy self.old IsNothing self.new × CanEnd self.new client number) }
-        ensures served { ForClient self.new client IsServed }
+        ensures some { IfSome result (λ note. GoesBy self.old (EntriesThen (CommandIsEnded client note) (AreShown client)) self.new) }
+        ensures none { IfNone result (GoesBy self.old NothingHappened self.new × CanEnd self.new client number) }
+        ensures served { ForClient self.new client ClientIsServed }
         ensures still { StandsStill self.old self.new }
     {
         let Some(command) = self.commands.get(number) else {
@@ -171,10 +171,10 @@ impl Core {
 
     // A command of the client whose job is done has its reply, which is shown where nothing stands before it.
     pub(crate) fn end(&mut self, client: usize, number: u64) -> Note
-        requires served { ForClient self.old client IsServed }
+        requires served { ForClient self.old client ClientIsServed }
         requires done { CanEnd self.old client number }
-        ensures ended { GoesBy self.old (Then (IsEnded client result) (AreShown client)) self.new }
-        ensures served { ForClient self.new client IsServed }
+        ensures ended { GoesBy self.old (EntriesThen (CommandIsEnded client result) (AreShown client)) self.new }
+        ensures served { ForClient self.new client ClientIsServed }
         ensures still { StandsStill self.old self.new }
     {
         match self.end_at_once(client, number) {
@@ -185,7 +185,7 @@ impl Core {
 
     // The reply at the head of the client's commands is shown, if there is one: whether there was.
     fn show_next(&mut self, client: usize) -> Result<bool, CoreFault>
-        requires { ForClient self.old client IsServed }
+        requires { ForClient self.old client ClientIsServed }
         ensures ok { IfOk result (λ shown. ShowsNext self.old client shown self.new) }
         ensures err { IfErr result (λ fault. StopsFirst client self.old fault self.new) }
         ensures still { StandsStill self.old self.new }
@@ -201,9 +201,9 @@ impl Core {
 
     // All replies at the head of the client's commands are shown. Where memory is refused, some of them are.
     pub(crate) fn show_all(&mut self, client: usize) -> Result<(), CoreFault>
-        requires { ForClient self.old client IsServed }
+        requires { ForClient self.old client ClientIsServed }
         ensures ok { OnOk result (GoesBy self.old (AreShown client) self.new) }
-        ensures shown { OnOk result (IsShown self.new client) }
+        ensures shown { OnOk result (HasShownAll self.new client) }
         ensures err { IfErr result (λ fault. StopsAfter client (AreShown client) self.old fault self.new) }
         ensures still { StandsStill self.old self.new }
     {

@@ -1,7 +1,7 @@
 //! Which of a client's commands can go on.
 
 ghost use Rattle.std.specs.Prelude.{◌≡◌, None, IfSome, IfNone};
-ghost use Rattle.core_commands.specs.Ready.{IsTurn};
+ghost use Rattle.core_commands.specs.Ready.{IsCommandTurn};
 ghost use Rattle.core_commands.specs.declared.turns.Turn.TheVariants.{Full};
 ghost use Rattle.core_proxy.specs.Resting.{IsReady, IsHeldUp, AreHeldUp, AreNotFull};
 
@@ -58,8 +58,8 @@ pub fn first_ready(
 
 // The number of a command whose reply hasn't come, if it waits for its server.
 fn full_of(client: usize, window: usize, pending: &Pending, commands: &CommandTable) -> Option<u64>
-    ensures some { IfSome result (λ number. IsTurn client window commands.now number Full) }
-    ensures none { IfNone result (pending.now.reply ≡ None → IsTurn client window commands.now pending.now.number Full → ⊥) }
+    ensures some { IfSome result (λ number. IsCommandTurn client window commands.now number Full) }
+    ensures none { IfNone result (pending.now.reply ≡ None → IsCommandTurn client window commands.now pending.now.number Full → ⊥) }
 {
     let number = pending.number;
     match turn_of(client, window, number, commands) {
@@ -75,7 +75,7 @@ pub fn first_full(
     queue: &VecDeque<Pending>,
     commands: &CommandTable,
 ) -> Option<u64>
-    ensures some { IfSome result (λ number. IsTurn client window commands.now number Full) }
+    ensures some { IfSome result (λ number. IsCommandTurn client window commands.now number Full) }
     ensures none { IfNone result (AreNotFull client window commands.now queue.now.items) }
 {
     for pending in queue.iter() {

@@ -8,9 +8,9 @@ ghost use Rattle.route_tree.specs.At.{tree_at};
 ghost use Rattle.core_proxy.specs.Claims.{claim_by, is_barred};
 ghost use Rattle.core_client.specs.Clients.{has_own};
 ghost use Rattle.core_commands.specs.Begun.{IsBegun};
-ghost use Rattle.core_commands.specs.Ready.{IsTurn};
+ghost use Rattle.core_commands.specs.Ready.{IsCommandTurn};
 ghost use Rattle.core_proxy.specs.Finishing.{CanEnd};
-ghost use Rattle.core_proxy.specs.Polls.{ForClient, IsPassed, StopsFirst, BeginsAt, CanSend, IsTicketOf, IsSent, IsServed, DropsOne, DropsAll, Acts, SoEnded, StopsAfter, IsAtLast, NoneGoesOn, NoneWaits, NothingBegins, MayAsk, IsNextAsk, bars, stands_before, claim_of, StandsStill, Polls, ReadFault, PollFault};
+ghost use Rattle.core_proxy.specs.Polls.{ForClient, IsPassed, StopsFirst, BeginsAt, CanSend, IsTicketOf, IsSent, ClientIsServed, DropsOne, DropsAll, Acts, SoEnded, StopsAfter, IsAtLast, NoCommandGoesOn, NoneWaits, NothingBegins, MayAsk, IsNextAsk, bars, stands_before, claim_of, StandsStill, Polls, ReadFault, PollFault};
 ghost use Rattle.core_client.specs.Nexts.{IsPassing, CanBegin, CanAskBelow, CanAsk, HasKey, IsNextOf};
 ghost use Rattle.wire_stream.specs.Held.{IsReadAt};
 ghost use Rattle.core_proxy.specs.declared.fault.CoreFault.TheVariants.{NoMemory};
@@ -118,7 +118,7 @@ impl Core {
 
     // The next call of a command goes out.
     fn send(&mut self, client: usize, number: u64) -> Result<Ticket, CoreFault>
-        requires served { ForClient self.old client IsServed }
+        requires served { ForClient self.old client ClientIsServed }
         requires can { CanSend self.old number }
         ensures number { IfOk result (λ ticket. ticket.number ≡ number) }
         ensures ok { IfOk result (λ ticket. GoesBy self.old (IsSent ticket) self.new) }
@@ -134,7 +134,7 @@ impl Core {
 
     // Nothing is done for the client any more, which leaves its line.
     fn drop_one(&mut self, client: usize)
-        requires { ForClient self.old client IsServed }
+        requires { ForClient self.old client ClientIsServed }
         ensures { DropsOne self.old client self.new }
     {
         self.lines.leave(client);
@@ -146,7 +146,7 @@ impl Core {
 
     // Nothing is done for the client any more, and those of its commands of which no call is out are broken off.
     fn drop_client(&mut self, client: usize)
-        requires { ForClient self.old client IsServed }
+        requires { ForClient self.old client ClientIsServed }
         ensures { DropsAll self.old client self.new }
     {
         self.drop_one(client);
@@ -155,7 +155,7 @@ impl Core {
 
     // A command of the client ends, and what stands at the head of its commands is shown.
     fn finish(&mut self, client: usize, number: u64) -> Result<Poll, CoreFault>
-        requires served { ForClient self.old client IsServed }
+        requires served { ForClient self.old client ClientIsServed }
         requires done { CanEnd self.old client number }
         ensures ok { IfOk result (λ poll. Acts self.old client poll self.new) }
         ensures err { IfErr result (λ fault. StopsAfter client (SoEnded client) self.old fault self.new) }
@@ -170,8 +170,8 @@ impl Core {
 
     // A command of the client goes on.
     fn act(&mut self, client: usize, number: u64, turn: Turn) -> Result<Poll, CoreFault>
-        requires served { ForClient self.old client IsServed }
-        requires turn { IsTurn client self.old.limits.window self.old.commands number turn }
+        requires served { ForClient self.old client ClientIsServed }
+        requires turn { IsCommandTurn client self.old.limits.window self.old.commands number turn }
         requires goes_on { goes_on turn ≡ true }
         ensures ok { IfOk result (λ poll. Acts self.old client poll self.new) }
         ensures err { IfErr result (λ fault. StopsAfter client (SoEnded client) self.old fault self.new) }
@@ -233,7 +233,7 @@ impl Core {
 
     // Whether a command of the client on this key has no reply yet.
     fn has_own(&self, client: usize, key: &Key) -> bool
-        requires { ForClient self.now client IsServed }
+        requires { ForClient self.now client ClientIsServed }
         ensures { ForClient self.now client (λ x. result ≡ has_own key.now x.queue.items) }
     {
         match self.clients.get(client) {
@@ -253,7 +253,7 @@ impl Core {
         requires claim_is { claim ≡ claim_of self.old ask }
         requires waits { (bars self.old ask ≡ true) ⊎ (stands_before self.old client ask ≡ true) }
         requires may { MayAsk self.old client }
-        requires held { NoneGoesOn self.old client }
+        requires held { NoCommandGoesOn self.old client }
         ensures ok { IfOk result (λ poll. Polls self.old client poll self.new) }
         ensures err { IfErr result (λ fault. ReadFault self.old client fault self.new) }
     {
@@ -276,7 +276,7 @@ impl Core {
         requires asks { ForClient self.old client (CanAskBelow self.old.limits.depth request.now) }
         requires next { ForClient self.old client (CanBegin request.now ask) }
         requires well_formed { IsAsk ask }
-        requires held { NoneGoesOn self.old client }
+        requires held { NoCommandGoesOn self.old client }
         ensures ok { IfOk result (λ poll. Polls self.old client poll self.new) }
         ensures err { IfErr result (λ fault. ReadFault self.old client fault self.new) }
     {
@@ -304,7 +304,7 @@ impl Core {
     // The next key of the request at the client's front begins, and goes on as it can.
     fn begin_next(&mut self, client: usize, request: &Request) -> Result<Poll, CoreFault>
         requires asks { ForClient self.old client (CanAskBelow self.old.limits.depth request.now) }
-        requires held { NoneGoesOn self.old client }
+        requires held { NoCommandGoesOn self.old client }
         ensures ok { IfOk result (λ poll. Polls self.old client poll self.new) }
         ensures err { IfErr result (λ fault. ReadFault self.old client fault self.new) }
     {
@@ -316,9 +316,9 @@ impl Core {
 
     // The first command of the client that can go on.
     fn ready(&self, client: usize) -> Option<Runnable>
-        requires { ForClient self.now client IsServed }
+        requires { ForClient self.now client ClientIsServed }
         ensures some { IfSome result (λ ready. IsReady client self.now.limits.window self.now.commands ready) }
-        ensures none { IfNone result (NoneGoesOn self.now client) }
+        ensures none { IfNone result (NoCommandGoesOn self.now client) }
     {
         // Where each has its call out, as mostly where the next command can begin, none is looked up.
         if self.commands.is_all_out(client) {
@@ -332,8 +332,8 @@ impl Core {
 
     // The first command of the client that waits for its server.
     fn full(&self, client: usize) -> Option<u64>
-        requires { ForClient self.now client IsServed }
-        ensures some { IfSome result (λ number. IsTurn client self.now.limits.window self.now.commands number Full) }
+        requires { ForClient self.now client ClientIsServed }
+        ensures some { IfSome result (λ number. IsCommandTurn client self.now.limits.window self.now.commands number Full) }
         ensures none { IfNone result (NoneWaits self.now client) }
     {
         // A command whose call is out doesn't wait for it.
@@ -348,7 +348,7 @@ impl Core {
 
     // What stands at the client's front.
     fn read_front(&self, client: usize) -> Read
-        requires { ForClient self.now client IsServed }
+        requires { ForClient self.now client ClientIsServed }
         ensures { ForClient self.now client (λ x. IsReadAt x.stream result) }
     {
         match self.clients.get(client) {
@@ -359,7 +359,7 @@ impl Core {
 
     // What is next for the client, by what was read at its front.
     fn next_of(&self, client: usize, read: &Read) -> Next
-        requires served { ForClient self.now client IsServed }
+        requires served { ForClient self.now client ClientIsServed }
         requires at { ForClient self.now client (λ x. IsReadAt x.stream read.now) }
         ensures { ForClient self.now client (λ x. IsNextOf self.now.limits.depth x read.now result) }
     {
@@ -370,7 +370,7 @@ impl Core {
     }
 
     fn act_ready(&mut self, client: usize, ready: Runnable) -> Result<Poll, CoreFault>
-        requires served { ForClient self.old client IsServed }
+        requires served { ForClient self.old client ClientIsServed }
         requires ready { IsReady client self.old.limits.window self.old.commands ready }
         ensures ok { IfOk result (λ poll. Polls self.old client poll self.new) }
         ensures err { IfErr result (λ fault. ReadFault self.old client fault self.new) }
@@ -380,7 +380,7 @@ impl Core {
 
     // Nothing can be done: whether the client waits for a server, or for a reply.
     fn rest(&self, client: usize) -> Poll
-        requires held { NoneGoesOn self.now client }
+        requires held { NoCommandGoesOn self.now client }
         requires later { NothingBegins self.now client }
         ensures { Polls self.now client result self.now }
     {
@@ -392,7 +392,7 @@ impl Core {
 
     // The message that was read at the client's front, which asks no server, is answered.
     fn pass_on(&mut self, client: usize, read: Read) -> Result<Poll, CoreFault>
-        requires held { NoneGoesOn self.old client }
+        requires held { NoCommandGoesOn self.old client }
         requires passing { ForClient self.old client (IsPassing read) }
         ensures ok { IfOk result (λ poll. Polls self.old client poll self.new) }
         ensures err { IfErr result (λ fault. ReadFault self.old client fault self.new) }
@@ -406,7 +406,7 @@ impl Core {
 
     // The next key of the request that was read at the client's front begins, and goes on as it can.
     fn begin_read(&mut self, client: usize, read: &Read) -> Result<Poll, CoreFault>
-        requires held { NoneGoesOn self.old client }
+        requires held { NoCommandGoesOn self.old client }
         requires key { ForClient self.old client (λ x. HasKey self.old.limits.depth x read.now) }
         ensures ok { IfOk result (λ poll. Polls self.old client poll self.new) }
         ensures err { IfErr result (λ fault. ReadFault self.old client fault self.new) }
@@ -419,8 +419,8 @@ impl Core {
 
     // What was read at the client's front is done, or begins.
     fn read_on(&mut self, client: usize, read: &Read, next: Next) -> Result<Poll, CoreFault>
-        requires served { ForClient self.old client IsServed }
-        requires held { NoneGoesOn self.old client }
+        requires served { ForClient self.old client ClientIsServed }
+        requires held { NoCommandGoesOn self.old client }
         requires next { ForClient self.old client (λ x. IsNextOf self.old.limits.depth x read.now next) }
         ensures ok { IfOk result (λ poll. Polls self.old client poll self.new) }
         ensures err { IfErr result (λ fault. ReadFault self.old client fault self.new) }
@@ -437,8 +437,8 @@ impl Core {
     // it to 0 where a command goes on, too)
     #[inline(never)]
     fn poll_front(&mut self, client: usize) -> Result<Poll, CoreFault>
-        requires served { ForClient self.old client IsServed }
-        requires held { NoneGoesOn self.old client }
+        requires served { ForClient self.old client ClientIsServed }
+        requires held { NoCommandGoesOn self.old client }
         ensures ok { IfOk result (λ poll. Polls self.old client poll self.new) }
         ensures err { IfErr result (λ fault. ReadFault self.old client fault self.new) }
     {
@@ -449,7 +449,7 @@ impl Core {
 
     // The next thing that can be done for a client that is served.
     fn poll_served(&mut self, client: usize) -> Result<Poll, CoreFault>
-        requires { ForClient self.old client IsServed }
+        requires { ForClient self.old client ClientIsServed }
         ensures ok { IfOk result (λ poll. Polls self.old client poll self.new) }
         ensures err { IfErr result (λ fault. ReadFault self.old client fault self.new) }
     {

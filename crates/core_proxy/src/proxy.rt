@@ -3,7 +3,7 @@
 ghost use Rattle.slab.specs.Slab.{get};
 ghost use Rattle.std.specs.Prelude.{◌≡◌, ℕ, [], ◌++◌, ◌↔◌, IsTrue, IfOk, IfErr, OnOk, OnErr};
 ghost use Rattle.wire_parts.specs.Sending.{bytes_of};
-ghost use Rattle.core_proxy.specs.CoreState.{IsFresh, IsOut, Opens, Feeds, Gives, Closes, LeavesLine, Reloads, client_at, held_by};
+ghost use Rattle.core_proxy.specs.CoreState.{IsFresh, IsOut, Opens, Feeds, Gives, ClosesClient, LeavesLine, Reloads, client_at, held_by};
 ghost use Rattle.core_client.specs.ClientState.{output_by};
 ghost use Rattle.core_proxy.specs.Polls.{IsStalled};
 ghost use Rattle.core_commands.specs.Lines.{is_standing};
@@ -140,7 +140,7 @@ impl Core {
     ///
     /// `NoClient`; `UnderWay` where a command of it has begun and not ended.
     pub fn close(&mut self, client: usize) -> Result<(), CoreFault>
-        ensures ok { OnOk result (CanClose self.old client × Closes self.old client self.new) }
+        ensures ok { OnOk result (CanClose self.old client × ClosesClient self.old client self.new) }
         ensures err { IfErr result (λ fault. CloseFault self.old client fault × (self.new ≡ self.old)) }
     {
         if !self.clients.contains(client) {

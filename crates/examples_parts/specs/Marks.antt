@@ -5,12 +5,12 @@ use Rattle.examples_parts.specs.declared.marks.Mark.{Mark}
 use Rattle.examples_parts.specs.declared.marks.Mark.TheVariants.{Applied, Lost, Restarted}
 
 -- one mark
-abbrev pub mark_of : Mark → lives.Mark
-mark_of (Applied ask stamp answer spaces) = lives.Applied ask stamp answer spaces
-mark_of (Lost key) = lives.Lost key
-mark_of Restarted = lives.Restarted
+abbrev pub lives_mark_of : Mark → lives.Mark
+lives_mark_of (Applied ask stamp answer spaces) = lives.Applied ask stamp answer spaces
+lives_mark_of (Lost key) = lives.Lost key
+lives_mark_of Restarted = lives.Restarted
 
 -- the latest mark first
 abbrev pub life_of_marks : List Mark → List lives.Mark
 life_of_marks [] = []
-life_of_marks (mark ∷ marks) = mark_of mark ∷ life_of_marks marks
+life_of_marks (mark ∷ marks) = lives_mark_of mark ∷ life_of_marks marks

@@ -33,7 +33,7 @@ use Rattle.mcgate.specs.declared.serve.Servable.{Servable}
 use Rattle.mcgate.specs.declared.serve.Servable.TheVariants as servables
 use Rattle.mcgate.specs.Sharing.{sharing_for}
 use Rattle.mcgate_serve.specs.declared.serving.Serving.{Serving}
-use Rattle.mcgate_serve.specs.Serves.{proxy_of, Serves}
+use Rattle.mcgate_serve.specs.Serves.{proxy_of, GoesOnServing}
 use Rattle.mcgate.specs.Served.{history_of, HasTree, IsUsedFirst, HasServers, BeginsBy, Begins, BeginsServing, GoFreshly, GoFreshlyLate, HasServed, StaysFresh}
 
 -- an end that began by these settings but for its sharing, which is that of its tree
@@ -94,7 +94,7 @@ has_results steps first last none walks tells orderly =
     (steps_are_counted.results_go_on steps [] first last walks tells (subst IsOrderly (sym (append-nil steps)) orderly) (subst (ResultsAreCounted []) (sym none) steps_are_counted.results_begin))
 
 pub has_served :
-    (servable : Servable) (begun : Beginnings) (settings : Settings) (first last : ProxyEnd Sockets) → BeginsServing servable begun settings first → Serves history_of first last → LogsAreFresh last.core.value
+    (servable : Servable) (begun : Beginnings) (settings : Settings) (first last : ProxyEnd Sockets) → BeginsServing servable begun settings first → GoesOnServing history_of first last → LogsAreFresh last.core.value
     → TreesAreSound last.core.value → HasServed servable begun settings last
 has_served servable begun settings first last begins g fresh sound =
     let agrees : Agrees g.steps (proxy_of history_of last) = subst (λ l. Agrees l (proxy_of history_of last)) (append-nil g.steps) (g.agree [] begins.agrees) in

@@ -8,9 +8,9 @@ use Rattle.gate_check.specs.declared.gap.Reason.{Reason}
 use Rattle.gate_certificate.specs.declared.testing.Unverified.TheVariants as ends
 use Rattle.gate_certificate.specs.Format.{rows_of_text}
 use Rattle.gate_certificate.specs.Testing.{IsCertifiedByText, IsUnverified}
-use Rattle.mcgate_check.specs.Verdict.{refusal_line}
+use Rattle.mcgate_check.specs.Verdict.{judged_line}
 use Rattle.mcgate_args.specs.declared.ends.Stop.{Stop}
-use Rattle.mcgate_args.specs.Program.{IsBrokenOff}
+use Rattle.mcgate_args.specs.Program.{StopBreaksOff}
 use Rattle.mcgate.specs.declared.serve.Servable.TheVariants as servables
 use Rattle.mcgate.specs.declared.serve.Judged.{Judged}
 use Rattle.mcgate.specs.declared.serve.Judged.TheVariants as judgements
@@ -19,7 +19,7 @@ use Rattle.mcgate.specs.Judging.{TellsFault}
 -- status 1: the tree is refused by the certificate for this reason, and that was written; status 2: the text means no certificate
 abbrev pub TellsWhy : Configuration → List ℕ → Option (List ℕ) → Option (List ℕ) → ℕ → Type 0
 TellsWhy configuration certificate old new status =
-    ((status ≡ 1) × (reason : Reason) × IsUnverified configuration.tree certificate (ends.Refused reason) × Appends old new (refusal_line configuration.servers reason))
+    ((status ≡ 1) × (reason : Reason) × IsUnverified configuration.tree certificate (ends.Refused reason) × Appends old new (judged_line configuration.servers reason))
     ⊎ ((status ≡ 2) × (rows_of_text certificate ≡ None))
 
 -- the configuration may be served, and nothing was written: the text means a certificate that is valid for its tree; or it was told why it isn't
@@ -28,7 +28,7 @@ JudgesBy configuration certificate old new (Ok (judgements.Servable (servables.A
     (accepted ≡ configuration ∷ []) × IsCertifiedByText configuration.tree certificate × (new ≡ old)
 JudgesBy configuration certificate old new (Ok (judgements.Servable (servables.Unchecked unchecked))) = ⊥
 JudgesBy configuration certificate old new (Ok (judgements.Printed status)) = TellsWhy configuration certificate old new status
-JudgesBy configuration certificate old new (Err stop) = IsBrokenOff stop
+JudgesBy configuration certificate old new (Err stop) = StopBreaksOff stop
 
 -- the configuration that the text says is judged so; or it says none
 abbrev pub JudgesTextBy : List ℕ → List ℕ → Option (List ℕ) → Option (List ℕ) → Result Judged Stop → Type 0

@@ -6,30 +6,30 @@ use Rattle.route_json.specs.Configuration.{Configuration}
 use Rattle.gate_check.specs.Gate.{IsCertified}
 use Rattle.mcgate_check.specs.Checking.{PrintsRefused, PrintsFault}
 use Rattle.mcgate_args.specs.declared.ends.Stop.{Stop}
-use Rattle.mcgate_args.specs.Program.{IsBrokenOff}
+use Rattle.mcgate_args.specs.Program.{StopBreaksOff}
 use Rattle.mcgate.specs.declared.serve.Servable.{Servable}
 use Rattle.mcgate.specs.declared.serve.Servable.TheVariants as servables
 use Rattle.mcgate.specs.declared.serve.Judged.{Judged}
 use Rattle.mcgate.specs.declared.serve.Judged.TheVariants as judgements
 
 -- this configuration may be served: some certificate is valid for its tree, or `any` says that no gate is asked
-abbrev pub MayServe : Bool → Configuration → Servable → Type 0
-MayServe any configuration (servables.Accepted accepted) = (any ≡ false) × (accepted ≡ configuration ∷ []) × IsCertified configuration.tree
-MayServe any configuration (servables.Unchecked unchecked) = (any ≡ true) × (unchecked ≡ configuration)
+abbrev pub MayBeServed : Bool → Configuration → Servable → Type 0
+MayBeServed any configuration (servables.Accepted accepted) = (any ≡ false) × (accepted ≡ configuration ∷ []) × IsCertified configuration.tree
+MayBeServed any configuration (servables.Unchecked unchecked) = (any ≡ true) × (unchecked ≡ configuration)
 
 -- it may be, and nothing was written; or it was written why it is refused; or memory or the writer failed
-abbrev pub Judges : Bool → Configuration → Option (List ℕ) → Option (List ℕ) → Result Judged Stop → Type 0
-Judges any configuration old new (Ok (judgements.Servable servable)) = MayServe any configuration servable × (new ≡ old)
-Judges any configuration old new (Ok (judgements.Printed status)) = (any ≡ false) × (status ≡ 1) × PrintsRefused configuration old new
-Judges any configuration old new (Err stop) = IsBrokenOff stop
+abbrev pub JudgesToServe : Bool → Configuration → Option (List ℕ) → Option (List ℕ) → Result Judged Stop → Type 0
+JudgesToServe any configuration old new (Ok (judgements.Servable servable)) = MayBeServed any configuration servable × (new ≡ old)
+JudgesToServe any configuration old new (Ok (judgements.Printed status)) = (any ≡ false) × (status ≡ 1) × PrintsRefused configuration old new
+JudgesToServe any configuration old new (Err stop) = StopBreaksOff stop
 
 -- the text says none, and its first fault was written; or memory or the writer failed
 abbrev pub TellsFault : List ℕ → Option (List ℕ) → Option (List ℕ) → Result Judged Stop → Type 0
 TellsFault text old new (Ok (judgements.Servable servable)) = ⊥
 TellsFault text old new (Ok (judgements.Printed status)) = (status ≡ 2) × PrintsFault text old new
-TellsFault text old new (Err stop) = IsBrokenOff stop
+TellsFault text old new (Err stop) = StopBreaksOff stop
 
 -- the configuration that the text says is judged; or it says none
 abbrev pub JudgesText : Bool → List ℕ → Option (List ℕ) → Option (List ℕ) → Result Judged Stop → Type 0
 JudgesText any text old new result =
-    ((configuration : Configuration) × (read_or (read text) ≡ Ok (configuration.tree, configuration.servers)) × Judges any configuration old new result) ⊎ TellsFault text old new result
+    ((configuration : Configuration) × (read_or (read text) ≡ Ok (configuration.tree, configuration.servers)) × JudgesToServe any configuration old new result) ⊎ TellsFault text old new result

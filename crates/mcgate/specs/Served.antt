@@ -20,7 +20,7 @@ use Rattle.core_accepted.specs.Logs.{IsAcceptedSince, EveryLogSinceIsFresh}
 use Rattle.core_accepted.specs.LateCores.{EveryLateLogIsFresh}
 use Rattle.serve_proxy.specs.LogsGoOn.{LogsGoFreshly}
 use Rattle.core_accepted.specs.Copying.{CopiesNothing}
-use Rattle.mcgate_serve.specs.Serves.{proxy_of, Serves}
+use Rattle.mcgate_serve.specs.Serves.{proxy_of, GoesOnServing}
 use Rattle.mcgate.specs.Sharing.{sharing_for}
 use Rattle.mcgate.specs.declared.serve.Servable.{Servable}
 use Rattle.mcgate.specs.declared.serve.Servable.TheVariants as servables
@@ -80,7 +80,7 @@ GoFreshlyLate (servables.Unchecked configuration) begun steps first last = Unit 
 pub record HasServed (servable : Servable) (begun : Beginnings) (settings : Settings) (end : ProxyEnd Sockets) : Type 0 where
   pub first : ProxyEnd Sockets
   pub begins : BeginsServing servable begun settings first
-  pub serves : Serves history_of first end
+  pub serves : GoesOnServing history_of first end
   pub agrees : Agrees serves.steps (proxy_of history_of end)
   pub fresh : GoFreshly servable begun serves.steps first.core.value end.core.value
   pub late : GoFreshlyLate servable begun serves.steps first.core.value end.core.value

@@ -1,7 +1,7 @@
 //! A script over TCP.
 
-ghost use Rattle.mcgate_args.specs.Program.{AnswersBy, NeverOverruns, RunsBy};
-ghost use Rattle.mcgate_loopback.specs.Running.{Runs as RunsOverTcp};
+ghost use Rattle.mcgate_args.specs.Program.{AnswersBy, NeverOverruns, RunsText};
+ghost use Rattle.mcgate_loopback.specs.Running.{RunsLoopback as RunsOverTcp};
 ghost use Rattle.mcgate.specs.OverTcp.{LoopMemoryRefused};
 
 use mcgate_args::ends::{Stop, decline, ended};
@@ -18,7 +18,7 @@ fn loop_text<R: Net + Clock + AllocGlobal, W: Write>(
     most: u32,
     out: &mut W,
 ) -> Result<u8, Stop>
-    ensures { RunsBy RunsOverTcp LoopMemoryRefused NeverOverruns text.now (W.contents out.old) (W.contents out.new) result }
+    ensures { RunsText RunsOverTcp LoopMemoryRefused NeverOverruns text.now (W.contents out.old) (W.contents out.new) result }
 {
     ended(run_loopback(rt, text, flushes_new, most, out))
 }

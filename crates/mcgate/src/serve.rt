@@ -4,8 +4,8 @@ ghost use Rattle.std.specs.Prelude.{◌≡◌, IfOk, false, [], ℕ, List, Some,
 ghost use Rattle.serve_wire.specs.Events.{looks_up};
 ghost use Rattle.serve_links.specs.Story.{HasHappened};
 ghost use Rattle.serve_links.specs.Story.{Agrees, texts_of};
-ghost use Rattle.serve_proxy.specs.Ends.{HasNoConns, IsQuiet};
-ghost use Rattle.mcgate.specs.Judging.{Judges, JudgesText};
+ghost use Rattle.serve_proxy.specs.Ends.{HasNoConns, WireIsQuiet};
+ghost use Rattle.mcgate.specs.Judging.{JudgesToServe, JudgesText};
 ghost use Rattle.mcgate_serve.specs.LooksUp.{AreLookedUp};
 ghost use Rattle.mcgate_serve.specs.Serves.{proxy_of};
 ghost use Rattle.mcgate.specs.Served.{HasTree, ServesIn, IsUsedFirst, Begins, HasServers, BeginsServing, HasServed, StaysFresh, history_of};
@@ -98,7 +98,7 @@ impl Servable {
 
 // The configuration, if the gate accepts it; else why not is printed, as `mcgate check` prints it before a script.
 fn judge_config<W: Write>(alloc: Global, config: Config, out: &mut W) -> Result<Judged, Stop>
-    ensures { Judges false config (W.contents out.old) (W.contents out.new) result }
+    ensures { JudgesToServe false config (W.contents out.old) (W.contents out.new) result }
 {
     match judge(alloc, config) {
         Ok(accepted) => Ok(Judged::Servable(Servable::Accepted(accepted))),
@@ -113,7 +113,7 @@ fn take_config<W: Write>(
     config: Config,
     out: &mut W,
 ) -> Result<Judged, Stop>
-    ensures { Judges any config (W.contents out.old) (W.contents out.new) result }
+    ensures { JudgesToServe any config (W.contents out.old) (W.contents out.new) result }
 {
     if any {
         return Ok(Judged::Servable(Servable::Unchecked(config)));
@@ -203,7 +203,7 @@ fn look_up<R: Net + AllocGlobal + Eprint>(
     wire: &mut Sockets,
     servers: &Servers,
 ) -> io::Result<()>
-    ensures quiet { IsQuiet (history_of wire.old) (history_of wire.new) }
+    ensures quiet { WireIsQuiet (history_of wire.old) (history_of wire.new) }
     ensures looked { OnOk result (AreLookedUp 0 servers.now (history_of wire.new)) }
 {
     for at in 0..servers.len() {
@@ -221,7 +221,7 @@ fn look_up_at<R: Net + AllocGlobal + Eprint>(
     servers: &Servers,
     at: usize,
 ) -> io::Result<()>
-    ensures quiet { IsQuiet (history_of wire.old) (history_of wire.new) }
+    ensures quiet { WireIsQuiet (history_of wire.old) (history_of wire.new) }
     ensures looked { (text : List ℕ) → slice_get servers.now at ≡ Some text → HasHappened (looks_up text) (history_of wire.new) }
 {
     match text_at(servers, at) {

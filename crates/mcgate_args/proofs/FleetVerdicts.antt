@@ -8,7 +8,7 @@ use Rattle.route_json.specs.Servers.{Addresses}
 use Rattle.mcgate_check.specs.Checking.{PrintsFault, StopsUnwritten}
 use Rattle.mcgate_check.specs.declared.status.RunFault.{RunFault}
 use Rattle.mcgate_check.specs.declared.status.RunFault.TheVariants.{NoMemory, Writer, TooManyCalls}
-use Rattle.mcgate_args.specs.Fleets.{JudgesAlone, ChecksAlone, FindsRefused, AreRead, AddsRead, IsAccepted}
+use Rattle.mcgate_args.specs.Fleets.{JudgesAlone, ChecksAlone, FindsRefused, AreRead, AddsRead, TextIsAccepted}
 use Rattle.mcgate_args.specs.declared.fleets.checking.FleetFile.{FleetFile}
 use Rattle.mcgate_args.specs.declared.fleets.checking.FleetEnd.{FleetEnd}
 

@@ -4,7 +4,7 @@ use Rattle.std.specs.Prelude.{IfSome, option_map}
 use Rattle.std.specs.Str.{IsUtf8}
 use Rattle.std.proofs.lemmas.Bool.{cases_lt}
 use Rattle.std.proofs.lemmas.List.{take_all, length-take-le, length-take}
-use Rattle.mcgate_args.specs.Input.{ReadsInput, IsFailure}
+use Rattle.mcgate_args.specs.Input.{ReadsInput, InputFails}
 use Rattle.mcgate_args.specs.declared.input_text.reading.InputFault.{InputFault}
 use Rattle.mcgate_args.specs.declared.input_text.reading.InputFault.TheVariants.{TooLarge, NotUtf8, NoMemory, Device}
 
@@ -23,7 +23,7 @@ reads_all text_of n xs (Err NoMemory) h = tt
 reads_all text_of n xs (Err Device) h = tt
 
 -- a failure says nothing of the bytes
-pub fails : {T : Type 0} (text_of : T → List ℕ) (n : ℕ) (o : Option (List ℕ)) (r : Result T InputFault) (e : InputFault) → r ≡ Err e → IsFailure e → IfSome o (λ xs. ReadsInput text_of n xs r)
+pub fails : {T : Type 0} (text_of : T → List ℕ) (n : ℕ) (o : Option (List ℕ)) (r : Result T InputFault) (e : InputFault) → r ≡ Err e → InputFails e → IfSome o (λ xs. ReadsInput text_of n xs r)
 fails text_of n None r e is h = tt
 fails text_of n (Some xs) r TooLarge is h = absurd h
 fails text_of n (Some xs) r NotUtf8 is h = absurd h

@@ -30,21 +30,21 @@ JudgesAlone config old new None = IsCertified config.tree × (new ≡ old)
 JudgesAlone config old new (Some status) = (status ≡ 1) × (reason : Reason) × ChecksRefused config reason old new
 
 -- the text is a configuration that the gate accepts
-abbrev pub IsAccepted : List ℕ → Type 0
-IsAccepted text = (config : Configuration) × (read_or (read text) ≡ Ok (config.tree, config.servers)) × IsCertified config.tree
+abbrev pub TextIsAccepted : List ℕ → Type 0
+TextIsAccepted text = (config : Configuration) × (read_or (read text) ≡ Ok (config.tree, config.servers)) × IsCertified config.tree
 
 -- so it is, and nothing was written; or what `check` prints of it was
 abbrev pub ChecksAlone : List ℕ → Option (List ℕ) → Option (List ℕ) → Option ℕ → Type 0
-ChecksAlone text old new None = IsAccepted text × (new ≡ old)
+ChecksAlone text old new None = TextIsAccepted text × (new ≡ old)
 ChecksAlone text old new (Some status) = (status ≡ 0 → ⊥) × Checks Lines text old new status
 
 -- the first of the files that isn't accepted by itself, counted from this number on, and what `check` prints of it was written; or all are
 abbrev pub FindsRefused : ℕ → List FleetFile → Option (List ℕ) → Option (List ℕ) → Option FleetEnd → Type 0
-FindsRefused index files old new None = Each (λ (f : FleetFile). IsAccepted (string_bytes f.text)) files × (new ≡ old)
+FindsRefused index files old new None = Each (λ (f : FleetFile). TextIsAccepted (string_bytes f.text)) files × (new ≡ old)
 FindsRefused index [] old new (Some end) = ⊥
 FindsRefused index (file ∷ files) old new (Some end) =
     ((end.alone ≡ Some index) × ChecksAlone (string_bytes file.text) old new (Some end.status))
-    ⊎ (IsAccepted (string_bytes file.text) × FindsRefused (index + 1) files old new (Some end))
+    ⊎ (TextIsAccepted (string_bytes file.text) × FindsRefused (index + 1) files old new (Some end))
 
 -- the configurations of the files, the servers of each numbered after those of the one before
 abbrev pub AreRead : Addresses → List FleetFile → List Configuration → Type 0
@@ -73,11 +73,11 @@ gap_line_of reads deletes gap None = []
 gap_line_of reads deletes gap (Some config) = pair_gap_line config.servers reads deletes gap
 
 -- the line of a fault; running out of memory has none
-abbrev pub fault_line : List FleetFile → List Configuration → FleetFault → List ℕ
-fault_line files configs (faults.Copies index prefix) = copying_line_of (name_at files index) prefix (slice_get configs index)
-fault_line files configs (faults.TooManyPlaces reads deletes) = many_places_line (name_at files reads) (name_at files deletes)
-fault_line files configs (faults.Uncovered reads deletes gap) = gap_line_of (name_at files reads) (name_at files deletes) gap (slice_get configs reads)
-fault_line files configs faults.NoMemory = []
+abbrev pub fleet_fault_line : List FleetFile → List Configuration → FleetFault → List ℕ
+fleet_fault_line files configs (faults.Copies index prefix) = copying_line_of (name_at files index) prefix (slice_get configs index)
+fleet_fault_line files configs (faults.TooManyPlaces reads deletes) = many_places_line (name_at files reads) (name_at files deletes)
+fleet_fault_line files configs (faults.Uncovered reads deletes gap) = gap_line_of (name_at files reads) (name_at files deletes) gap (slice_get configs reads)
+fleet_fault_line files configs faults.NoMemory = []
 
 -- a fault that has a line
 abbrev pub IsToldFault : FleetFault → Type 0
@@ -100,7 +100,7 @@ pub record RefusesFleet (files : List FleetFile) (old new : Option (List ℕ)) :
   pub fault : FleetFault
   pub told : IsToldFault fault
   pub judged : IsFleetFault (trees_of configs) fault
-  pub printed : Appends old new (fault_line files configs fault)
+  pub printed : Appends old new (fleet_fault_line files configs fault)
 
 -- a fault of a configuration was written
 pub record SaysFault (old new : Option (List ℕ)) : Type 0 where
@@ -119,4 +119,4 @@ ChecksTogether files old new status =
 abbrev pub ChecksFleet : List FleetFile → Option (List ℕ) → Option (List ℕ) → FleetEnd → Type 0
 ChecksFleet files old new end =
     FindsRefused 0 files old new (Some end)
-    ⊎ ((end.alone ≡ None) × Each (λ (f : FleetFile). IsAccepted (string_bytes f.text)) files × ChecksTogether files old new end.status)
+    ⊎ ((end.alone ≡ None) × Each (λ (f : FleetFile). TextIsAccepted (string_bytes f.text)) files × ChecksTogether files old new end.status)

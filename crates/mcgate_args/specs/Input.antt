@@ -15,11 +15,11 @@ ReadsInput text_of limit bytes (Err NoMemory) = Unit {0}
 ReadsInput text_of limit bytes (Err Device) = Unit {0}
 
 -- memory was refused, or a device failed
-abbrev pub IsFailure : InputFault → Type 0
-IsFailure TooLarge = ⊥
-IsFailure NotUtf8 = ⊥
-IsFailure NoMemory = Unit {0}
-IsFailure Device = Unit {0}
+abbrev pub InputFails : InputFault → Type 0
+InputFails TooLarge = ⊥
+InputFails NotUtf8 = ⊥
+InputFails NoMemory = Unit {0}
+InputFails Device = Unit {0}
 
 -- what a device's error means for an input
 abbrev pub input_fault_at : ErrorKind → InputFault

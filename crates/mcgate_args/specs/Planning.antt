@@ -7,14 +7,14 @@ use Rattle.gate_plan.specs.declared.told.Planned.TheVariants as plans
 use Rattle.mcgate_args.specs.declared.ends.Stop.{Stop}
 
 -- 0 where the change may be made at once, 1 where it may not, 2 where there is no configuration
-abbrev pub status_of : Planned → ℕ
-status_of plans.AtOnce = 0
-status_of plans.BySteps = 0
-status_of plans.Anew = 1
-status_of plans.Refused = 1
-status_of plans.NoConfig = 2
+abbrev pub planned_status : Planned → ℕ
+planned_status plans.AtOnce = 0
+planned_status plans.BySteps = 0
+planned_status plans.Anew = 1
+planned_status plans.Refused = 1
+planned_status plans.NoConfig = 2
 
 -- what the plan of two texts is, and so its status; or it was broken off
 abbrev pub Plans : Beginnings → List ℕ → List ℕ → Result ℕ Stop → Type 0
-Plans begun old new (Ok status) = (planned : Planned) × IsPlanFrom old new begun.opened begun.added planned × (status ≡ status_of planned)
+Plans begun old new (Ok status) = (planned : Planned) × IsPlanFrom old new begun.opened begun.added planned × (status ≡ planned_status planned)
 Plans begun old new (Err stop) = Unit {0}

@@ -17,12 +17,12 @@ use Rattle.mcgate_args.specs.declared.ends.Stop.{Stop}
 use Rattle.mcgate_args.specs.declared.ends.Stop.TheVariants as stops
 
 -- memory was refused, or a device failed
-abbrev pub IsBrokenOff : Stop → Type 0
-IsBrokenOff stops.Usage = ⊥
-IsBrokenOff (stops.Key fault) = ⊥
-IsBrokenOff stops.Memory = Unit {0}
-IsBrokenOff stops.Device = Unit {0}
-IsBrokenOff stops.Calls = ⊥
+abbrev pub StopBreaksOff : Stop → Type 0
+StopBreaksOff stops.Usage = ⊥
+StopBreaksOff (stops.Key fault) = ⊥
+StopBreaksOff stops.Memory = Unit {0}
+StopBreaksOff stops.Device = Unit {0}
+StopBreaksOff stops.Calls = ⊥
 
 -- memory was refused, and then the first is so; or a script had too many calls, and then the other is; or a device failed
 abbrev pub BreaksRunOff : Type 0 → Type 0 → Stop → Type 0
@@ -35,16 +35,16 @@ BreaksRunOff Refused Overran stops.Calls = Overran
 -- this line was written and the status is 2; or the line could not be written
 abbrev pub Tells : List ℕ → Option (List ℕ) → Option (List ℕ) → Result ℕ Stop → Type 0
 Tells line old new (Ok status) = (status ≡ 2) × Appends old new line
-Tells line old new (Err stop) = IsBrokenOff stop
+Tells line old new (Err stop) = StopBreaksOff stop
 
 -- nothing was written
-abbrev pub StopsBy : Stop → Option (List ℕ) → Option (List ℕ) → Result ℕ Stop → Type 0
-StopsBy stop old new ended = (ended ≡ Err stop) × (new ≡ old)
+abbrev pub StopsSilently : Stop → Option (List ℕ) → Option (List ℕ) → Result ℕ Stop → Type 0
+StopsSilently stop old new ended = (ended ≡ Err stop) × (new ≡ old)
 
 -- what a task does with a text, and the status of that
-abbrev pub Does : Task → List ℕ → Option (List ℕ) → Option (List ℕ) → ℕ → Type 0
-Does (tasks.Check form) text old new status = Checks form text old new status
-Does (tasks.Replay judging) text old new status = Replays judging text old new status
+abbrev pub DoesTask : Task → List ℕ → Option (List ℕ) → Option (List ℕ) → ℕ → Type 0
+DoesTask (tasks.Check form) text old new status = Checks form text old new status
+DoesTask (tasks.Replay judging) text old new status = Replays judging text old new status
 
 -- what it wrote of a text where memory was refused: of a configuration nothing, of a script nothing or the transcript of a part of its run
 abbrev pub MemoryRefused : Task → List ℕ → Option (List ℕ) → Option (List ℕ) → Type 0
@@ -71,33 +71,33 @@ SaysNothing text old new = Unit {0}
 -- what its call answers: a status, or that memory or the writer failed, or that there were too many calls
 pub record AnswersTask (task : Task) (text : List ℕ) (old new : Option (List ℕ)) (answer : ℕ) : Type 0 where
   pub few : answer ≤ 5
-  pub does : answer ≤ 2 → Does task text old new answer
+  pub does : answer ≤ 2 → DoesTask task text old new answer
   pub refused : answer ≡ 3 → MemoryRefused task text old new
   pub too_many : answer ≡ 5 → Overruns task text old new
 
 -- a text was dealt with so, and how that ended; or memory was refused, or there were too many calls, and then this was written; or the writer failed
-abbrev pub RunsBy : (List ℕ → Option (List ℕ) → Option (List ℕ) → ℕ → Type 0) → (List ℕ → Option (List ℕ) → Option (List ℕ) → Type 0) → (List ℕ → Option (List ℕ) → Option (List ℕ) → Type 0) → List ℕ → Option (List ℕ) → Option (List ℕ) → Result ℕ Stop → Type 0
-RunsBy P M O text old new (Ok status) = P text old new status
-RunsBy P M O text old new (Err stop) = BreaksRunOff (M text old new) (O text old new) stop
+abbrev pub RunsText : (List ℕ → Option (List ℕ) → Option (List ℕ) → ℕ → Type 0) → (List ℕ → Option (List ℕ) → Option (List ℕ) → Type 0) → (List ℕ → Option (List ℕ) → Option (List ℕ) → Type 0) → List ℕ → Option (List ℕ) → Option (List ℕ) → Result ℕ Stop → Type 0
+RunsText P M O text old new (Ok status) = P text old new status
+RunsText P M O text old new (Err stop) = BreaksRunOff (M text old new) (O text old new) stop
 
 -- what is written of an input that was not read, and how that ended
 abbrev pub Declines : InputFault → Option (List ℕ) → Option (List ℕ) → Result ℕ Stop → Type 0
 Declines TooLarge old new ended = Tells (codes "input: too large" ++ codes "\n") old new ended
 Declines NotUtf8 old new ended = Tells (codes "input: not UTF-8" ++ codes "\n") old new ended
-Declines NoMemory old new ended = StopsBy stops.Memory old new ended
-Declines Device old new ended = StopsBy stops.Device old new ended
+Declines NoMemory old new ended = StopsSilently stops.Memory old new ended
+Declines Device old new ended = StopsSilently stops.Device old new ended
 
 -- an input that was read or not, what was written of it, and how that ended
 abbrev pub AnswersBy : (List ℕ → Option (List ℕ) → Option (List ℕ) → ℕ → Type 0) → (List ℕ → Option (List ℕ) → Option (List ℕ) → Type 0) → (List ℕ → Option (List ℕ) → Option (List ℕ) → Type 0) → Result (String Global) InputFault → Option (List ℕ) → Option (List ℕ) → Result ℕ Stop → Type 0
-AnswersBy P M O (Ok text) old new ended = RunsBy P M O (string_bytes text) old new ended
+AnswersBy P M O (Ok text) old new ended = RunsText P M O (string_bytes text) old new ended
 AnswersBy P M O (Err fault) old new ended = Declines fault old new ended
 
 -- the task was done with a text; or memory was refused, or it had too many calls; or the writer failed
-abbrev pub Runs : Task → List ℕ → Option (List ℕ) → Option (List ℕ) → Result ℕ Stop → Type 0
-Runs task = RunsBy (Does task) (MemoryRefused task) (Overruns task)
+abbrev pub RunsTask : Task → List ℕ → Option (List ℕ) → Option (List ℕ) → Result ℕ Stop → Type 0
+RunsTask task = RunsText (DoesTask task) (MemoryRefused task) (Overruns task)
 
 abbrev pub AnswersInput : Task → Result (String Global) InputFault → Option (List ℕ) → Option (List ℕ) → Result ℕ Stop → Type 0
-AnswersInput task = AnswersBy (Does task) (MemoryRefused task) (Overruns task)
+AnswersInput task = AnswersBy (DoesTask task) (MemoryRefused task) (Overruns task)
 
 -- the configuration of a text, and nothing was written; or its first fault was; or memory was refused, and nothing was written; or the writer failed
 abbrev pub GivesConfig : List ℕ → Option (List ℕ) → Option (List ℕ) → Result (Option Configuration) Stop → Type 0

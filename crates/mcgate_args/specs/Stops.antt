@@ -31,13 +31,13 @@ stop_by runs.Writer = stops.Device
 stop_by runs.TooManyCalls = stops.Calls
 
 -- what the answer of a run means for the program: it is the exit status, or a stop of its own
-abbrev pub Ends : ℕ → Result ℕ Stop → Type 0
-Ends answer (Ok status) = (status ≡ answer) × (answer ≤ 2)
-Ends answer (Err stops.Usage) = ⊥
-Ends answer (Err (stops.Key fault)) = ⊥
-Ends answer (Err stops.Memory) = answer ≡ 3
-Ends answer (Err stops.Device) = answer ≡ 4
-Ends answer (Err stops.Calls) = answer ≡ 5
+abbrev pub EndsProgram : ℕ → Result ℕ Stop → Type 0
+EndsProgram answer (Ok status) = (status ≡ answer) × (answer ≤ 2)
+EndsProgram answer (Err stops.Usage) = ⊥
+EndsProgram answer (Err (stops.Key fault)) = ⊥
+EndsProgram answer (Err stops.Memory) = answer ≡ 3
+EndsProgram answer (Err stops.Device) = answer ≡ 4
+EndsProgram answer (Err stops.Calls) = answer ≡ 5
 
 -- what a fault of the arguments means for the program
 abbrev pub stop_of : ArgumentsFault → Stop
@@ -54,10 +54,10 @@ stop_status stops.Device = 3
 stop_status stops.Calls = 3
 
 -- why a text is no key
-abbrev pub key_line : KeyFault → List ℕ
-key_line keys.Empty = codes "key: empty"
-key_line keys.TooLong = codes "key: longer than 250 bytes"
-key_line (keys.BadByte at) = codes "key: a space or a control character"
+abbrev pub key_fault_line : KeyFault → List ℕ
+key_fault_line keys.Empty = codes "key: empty"
+key_fault_line keys.TooLong = codes "key: longer than 250 bytes"
+key_fault_line (keys.BadByte at) = codes "key: a space or a control character"
 
 -- how many calls have a number, of which a script had more
 abbrev pub calls_line : List ℕ
@@ -66,7 +66,7 @@ calls_line = codes "calls: more than " ++ decimal last_turn
 -- the line on standard error of a stop
 abbrev pub stop_line : Stop → List ℕ
 stop_line stops.Usage = codes "usage: mcgate check, replay, serve, cache or loopback"
-stop_line (stops.Key fault) = key_line fault
+stop_line (stops.Key fault) = key_fault_line fault
 stop_line stops.Memory = codes "memory: refused"
 stop_line stops.Device = codes "device: failed"
 stop_line stops.Calls = calls_line

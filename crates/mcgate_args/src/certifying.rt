@@ -1,7 +1,7 @@
 //! How `mcgate certify` ends.
 
 ghost use Rattle.mcgate_check.specs.Certifying.{Certifies};
-ghost use Rattle.mcgate_args.specs.Program.{AnswersBy, NeverOverruns, RunsBy, WritesNothing};
+ghost use Rattle.mcgate_args.specs.Program.{AnswersBy, NeverOverruns, RunsText, WritesNothing};
 
 use crate::ends::{Stop, decline, ended};
 use crate::input_text::InputFault;
@@ -10,7 +10,7 @@ use std::alloc::Global;
 use std::io::Write;
 
 fn certify_text<W: Write>(alloc: Global, text: &str, out: &mut W) -> Result<u8, Stop>
-    ensures { RunsBy Certifies WritesNothing NeverOverruns text.now (W.contents out.old) (W.contents out.new) result }
+    ensures { RunsText Certifies WritesNothing NeverOverruns text.now (W.contents out.old) (W.contents out.new) result }
 {
     ended(run_certify(alloc, text, out))
 }

@@ -3,10 +3,10 @@
 ghost use Rattle.std.specs.Prelude.{◌≡◌, ◌≤◌, Ok, option_map};
 ghost use Rattle.script_events.specs.Told.{told_over};
 ghost use Rattle.std.specs.IoError.{error_kind};
-ghost use Rattle.mcgate_args.specs.Program.{AnswersTask, Runs, AnswersInput, RunsBy, AnswersBy, NeverOverruns, SaysNothing, Declines, GivesConfig, ReadsConfig};
+ghost use Rattle.mcgate_args.specs.Program.{AnswersTask, RunsTask, AnswersInput, RunsText, AnswersBy, NeverOverruns, SaysNothing, Declines, GivesConfig, ReadsConfig};
 ghost use Rattle.mcgate_replay.specs.Replay.{ReplaysOver, Overran, IsBrokenOff as IsCutShort};
 ghost use Rattle.mcgate_check.specs.Finding.{FindsKeys};
-ghost use Rattle.mcgate_args.specs.Stops.{stop_at, stop_by, stop_of, key_line, calls_line, Ends, end_of};
+ghost use Rattle.mcgate_args.specs.Stops.{stop_at, stop_by, stop_of, key_fault_line, calls_line, EndsProgram, end_of};
 
 use crate::arguments::{ArgumentsFault, Task};
 use crate::input_text::InputFault;
@@ -73,7 +73,7 @@ impl From<ArgumentsFault> for Stop {
 
 // Why a text is no key.
 fn key_line(fault: KeyFault) -> &'static str
-    ensures { result.now ≡ key_line fault }
+    ensures { result.now ≡ key_fault_line fault }
 {
     match fault {
         KeyFault::Empty => "key: empty",
@@ -133,7 +133,7 @@ pub fn end_of(ended: Result<u8, Stop>) -> End
 /// What the answer of a run means for the program.
 pub fn ended(answer: u8) -> Result<u8, Stop>
     requires { answer ≤ 5 }
-    ensures { Ends answer result }
+    ensures { EndsProgram answer result }
 {
     match answer {
         NO_MEMORY => Err(Stop::Memory),
@@ -154,7 +154,7 @@ fn answer<W: Write>(alloc: Global, task: Task, text: &str, out: &mut W) -> u8
 }
 
 fn run_text<W: Write>(alloc: Global, task: Task, text: &str, out: &mut W) -> Result<u8, Stop>
-    ensures { Runs task text.now (W.contents out.old) (W.contents out.new) result }
+    ensures { RunsTask task text.now (W.contents out.old) (W.contents out.new) result }
 {
     ended(answer(alloc, task, text, out))
 }
@@ -203,7 +203,7 @@ pub fn find_in_text<W: Write>(
     text: &str,
     out: &mut W,
 ) -> Result<u8, Stop>
-    ensures { RunsBy (λ text old new status. FindsKeys text keys.now old new status) SaysNothing NeverOverruns text.now (W.contents out.old) (W.contents out.new) result }
+    ensures { RunsText (λ text old new status. FindsKeys text keys.now old new status) SaysNothing NeverOverruns text.now (W.contents out.old) (W.contents out.new) result }
 {
     ended(run_where(alloc, text, keys, out))
 }
@@ -263,7 +263,7 @@ fn replay_events<W: Write>(
     text: &str,
     out: &mut W,
 ) -> Result<u8, Stop>
-    ensures { RunsBy (λ text old new status. ReplaysOver judging config text old new status) (λ text old new. IsCutShort judging (Ok (told_over config text)) old new) (λ text old new. Overran judging (Ok (told_over config text)) old new) text.now (W.contents out.old) (W.contents out.new) result }
+    ensures { RunsText (λ text old new status. ReplaysOver judging config text old new status) (λ text old new. IsCutShort judging (Ok (told_over config text)) old new) (λ text old new. Overran judging (Ok (told_over config text)) old new) text.now (W.contents out.old) (W.contents out.new) result }
 {
     ended(run_replay_over(alloc, judging, config, text, out))
 }

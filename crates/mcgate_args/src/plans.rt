@@ -1,7 +1,7 @@
 //! What is printed of a change from one configuration to another.
 
 ghost use Rattle.std.specs.Prelude.{◌≡◌};
-ghost use Rattle.mcgate_args.specs.Planning.{Plans, status_of};
+ghost use Rattle.mcgate_args.specs.Planning.{Plans, planned_status};
 
 use crate::ends::Stop;
 use core_accepted::Beginnings;
@@ -12,7 +12,7 @@ use std::io::Write;
 
 // The exit status of what became of a plan.
 fn status_of(planned: Planned) -> u8
-    ensures { result ≡ status_of planned }
+    ensures { result ≡ planned_status planned }
 {
     match planned {
         Planned::AtOnce => DONE,

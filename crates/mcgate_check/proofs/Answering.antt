@@ -47,21 +47,21 @@ use Rattle.gate_gaps.proofs.Gaps.{numbers_have_script}
 use Rattle.mcgate_check.specs.declared.leaks.failures.Failures.{Failures}
 use Rattle.mcgate_check.specs.Tried.{IsFirstKeyTried}
 use Rattle.mcgate_check.specs.Commands.{script_for, delete_text, read_text}
-use Rattle.mcgate_check.specs.Failing.{both, failures_of}
-use Rattle.mcgate_check.specs.Refusals.{IsRealGap, LeaksStepped, IsShowing, IsRefusalRun, IsRoundabout, MayLack, IsAnswer}
+use Rattle.mcgate_check.specs.Failing.{failures_of_both, failures_of}
+use Rattle.mcgate_check.specs.Refusals.{IsRealGap, LeaksStepped, IsShowing, IsRefusalRun, IsRoundabout, MayLack, IsLeakAnswer}
 use Rattle.mcgate_check.proofs.OneAsk.{quiet_start, one_delete, one_read}
 use Rattle.mcgate_check.proofs.Baited.{baited}
 use Rattle.mcgate_check.proofs.Below.{found_is_below}
 use Rattle.mcgate_check.proofs.Drivable.{script_can}
 
-both_are : (d r : Option ℕ) (f : Failures) → both d r ≡ Some f → (d ≡ Some f.delete) × (r ≡ Some f.read)
+both_are : (d r : Option ℕ) (f : Failures) → failures_of_both d r ≡ Some f → (d ≡ Some f.delete) × (r ≡ Some f.read)
 both_are None r f e = absurd (cc)
 both_are (Some d) None f e = absurd (cc)
 both_are (Some d) (Some r) f e =
     let is : record { delete = d; read = r } ≡ f = cc in
     (ap (λ (x : Failures). Some x.delete) is, ap (λ (x : Failures). Some x.read) is)
 
-both_none : (d r : Option ℕ) → both d r ≡ None → IsSome d → IsSome r → ⊥
+both_none : (d r : Option ℕ) → failures_of_both d r ≡ None → IsSome d → IsSome r → ⊥
 both_none None r e a b = absurd (cc)
 both_none (Some d) None e a b = absurd (cc)
 both_none (Some d) (Some r) e a b = cc
@@ -128,7 +128,7 @@ pub none_answer : (tree t : Route) (gap : Gap) (key : List ℕ) (f : Option Fail
 none_answer tree t gap key f e is_tree first good computed none real =
     inr (none_roundabout tree gap key (subst IsTree e is_tree) first (subst (λ (r : Route). IsGood (tree_at r key)) e good) (subst (λ (r : Route). failures_of gap.op gap.server (tree_at r key) ≡ None) e (sym computed ∙ none)) real)
 
-pub answered : (config : Configuration) (gap : Gap) (found : Option Script) → IfSome found (λ script. IsRefusalRun config gap (map scripted_of script.events.items)) → (IsRealGap config.tree gap → MayLack config.tree gap) → IsAnswer config gap found
+pub answered : (config : Configuration) (gap : Gap) (found : Option Script) → IfSome found (λ script. IsRefusalRun config gap (map scripted_of script.events.items)) → (IsRealGap config.tree gap → MayLack config.tree gap) → IsLeakAnswer config gap found
 answered config gap None h n = n
 answered config gap (Some script) h n = h
 

@@ -12,7 +12,7 @@ use Rattle.script_events.specs.Scripted.{scripted_of}
 use Rattle.mcgate_check.specs.Stepped.{is_step, is_stepped}
 use Rattle.gate_gaps.specs.Scripts.{fail_lines}
 use Rattle.mcgate_check.specs.Commands.{script_for, delete_text, read_text}
-use Rattle.mcgate_check.specs.Refusals.{IsRefusalRun, IsAnswer}
+use Rattle.mcgate_check.specs.Refusals.{IsRefusalRun, IsLeakAnswer}
 
 both_whole : (xs ys : List Scripted) → is_stepped xs ≡ false → is_stepped ys ≡ false → is_stepped (xs ++ ys) ≡ false
 both_whole xs ys a b = list_any-append is_step xs ys ∙ ap (λ c. c || is_stepped ys) a ∙ b
@@ -35,10 +35,10 @@ script_whole server key op i j =
 run_whole : (config : Configuration) (gap : Gap) (script : List Scripted) → IsRefusalRun config gap script → is_stepped script ≡ false
 run_whole config gap script run = ap is_stepped run.script_is ∙ script_whole gap.server run.key gap.op run.delete run.read
 
-found_whole : (config : Configuration) (gap : Gap) (found : Option Script) → IsAnswer config gap found → IfSome found (λ script. is_stepped (map scripted_of script.events.items) ≡ false)
+found_whole : (config : Configuration) (gap : Gap) (found : Option Script) → IsLeakAnswer config gap found → IfSome found (λ script. is_stepped (map scripted_of script.events.items) ≡ false)
 found_whole config gap None none = tt
 found_whole config gap (Some script) run = run_whole config gap (map scripted_of script.events.items) run
 
 -- nor does a refusal run
-pub answer_whole : {E : Type 0} (config : Configuration) (gap : Gap) (result : Result (Option Script) E) → IfOk result (IsAnswer config gap) → IfOk result (λ found. IfSome found (λ script. is_stepped (map scripted_of script.events.items) ≡ false))
+pub answer_whole : {E : Type 0} (config : Configuration) (gap : Gap) (result : Result (Option Script) E) → IfOk result (IsLeakAnswer config gap) → IfOk result (λ found. IfSome found (λ script. is_stepped (map scripted_of script.events.items) ≡ false))
 answer_whole config gap result answer = IfOk-weaker result _ _ (λ found a. found_whole config gap found a) answer

@@ -24,11 +24,11 @@ abbrev pub key_line : List ℕ → List ℕ
 key_line key = codes "key=" ++ escaped key ++ codes " hash_part=" ++ escaped (hash_part key) ++ codes " hash=" ++ decimal (key_hash key)
 
 -- a server, with its places in the lists of the pools
-abbrev pub named_text : Addresses → NamedPools → ℕ → List ℕ
-named_text addresses pools server = codes " " ++ server_text addresses pools server
+abbrev pub pool_places_text : Addresses → NamedPools → ℕ → List ℕ
+pool_places_text addresses pools server = codes " " ++ server_text addresses pools server
 
 abbrev pub servers_text : Addresses → NamedPools → List ℕ → List ℕ
-servers_text addresses pools servers = flat_map (named_text addresses pools) servers
+servers_text addresses pools servers = flat_map (pool_places_text addresses pools) servers
 
 abbrev pub op_front : Op → List ℕ
 op_front op = codes "  " ++ op_name op

@@ -21,34 +21,34 @@ use Rattle.script_events.specs.Told.{Told}
 use Rattle.script_events.specs.Printed.{config_fault_line}
 use Rattle.script_events.specs.ScriptLines.{script_lines}
 use Rattle.script_events.specs.LineLaws.{AreReadBack}
-use Rattle.mcgate_check.specs.Verdict.{accepted_line, refusal_line}
+use Rattle.mcgate_check.specs.Verdict.{accepted_line, judged_line}
 use Rattle.mcgate_check.specs.declared.status.RunFault.{RunFault}
 use Rattle.mcgate_check.specs.declared.status.RunFault.TheVariants.{NoMemory, Writer, TooManyCalls}
 
 -- the tree's table of places has so many
-abbrev pub HasPlaces : Route → ℕ → Type 0
-HasPlaces tree n = (table : PlaceTable) × IsTable (tree ∷ []) table × (n ≡ row_count table)
+abbrev pub TreeHasPlaces : Route → ℕ → Type 0
+TreeHasPlaces tree n = (table : PlaceTable) × IsTable (tree ∷ []) table × (n ≡ row_count table)
 
 -- some certificate is valid for the tree, and that and the number of its places were written
 pub record PrintsAccepted (tree : Route) (old new : Option (List ℕ)) : Type 0 where
   pub certified : IsCertified tree
   pub places : ℕ
-  pub counted : HasPlaces tree places
+  pub counted : TreeHasPlaces tree places
   pub printed : Appends old new (accepted_line places)
 
 -- a reason that has a line
-abbrev pub IsTold : Reason → Type 0
-IsTold reasons.TooManyPlaces = Unit {0}
-IsTold (reasons.BadCertificate row) = Unit {0}
-IsTold (reasons.Uncovered gap) = Unit {0}
-IsTold reasons.NoMemory = ⊥
+abbrev pub ReasonHasLine : Reason → Type 0
+ReasonHasLine reasons.TooManyPlaces = Unit {0}
+ReasonHasLine (reasons.BadCertificate row) = Unit {0}
+ReasonHasLine (reasons.Uncovered gap) = Unit {0}
+ReasonHasLine reasons.NoMemory = ⊥
 
 -- the tree is refused for this reason, and that was written
 pub record PrintsRefused (config : Configuration) (old new : Option (List ℕ)) : Type 0 where
   pub reason : Reason
-  pub told : IsTold reason
+  pub told : ReasonHasLine reason
   pub judged : IsJudged config.tree reason
-  pub printed : Appends old new (refusal_line config.servers reason)
+  pub printed : Appends old new (judged_line config.servers reason)
 
 -- the lines of a script, or nothing
 abbrev pub run_lines : Option Script → List ℕ
@@ -77,11 +77,11 @@ IsFoundFor config reasons.NoMemory found = found ≡ None
 
 -- the tree is refused for this reason, and that and then the lines of the script that shows it were written
 pub record ChecksRefused (config : Configuration) (reason : Reason) (old new : Option (List ℕ)) : Type 0 where
-  pub told : IsTold reason
+  pub told : ReasonHasLine reason
   pub judged : IsJudged config.tree reason
   pub run : List ℕ
   pub shows : ShowsReason config reason run
-  pub printed : Appends old new (refusal_line config.servers reason ++ run)
+  pub printed : Appends old new (judged_line config.servers reason ++ run)
 
 -- the same, where this script was found, or none
 pub record ChecksFound (config : Configuration) (reason : Reason) (found : Option Script) (old new : Option (List ℕ)) : Type 0 where

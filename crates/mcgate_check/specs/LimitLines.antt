@@ -13,9 +13,9 @@ use Rattle.gate_gaps.specs.PoolWords.{server_text}
 use Rattle.mcgate_check.specs.Asking.{asked}
 
 -- the value of a configuration's text; null where it is no JSON
-abbrev pub value_said : Option Data → Data
-value_said None = null
-value_said (Some d) = d
+abbrev pub limits_value : Option Data → Data
+limits_value None = null
+limits_value (Some d) = d
 
 -- a limit and its number, if it is said
 abbrev pub limit_word : List ℕ → Option ℕ → List ℕ

@@ -22,7 +22,7 @@ use Rattle.core_proxy.specs.Claims.{bars_by}
 use Rattle.core_proxy.specs.CoreState.{dialect}
 use Rattle.core_commands.specs.declared.sharing.Sharing.TheVariants.{Alone}
 use Rattle.script_events.specs.declared.servers.servers.ScriptServers.{ScriptServers}
-use Rattle.script_run.specs.Standing.{replied_in}
+use Rattle.script_run.specs.Standing.{replies_in_run}
 use Rattle.script_run.specs.Driving.{said_in, IsSettled, FollowsBy}
 use Rattle.script_run.specs.World.{World}
 use Rattle.script_events.specs.declared.script.Script.{Script}
@@ -53,7 +53,7 @@ pub record LeaksStepped (tree : Route) (events : List Scripted) : Type 0 where
   pub follows : FollowsBy tree [] events log
   pub streams : (c : ℕ) → stream_of log c ≡ said_in events c
   pub settled : IsSettled events log
-  pub replied : replied_in (run_of log) ≡ commands_in (run_of log)
+  pub replied : replies_in_run (run_of log) ≡ commands_in (run_of log)
   pub servers : ScriptServers
   pub world : World events events log servers
   pub loses : LosesOnly (run_of log)
@@ -83,5 +83,5 @@ abbrev pub MayLack : Route → Gap → Type 0
 MayLack tree gap = NoneBefore tree gap.place tried ⊎ IsRoundabout tree gap
 
 -- a script that leaks, or a reason for a gap to have none
-abbrev pub IsAnswer : Configuration → Gap → Option Script → Type 0
-IsAnswer config gap found = MatchOption found (IsRealGap config.tree gap → MayLack config.tree gap) (λ script. IsRefusalRun config gap (map scripted_of script.events.items))
+abbrev pub IsLeakAnswer : Configuration → Gap → Option Script → Type 0
+IsLeakAnswer config gap found = MatchOption found (IsRealGap config.tree gap → MayLack config.tree gap) (λ script. IsRefusalRun config gap (map scripted_of script.events.items))

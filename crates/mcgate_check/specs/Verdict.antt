@@ -30,8 +30,8 @@ abbrev pub gap_line : Addresses → Gap → List ℕ
 gap_line servers gap = codes "refused:" ++ gap_fields servers gap
 
 -- the line of a refused tree; running out of memory has none
-abbrev pub refusal_line : Addresses → Reason → List ℕ
-refusal_line servers reasons.TooManyPlaces = codes "refused: too many places\n"
-refusal_line servers (reasons.BadCertificate row) = codes "refused: bad certificate row " ++ decimal row ++ codes "\n"
-refusal_line servers (reasons.Uncovered gap) = gap_line servers gap
-refusal_line servers reasons.NoMemory = []
+abbrev pub judged_line : Addresses → Reason → List ℕ
+judged_line servers reasons.TooManyPlaces = codes "refused: too many places\n"
+judged_line servers (reasons.BadCertificate row) = codes "refused: bad certificate row " ++ decimal row ++ codes "\n"
+judged_line servers (reasons.Uncovered gap) = gap_line servers gap
+judged_line servers reasons.NoMemory = []

@@ -8,8 +8,8 @@ ghost use Rattle.route_json.specs.Fault.{Fails, fault_of};
 ghost use Rattle.gate_check.specs.Gate.{IsCertified, IsJudged};
 ghost use Rattle.script_events.specs.Scripted.{scripted_of};
 ghost use Rattle.script_events.specs.LineLaws.{HasWidths};
-ghost use Rattle.mcgate_check.specs.Verdict.{refusal_line};
-ghost use Rattle.mcgate_check.specs.Checking.{ChecksRefused, ChecksFound, IsTold, PrintsAccepted, PrintsRefused, IsFoundFor, PrintsFault, StopsUnwritten, HasPlaces, run_lines};
+ghost use Rattle.mcgate_check.specs.Verdict.{judged_line};
+ghost use Rattle.mcgate_check.specs.Checking.{ChecksRefused, ChecksFound, ReasonHasLine, PrintsAccepted, PrintsRefused, IsFoundFor, PrintsFault, StopsUnwritten, TreeHasPlaces, run_lines};
 
 use crate::leaks::refusal_run;
 use crate::status::{BAD_INPUT, DONE, REFUSED, RunFault};
@@ -28,7 +28,7 @@ use std::io::Write;
 // How many places an accepted tree has.
 fn place_count(alloc: Global, tree: &Tree) -> Result<u32, AllocError>
     requires { IsCertified tree.now }
-    ensures { IfOk result (HasPlaces tree.now) }
+    ensures { IfOk result (TreeHasPlaces tree.now) }
 {
     match places(alloc, tree) {
         Ok(table) => Ok(table.rows()),
@@ -53,7 +53,7 @@ pub(crate) fn print_reason<W: Write>(
     reason: &Reason,
     out: &mut W,
 ) -> Result<u8, RunFault>
-    ensures ok { IfOk result (λ status. (status ≡ 1) × IsTold reason.now × Appends (W.contents out.old) (W.contents out.new) (refusal_line config.now.servers reason.now)) }
+    ensures ok { IfOk result (λ status. (status ≡ 1) × ReasonHasLine reason.now × Appends (W.contents out.old) (W.contents out.new) (judged_line config.now.servers reason.now)) }
     ensures err { IfErr result (StopsUnwritten (W.contents out.old) (W.contents out.new)) }
 {
     match reason {

@@ -3,7 +3,7 @@
 ghost use Rattle.std.specs.Prelude.{◌≡◌, OnOk};
 ghost use Rattle.std.specs.Io.KnownBytes.{Appends};
 ghost use Rattle.gate_gaps.specs.Names.{op_name, delete_name, address_of};
-ghost use Rattle.mcgate_check.specs.Verdict.{accepted_line, ask_fields, place_fields, gap_fields, gap_line, refusal_line};
+ghost use Rattle.mcgate_check.specs.Verdict.{accepted_line, ask_fields, place_fields, gap_fields, gap_line, judged_line};
 
 use gate_check::{Gap, Reason};
 use gate_coverage::prefixes::prefix_text;
@@ -63,7 +63,7 @@ fn write_gap_line<W: Write>(servers: &Servers, gap: &Gap, out: &mut W) -> io::Re
 /// Writes the line of a configuration that was refused: `refused: server=A read=OP delete=D prefix=P residue=R/L` for a gap,
 /// `refused: too many places` or `refused: bad certificate row N`. Running out of memory has no line. The format is mcgate's own.
 pub fn write_refusal<W: Write>(servers: &Servers, reason: &Reason, out: &mut W) -> io::Result<()>
-    ensures { OnOk result (Appends (W.contents out.old) (W.contents out.new) (refusal_line servers.now reason.now)) }
+    ensures { OnOk result (Appends (W.contents out.old) (W.contents out.new) (judged_line servers.now reason.now)) }
 {
     match reason {
         Reason::TooManyPlaces => writeln!(out, "refused: too many places"),

@@ -17,7 +17,7 @@ use Rattle.mcgate_check.specs.declared.status.RunFault.{RunFault}
 use Rattle.mcgate_check.specs.declared.status.RunFault.TheVariants.{NoMemory, Writer, TooManyCalls}
 use Rattle.gate_check.specs.Gate.{IsCertified}
 use Rattle.mcgate_check.specs.Checking.{PrintsRefused, IsNoOverrun}
-use Rattle.mcgate_loopback.specs.Running.{events_of, servers_of, WritesRun, BreaksOff, RunsGood, RunsScript, RunsTold}
+use Rattle.mcgate_loopback.specs.Running.{loopback_events, servers_of, WritesRun, LoopbackBreaksOff, LoopbackRuns, LoopbackRunsScript, RunsTold}
 
 pub both_written : (old mid new : Option (List ℕ)) (a b : List ℕ) → Appends old mid a → Appends mid new b → Appends old new (a ++ b)
 both_written None mid new a b x y = tt
@@ -26,7 +26,7 @@ both_written (Some xs) (Some ys) None a b x y = y
 both_written (Some xs) (Some ys) (Some zs) a b x y = y ∙ ap (λ (t : List ℕ). t ++ b) x ∙ append_assoc xs a b
 
 -- a run that was broken off, whose lines so far were written
-pub broke_off : (old new : Option (List ℕ)) (reloads : List Reload) (shown : List Entry) (fault : RunFault) → IsNoOverrun fault → Appends old new (entry_lines reloads shown) → BreaksOff old new fault
+pub broke_off : (old new : Option (List ℕ)) (reloads : List Reload) (shown : List Entry) (fault : RunFault) → IsNoOverrun fault → Appends old new (entry_lines reloads shown) → LoopbackBreaksOff old new fault
 broke_off old new reloads shown NoMemory within a = inr (record { reloads = reloads; shown = shown; printed = a })
 broke_off old new reloads shown Writer within a = tt
 broke_off old new reloads shown TooManyCalls within a = absurd within
@@ -49,25 +49,25 @@ either_none None = refl
 either_none (Some n) = refl
 
 -- where each line can be read, the bad line is that of an event that can't be
-bad_is : (t : Told) (script : ConfiguredScript) → IsScriptOf t script → bad_line (Ok t) ≡ bad_event_line (servers_of script) (events_of script) script.lines.items
+bad_is : (t : Told) (script : ConfiguredScript) → IsScriptOf t script → bad_line (Ok t) ≡ bad_event_line (servers_of script) (loopback_events script) script.lines.items
 bad_is t script h =
     ap (λ (o : Option ℕ). either (bad_event_line (servers_said t) (events_said t) (lines_said t)) o) h.whole ∙ either_none (bad_event_line (servers_said t) (events_said t) (lines_said t))
     ∙ ap (λ (c : Configuration). bad_event_line (length (servers_known c.servers t.loads)) (events_said t) (lines_said t)) (sym h.configuration)
     ∙ ap (λ (rs : List Reload). bad_event_line (length (servers_known script.config.servers rs)) (events_said t) (lines_said t)) (sym h.reloads)
     ∙ ap (λ (es : List Scripted). bad_event_line (servers_of script) es (lines_said t)) (sym h.events)
-    ∙ ap (λ (ls : List ℕ). bad_event_line (servers_of script) (events_of script) ls) (sym h.lines)
+    ∙ ap (λ (ls : List ℕ). bad_event_line (servers_of script) (loopback_events script) ls) (sym h.lines)
 
-runs_said : (t : Told) (script : ConfiguredScript) (old new : Option (List ℕ)) (status : ℕ) → IsScriptOf t script → RunsGood script.config script.reloads.items old new status → RunsGood t.configuration t.loads old new status
+runs_said : (t : Told) (script : ConfiguredScript) (old new : Option (List ℕ)) (status : ℕ) → IsScriptOf t script → LoopbackRuns script.config script.reloads.items old new status → LoopbackRuns t.configuration t.loads old new status
 runs_said t script old new status h p = rw (← h.configuration, ← h.reloads) p
 
-pub runs : (t : Result Told WhyNot) (script : ConfiguredScript) (old new : Option (List ℕ)) (status : ℕ) → ReadsScript t (Ok script) → RunsScript script old new status → RunsTold t old new status
+pub runs : (t : Result Told WhyNot) (script : ConfiguredScript) (old new : Option (List ℕ)) (status : ℕ) → ReadsScript t (Ok script) → LoopbackRunsScript script old new status → RunsTold t old new status
 runs (Err why) script old new status h r = absurd h
 runs (Ok t) script old new status h (inl r) =
     let none = r.0 in
     inl (record { script = t; said = refl; good = bad_is t script h ∙ rw (none) refl; runs = runs_said t script old new status h r.1 })
 runs (Ok t) script old new status h (inr r) = inr (r.0, inr (record { line = r.1.line; bad = bad_is t script h ∙ r.1.bad; printed = r.1.printed }))
 
-good_status : (config : Configuration) (reloads : List Reload) (old new : Option (List ℕ)) (status : ℕ) → RunsGood config reloads old new status → status ≤ 1
+good_status : (config : Configuration) (reloads : List Reload) (old new : Option (List ℕ)) (status : ℕ) → LoopbackRuns config reloads old new status → status ≤ 1
 good_status config reloads old new status (inl ran) = let e = ran.0 in omega (arith, e)
 good_status config reloads old new status (inr refused) = let e = refused.0 in omega (arith, e)
 
@@ -76,9 +76,9 @@ runs_status t old new status (inl ran) = let few = good_status ran.script.config
 runs_status t old new status (inr bad) = let e = bad.0 in omega (arith, e)
 
 -- of an equal configuration that the gate accepted
-pub runs_certified : (config first : Configuration) (reloads : List Reload) (old new : Option (List ℕ)) (status : ℕ) → first ≡ config → IsCertified first.tree → (status ≡ 0) × WritesRun reloads old new → RunsGood config reloads old new status
+pub runs_certified : (config first : Configuration) (reloads : List Reload) (old new : Option (List ℕ)) (status : ℕ) → first ≡ config → IsCertified first.tree → (status ≡ 0) × WritesRun reloads old new → LoopbackRuns config reloads old new status
 runs_certified config first reloads old new status same certified r = inl (r.0, subst (λ (c : Configuration). IsCertified c.tree) same certified, r.1)
 
 -- of an equal one that it refused
-pub refused_first : (config first : Configuration) (reloads : List Reload) (old new : Option (List ℕ)) (status : ℕ) → first ≡ config → (status ≡ 1) × PrintsRefused first old new → RunsGood config reloads old new status
+pub refused_first : (config first : Configuration) (reloads : List Reload) (old new : Option (List ℕ)) (status : ℕ) → first ≡ config → (status ≡ 1) × PrintsRefused first old new → LoopbackRuns config reloads old new status
 refused_first config first reloads old new status same p = inr (p.0, subst (λ (c : Configuration). PrintsRefused c old new) same p.1)

@@ -34,20 +34,20 @@ pub record WritesPart (old new : Option (List ℕ)) : Type 0 where
   pub printed : Appends old new (entry_lines reloads shown)
 
 -- memory was refused: before the run, and nothing was written; or during it. Nothing is said of a writer or a device that failed. It never is that there were too many calls
-abbrev pub BreaksOff : Option (List ℕ) → Option (List ℕ) → RunFault → Type 0
-BreaksOff old new NoMemory = (new ≡ old) ⊎ WritesPart old new
-BreaksOff old new Writer = Unit {0}
-BreaksOff old new TooManyCalls = ⊥
+abbrev pub LoopbackBreaksOff : Option (List ℕ) → Option (List ℕ) → RunFault → Type 0
+LoopbackBreaksOff old new NoMemory = (new ≡ old) ⊎ WritesPart old new
+LoopbackBreaksOff old new Writer = Unit {0}
+LoopbackBreaksOff old new TooManyCalls = ⊥
 
 -- status 0: the gate accepted the configuration, and the script ran; status 1: it refused it, and that was written
-abbrev pub RunsGood : Configuration → List Reload → Option (List ℕ) → Option (List ℕ) → ℕ → Type 0
-RunsGood config reloads old new status = ((status ≡ 0) × IsCertified config.tree × WritesRun reloads old new) ⊎ ((status ≡ 1) × PrintsRefused config old new)
+abbrev pub LoopbackRuns : Configuration → List Reload → Option (List ℕ) → Option (List ℕ) → ℕ → Type 0
+LoopbackRuns config reloads old new status = ((status ≡ 0) × IsCertified config.tree × WritesRun reloads old new) ⊎ ((status ≡ 1) × PrintsRefused config old new)
 
 -- ---- a script that was read
 
 -- its events
-abbrev pub events_of : ConfiguredScript → List Scripted
-events_of script = map scripted_of script.script.events.items
+abbrev pub loopback_events : ConfiguredScript → List Scripted
+loopback_events script = map scripted_of script.script.events.items
 
 -- how many servers all its configurations have together
 abbrev pub servers_of : ConfiguredScript → ℕ
@@ -56,13 +56,13 @@ servers_of script = length (servers_known script.config.servers script.reloads.i
 -- an event can't be, and the line of the first such was written
 pub record HasBadEvent (script : ConfiguredScript) (old new : Option (List ℕ)) : Type 0 where
   pub line : ℕ
-  pub bad : bad_event_line (servers_of script) (events_of script) script.lines.items ≡ Some line
+  pub bad : bad_event_line (servers_of script) (loopback_events script) script.lines.items ≡ Some line
   pub printed : Appends old new (bad_line_line line)
 
 -- each of its events can be, and it ran or was refused; or one can't, and the line of the first was written
-abbrev pub RunsScript : ConfiguredScript → Option (List ℕ) → Option (List ℕ) → ℕ → Type 0
-RunsScript script old new status =
-    ((first_bad (servers_of script) (events_of script) ≡ None) × RunsGood script.config script.reloads.items old new status)
+abbrev pub LoopbackRunsScript : ConfiguredScript → Option (List ℕ) → Option (List ℕ) → ℕ → Type 0
+LoopbackRunsScript script old new status =
+    ((first_bad (servers_of script) (loopback_events script) ≡ None) × LoopbackRuns script.config script.reloads.items old new status)
     ⊎ ((status ≡ 2) × HasBadEvent script old new)
 
 -- ---- what a text says
@@ -72,7 +72,7 @@ pub record Ran (t : Result Told WhyNot) (old new : Option (List ℕ)) (status : 
   pub script : Told
   pub said : t ≡ Ok script
   pub good : bad_line (Ok script) ≡ None
-  pub runs : RunsGood script.configuration script.loads old new status
+  pub runs : LoopbackRuns script.configuration script.loads old new status
 
 -- a line is bad, and that was written
 pub record HasBadLine (t : Result Told WhyNot) (old new : Option (List ℕ)) : Type 0 where
@@ -84,8 +84,8 @@ pub record HasBadLine (t : Result Told WhyNot) (old new : Option (List ℕ)) : T
 abbrev pub RunsTold : Result Told WhyNot → Option (List ℕ) → Option (List ℕ) → ℕ → Type 0
 RunsTold t old new status = Ran t old new status ⊎ ((status ≡ 2) × (HasFaultyConfig t old new ⊎ HasBadLine t old new))
 
-abbrev pub Runs : List ℕ → Option (List ℕ) → Option (List ℕ) → ℕ → Type 0
-Runs text = RunsTold (told text)
+abbrev pub RunsLoopback : List ℕ → Option (List ℕ) → Option (List ℕ) → ℕ → Type 0
+RunsLoopback text = RunsTold (told text)
 
 -- ---- what was read of a text
 

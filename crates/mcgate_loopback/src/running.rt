@@ -3,7 +3,7 @@
 ghost use Rattle.std.specs.Prelude.{◌≡◌, ◌≤◌, IfOk, IfErr, length};
 ghost use Rattle.mcgate_check.specs.Checking.{IsNoOverrun};
 ghost use Rattle.script_events.specs.Told.{IsReading};
-ghost use Rattle.mcgate_loopback.specs.Running.{WritesRun, BreaksOff, RunsGood, RunsScript, RunsRead, Runs};
+ghost use Rattle.mcgate_loopback.specs.Running.{WritesRun, LoopbackBreaksOff, LoopbackRuns, LoopbackRunsScript, RunsRead, RunsLoopback};
 
 use crate::ends::{Counts, Ends, drive};
 use crate::entries::{Entry, write_entries};
@@ -60,7 +60,7 @@ fn write_driven<W: Write>(
     out: &mut W,
 ) -> Result<u8, RunFault>
     ensures ok { IfOk result (λ status. (status ≡ 0) × WritesRun reloads.now (W.contents out.old) (W.contents out.new)) }
-    ensures err { IfErr result (BreaksOff (W.contents out.old) (W.contents out.new)) }
+    ensures err { IfErr result (LoopbackBreaksOff (W.contents out.old) (W.contents out.new)) }
 {
     write_entries(reloads, shown, out)?;
     match driven {
@@ -82,7 +82,7 @@ fn run_accepted<R: Net + Clock + AllocGlobal, W: Write>(
     out: &mut W,
 ) -> Result<u8, RunFault>
     ensures ok { IfOk result (λ status. (status ≡ 0) × WritesRun script.now.reloads.items (W.contents out.old) (W.contents out.new)) }
-    ensures err { IfErr result (BreaksOff (W.contents out.old) (W.contents out.new)) }
+    ensures err { IfErr result (LoopbackBreaksOff (W.contents out.old) (W.contents out.new)) }
 {
     let mut shown = Vec::new(rt.alloc());
     let driven = drive_ends(rt, accepted, script, flushes_new, most, &mut shown);
@@ -97,8 +97,8 @@ fn run_good<R: Net + Clock + AllocGlobal, W: Write>(
     most: u32,
     out: &mut W,
 ) -> Result<u8, RunFault>
-    ensures ok { IfOk result (RunsGood script.now.config script.now.reloads.items (W.contents out.old) (W.contents out.new)) }
-    ensures err { IfErr result (BreaksOff (W.contents out.old) (W.contents out.new)) }
+    ensures ok { IfOk result (LoopbackRuns script.now.config script.now.reloads.items (W.contents out.old) (W.contents out.new)) }
+    ensures err { IfErr result (LoopbackBreaksOff (W.contents out.old) (W.contents out.new)) }
 {
     let first = script.config.copy(rt.alloc())?;
     match judge(rt.alloc(), first) {
@@ -116,8 +116,8 @@ fn run_script<R: Net + Clock + AllocGlobal, W: Write>(
     out: &mut W,
 ) -> Result<u8, RunFault>
     requires { length configured.now.lines.items ≡ length configured.now.script.events.items }
-    ensures ok { IfOk result (RunsScript configured.now (W.contents out.old) (W.contents out.new)) }
-    ensures err { IfErr result (BreaksOff (W.contents out.old) (W.contents out.new)) }
+    ensures ok { IfOk result (LoopbackRunsScript configured.now (W.contents out.old) (W.contents out.new)) }
+    ensures err { IfErr result (LoopbackBreaksOff (W.contents out.old) (W.contents out.new)) }
 {
     match first_bad_event(configured.server_count(), &configured.script) {
         Some(event) => {
@@ -139,7 +139,7 @@ fn run_read<R: Net + Clock + AllocGlobal, W: Write>(
 ) -> Result<u8, RunFault>
     requires { IsReading read }
     ensures ok { IfOk result (RunsRead read (W.contents out.old) (W.contents out.new)) }
-    ensures err { IfErr result (BreaksOff (W.contents out.old) (W.contents out.new)) }
+    ensures err { IfErr result (LoopbackBreaksOff (W.contents out.old) (W.contents out.new)) }
 {
     match read {
         Ok(configured) => run_script(rt, &configured, flushes_new, most, out),
@@ -162,8 +162,8 @@ fn run_text<R: Net + Clock + AllocGlobal, W: Write>(
     most: u32,
     out: &mut W,
 ) -> Result<u8, RunFault>
-    ensures ok { IfOk result (Runs text.now (W.contents out.old) (W.contents out.new)) }
-    ensures err { IfErr result (BreaksOff (W.contents out.old) (W.contents out.new)) }
+    ensures ok { IfOk result (RunsLoopback text.now (W.contents out.old) (W.contents out.new)) }
+    ensures err { IfErr result (LoopbackBreaksOff (W.contents out.old) (W.contents out.new)) }
 {
     run_read(rt, read_script(rt.alloc(), text), flushes_new, most, out)
 }
@@ -191,8 +191,8 @@ pub fn run_loopback<R: Net + Clock + AllocGlobal, W: Write>(
     out: &mut W,
 ) -> u8
     ensures status { result ≤ 4 }
-    ensures wrote { result ≤ 2 → Runs text.now (W.contents out.old) (W.contents out.new) result }
-    ensures refused { result ≡ 3 → BreaksOff (W.contents out.old) (W.contents out.new) RunFault.NoMemory }
+    ensures wrote { result ≤ 2 → RunsLoopback text.now (W.contents out.old) (W.contents out.new) result }
+    ensures refused { result ≡ 3 → LoopbackBreaksOff (W.contents out.old) (W.contents out.new) RunFault.NoMemory }
 {
     match run_text(rt, text, flushes_new, most, out) {
         Ok(status) => status,

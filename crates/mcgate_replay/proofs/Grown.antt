@@ -38,33 +38,33 @@ use Rattle.script_events.specs.Reloads.{tree_after}
 use Rattle.script_events.proofs.Due.{one_more_taken}
 use Rattle.script_run.specs.Standing.{tree_by}
 use Rattle.script_run.specs.Driving.{trees_loaded, loaded_trees, RunsBy, DrivesStepped, StepsPart, EndsStepped}
-use Rattle.script_run.specs.Reloads.{is_refused}
+use Rattle.script_run.specs.Reloads.{loading_is_refused}
 use Rattle.script_run.specs.Stepped.{StepsFreshly, StepsPartFreshly, EndsSteps}
 use Rattle.script_run.specs.declared.accepted.judging.Loading.{Loading}
 use Rattle.script_run.specs.declared.accepted.judging.Loading.TheVariants.{Loaded, Refused}
 use Rattle.script_run.proofs.Accepting.{tree_at_number}
 use Rattle.script_run.proofs.Loadings.{accepted_in, accepted_rise, last_of_more, more_at, after_none, after_one}
 use Rattle.script_run.proofs.Steppings.{have_come, alone}
-use Rattle.mcgate_replay.specs.Growing.{MayNotFollow, ForAnyReason, JudgesNext, JudgesAll, AreFollowed, IsFew, held_after, loading_of}
+use Rattle.mcgate_replay.specs.Growing.{MayNotFollowKnown, ForAnyReason, JudgesNext, JudgesAll, AreFollowed, IsFew, held_after, loading_of_unsound}
 
 -- ---- answers in order
 
 -- what is told of a refusal, running out of memory aside
-pub told_refused : {E : Type 0} (most : ℕ) (known known' : Known) (r : Reload) (unsound : Unsound) (o : Option Loading) (e : E) → most ≤ most_generations → o ≡ loading_of unsound
-    → (known' ≡ known) × IsUnsoundFor (is_arbitrary known) (trees_of known.configs) r.config.tree unsound → IfOk (ok_or o e) (λ l. JudgesNext (MayNotFollow most) known r l known')
-told_refused most known known' r unsound o e numbered is why = subst (λ (p : Option Loading). IfOk (ok_or p e) (λ l. JudgesNext (MayNotFollow most) known r l known')) (sym is) (by unsound why)
+pub told_refused : {E : Type 0} (most : ℕ) (known known' : Known) (r : Reload) (unsound : Unsound) (o : Option Loading) (e : E) → most ≤ most_generations → o ≡ loading_of_unsound unsound
+    → (known' ≡ known) × IsUnsoundFor (is_arbitrary known) (trees_of known.configs) r.config.tree unsound → IfOk (ok_or o e) (λ l. JudgesNext (MayNotFollowKnown most) known r l known')
+told_refused most known known' r unsound o e numbered is why = subst (λ (p : Option Loading). IfOk (ok_or p e) (λ l. JudgesNext (MayNotFollowKnown most) known r l known')) (sym is) (by unsound why)
   where
-    by : (u : Unsound) → (known' ≡ known) × IsUnsoundFor (is_arbitrary known) (trees_of known.configs) r.config.tree u → IfOk (ok_or (loading_of u) e) (λ l. JudgesNext (MayNotFollow most) known r l known')
+    by : (u : Unsound) → (known' ≡ known) × IsUnsoundFor (is_arbitrary known) (trees_of known.configs) r.config.tree u → IfOk (ok_or (loading_of_unsound u) e) (λ l. JudgesNext (MayNotFollowKnown most) known r l known')
     by reasons.TooManyGenerations h = let many = h.1 in (h.0, omega (arith, numbered, many))
     by reasons.TooManyPlaces h = h
     by (reasons.Left generation gap) h = h
     by reasons.NoMemory h = tt
 
 -- as many are held then as before
-pub few_told : {E : Type 0} (most held : ℕ) (unsound : Unsound) (o : Option Loading) (e : E) → o ≡ loading_of unsound → IsFew most held → IfOk (ok_or o e) (λ l. IsFew most (held_after held l))
+pub few_told : {E : Type 0} (most held : ℕ) (unsound : Unsound) (o : Option Loading) (e : E) → o ≡ loading_of_unsound unsound → IsFew most held → IfOk (ok_or o e) (λ l. IsFew most (held_after held l))
 few_told most held unsound o e is few = subst (λ (p : Option Loading). IfOk (ok_or p e) (λ l. IsFew most (held_after held l))) (sym is) (by unsound)
   where
-    by : (u : Unsound) → IfOk (ok_or (loading_of u) e) (λ l. IsFew most (held_after held l))
+    by : (u : Unsound) → IfOk (ok_or (loading_of_unsound u) e) (λ l. IsFew most (held_after held l))
     by reasons.TooManyGenerations = few
     by reasons.TooManyPlaces = few
     by (reasons.Left generation gap) = few
@@ -128,10 +128,10 @@ pub judged_of : (Why : Known → Route → ReloadFault → Type 0) (c : Configur
 judged_of Why c begun first known rs reloads ls is same judged =
     subst (λ (x : List Reload). JudgesAll Why (first_of c begun) x ls known) same (subst (λ (k : Known). JudgesAll Why k rs ls known) is judged)
 
-pub begun_followed : (most : ℕ) (c : Configuration) (begun : Beginnings) (known : Known) (rs : List Reload) (ls : List Loading) (events : List Scripted) → JudgesAll (MayNotFollow most) (first_of c begun) rs ls known
+pub begun_followed : (most : ℕ) (c : Configuration) (begun : Beginnings) (known : Known) (rs : List Reload) (ls : List Loading) (events : List Scripted) → JudgesAll (MayNotFollowKnown most) (first_of c begun) rs ls known
     → Each IsTree (trees_of known.configs) → AreSoundSince (is_arbitrary known) (trees_of known.configs) → BeginSo c begun (opening_of events) → AreFollowed c rs ls events
 begun_followed most c begun known rs ls events judged are sound begins =
-    record { begun = begun; known = known; judged = anyhow (MayNotFollow most) (first_of c begun) known rs ls judged; trees_are = are; sound = sound; begins = begins }
+    record { begun = begun; known = known; judged = anyhow (MayNotFollowKnown most) (first_of c begun) known rs ls judged; trees_are = are; sound = sound; begins = begins }
 
 same_some : (a b : Route) → Some a ≡ Some b → a ≡ b
 same_some a b e = cc
@@ -154,7 +154,7 @@ opens_more c begun known' rs ls opening judged opens server key own =
 
 -- the tree in use after so many reloads is one of them
 loaded_at : (known known' : Known) (rs : List Reload) (ls : List Loading) (c : Configuration) → JudgesAll ForAnyReason known rs ls known' → 0 < length known.configs → IsLast known.configs c
-    → (k : ℕ) → slice_get (trees_of known'.configs) ((length known.configs - 1) + accepted_in ls k) ≡ Some (tree_after c.tree (map is_refused ls) rs k)
+    → (k : ℕ) → slice_get (trees_of known'.configs) ((length known.configs - 1) + accepted_in ls k) ≡ Some (tree_after c.tree (map loading_is_refused ls) rs k)
 loaded_at known known' [] (l ∷ ls) c j some last k = absurd j
 loaded_at known known' (r ∷ rs) [] c j some last k = absurd j
 loaded_at known known' [] [] c j some last k =
@@ -172,43 +172,43 @@ loaded_at known known' (r ∷ rs) (Loaded n ∷ ls) c j some last (suc k) =
     let at : (length known.configs - 1) + suc (accepted_in ls k) ≡ (length j.0.configs - 1) + accepted_in ls k = omega (arith, len, some) in
     ap (slice_get (trees_of known'.configs)) at
     ∙ loaded_at j.0 known' rs ls r.config j.2 (omega (arith, len)) (subst (λ (cs : List Configuration). IsLast cs r.config) (sym configs_are) (last_of_more known.configs r.config)) k
-    ∙ ap Some (sym (after_one c.tree false (map is_refused ls) r rs k))
+    ∙ ap Some (sym (after_one c.tree false (map loading_is_refused ls) r rs k))
 loaded_at known known' (r ∷ rs) (Refused fault ∷ ls) c j some last (suc k) =
     let configs_are : j.0.configs ≡ known.configs = ap (λ (x : Known). x.configs) j.1.0 in
     let len : length j.0.configs ≡ length known.configs = ap length configs_are in
     let at : (length known.configs - 1) + accepted_in ls k ≡ (length j.0.configs - 1) + accepted_in ls k = omega (arith, len) in
     ap (slice_get (trees_of known'.configs)) at
     ∙ loaded_at j.0 known' rs ls c j.2 (omega (arith, len, some)) (subst (λ (cs : List Configuration). IsLast cs c) (sym configs_are) last) k
-    ∙ ap Some (sym (after_one c.tree true (map is_refused ls) r rs k))
+    ∙ ap Some (sym (after_one c.tree true (map loading_is_refused ls) r rs k))
 
 -- ---- freshness
 
 module _ (c : Configuration) (begun : Beginnings) (known : Known) (rs : List Reload) (ls : List Loading) (events : List Scripted) (judged : JudgesAll ForAnyReason (first_of c begun) rs ls known)
     (are : Each IsTree (trees_of known.configs)) (sound : AreSoundSince (is_arbitrary known) (trees_of known.configs)) (opens : BeginSo c begun (opening_of events)) where
-  grown_loaded : (many : ℕ) (loads : List (ℕ × Route)) → loaded_trees loads ≡ trees_loaded (map is_refused ls) rs many → AreLoaded (trees_of known.configs) (tree_by c.tree loads)
+  grown_loaded : (many : ℕ) (loads : List (ℕ × Route)) → loaded_trees loads ≡ trees_loaded (map loading_is_refused ls) rs many → AreLoaded (trees_of known.configs) (tree_by c.tree loads)
   grown_loaded many loads is =
-      let come = have_come c.tree (map is_refused ls) rs many loads is in
+      let come = have_come c.tree (map loading_is_refused ls) rs many loads is in
       record {
         generation = λ n. 0 + accepted_in ls (come.at n);
         loaded = λ n. loaded_at (first_of c begun) known rs ls c judged (omega arith) refl (come.at n) ∙ ap Some (sym (come.tree n));
         rising = λ n m lt. let h = accepted_rise ls (come.at n) (come.at m) (come.rising n m lt) in omega (arith, h);
       }
 
-  grown_fresh : (many : ℕ) (loads : List (ℕ × Route)) (log : List (Entry dialect)) → loaded_trees loads ≡ trees_loaded (map is_refused ls) rs many → LosesOnly (run_of log) → RunsBy c.tree loads events log → IsFreshByNumber (opening_of events) (run_of log)
+  grown_fresh : (many : ℕ) (loads : List (ℕ × Route)) (log : List (Entry dialect)) → loaded_trees loads ≡ trees_loaded (map loading_is_refused ls) rs many → LosesOnly (run_of log) → RunsBy c.tree loads events log → IsFreshByNumber (opening_of events) (run_of log)
   grown_fresh many loads log is lost run =
       let plans : ℕ → List ℕ → Plan = λ n key. tree_at (tree_by c.tree loads n) key in
       (grown_are_fresh (bars_by Alone plans) (is_arbitrary known) (trees_of known.configs) are sound (tree_by c.tree loads) (grown_loaded many loads is) (opening_of events) (opens_more c begun known rs ls (opening_of events) judged opens) (run_of log) lost run).1 (alone plans)
 
-  pub grown_freshly : (given : List Shown) (marks : List ℕ) (report : Report) → DrivesStepped c.tree (map is_refused ls) rs events given marks report → StepsFreshly c.tree ls rs events given marks report
+  pub grown_freshly : (given : List Shown) (marks : List ℕ) (report : Report) → DrivesStepped c.tree (map loading_is_refused ls) rs events given marks report → StepsFreshly c.tree ls rs events given marks report
   grown_freshly given marks report d =
       let plans : ℕ → List ℕ → Plan = λ n key. tree_at (tree_by c.tree d.loads n) key in
       let by : IsFreshByNumber (opening_of events) (run_of d.log) = grown_fresh (length rs) d.loads d.log d.loads_are d.loses d.run in
       record { drives = d; fresh = by; none_stale = d.stale ∙ (counts_stale (tree_words plans) (bars_by Alone plans) (opening_of events) (alone plans)).none (run_of d.log) d.run by }
 
-  grown_part : (given : List Shown) (marks : List ℕ) (servers : ScriptServers) → StepsPart c.tree (map is_refused ls) rs events given marks servers → StepsPartFreshly c.tree ls rs events given marks servers
+  grown_part : (given : List Shown) (marks : List ℕ) (servers : ScriptServers) → StepsPart c.tree (map loading_is_refused ls) rs events given marks servers → StepsPartFreshly c.tree ls rs events given marks servers
   grown_part given marks servers p = record { part = p; fresh = grown_fresh p.loaded p.loads p.log p.loads_are p.loses p.run }
 
-  pub grown_ends : (t : Transcript) (marks : List ℕ) (before after : ScriptServers) (fault : DriveFault) → EndsStepped c.tree (map is_refused ls) rs events t marks before after fault → EndsSteps c.tree ls rs events t marks before after fault
+  pub grown_ends : (t : Transcript) (marks : List ℕ) (before after : ScriptServers) (fault : DriveFault) → EndsStepped c.tree (map loading_is_refused ls) rs events t marks before after fault → EndsSteps c.tree ls rs events t marks before after fault
   grown_ends t marks before after (BadEvent index) e = e
   grown_ends t marks before after NoMemory e = grown_part (transcript_of t) marks after e
   grown_ends t marks before after Spent e = (record { part = e.0; fresh = grown_fresh e.0.loaded e.0.loads e.0.log e.0.loads_are e.0.loses e.0.run }, e.1)

@@ -22,7 +22,7 @@ use Rattle.script_events.specs.Scripted.{Scripted}
 use Rattle.script_run.specs.declared.accepted.judging.Loading.{Loading}
 use Rattle.script_run.specs.Reloads.{loading_of}
 use Rattle.mcgate_replay.specs.Growing.{JudgesNext, AreFollowed}
-use Rattle.mcgate_replay.specs.Pairing.{of_generation, IsFaultOf, IsJoinFault, MayNotJoin, AreHeld, ArePaired, held_by}
+use Rattle.mcgate_replay.specs.Pairing.{of_generation, IsFaultOf, IsJoinFault, MayNotJoin, AreHeld, ArePaired, known_of_pair}
 use Rattle.mcgate_replay.proofs.Grown.{anyhow}
 
 -- ---- one tree and another
@@ -131,8 +131,8 @@ told_join most known r fault o e is why = subst (λ (p : Option Loading). IfOk (
     by faults.NoMemory h = tt
 
 -- the first one alone is held before any answer
-pub held_at_first : (first : Configuration) (configs : List Configuration) → configs ≡ first ∷ [] → held_by first configs ≡ first_of first any_begun
-held_at_first first configs is = ap (held_by first) is
+pub held_at_first : (first : Configuration) (configs : List Configuration) → configs ≡ first ∷ [] → known_of_pair first configs ≡ first_of first any_begun
+held_at_first first configs is = ap (known_of_pair first) is
 
 -- trees that cover each other are sound, however servers began
 pub paired_followed : (most : ℕ) (c : Configuration) (rs : List Reload) (ls : List Loading) (events : List Scripted) → ArePaired most c rs ls → AreFollowed c rs ls events

@@ -18,13 +18,13 @@ use Rattle.script_events.specs.Scripted.{Scripted, shown_by, transcript_of}
 use Rattle.script_events.specs.Reloads.{AreInOrder}
 use Rattle.script_run.specs.Driving.{DrivesStepped, StepsPart, EndsStepped, AreMarks}
 use Rattle.script_run.specs.declared.accepted.judging.Loading.{Loading}
-use Rattle.script_run.specs.Reloads.{is_refused}
+use Rattle.script_run.specs.Reloads.{loading_is_refused}
 use Rattle.script_run.specs.Stepped.{StepsFreshly, StepsPartFreshly, EndsSteps}
 use Rattle.mcgate_check.specs.declared.status.RunFault.{RunFault}
 use Rattle.mcgate_check.specs.declared.status.RunFault.TheVariants.{NoMemory, Writer, TooManyCalls}
 use Rattle.mcgate_replay.specs.declared.judging.Judging.{Judging}
 use Rattle.mcgate_replay.specs.declared.judging.Judging.TheVariants.{Any}
-use Rattle.mcgate_replay.specs.Growing.{is_any}
+use Rattle.mcgate_replay.specs.Growing.{asks_no_gate}
 use Rattle.mcgate_replay.specs.Replay.{RunsEvents, PrintsPart, BreaksTreeOff, Wrote, BrokeOff, AreLoadings, HasReloads, reloads_of, servers_of, transcript_lines}
 use Rattle.mcgate_replay.proofs.Printing.{first_few}
 
@@ -64,16 +64,16 @@ module _ (config : Configuration) (reloads : List Reload) (loadings : List Loadi
     within_shown within = subst (λ (n : ℕ). AreMarks n marks) (sym (length-map t.shown.items shown_by)) within
 
     -- through trees that no gate has seen
-    pub ran_any : loadings ≡ [] → IfOk driven (DrivesStepped config.tree (map is_refused loadings) rs events (transcript_of t) marks) → OnOk driven (length marks ≡ length rs) → AreMarks (length t.shown.items) marks → Wrote driven (transcript_lines true rs ls (transcript_of t) ms) old new → RunsEvents Any config reloads events old new
+    pub ran_any : loadings ≡ [] → IfOk driven (DrivesStepped config.tree (map loading_is_refused loadings) rs events (transcript_of t) marks) → OnOk driven (length marks ≡ length rs) → AreMarks (length t.shown.items) marks → Wrote driven (transcript_lines true rs ls (transcript_of t) ms) old new → RunsEvents Any config reloads events old new
     ran_any none ran marked within w =
-        let r = subst (λ (r : Result Report DriveFault). IfOk r (DrivesStepped config.tree (map is_refused loadings) rs events (transcript_of t) marks)) w.driven_is ran in
+        let r = subst (λ (r : Result Report DriveFault). IfOk r (DrivesStepped config.tree (map loading_is_refused loadings) rs events (transcript_of t) marks)) w.driven_is ran in
         let m = subst (λ (r : Result Report DriveFault). OnOk r (length marks ≡ length rs)) w.driven_is marked in
         record {
           loadings = loadings;
           shown = transcript_of t;
           marks = marks;
           report = w.report;
-          drives = subst (λ (x : List Reload). DrivesStepped config.tree (map is_refused loadings) x events (transcript_of t) marks w.report) rs_are r;
+          drives = subst (λ (x : List Reload). DrivesStepped config.tree (map loading_is_refused loadings) x events (transcript_of t) marks w.report) rs_are r;
           marked = m ∙ ap length rs_are;
           within = within_shown within;
           printed = subst (λ (l : List ℕ). Appends old new (l ++ report_line w.report)) (lines_are true) w.printed;
@@ -82,7 +82,7 @@ module _ (config : Configuration) (reloads : List Reload) (loadings : List Loadi
           none_stale = λ e. absurd (true_is_not_false e);
         }
 
-    abbrev some_any : (servers : ScriptServers) → loadings ≡ [] → StepsPart config.tree (map is_refused loadings) reloads events (transcript_of t) marks servers → AreMarks (length t.shown.items) marks → Appends old new (transcript_lines true rs ls (transcript_of t) ms) → PrintsPart Any config reloads events old new
+    abbrev some_any : (servers : ScriptServers) → loadings ≡ [] → StepsPart config.tree (map loading_is_refused loadings) reloads events (transcript_of t) marks servers → AreMarks (length t.shown.items) marks → Appends old new (transcript_lines true rs ls (transcript_of t) ms) → PrintsPart Any config reloads events old new
     some_any servers none part within wrote = record {
       loadings = loadings;
       shown = transcript_of t;
@@ -95,19 +95,19 @@ module _ (config : Configuration) (reloads : List Reload) (loadings : List Loadi
       fresh = λ e. absurd (true_is_not_false e);
     }
 
-    pub part_any : (before after : ScriptServers) → loadings ≡ [] → IfErr driven (EndsStepped config.tree (map is_refused loadings) rs events t marks before after) → AreMarks (length t.shown.items) marks → (fault : RunFault) → BrokeOff driven (transcript_lines true rs ls (transcript_of t) ms) old new fault → BreaksTreeOff Any config reloads events old new fault
+    pub part_any : (before after : ScriptServers) → loadings ≡ [] → IfErr driven (EndsStepped config.tree (map loading_is_refused loadings) rs events t marks before after) → AreMarks (length t.shown.items) marks → (fault : RunFault) → BrokeOff driven (transcript_lines true rs ls (transcript_of t) ms) old new fault → BreaksTreeOff Any config reloads events old new fault
     part_any before after none ends within NoMemory b =
-        let e = subst (λ (x : List Reload). IfErr driven (EndsStepped config.tree (map is_refused loadings) x events t marks before after)) rs_are ends in
-        let part = subst (λ (r : Result Report DriveFault). IfErr r (EndsStepped config.tree (map is_refused loadings) reloads events t marks before after)) b.0 e in
+        let e = subst (λ (x : List Reload). IfErr driven (EndsStepped config.tree (map loading_is_refused loadings) x events t marks before after)) rs_are ends in
+        let part = subst (λ (r : Result Report DriveFault). IfErr r (EndsStepped config.tree (map loading_is_refused loadings) reloads events t marks before after)) b.0 e in
         inr (some_any after none part within b.1)
     part_any before after none ends within TooManyCalls b =
-        let e = subst (λ (x : List Reload). IfErr driven (EndsStepped config.tree (map is_refused loadings) x events t marks before after)) rs_are ends in
-        let part = subst (λ (r : Result Report DriveFault). IfErr r (EndsStepped config.tree (map is_refused loadings) reloads events t marks before after)) b.0 e in
+        let e = subst (λ (x : List Reload). IfErr driven (EndsStepped config.tree (map loading_is_refused loadings) x events t marks before after)) rs_are ends in
+        let part = subst (λ (r : Result Report DriveFault). IfErr r (EndsStepped config.tree (map loading_is_refused loadings) reloads events t marks before after)) b.0 e in
         record { prints = some_any after none part.0 within b.1; spent = part.1 }
     part_any before after none ends within Writer b = tt
 
     -- through trees that the gate accepted, whatever servers held at first or as is said of it
-    pub ran_accepted : (judging : Judging) → is_any judging ≡ false → AreLoadings judging config reloads loadings → IfOk driven (StepsFreshly config.tree loadings rs events (transcript_of t) marks) → OnOk driven (length marks ≡ length rs) → AreMarks (length t.shown.items) marks → Wrote driven (transcript_lines false rs ls (transcript_of t) ms) old new → RunsEvents judging config reloads events old new
+    pub ran_accepted : (judging : Judging) → asks_no_gate judging ≡ false → AreLoadings judging config reloads loadings → IfOk driven (StepsFreshly config.tree loadings rs events (transcript_of t) marks) → OnOk driven (length marks ≡ length rs) → AreMarks (length t.shown.items) marks → Wrote driven (transcript_lines false rs ls (transcript_of t) ms) old new → RunsEvents judging config reloads events old new
     ran_accepted judging asked judged ran marked within w =
         let r = subst (λ (r : Result Report DriveFault). IfOk r (StepsFreshly config.tree loadings rs events (transcript_of t) marks)) w.driven_is ran in
         let freshly = subst (λ (x : List Reload). StepsFreshly config.tree loadings x events (transcript_of t) marks w.report) rs_are r in
@@ -126,7 +126,7 @@ module _ (config : Configuration) (reloads : List Reload) (loadings : List Loadi
           none_stale = λ e. freshly.none_stale;
         }
 
-    abbrev some_accepted : (judging : Judging) → is_any judging ≡ false → (servers : ScriptServers) → AreLoadings judging config reloads loadings → StepsPartFreshly config.tree loadings reloads events (transcript_of t) marks servers → AreMarks (length t.shown.items) marks → Appends old new (transcript_lines false rs ls (transcript_of t) ms) → PrintsPart judging config reloads events old new
+    abbrev some_accepted : (judging : Judging) → asks_no_gate judging ≡ false → (servers : ScriptServers) → AreLoadings judging config reloads loadings → StepsPartFreshly config.tree loadings reloads events (transcript_of t) marks servers → AreMarks (length t.shown.items) marks → Appends old new (transcript_lines false rs ls (transcript_of t) ms) → PrintsPart judging config reloads events old new
     some_accepted judging asked servers judged freshly within wrote = record {
       loadings = loadings;
       shown = transcript_of t;
@@ -139,7 +139,7 @@ module _ (config : Configuration) (reloads : List Reload) (loadings : List Loadi
       fresh = λ e. freshly.fresh;
     }
 
-    pub part_accepted : (judging : Judging) → is_any judging ≡ false → (before after : ScriptServers) → AreLoadings judging config reloads loadings → IfErr driven (EndsSteps config.tree loadings rs events t marks before after) → AreMarks (length t.shown.items) marks → (fault : RunFault) → BrokeOff driven (transcript_lines false rs ls (transcript_of t) ms) old new fault → BreaksTreeOff judging config reloads events old new fault
+    pub part_accepted : (judging : Judging) → asks_no_gate judging ≡ false → (before after : ScriptServers) → AreLoadings judging config reloads loadings → IfErr driven (EndsSteps config.tree loadings rs events t marks before after) → AreMarks (length t.shown.items) marks → (fault : RunFault) → BrokeOff driven (transcript_lines false rs ls (transcript_of t) ms) old new fault → BreaksTreeOff judging config reloads events old new fault
     part_accepted judging asked before after judged ends within NoMemory b =
         let e = subst (λ (x : List Reload). IfErr driven (EndsSteps config.tree loadings x events t marks before after)) rs_are ends in
         let part = subst (λ (r : Result Report DriveFault). IfErr r (EndsSteps config.tree loadings reloads events t marks before after)) b.0 e in

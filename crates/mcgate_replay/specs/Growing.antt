@@ -27,10 +27,10 @@ use Rattle.mcgate_replay.specs.declared.judging.Judging.{Judging}
 use Rattle.mcgate_replay.specs.declared.judging.Judging.TheVariants.{Any, Asked, Begun}
 
 -- the gate isn't asked
-abbrev pub is_any : Judging → Bool
-is_any Any = true
-is_any (Asked most) = false
-is_any (Begun begun most) = false
+abbrev pub asks_no_gate : Judging → Bool
+asks_no_gate Any = true
+asks_no_gate (Asked most) = false
+asks_no_gate (Begun begun most) = false
 
 -- ---- what servers may hold at first
 
@@ -69,22 +69,22 @@ excluded_by (Begun begun most) config events = first_excluded begun config 0 eve
 -- ---- what the gate answers
 
 -- what is told of a refusal: nothing where memory was refused
-abbrev pub loading_of : Unsound → Option Loading
-loading_of reasons.TooManyGenerations = Some (Refused faults.TooManyGenerations)
-loading_of reasons.TooManyPlaces = Some (Refused (faults.TooManyPlaces 0))
-loading_of (reasons.Left generation gap) = Some (Refused (faults.Uncovered generation gap))
-loading_of reasons.NoMemory = None
+abbrev pub loading_of_unsound : Unsound → Option Loading
+loading_of_unsound reasons.TooManyGenerations = Some (Refused faults.TooManyGenerations)
+loading_of_unsound reasons.TooManyPlaces = Some (Refused (faults.TooManyPlaces 0))
+loading_of_unsound (reasons.Left generation gap) = Some (Refused (faults.Uncovered generation gap))
+loading_of_unsound reasons.NoMemory = None
 
 -- so many trees are held at most; the first one always is
 abbrev pub IsFew : ℕ → ℕ → Type 0
 IsFew most count = (count ≤ most) ⊎ (count ≡ 1)
 
 -- why the tree may not follow those that are known: they are as many as are held at most; all together have too many places; or its first gap
-abbrev pub MayNotFollow : ℕ → Known → Route → ReloadFault → Type 0
-MayNotFollow most known tree faults.TooManyGenerations = most ≤ length (trees_of known.configs)
-MayNotFollow most known tree (faults.TooManyPlaces generation) = AreTooManyPlaces (trees_of known.configs ++ tree ∷ [])
-MayNotFollow most known tree (faults.Uncovered generation gap) = IsFirstLeftGap (is_arbitrary known) (trees_of known.configs) tree generation gap
-MayNotFollow most known tree faults.NoMemory = ⊥
+abbrev pub MayNotFollowKnown : ℕ → Known → Route → ReloadFault → Type 0
+MayNotFollowKnown most known tree faults.TooManyGenerations = most ≤ length (trees_of known.configs)
+MayNotFollowKnown most known tree (faults.TooManyPlaces generation) = AreTooManyPlaces (trees_of known.configs ++ tree ∷ [])
+MayNotFollowKnown most known tree (faults.Uncovered generation gap) = IsFirstLeftGap (is_arbitrary known) (trees_of known.configs) tree generation gap
+MayNotFollowKnown most known tree faults.NoMemory = ⊥
 
 -- the gate's answer, where the first is why it refuses a tree: the configuration is the next generation, of this number, or all stays
 abbrev pub JudgesNext : (Known → Route → ReloadFault → Type 0) → Known → Reload → Loading → Known → Type 0

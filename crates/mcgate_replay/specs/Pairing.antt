@@ -52,8 +52,8 @@ abbrev pub MayNotJoin : ℕ → Known → Route → ReloadFault → Type 0
 MayNotJoin most known tree fault = IsJoinFault most (trees_of known.configs) tree fault × (fault ≢ faults.NoMemory)
 
 -- these configurations, the first of which is the one of that name, where servers may have held anything
-abbrev pub held_by : Configuration → List Configuration → Known
-held_by first configs = record (first_of first any_begun) { configs = configs }
+abbrev pub known_of_pair : Configuration → List Configuration → Known
+known_of_pair first configs = record (first_of first any_begun) { configs = configs }
 
 -- the gate's answers to these reloads, one after another, and what is held then
 abbrev pub ArePaired : ℕ → Configuration → List Reload → List Loading → Type 0

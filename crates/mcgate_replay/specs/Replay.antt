@@ -19,7 +19,7 @@ use Rattle.fresh_runs.specs.Run.{IsFreshByNumber}
 use Rattle.script_run.specs.Driving.{DrivesStepped, StepsPart, AreSpentIn, AreMarks}
 use Rattle.script_run.specs.declared.accepted.judging.Loading.{Loading}
 use Rattle.script_run.specs.declared.accepted.judging.Loading.TheVariants.{Loaded, Refused}
-use Rattle.script_run.specs.Reloads.{is_refused}
+use Rattle.script_run.specs.Reloads.{loading_is_refused}
 use Rattle.script_events.specs.FirstLine.{WhyNot}
 use Rattle.script_events.specs.Events.{◌>>=◌}
 use Rattle.script_events.specs.Told.{Told, told, told_over, bad_line, bad_event_line, either, events_said, lines_said, servers_known, AreChainedFrom, ReadsScript}
@@ -35,7 +35,7 @@ use Rattle.gate_growth.specs.Grown.{AreSoundSince}
 use Rattle.core_accepted.specs.Known.{Known, is_arbitrary, first_of}
 use Rattle.mcgate_replay.specs.declared.judging.Judging.{Judging}
 use Rattle.mcgate_replay.specs.declared.judging.Judging.TheVariants.{Any, Asked, Begun}
-use Rattle.mcgate_replay.specs.Growing.{is_any, excluded_by, IsFew, MayNotFollow, JudgesAll}
+use Rattle.mcgate_replay.specs.Growing.{asks_no_gate, excluded_by, IsFew, MayNotFollowKnown, JudgesAll}
 use Rattle.mcgate_replay.specs.Pairing.{ArePaired}
 
 -- the events of a script
@@ -43,8 +43,8 @@ abbrev pub scripted : Script → List Scripted
 scripted script = map scripted_of script.events.items
 
 -- the same of a script that was read
-abbrev pub events_of : ConfiguredScript → List Scripted
-events_of script = scripted script.script
+abbrev pub replayed_events : ConfiguredScript → List Scripted
+replayed_events script = scripted script.script
 
 -- the configurations that it loads
 abbrev pub reloads_of : ConfiguredScript → List Reload
@@ -108,7 +108,7 @@ BrokeOff driven lines old new Writer = Unit {0}
 abbrev pub AreLoadings : Judging → Configuration → List Reload → List Loading → Type 0
 AreLoadings Any config reloads loadings = loadings ≡ []
 AreLoadings (Begun begun most) config reloads loadings =
-    IsCertified config.tree × (known : Known) × JudgesAll (MayNotFollow most) (first_of config begun) reloads loadings known
+    IsCertified config.tree × (known : Known) × JudgesAll (MayNotFollowKnown most) (first_of config begun) reloads loadings known
     × IsFew most (length known.configs) × AreSoundSince (is_arbitrary known) (trees_of known.configs)
 AreLoadings (Asked most) config reloads loadings = IsCertified config.tree × ArePaired most config reloads loadings
 
@@ -118,13 +118,13 @@ pub record RunsEvents (judging : Judging) (config : Configuration) (reloads : Li
   pub shown : List Shown
   pub marks : List ℕ
   pub report : Report
-  pub drives : DrivesStepped config.tree (map is_refused loadings) reloads events shown marks report
+  pub drives : DrivesStepped config.tree (map loading_is_refused loadings) reloads events shown marks report
   pub marked : length marks ≡ length reloads
   pub within : AreMarks (length shown) marks
-  pub printed : Appends old new (transcript_lines (is_any judging) reloads loadings shown marks ++ report_line report)
+  pub printed : Appends old new (transcript_lines (asks_no_gate judging) reloads loadings shown marks ++ report_line report)
   pub are_loadings : AreLoadings judging config reloads loadings
-  pub fresh : is_any judging ≡ false → IsFreshByNumber (opening_of events) (run_of drives.log)
-  pub none_stale : is_any judging ≡ false → report.stale ≡ 0
+  pub fresh : asks_no_gate judging ≡ false → IsFreshByNumber (opening_of events) (run_of drives.log)
+  pub none_stale : asks_no_gate judging ≡ false → report.stale ≡ 0
 
 -- a part of the events ran so, and left the servers so; the lines of its transcript were written
 pub record PrintsPart (judging : Judging) (config : Configuration) (reloads : List Reload) (events : List Scripted) (old new : Option (List ℕ)) : Type 0 where
@@ -132,11 +132,11 @@ pub record PrintsPart (judging : Judging) (config : Configuration) (reloads : Li
   pub shown : List Shown
   pub marks : List ℕ
   pub servers : ScriptServers
-  pub part : StepsPart config.tree (map is_refused loadings) reloads events shown marks servers
+  pub part : StepsPart config.tree (map loading_is_refused loadings) reloads events shown marks servers
   pub within : AreMarks (length shown) marks
-  pub printed : Appends old new (transcript_lines (is_any judging) reloads loadings shown marks)
+  pub printed : Appends old new (transcript_lines (asks_no_gate judging) reloads loadings shown marks)
   pub are_loadings : AreLoadings judging config reloads loadings
-  pub fresh : is_any judging ≡ false → IsFreshByNumber (opening_of events) (run_of part.log)
+  pub fresh : asks_no_gate judging ≡ false → IsFreshByNumber (opening_of events) (run_of part.log)
 
 -- the same, until there were no more numbers for calls or commands
 pub record PrintsSpent (judging : Judging) (config : Configuration) (reloads : List Reload) (events : List Scripted) (old new : Option (List ℕ)) : Type 0 where
@@ -153,15 +153,15 @@ BreaksTreeOff judging config reloads events old new Writer = Unit {0}
 -- status 0: it ran; status 1: the gate was asked, it refused the first configuration, and that was written
 abbrev pub RunsGood : Judging → Configuration → List Reload → List Scripted → Option (List ℕ) → Option (List ℕ) → ℕ → Type 0
 RunsGood judging config reloads events old new status =
-    ((status ≡ 0) × RunsEvents judging config reloads events old new) ⊎ ((status ≡ 1) × (is_any judging ≡ false) × PrintsRefused config old new)
+    ((status ≡ 0) × RunsEvents judging config reloads events old new) ⊎ ((status ≡ 1) × (asks_no_gate judging ≡ false) × PrintsRefused config old new)
 
 -- ---- a script that was read
 
 -- each of its events can be, and it ran or was refused
 pub record RanScript (judging : Judging) (script : ConfiguredScript) (old new : Option (List ℕ)) (status : ℕ) : Type 0 where
-  pub good : first_bad (servers_of script) (events_of script) ≡ None
-  pub fits : excluded_by judging script.config (events_of script) ≡ None
-  pub runs : RunsGood judging script.config (reloads_of script) (events_of script) old new status
+  pub good : first_bad (servers_of script) (replayed_events script) ≡ None
+  pub fits : excluded_by judging script.config (replayed_events script) ≡ None
+  pub runs : RunsGood judging script.config (reloads_of script) (replayed_events script) old new status
 
 -- of events and the numbers of their lines: the line of the first that puts on a server what that can't have held at first
 abbrev pub excluded_line : Judging → Configuration → List Scripted → List ℕ → Option ℕ
@@ -172,14 +172,14 @@ excluded_line judging config events lines = do
 -- one can't, or where each can puts on a server what that can't have held at first, and the line of the first was written
 pub record HasBadEventBy (judging : Judging) (script : ConfiguredScript) (old new : Option (List ℕ)) : Type 0 where
   pub line : ℕ
-  pub bad : either (bad_event_line (servers_of script) (events_of script) script.lines.items) (excluded_line judging script.config (events_of script) script.lines.items) ≡ Some line
+  pub bad : either (bad_event_line (servers_of script) (replayed_events script) script.lines.items) (excluded_line judging script.config (replayed_events script) script.lines.items) ≡ Some line
   pub printed : Appends old new (bad_line_line line)
 
 abbrev pub RunsScript : Judging → ConfiguredScript → Option (List ℕ) → Option (List ℕ) → ℕ → Type 0
 RunsScript judging script old new status = RanScript judging script old new status ⊎ ((status ≡ 2) × HasBadEventBy judging script old new)
 
 abbrev pub BreaksScriptOff : Judging → ConfiguredScript → Option (List ℕ) → Option (List ℕ) → RunFault → Type 0
-BreaksScriptOff judging script old new fault = BreaksTreeOff judging script.config (reloads_of script) (events_of script) old new fault
+BreaksScriptOff judging script old new fault = BreaksTreeOff judging script.config (reloads_of script) (replayed_events script) old new fault
 
 -- its reloads stand in the order of their places, and each list of servers begins with the one before it
 pub record HasReloads (script : ConfiguredScript) : Type 0 where

@@ -7,9 +7,9 @@ ghost use Rattle.script_events.specs.Reloads.{AreInOrder};
 ghost use Rattle.script_events.specs.Scripted.{scripted_of, transcript_of};
 ghost use Rattle.script_events.specs.Servers.{AreNewServers, count_of};
 ghost use Rattle.script_run.specs.Driving.{AreMarks};
-ghost use Rattle.script_run.specs.Reloads.{is_refused};
+ghost use Rattle.script_run.specs.Reloads.{loading_is_refused};
 ghost use Rattle.script_run.specs.Stepped.{StepsFreshly, EndsSteps};
-ghost use Rattle.mcgate_replay.specs.Growing.{JudgesNext, JudgesAll, MayNotFollow, AreFollowed, IsFew, held_after, loading_of};
+ghost use Rattle.mcgate_replay.specs.Growing.{JudgesNext, JudgesAll, MayNotFollowKnown, AreFollowed, IsFew, held_after, loading_of_unsound};
 
 use core_accepted::Generations;
 use gate_check::ReloadFault;
@@ -24,7 +24,7 @@ use std::alloc::{AllocError, Global};
 
 // What is told of a configuration that may not follow; nothing where memory was refused. Of too many places no generation is told.
 fn refusal(unsound: Unsound) -> Option<Loading>
-    ensures { result ≡ loading_of unsound }
+    ensures { result ≡ loading_of_unsound unsound }
 {
     match unsound {
         Unsound::TooManyGenerations => Some(Loading::Refused(ReloadFault::TooManyGenerations)),
@@ -56,7 +56,7 @@ fn judge_next(
 ) -> Result<Loading, AllocError>
     requires held { held ≡ length generations.old.configs }
     requires few { IsFew most held }
-    ensures judged { IfOk result (λ loading. JudgesNext (MayNotFollow most) generations.old reload.now loading generations.new) }
+    ensures judged { IfOk result (λ loading. JudgesNext (MayNotFollowKnown most) generations.old reload.now loading generations.new) }
     ensures few { IfOk result (λ loading. IsFew most (held_after held loading)) }
 {
     if held >= most {
@@ -78,9 +78,9 @@ pub fn judge_all(
     reloads: &[Reload],
 ) -> Result<Judged, AllocError>
     requires { length generations.old.configs ≡ 1 }
-    ensures judged { IfOk result (λ judged. JudgesAll (MayNotFollow most) generations.old reloads.now judged.loadings.items generations.new) }
+    ensures judged { IfOk result (λ judged. JudgesAll (MayNotFollowKnown most) generations.old reloads.now judged.loadings.items generations.new) }
     ensures few { OnOk result (IsFew most (length generations.new.configs)) }
-    ensures refused { IfOk result (λ judged. judged.refused.items ≡ map is_refused judged.loadings.items) }
+    ensures refused { IfOk result (λ judged. judged.refused.items ≡ map loading_is_refused judged.loadings.items) }
 {
     let mut held = 1;
     let mut loadings = Vec::new(alloc);
@@ -112,7 +112,7 @@ pub fn drive_grown(
     marks: &mut Vec<usize>,
 ) -> Result<Report, DriveFault>
     requires followed { AreFollowed first.now reloads.now judged.now.loadings.items (map scripted_of script.now.events.items) }
-    requires refused { judged.now.refused.items ≡ map is_refused judged.now.loadings.items }
+    requires refused { judged.now.refused.items ≡ map loading_is_refused judged.now.loadings.items }
     requires servers { length first.now.servers ≤ count_of servers.old }
     requires few { count_of servers.old ≤ MAX_SERVERS }
     requires order { AreInOrder (length script.now.events.items) (count_of servers.old) 0 reloads.now }

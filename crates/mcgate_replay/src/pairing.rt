@@ -5,9 +5,9 @@ ghost use Rattle.route_json.specs.Configuration.{Configuration};
 ghost use Rattle.gate_check.specs.Places.{CoversAt};
 ghost use Rattle.gate_check.specs.Reload.{AreCovering, IsFaultAmong};
 ghost use Rattle.gate_check.specs.Sound.{trees_of};
-ghost use Rattle.script_run.specs.Reloads.{is_refused};
+ghost use Rattle.script_run.specs.Reloads.{loading_is_refused};
 ghost use Rattle.mcgate_replay.specs.Growing.{JudgesNext};
-ghost use Rattle.mcgate_replay.specs.Pairing.{of_generation, IsFaultOf, IsJoinFault, MayNotJoin, AreHeld, ArePaired, held_by};
+ghost use Rattle.mcgate_replay.specs.Pairing.{of_generation, IsFaultOf, IsJoinFault, MayNotJoin, AreHeld, ArePaired, known_of_pair};
 
 use gate_check::ReloadFault;
 use gate_check::reloading::all_cover;
@@ -96,7 +96,7 @@ fn judge_next(
     reload: &Reload,
 ) -> Result<Loading, AllocError>
     requires { AreHeld most (trees_of configs.old.items) }
-    ensures judged { (first : Configuration) → IfOk result (λ loading. JudgesNext (MayNotJoin most) (held_by first configs.old.items) reload.now loading (held_by first configs.new.items)) }
+    ensures judged { (first : Configuration) → IfOk result (λ loading. JudgesNext (MayNotJoin most) (known_of_pair first configs.old.items) reload.now loading (known_of_pair first configs.new.items)) }
     ensures held { OnOk result (AreHeld most (trees_of configs.new.items)) }
 {
     match next_number(alloc, most, configs, &reload.config) {
@@ -127,7 +127,7 @@ pub fn judge_pairs(
 ) -> Result<Judged, AllocError>
     requires { AreHeld most (first.now.tree ∷ []) }
     ensures judged { IfOk result (λ judged. ArePaired most first.now reloads.now judged.loadings.items) }
-    ensures refused { IfOk result (λ judged. judged.refused.items ≡ map is_refused judged.loadings.items) }
+    ensures refused { IfOk result (λ judged. judged.refused.items ≡ map loading_is_refused judged.loadings.items) }
 {
     let mut configs = alone(alloc, first)?;
     let mut loadings = Vec::new(alloc);

@@ -5,7 +5,7 @@ ghost use Rattle.script_events.specs.Bad.{first_bad};
 ghost use Rattle.script_events.specs.Told.{either, IsReading, told, told_over};
 ghost use Rattle.mcgate_replay.specs.Growing.{first_excluded, excluded_by};
 ghost use Rattle.mcgate_replay.specs.declared.judging.Judging.TheVariants.{Asked, Begun};
-ghost use Rattle.mcgate_replay.specs.Replay.{Replays, ReplaysOver, ReplaysRead, BreaksReadOff, RunsScript, RunsGood, BreaksTreeOff, BreaksScriptOff, HasReloads, IsBrokenOff, Overran, BreaksOff, servers_of, events_of, reloads_of};
+ghost use Rattle.mcgate_replay.specs.Replay.{Replays, ReplaysOver, ReplaysRead, BreaksReadOff, RunsScript, RunsGood, BreaksTreeOff, BreaksScriptOff, HasReloads, IsBrokenOff, Overran, BreaksOff, servers_of, replayed_events, reloads_of};
 
 use crate::holds::excluded_event;
 use crate::judging::Judging;
@@ -31,8 +31,8 @@ fn run_gated<W: Write>(
     out: &mut W,
 ) -> Result<u8, RunFault>
     requires { HasReloads script.now }
-    ensures ok { IfOk result (RunsGood (Asked most) script.now.config (reloads_of script.now) (events_of script.now) (W.contents out.old) (W.contents out.new)) }
-    ensures err { IfErr result (BreaksTreeOff (Asked most) script.now.config (reloads_of script.now) (events_of script.now) (W.contents out.old) (W.contents out.new)) }
+    ensures ok { IfOk result (RunsGood (Asked most) script.now.config (reloads_of script.now) (replayed_events script.now) (W.contents out.old) (W.contents out.new)) }
+    ensures err { IfErr result (BreaksTreeOff (Asked most) script.now.config (reloads_of script.now) (replayed_events script.now) (W.contents out.old) (W.contents out.new)) }
 {
     let first = script.config.copy(alloc)?;
     match judge(alloc, first) {
@@ -50,9 +50,9 @@ fn run_gated_begun<W: Write>(
     out: &mut W,
 ) -> Result<u8, RunFault>
     requires reloads { HasReloads script.now }
-    requires holds { first_excluded begun script.now.config 0 (events_of script.now) ≡ None }
-    ensures ok { IfOk result (RunsGood (Begun begun most) script.now.config (reloads_of script.now) (events_of script.now) (W.contents out.old) (W.contents out.new)) }
-    ensures err { IfErr result (BreaksTreeOff (Begun begun most) script.now.config (reloads_of script.now) (events_of script.now) (W.contents out.old) (W.contents out.new)) }
+    requires holds { first_excluded begun script.now.config 0 (replayed_events script.now) ≡ None }
+    ensures ok { IfOk result (RunsGood (Begun begun most) script.now.config (reloads_of script.now) (replayed_events script.now) (W.contents out.old) (W.contents out.new)) }
+    ensures err { IfErr result (BreaksTreeOff (Begun begun most) script.now.config (reloads_of script.now) (replayed_events script.now) (W.contents out.old) (W.contents out.new)) }
 {
     let first = script.config.copy(alloc)?;
     match judge(alloc, first) {
@@ -69,9 +69,9 @@ fn run_good<W: Write>(
     out: &mut W,
 ) -> Result<u8, RunFault>
     requires reloads { HasReloads script.now }
-    requires holds { excluded_by judging script.now.config (events_of script.now) ≡ None }
-    ensures ok { IfOk result (RunsGood judging script.now.config (reloads_of script.now) (events_of script.now) (W.contents out.old) (W.contents out.new)) }
-    ensures err { IfErr result (BreaksTreeOff judging script.now.config (reloads_of script.now) (events_of script.now) (W.contents out.old) (W.contents out.new)) }
+    requires holds { excluded_by judging script.now.config (replayed_events script.now) ≡ None }
+    ensures ok { IfOk result (RunsGood judging script.now.config (reloads_of script.now) (replayed_events script.now) (W.contents out.old) (W.contents out.new)) }
+    ensures err { IfErr result (BreaksTreeOff judging script.now.config (reloads_of script.now) (replayed_events script.now) (W.contents out.old) (W.contents out.new)) }
 {
     match judging {
         Judging::Any => run_any(alloc, script, out),
@@ -82,7 +82,7 @@ fn run_good<W: Write>(
 
 // The place of the first event that can't be; where each can, of the first that puts on a server what that can't have held at first.
 fn bad_event(judging: Judging, script: &ConfiguredScript) -> Option<usize>
-    ensures first { MatchOption result ((first_bad (servers_of script.now) (events_of script.now) ≡ None) × (excluded_by judging script.now.config (events_of script.now) ≡ None)) (λ at. Some at ≡ either (first_bad (servers_of script.now) (events_of script.now)) (excluded_by judging script.now.config (events_of script.now))) }
+    ensures first { MatchOption result ((first_bad (servers_of script.now) (replayed_events script.now) ≡ None) × (excluded_by judging script.now.config (replayed_events script.now) ≡ None)) (λ at. Some at ≡ either (first_bad (servers_of script.now) (replayed_events script.now)) (excluded_by judging script.now.config (replayed_events script.now))) }
     ensures within { IfSome result (λ at. at < length script.now.script.events.items) }
 {
     match first_bad_event(script.server_count(), &script.script) {

@@ -2,10 +2,10 @@
 
 ghost use Rattle.std.specs.Prelude.{◌≡◌, ◌∷◌, [], false, map, IfOk, IfErr, None};
 ghost use Rattle.gate_check.specs.Gate.{IsCertified};
-ghost use Rattle.script_run.specs.Reloads.{is_refused};
-ghost use Rattle.mcgate_replay.specs.Growing.{is_any, first_excluded, AreFollowed};
+ghost use Rattle.script_run.specs.Reloads.{loading_is_refused};
+ghost use Rattle.mcgate_replay.specs.Growing.{asks_no_gate, first_excluded, AreFollowed};
 ghost use Rattle.mcgate_replay.specs.declared.judging.Judging.TheVariants.{Any, Asked, Begun};
-ghost use Rattle.mcgate_replay.specs.Replay.{AreLoadings, RunsEvents, BreaksTreeOff, HasReloads, events_of, reloads_of};
+ghost use Rattle.mcgate_replay.specs.Replay.{AreLoadings, RunsEvents, BreaksTreeOff, HasReloads, replayed_events, reloads_of};
 
 use crate::growing::{drive_grown, judge_all};
 use crate::judging::Judging;
@@ -29,8 +29,8 @@ pub fn run_any<W: Write>(
     out: &mut W,
 ) -> Result<u8, RunFault>
     requires { HasReloads script.now }
-    ensures ok { IfOk result (λ status. (status ≡ 0) × RunsEvents Any script.now.config (reloads_of script.now) (events_of script.now) (W.contents out.old) (W.contents out.new)) }
-    ensures err { IfErr result (BreaksTreeOff Any script.now.config (reloads_of script.now) (events_of script.now) (W.contents out.old) (W.contents out.new)) }
+    ensures ok { IfOk result (λ status. (status ≡ 0) × RunsEvents Any script.now.config (reloads_of script.now) (replayed_events script.now) (W.contents out.old) (W.contents out.new)) }
+    ensures err { IfErr result (BreaksTreeOff Any script.now.config (reloads_of script.now) (replayed_events script.now) (W.contents out.old) (W.contents out.new)) }
 {
     let reloads = script.reloads.as_slice();
     let mut servers = ScriptServers::new(alloc, script.server_count())?;
@@ -60,13 +60,13 @@ fn run_judged<W: Write>(
     script: &ConfiguredScript,
     out: &mut W,
 ) -> Result<u8, RunFault>
-    requires asked { is_any judging ≡ false }
+    requires asked { asks_no_gate judging ≡ false }
     requires loadings { AreLoadings judging script.now.config (reloads_of script.now) judged.now.loadings.items }
-    requires followed { AreFollowed script.now.config (reloads_of script.now) judged.now.loadings.items (events_of script.now) }
-    requires refused { judged.now.refused.items ≡ map is_refused judged.now.loadings.items }
+    requires followed { AreFollowed script.now.config (reloads_of script.now) judged.now.loadings.items (replayed_events script.now) }
+    requires refused { judged.now.refused.items ≡ map loading_is_refused judged.now.loadings.items }
     requires reloads { HasReloads script.now }
-    ensures ok { IfOk result (λ status. (status ≡ 0) × RunsEvents judging script.now.config (reloads_of script.now) (events_of script.now) (W.contents out.old) (W.contents out.new)) }
-    ensures err { IfErr result (BreaksTreeOff judging script.now.config (reloads_of script.now) (events_of script.now) (W.contents out.old) (W.contents out.new)) }
+    ensures ok { IfOk result (λ status. (status ≡ 0) × RunsEvents judging script.now.config (reloads_of script.now) (replayed_events script.now) (W.contents out.old) (W.contents out.new)) }
+    ensures err { IfErr result (BreaksTreeOff judging script.now.config (reloads_of script.now) (replayed_events script.now) (W.contents out.old) (W.contents out.new)) }
 {
     let reloads = script.reloads.as_slice();
     let mut servers = ScriptServers::new(alloc, script.server_count())?;
@@ -100,8 +100,8 @@ pub fn run_accepted<W: Write>(
     requires accepted { accepted.now ≡ script.now.config ∷ [] }
     requires certified { IsCertified script.now.config.tree }
     requires reloads { HasReloads script.now }
-    ensures ok { IfOk result (λ status. (status ≡ 0) × RunsEvents (Asked most) script.now.config (reloads_of script.now) (events_of script.now) (W.contents out.old) (W.contents out.new)) }
-    ensures err { IfErr result (BreaksTreeOff (Asked most) script.now.config (reloads_of script.now) (events_of script.now) (W.contents out.old) (W.contents out.new)) }
+    ensures ok { IfOk result (λ status. (status ≡ 0) × RunsEvents (Asked most) script.now.config (reloads_of script.now) (replayed_events script.now) (W.contents out.old) (W.contents out.new)) }
+    ensures err { IfErr result (BreaksTreeOff (Asked most) script.now.config (reloads_of script.now) (replayed_events script.now) (W.contents out.old) (W.contents out.new)) }
 {
     let reloads = script.reloads.as_slice();
     let _first = accepted.config();
@@ -121,9 +121,9 @@ pub fn run_begun<W: Write>(
     requires accepted { accepted.now ≡ script.now.config ∷ [] }
     requires certified { IsCertified script.now.config.tree }
     requires reloads { HasReloads script.now }
-    requires holds { first_excluded begun script.now.config 0 (events_of script.now) ≡ None }
-    ensures ok { IfOk result (λ status. (status ≡ 0) × RunsEvents (Begun begun most) script.now.config (reloads_of script.now) (events_of script.now) (W.contents out.old) (W.contents out.new)) }
-    ensures err { IfErr result (BreaksTreeOff (Begun begun most) script.now.config (reloads_of script.now) (events_of script.now) (W.contents out.old) (W.contents out.new)) }
+    requires holds { first_excluded begun script.now.config 0 (replayed_events script.now) ≡ None }
+    ensures ok { IfOk result (λ status. (status ≡ 0) × RunsEvents (Begun begun most) script.now.config (reloads_of script.now) (replayed_events script.now) (W.contents out.old) (W.contents out.new)) }
+    ensures err { IfErr result (BreaksTreeOff (Begun begun most) script.now.config (reloads_of script.now) (replayed_events script.now) (W.contents out.old) (W.contents out.new)) }
 {
     let reloads = script.reloads.as_slice();
     let mut generations = Generations::first(alloc, accepted, begun)?;

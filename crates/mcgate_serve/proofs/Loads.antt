@@ -5,7 +5,7 @@ use Rattle.route_json.specs.Servers.{Addresses}
 use Rattle.route_json.specs.Configuration.{Configuration}
 use Rattle.core_accepted.specs.declared.served.ServedCore.{ServedCore}
 use Rattle.serve_wire.specs.Events.{Event}
-use Rattle.serve_links.specs.CoreSteps.{Step, Opened, NotOpened, Fed, Polled, Stopped, Settled, Gave, Closed, LeftLine, Broke, Ticked, Loaded, Linked, Asked, Greeted, Spelled, Late, CameLate, Lost, AreOf, IsOfTurn}
+use Rattle.serve_links.specs.CoreSteps.{Step, Opened, NotOpened, Fed, Polled, Stopped, Settled, Gave, Closed, LeftLine, Broke, Ticked, Loaded, Linked, Asked, Greeted, Spelled, Late, CameLate, Lost, StepsAreOf, IsOfTurn}
 use Rattle.serve_links.specs.Story.{AnEnd, AllGo, AllGoFrom}
 use Rattle.serve_proxy.specs.declared.proxy.ProxyEnd.{ProxyEnd}
 use Rattle.serve_proxy.specs.Beginning.{LoadStops}
@@ -20,12 +20,12 @@ use Rattle.core_accepted.specs.Loading.{IsLoaded}
 use Rattle.mcgate_serve.specs.declared.remembering.Kept.{Kept}
 use Rattle.mcgate_serve.specs.Remembers.{StandsIn, StandsIfLoaded}
 use Rattle.mcgate_serve.specs.InFleet.{StandsBeside, in_use_after}
-use Rattle.mcgate_serve.specs.Serves.{SaysAfter, MayLoad, MayLoadBeside, MayLoadText, LoadsOne, LoadsText, IsServed, proxy_of, Serves}
+use Rattle.mcgate_serve.specs.Serves.{TextSaysAfter, MayLoad, MayLoadBeside, MayLoadText, LoadsOne, LoadsText, IsServeStep, proxy_of, GoesOnServing}
 
 false_true : false ≡ true → ⊥
 false_true e = cc
 
-of_turn : (step : Step) → IsOfTurn step → IsServed step
+of_turn : (step : Step) → IsOfTurn step → IsServeStep step
 of_turn (Loaded configuration generation) is = absurd is
 of_turn (Opened client) is = tt
 of_turn (NotOpened fault) is = tt
@@ -46,12 +46,12 @@ of_turn (CameLate at number ask answer bytes) is = tt
 of_turn (Spelled at number ask answer bytes) is = tt
 of_turn (Lost at why) is = is
 
-each_of_turn : (steps : List Step) → AreOf IsOfTurn steps → AreOf IsServed steps
+each_of_turn : (steps : List Step) → StepsAreOf IsOfTurn steps → StepsAreOf IsServeStep steps
 each_of_turn [] kinds = tt
 each_of_turn (step ∷ steps) kinds = (of_turn step kinds.0, each_of_turn steps kinds.1)
 
 -- a turn
-pub turned : {P Q : List Step → AnEnd → Type 0} {a b : AnEnd} → AllGoFrom P Q IsOfTurn a b → AllGrowFrom P Q IsServed a b
+pub turned : {P Q : List Step → AnEnd → Type 0} {a b : AnEnd} → AllGoFrom P Q IsOfTurn a b → AllGrowFrom P Q IsServeStep a b
 turned g = grows (record { steps = g.steps; kinds = each_of_turn g.steps g.kinds; walks = g.walks; agree = g.agree; servers = g.servers })
 
 -- nothing is done with the core, nor on any connection
@@ -65,18 +65,18 @@ stood history old new core ends = grows (stays_on history old new core ends)
 pub stood_but_limits : {W : Type 0} {Is : Step → Type 0} (history : W → List Event) (old new : ProxyEnd W) → new.core ≡ old.core → StayButLimits history old.sockets new.sockets → AllGrow Is (proxy_of history old) (proxy_of history new)
 stood_but_limits history old new core ends = then_grows (limited_grows old.core.value ends) (grows (calls_still (ap (λ c. c.value) core)))
 
-pub same_end : {W : Type 0} (history : W → List Event) (old new : ProxyEnd W) → new ≡ old → Serves history old new
-same_end history old new same = subst (λ x. Serves history old x) (sym same) (stood history old old refl (stay_still (history old.sockets.wire) old.sockets.clients old.sockets.links.all.items))
+pub same_end : {W : Type 0} (history : W → List Event) (old new : ProxyEnd W) → new ≡ old → GoesOnServing history old new
+same_end history old new same = subst (λ x. GoesOnServing history old x) (sym same) (stood history old old refl (stay_still (history old.sockets.wire) old.sockets.clients old.sockets.links.all.items))
 
 -- nothing is done at all
-pub serves_still : {W : Type 0} (history : W → List Event) (end : ProxyEnd W) → Serves history end end
+pub serves_still : {W : Type 0} (history : W → List Event) (end : ProxyEnd W) → GoesOnServing history end end
 serves_still history end = same_end history end end refl
 
 pub goes_still : {W : Type 0} (history : W → List Event) (end : ProxyEnd W) → AllGoOn history end.core.value end.sockets end.core.value end.sockets
 goes_still history end = still
 
-pub from_end : {W : Type 0} (history : W → List Event) (old mid new : ProxyEnd W) → mid ≡ old → Serves history mid new → Serves history old new
-from_end history old mid new same g = subst (λ x. Serves history x new) same g
+pub from_end : {W : Type 0} (history : W → List Event) (old mid new : ProxyEnd W) → mid ≡ old → GoesOnServing history mid new → GoesOnServing history old new
+from_end history old mid new same g = subst (λ x. GoesOnServing history x new) same g
 
 -- it is the same end
 pub same_box : {W : Type 0} (old new : ProxyEnd W) → new ≡ old → new.core ≡ old.core
@@ -114,12 +114,12 @@ stands_unused a b memory text false none or = ⊎_elim (λ e. absurd (false_true
 stands_unused a b memory text true none or = absurd (false_true (sym none))
 
 -- a load of what a text says
-pub loaded : (servers : Addresses) (text : List ℕ) (configuration : Configuration) {a b : AnEnd} → SaysAfter servers text configuration → AllGrow (IsLoadOf configuration) a b → AllGrow IsServed a b
+pub loaded : (servers : Addresses) (text : List ℕ) (configuration : Configuration) {a b : AnEnd} → TextSaysAfter servers text configuration → AllGrow (IsLoadOf configuration) a b → AllGrow IsServeStep a b
 loaded servers text configuration says g = record { steps = g.steps; kinds = each g.steps g.kinds; walks = g.walks; agree = g.agree; texts = g.texts }
   where
-    each : (steps : List Step) → AreOf (IsLoadOf configuration) steps → AreOf IsServed steps
+    each : (steps : List Step) → StepsAreOf (IsLoadOf configuration) steps → StepsAreOf IsServeStep steps
     each [] kinds = tt
-    each (step ∷ steps) kinds = (subst IsServed (sym kinds.0.1) (servers, text, says), each steps kinds.1)
+    each (step ∷ steps) kinds = (subst IsServeStep (sym kinds.0.1) (servers, text, says), each steps kinds.1)
 
 -- nothing is done
 pub loads_still : (used : Option Configuration) (servers : Addresses) (text : List ℕ) (core : ServedCore) → LoadsText used used servers text core core
@@ -133,19 +133,19 @@ loads_as used in_use in_use' servers text text' a b b' same said core loads =
 
 -- what a text says is loaded, or not
 pub loads_said :
-    (is : Bool) (used in_use : Option Configuration) (servers : Addresses) (text : List ℕ) (configuration : Configuration) (a b : ServedCore) → SaysAfter servers text configuration
+    (is : Bool) (used in_use : Option Configuration) (servers : Addresses) (text : List ℕ) (configuration : Configuration) (a b : ServedCore) → TextSaysAfter servers text configuration
     → LoadsOne is configuration used in_use a b → LoadsText used in_use servers text a b
 loads_said true used in_use servers text configuration a b says loads = inr (configuration, says, loads.0, loads.1)
 loads_said false used in_use servers text configuration a b says loads = inl loads
 
 pub loads_text :
-    {E : Type 0} (r : Result Bool E) (used in_use : Option Configuration) (servers : Addresses) (text : List ℕ) (configuration : Configuration) (a b : ServedCore) → SaysAfter servers text configuration
+    {E : Type 0} (r : Result Bool E) (used in_use : Option Configuration) (servers : Addresses) (text : List ℕ) (configuration : Configuration) (a b : ServedCore) → TextSaysAfter servers text configuration
     → IfOk r (λ is. LoadsOne is configuration used in_use a b) → IfOk r (λ _. LoadsText used in_use servers text a b)
 loads_text (Ok is) used in_use servers text configuration a b says loads = loads_said is used in_use servers text configuration a b says loads
 loads_text (Err fault) used in_use servers text configuration a b says loads = tt
 
 pub may_load_said :
-    (used : Option Configuration) (servers : Addresses) (text : List ℕ) (configuration : Configuration) (a b : ServedCore) → SaysAfter servers text configuration → MayLoadBeside used configuration a b → MayLoadText used servers text a b
+    (used : Option Configuration) (servers : Addresses) (text : List ℕ) (configuration : Configuration) (a b : ServedCore) → TextSaysAfter servers text configuration → MayLoadBeside used configuration a b → MayLoadText used servers text a b
 may_load_said used servers text configuration a b says may = ⊎_elim (λ e. inl e) (λ loads. inr (configuration, says, loads)) may
 
 -- a load of what stands beside what was in use

@@ -6,7 +6,7 @@ use Rattle.std.specs.Prelude.{slice_get, IfOk}
 use Rattle.serve_wire.specs.Events.{Event, looks_up}
 use Rattle.serve_wire.specs.Agreement.{Extends, IsUntouched}
 use Rattle.serve_wire.proofs.Steps.{untouched, untouched_twice, none_looks_up}
-use Rattle.serve_proxy.specs.Ends.{IsQuiet, HasNoConns}
+use Rattle.serve_proxy.specs.Ends.{WireIsQuiet, HasNoConns}
 use Rattle.serve_links.specs.Story.{HasHappened}
 use Rattle.route_json.specs.Servers.{Addresses}
 use Rattle.mcgate_serve.specs.LooksUp.{AreLookedUp, AreLookedUpTo}
@@ -44,16 +44,16 @@ pub same_text : (servers : Addresses) (at : ℕ) (text : List ℕ) (h h' : List 
 same_text servers at text h h' is now other there = subst (λ (t : List ℕ). HasHappened (looks_up t) h') (same_some (sym is ∙ there)) (just_happened (looks_up text) h h' now)
 
 -- nothing happened on any connection
-pub quiet_still : (h : List Event) → IsQuiet h h
+pub quiet_still : (h : List Event) → WireIsQuiet h h
 quiet_still h = λ d. untouched d h
 
-pub quiet_twice : {h h' h'' : List Event} → IsQuiet h h' → IsQuiet h' h'' → IsQuiet h h''
+pub quiet_twice : {h h' h'' : List Event} → WireIsQuiet h h' → WireIsQuiet h' h'' → WireIsQuiet h h''
 quiet_twice {h} {h'} {h''} one two = λ d. untouched_twice d h h' h'' (one d) (two d)
 
-pub quiet_look_up : {h h' : List Event} (text : List ℕ) → h' ≡ looks_up text ∷ h → IsQuiet h h'
+pub quiet_look_up : {h h' : List Event} (text : List ℕ) → h' ≡ looks_up text ∷ h → WireIsQuiet h h'
 quiet_look_up {h} text is = λ d. subst (IsUntouched d h) (sym is) (none_looks_up text d h)
 
-pub still_none : {h h' : List Event} → IsQuiet h h' → HasNoConns h → HasNoConns h'
+pub still_none : {h h' : List Event} → WireIsQuiet h h' → HasNoConns h → HasNoConns h'
 still_none quiet none = (λ conn. ((quiet conn).same_role ∙ (none.0 conn).0, (quiet conn).same_open ∙ (none.0 conn).1), (quiet 0).same_time ∙ none.1)
 
 -- on the same wire

@@ -14,38 +14,38 @@ use Rattle.serve_proxy.specs.Ends.{end_of, AllGrow}
 use Rattle.mcgate_serve.specs.InFleet.{StandsBeside, in_use_after}
 
 -- the text says this configuration, whose servers are numbered after these
-abbrev pub SaysAfter : Addresses → List ℕ → Configuration → Type 0
-SaysAfter servers text configuration = read_after servers (read text) ≡ Ok (configuration.tree, configuration.servers)
+abbrev pub TextSaysAfter : Addresses → List ℕ → Configuration → Type 0
+TextSaysAfter servers text configuration = read_after servers (read text) ≡ Ok (configuration.tree, configuration.servers)
 
 -- any call of a turn, or a load of a configuration that some text says
-abbrev pub IsServed : Step → Type 0
-IsServed (Loaded configuration generation) = (servers : Addresses) × (text : List ℕ) × SaysAfter servers text configuration
-IsServed (Opened client) = Unit {0}
-IsServed (NotOpened fault) = Unit {0}
-IsServed (Fed client piece) = Unit {0}
-IsServed (Polled client poll) = Unit {0}
-IsServed (Stopped client fault) = Unit {0}
-IsServed (Settled number outcome) = Unit {0}
-IsServed (Gave client bytes) = Unit {0}
-IsServed (Closed client) = Unit {0}
-IsServed (LeftLine client) = Unit {0}
-IsServed (Ticked now) = Unit {0}
-IsServed (Broke client) = Unit {0}
-IsServed (Linked at dialect) = Unit {0}
-IsServed (Asked at number dialect ask since) = Unit {0}
-IsServed (Greeted at dialect bytes) = Unit {0}
-IsServed (Late at number limit now) = Unit {0}
-IsServed (CameLate at number ask answer bytes) = Unit {0}
-IsServed (Spelled at number ask answer bytes) = Unit {0}
-IsServed (Lost at why) = IsSome why
+abbrev pub IsServeStep : Step → Type 0
+IsServeStep (Loaded configuration generation) = (servers : Addresses) × (text : List ℕ) × TextSaysAfter servers text configuration
+IsServeStep (Opened client) = Unit {0}
+IsServeStep (NotOpened fault) = Unit {0}
+IsServeStep (Fed client piece) = Unit {0}
+IsServeStep (Polled client poll) = Unit {0}
+IsServeStep (Stopped client fault) = Unit {0}
+IsServeStep (Settled number outcome) = Unit {0}
+IsServeStep (Gave client bytes) = Unit {0}
+IsServeStep (Closed client) = Unit {0}
+IsServeStep (LeftLine client) = Unit {0}
+IsServeStep (Ticked now) = Unit {0}
+IsServeStep (Broke client) = Unit {0}
+IsServeStep (Linked at dialect) = Unit {0}
+IsServeStep (Asked at number dialect ask since) = Unit {0}
+IsServeStep (Greeted at dialect bytes) = Unit {0}
+IsServeStep (Late at number limit now) = Unit {0}
+IsServeStep (CameLate at number ask answer bytes) = Unit {0}
+IsServeStep (Spelled at number ask answer bytes) = Unit {0}
+IsServeStep (Lost at why) = IsSome why
 
 -- a proxy's core, and the ends of clients and servers beside it, over a wire of this history
 abbrev pub proxy_of : {W : Type 0} → (W → List Event) → ProxyEnd W → AnEnd
 proxy_of history end = end_of history end.core.value end.sockets
 
 -- turns and such loads, one after another, and the ends of clients and servers go on with them
-abbrev pub Serves : {W : Type 0} → (W → List Event) → ProxyEnd W → ProxyEnd W → Type 0
-Serves history old new = AllGrow IsServed (proxy_of history old) (proxy_of history new)
+abbrev pub GoesOnServing : {W : Type 0} → (W → List Event) → ProxyEnd W → ProxyEnd W → Type 0
+GoesOnServing history old new = AllGrow IsServeStep (proxy_of history old) (proxy_of history new)
 
 -- nothing is done, or this configuration is loaded
 abbrev pub MayLoad : Configuration → ServedCore → ServedCore → Type 0
@@ -61,7 +61,7 @@ MayLoadBeside used configuration old new = (new ≡ old) ⊎ LoadsBeside used co
 
 -- the same of the configuration that this text says
 abbrev pub MayLoadText : (used : Option Configuration) → Addresses → List ℕ → ServedCore → ServedCore → Type 0
-MayLoadText used servers text old new = (new ≡ old) ⊎ ((configuration : Configuration) × SaysAfter servers text configuration × LoadsBeside used configuration old new)
+MayLoadText used servers text old new = (new ≡ old) ⊎ ((configuration : Configuration) × TextSaysAfter servers text configuration × LoadsBeside used configuration old new)
 
 -- it is loaded so, and in use; or nothing is done, and what was in use is
 abbrev pub LoadsOne : Bool → Configuration → (used in_use : Option Configuration) → ServedCore → ServedCore → Type 0
@@ -71,4 +71,4 @@ LoadsOne false configuration used in_use old new = (new ≡ old) × (in_use ≡ 
 -- nothing is done, and what was in use is; or the configuration that this text says is loaded so, and in use
 abbrev pub LoadsText : (used in_use : Option Configuration) → Addresses → List ℕ → ServedCore → ServedCore → Type 0
 LoadsText used in_use servers text old new =
-    ((new ≡ old) × (in_use ≡ used)) ⊎ ((configuration : Configuration) × SaysAfter servers text configuration × LoadsBeside used configuration old new × (in_use ≡ in_use_after used configuration))
+    ((new ≡ old) × (in_use ≡ used)) ⊎ ((configuration : Configuration) × TextSaysAfter servers text configuration × LoadsBeside used configuration old new × (in_use ≡ in_use_after used configuration))

@@ -11,7 +11,7 @@ ghost use Rattle.core_accepted.specs.Logs.{TreesAreSound};
 ghost use Rattle.serve_proxy.specs.LogsGoOn.{LogsAreFresh};
 ghost use Rattle.serve_proxy.specs.Stalls.{held_by_all};
 ghost use Rattle.core_accepted.specs.Loading.{IsLoaded};
-ghost use Rattle.mcgate_serve.specs.Serves.{SaysAfter, proxy_of, Serves, MayLoad, MayLoadBeside, MayLoadText, LoadsOne, LoadsText};
+ghost use Rattle.mcgate_serve.specs.Serves.{TextSaysAfter, proxy_of, GoesOnServing, MayLoad, MayLoadBeside, MayLoadText, LoadsOne, LoadsText};
 ghost use Rattle.mcgate_serve.specs.InFleet.{StandsBeside, in_use_after};
 ghost use Rattle.mcgate_serve.specs.Remembers.{StandsIn, StandsIfLoaded};
 ghost use Rattle.mcgate_serve.specs.LooksUp.{AreLookedUp};
@@ -187,7 +187,7 @@ fn read_after(
     servers: &Servers,
     text: &str,
 ) -> Result<(Config, Servers), ConfigFault>
-    ensures { IfOk result (λ read. SaysAfter servers.now text.now read.0) }
+    ensures { IfOk result (λ read. TextSaysAfter servers.now text.now read.0) }
 {
     let config = read_config_after(alloc, servers.copy(alloc)?, text)?;
     let servers = config.servers().copy(alloc)?;
@@ -359,7 +359,7 @@ impl<W: Listens> Serving<W> {
         rt: &R,
         job: &ServeJob<'_>,
     ) -> Result<u8, Stop>
-        ensures ends { Serves W.history self.old.end self.new.end }
+        ensures ends { GoesOnServing W.history self.old.end self.new.end }
     {
         self.tell_start(rt, job)?;
         self.run(rt, job)
@@ -509,7 +509,7 @@ impl<W: Listens> Serving<W> {
         rt: &R,
         job: &ServeJob<'_>,
     ) -> Result<u8, Stop>
-        ensures ends { Serves W.history self.old.end self.new.end }
+        ensures ends { GoesOnServing W.history self.old.end self.new.end }
     {
         self.begin_emptying(rt, job)?;
         self.run_turns(rt, job)?;
@@ -522,7 +522,7 @@ impl<W: Listens> Serving<W> {
         rt: &R,
         job: &ServeJob<'_>,
     ) -> Result<(), Stop>
-        ensures ends { Serves W.history self.old.end self.new.end }
+        ensures ends { GoesOnServing W.history self.old.end self.new.end }
     {
         for _ in 0..job.turns.map_or(u64::MAX, u64::from) {
             self.turn(rt, job)?;
@@ -541,7 +541,7 @@ impl<W: Listens> Serving<W> {
         rt: &R,
         job: &ServeJob<'_>,
     ) -> Result<bool, Stop>
-        ensures ends { Serves W.history self.old.end self.new.end }
+        ensures ends { GoesOnServing W.history self.old.end self.new.end }
     {
         self.lines.look(rt);
         self.tell_news(rt);
@@ -557,7 +557,7 @@ impl<W: Listens> Serving<W> {
     // What is done after the last one.
     #[tactic(auto, using(crate::proofs::Loads::serves_still))]
     fn end_all<R: Files + AllocGlobal + Eprint>(&mut self, rt: &R) -> u8
-        ensures ends { Serves W.history self.old.end self.new.end }
+        ensures ends { GoesOnServing W.history self.old.end self.new.end }
     {
         self.end.end_turns();
         self.end_controlling(rt);
@@ -1131,7 +1131,7 @@ impl<W: Listens> Serving<W> {
         rt: &R,
         job: &ServeJob<'_>,
     ) -> Result<(), Stop>
-        ensures ends { Serves W.history self.old.end self.new.end }
+        ensures ends { GoesOnServing W.history self.old.end self.new.end }
     {
         if self.is_due(rt, job)? {
             return self.look(rt, job);
@@ -1146,7 +1146,7 @@ impl<W: Listens> Serving<W> {
         rt: &R,
         job: &ServeJob<'_>,
     ) -> Result<(), Stop>
-        ensures ends { Serves W.history self.old.end self.new.end }
+        ensures ends { GoesOnServing W.history self.old.end self.new.end }
     {
         self.turns = 0;
         self.since = Instant::now(rt)?;
@@ -1207,7 +1207,7 @@ impl<W: Listens> Serving<W> {
         text: String,
     ) -> Result<(), Stop>
         ensures core { MayLoadText self.old.in_use self.old.servers (string_bytes text) self.old.end.core.value self.new.end.core.value }
-        ensures ends { Serves W.history self.old.end self.new.end }
+        ensures ends { GoesOnServing W.history self.old.end self.new.end }
         ensures remembered { StandsIfLoaded self.old.end.core.value self.new.end.core.value self.new.memory (string_bytes text) }
         ensures in_use { IfOk result (λ _. LoadsText self.old.in_use self.new.in_use self.old.servers (string_bytes text) self.old.end.core.value self.new.end.core.value) }
     {
@@ -1230,7 +1230,7 @@ impl<W: Listens> Serving<W> {
         said: &mut Vec<u8>,
     ) -> Result<bool, Stop>
         ensures core { MayLoadText self.old.in_use self.old.servers (string_bytes text) self.old.end.core.value self.new.end.core.value }
-        ensures ends { Serves W.history self.old.end self.new.end }
+        ensures ends { GoesOnServing W.history self.old.end self.new.end }
         ensures remembered { StandsIfLoaded self.old.end.core.value self.new.end.core.value self.new.memory (string_bytes text) }
         ensures in_use { IfOk result (λ _. LoadsText self.old.in_use self.new.in_use self.old.servers (string_bytes text) self.old.end.core.value self.new.end.core.value) }
     {
@@ -1264,7 +1264,7 @@ impl<W: Listens> Serving<W> {
         rt: &R,
         job: &ServeJob<'_>,
     ) -> Result<(), Stop>
-        ensures ends { Serves W.history self.old.end self.new.end }
+        ensures ends { GoesOnServing W.history self.old.end self.new.end }
     {
         self.drain_at_end(rt, job)?;
         self.take_words(rt, job)
@@ -1275,7 +1275,7 @@ impl<W: Listens> Serving<W> {
         rt: &R,
         job: &ServeJob<'_>,
     ) -> Result<(), Stop>
-        ensures ends { Serves W.history self.old.end self.new.end }
+        ensures ends { GoesOnServing W.history self.old.end self.new.end }
     {
         if self.has_input_ended(rt) {
             return self.begin_draining(rt, job);
@@ -1301,7 +1301,7 @@ impl<W: Listens> Serving<W> {
         rt: &R,
         job: &ServeJob<'_>,
     ) -> Result<(), Stop>
-        ensures ends { Serves W.history self.old.end self.new.end }
+        ensures ends { GoesOnServing W.history self.old.end self.new.end }
     {
         self.turn_controlling(rt);
         for _ in 0..PLACES {
@@ -1340,7 +1340,7 @@ impl<W: Listens> Serving<W> {
         place: usize,
         line: &[u8],
     ) -> Result<(), Stop>
-        ensures ends { Serves W.history self.old.end self.new.end }
+        ensures ends { GoesOnServing W.history self.old.end self.new.end }
     {
         match request_of(line) {
             Request::Drain => self.drain(rt, job, place),
@@ -1407,7 +1407,7 @@ impl<W: Listens> Serving<W> {
         job: &ServeJob<'_>,
         place: usize,
     ) -> Result<(), Stop>
-        ensures ends { Serves W.history self.old.end self.new.end }
+        ensures ends { GoesOnServing W.history self.old.end self.new.end }
     {
         self.keep(place);
         self.begin_draining(rt, job)
@@ -1425,7 +1425,7 @@ impl<W: Listens> Serving<W> {
     // Nobody is accepted from now on, if that wasn't so before.
     #[tactic(auto, using(crate::proofs::Loads::serves_still))]
     fn begin_draining<R: Clock + Eprint>(&mut self, rt: &R, job: &ServeJob<'_>) -> Result<(), Stop>
-        ensures ends { Serves W.history self.old.end self.new.end }
+        ensures ends { GoesOnServing W.history self.old.end self.new.end }
     {
         if self.draining.is_some() {
             return Ok(());
@@ -1449,7 +1449,7 @@ impl<W: Listens> Serving<W> {
     // Whether it drains, and all clients are gone or its time is up. While it drains, clients go of which nothing is under way.
     #[tactic(auto, using(crate::proofs::Loads::serves_still))]
     fn has_drained<R: Clock>(&mut self, rt: &R) -> io::Result<bool>
-        ensures ends { Serves W.history self.old.end self.new.end }
+        ensures ends { GoesOnServing W.history self.old.end self.new.end }
     {
         let Some(draining) = self.draining else {
             return Ok(false);
@@ -1495,7 +1495,7 @@ impl<W: Listens> Serving<W> {
         job: &ServeJob<'_>,
         place: usize,
     ) -> Result<(), Stop>
-        ensures ends { Serves W.history self.old.end self.new.end }
+        ensures ends { GoesOnServing W.history self.old.end self.new.end }
     {
         self.turns = 0;
         self.since = Instant::now(rt)?;
@@ -1528,7 +1528,7 @@ impl<W: Listens> Serving<W> {
         place: usize,
         text: String,
     ) -> Result<(), Stop>
-        ensures ends { Serves W.history self.old.end self.new.end }
+        ensures ends { GoesOnServing W.history self.old.end self.new.end }
     {
         let mut said = Vec::new(rt.alloc());
         let is_used = self.load_new(rt, job, text, &mut said)?;
@@ -1602,7 +1602,7 @@ impl<W: Listens> Serving<W> {
         out: &mut O,
     ) -> Result<bool, Stop>
         ensures core { MayLoadText self.old.in_use self.old.servers text.now self.old.end.core.value self.new.end.core.value }
-        ensures ends { Serves W.history self.old.end self.new.end }
+        ensures ends { GoesOnServing W.history self.old.end self.new.end }
         ensures remembered { StandsIfLoaded self.old.end.core.value self.new.end.core.value self.new.memory text.now }
         ensures in_use { IfOk result (λ _. LoadsText self.old.in_use self.new.in_use self.old.servers text.now self.old.end.core.value self.new.end.core.value) }
     {
@@ -1624,7 +1624,7 @@ impl<W: Listens> Serving<W> {
         out: &mut O,
     ) -> Result<bool, Stop>
         ensures core { MayLoadText self.old.in_use self.old.servers text.now self.old.end.core.value self.new.end.core.value }
-        ensures ends { Serves W.history self.old.end self.new.end }
+        ensures ends { GoesOnServing W.history self.old.end self.new.end }
         ensures remembered { StandsIfLoaded self.old.end.core.value self.new.end.core.value self.new.memory text.now }
         ensures in_use { IfOk result (λ _. LoadsText self.old.in_use self.new.in_use self.old.servers text.now self.old.end.core.value self.new.end.core.value) }
     {
@@ -1656,7 +1656,7 @@ impl<W: Listens> Serving<W> {
     ) -> Result<bool, Stop>
         requires stands { StandsIn self.old.memory text.now }
         ensures core { MayLoadText self.old.in_use self.old.servers text.now self.old.end.core.value self.new.end.core.value }
-        ensures ends { Serves W.history self.old.end self.new.end }
+        ensures ends { GoesOnServing W.history self.old.end self.new.end }
         ensures remembered { StandsIfLoaded self.old.end.core.value self.new.end.core.value self.new.memory text.now }
         ensures in_use { IfOk result (λ _. LoadsText self.old.in_use self.new.in_use self.old.servers text.now self.old.end.core.value self.new.end.core.value) }
     {
@@ -1677,7 +1677,7 @@ impl<W: Listens> Serving<W> {
         out: &mut O,
     ) -> Result<bool, Stop>
         ensures core { MayLoadText self.old.in_use self.old.servers text.now self.old.end.core.value self.new.end.core.value }
-        ensures ends { Serves W.history self.old.end self.new.end }
+        ensures ends { GoesOnServing W.history self.old.end self.new.end }
         ensures memory { self.new.memory ≡ self.old.memory }
         ensures unused { IfOk result (λ used. IsTrue used ⊎ (self.new.end.core.value ≡ self.old.end.core.value)) }
         ensures in_use { IfOk result (λ _. LoadsText self.old.in_use self.new.in_use self.old.servers text.now self.old.end.core.value self.new.end.core.value) }

@@ -12,10 +12,10 @@ use Rattle.route_tree.specs.At.{plain_for, tree_at}
 use Rattle.route_tree.specs.Route.{Route, IsTree}
 use Rattle.route_tree.specs.Plan.{Plan, Server, IsPlan}
 use Rattle.route_tree.specs.Word.{Given, Gives, Word, given_by}
-use Rattle.route_job.specs.Given.{given_of}
+use Rattle.route_job.specs.Given.{given_when_done}
 use Rattle.route_job.specs.Rest.{Comings, ask_under, origin_under}
-use Rattle.route_job.specs.Settling.{IsAtRest, AreSure, Leads, pending_work}
-use Rattle.route_job.specs.Jobs.{server_in, IsCall, IsReply}
+use Rattle.route_job.specs.Settling.{IsAtRest, AreSure, FramesLead, pending_work}
+use Rattle.route_job.specs.Jobs.{server_of_pending, IsCall, IsReply}
 use Rattle.route_job.specs.declared.done.Done.{Done}
 use Rattle.route_job.specs.declared.frame.Frame.{Frame}
 use Rattle.route_job.specs.declared.frame.Pending.{Pending}
@@ -34,7 +34,7 @@ on_err (Err e) p = p
 
 -- the next call of these frames and this pending, with this outcome
 abbrev pub call_in : List Frame → Ask → Pending → Outcome → Call
-call_in fs ask pending outcome = record { server = server_in pending; ask = ask_under fs ask; origin = origin_under fs Client; outcome = outcome }
+call_in fs ask pending outcome = record { server = server_of_pending pending; ask = ask_under fs ask; origin = origin_under fs Client; outcome = outcome }
 
 -- after a call of a server there is nothing more
 server_later : (s : ℕ) (a : Ask) (o : Origin) (b : ℕ) (outcome : Outcome) (g : Given) → g ≡ given_by b outcome → FitsOutcome a outcome → Later b (record { server = s; ask = a; origin = o; outcome = outcome }) (Word (Server s) a o) (Gives g)
@@ -74,9 +74,9 @@ rests_there fs done e = subst (λ l. IsAtRest l (Back done)) (sym e) tt
 
 -- Trees are seen by the keys of this hash and text.
 module _ (hash : ℕ) (text : List ℕ) where
-  pub new_is : (fs fs' : List Frame) (ask : Ask) (tree : Route) (pending : Pending) → fs ≡ [] → ((b : ℕ) → Leads hash text b ask fs (Enter tree) fs' pending) → ((calls : List Call) (given : Given) → Comings hash text fs' ask Client pending 0 calls given ↔ Word (plain_for hash text tree) ask Client 0 calls given) × AreSure hash text 0 ask fs' pending
+  pub new_is : (fs fs' : List Frame) (ask : Ask) (tree : Route) (pending : Pending) → fs ≡ [] → ((b : ℕ) → FramesLead hash text b ask fs (Enter tree) fs' pending) → ((calls : List Call) (given : Given) → Comings hash text fs' ask Client pending 0 calls given ↔ Word (plain_for hash text tree) ask Client 0 calls given) × AreSure hash text 0 ask fs' pending
   new_is fs fs' ask tree pending e leads =
-      let l = subst (λ x. Leads hash text 0 ask x (Enter tree) fs' pending) e (leads 0) in
+      let l = subst (λ x. FramesLead hash text 0 ask x (Enter tree) fs' pending) e (leads 0) in
       let r = l tt in
       ((λ calls given. ((r.0 calls given).1, (r.0 calls given).0)), r.1)
 
@@ -86,20 +86,20 @@ module _ (hash : ℕ) (text : List ℕ) where
       subst (λ l. ((calls : List Call) (given : Given) → Comings hash text l ask Client (Calling server) 0 calls given ↔ Word p ask Client 0 calls given) × AreSure hash text 0 ask l (Calling server)) (sym none)
       ((λ calls given. ((λ w. subst (λ (q : Plan). Word q ask Client 0 calls given) (sym is) w), (λ w. subst (λ (q : Plan). Word q ask Client 0 calls given) is w))), tt)
 
-  pub take_is : (fs fs' : List Frame) (ask : Ask) (pending pending' : Pending) (made : ℕ) (done : Done) (outcome : Outcome) → IsCall pending → given_of done ≡ given_by made outcome → FitsOutcome (ask_under fs ask) outcome → AreSure hash text made ask fs pending → ((b : ℕ) → Leads hash text b ask fs (Back done) fs' pending') → ((calls : List Call) (given : Given) → Comings hash text fs' ask Client pending' (made + 1) calls given ↔ Comings hash text fs ask Client pending made (call_in fs ask pending outcome ∷ calls) given) × AreSure hash text (made + 1) ask fs' pending'
+  pub take_is : (fs fs' : List Frame) (ask : Ask) (pending pending' : Pending) (made : ℕ) (done : Done) (outcome : Outcome) → IsCall pending → given_when_done done ≡ given_by made outcome → FitsOutcome (ask_under fs ask) outcome → AreSure hash text made ask fs pending → ((b : ℕ) → FramesLead hash text b ask fs (Back done) fs' pending') → ((calls : List Call) (given : Given) → Comings hash text fs' ask Client pending' (made + 1) calls given ↔ Comings hash text fs ask Client pending made (call_in fs ask pending outcome ∷ calls) given) × AreSure hash text (made + 1) ask fs' pending'
   take_is fs fs' ask (Enter tree) pending' made done outcome is e fits sure leads = absurd is
   take_is fs fs' ask (Back g) pending' made done outcome is e fits sure leads = absurd is
   take_is fs fs' ask (Calling s) pending' made done outcome is e fits sure leads =
       let X : ℕ → List Call → Given → Type 0 = Word (Server s) (ask_under fs ask) (origin_under fs Client) in
-      let Y : ℕ → List Call → Given → Type 0 = Gives (given_of done) in
+      let Y : ℕ → List Call → Given → Type 0 = Gives (given_when_done done) in
       let call = call_in fs ask (Calling s) outcome in
-      let later = server_later s (ask_under fs ask) (origin_under fs Client) made outcome (given_of done) e fits in
+      let later = server_later s (ask_under fs ask) (origin_under fs Client) made outcome (given_when_done done) e fits in
       let l = under_later hash text fs ask Client made call X Y later in
       let r = leads (made + 1) (sure_later hash text fs ask Client made call X Y later sure) in
       ((λ calls given. ((λ w. (l.same calls given).1 ((r.0 calls given).1 w)), (λ w. (r.0 calls given).0 ((l.same calls given).0 w)))), r.1)
 
   -- where nothing is done, nothing changes
-  pub stays : (fs : List Frame) (ask : Ask) (pending : Pending) (b : ℕ) → Leads hash text b ask fs pending fs pending
+  pub stays : (fs : List Frame) (ask : Ask) (pending : Pending) (b : ℕ) → FramesLead hash text b ask fs pending fs pending
   stays fs ask pending b sure = (same_refl b (Comings hash text fs ask Client pending), sure)
 
   pub call_work : (pending : Pending) → IsCall pending → pending_work hash text pending ≡ 2
@@ -107,13 +107,13 @@ module _ (hash : ℕ) (text : List ℕ) where
   call_work (Back g) is = absurd is
   call_work (Calling s) is = refl
 
-  pub next_call : (fs : List Frame) (ask : Ask) (pending : Pending) (made s : ℕ) → pending ≡ Calling s → IsCall pending × (s ≡ server_in pending) × ((calls : List Call) (given : Given) → Comings hash text fs ask Client pending made calls given → (outcome : Outcome) × (rest : List Call) × (calls ≡ call_in fs ask pending outcome ∷ rest))
+  pub next_call : (fs : List Frame) (ask : Ask) (pending : Pending) (made s : ℕ) → pending ≡ Calling s → IsCall pending × (s ≡ server_of_pending pending) × ((calls : List Call) (given : Given) → Comings hash text fs ask Client pending made calls given → (outcome : Outcome) × (rest : List Call) × (calls ≡ call_in fs ask pending outcome ∷ rest))
   next_call fs ask pending made s e =
-      subst (λ t. IsCall t × (s ≡ server_in t) × ((calls : List Call) (given : Given) → Comings hash text fs ask Client t made calls given → (outcome : Outcome) × (rest : List Call) × (calls ≡ call_in fs ask t outcome ∷ rest))) (sym e)
+      subst (λ t. IsCall t × (s ≡ server_of_pending t) × ((calls : List Call) (given : Given) → Comings hash text fs ask Client t made calls given → (outcome : Outcome) × (rest : List Call) × (calls ≡ call_in fs ask t outcome ∷ rest))) (sym e)
       (tt, refl, under_begins hash text fs ask Client made (Word (Server s) (ask_under fs ask) (origin_under fs Client)) s (ask_under fs ask) (origin_under fs Client) (λ calls given w. (w.0, [], w.2)))
 
   -- where the reply is next, nothing more is called
-  pub end_is : (fs : List Frame) (ask : Ask) (pending : Pending) (made : ℕ) (done : Done) → pending ≡ Back done → IsAtRest fs pending → (calls : List Call) (given : Given) → Comings hash text fs ask Client pending made calls given ↔ ((calls ≡ []) × (given ≡ given_of done))
+  pub end_is : (fs : List Frame) (ask : Ask) (pending : Pending) (made : ℕ) (done : Done) → pending ≡ Back done → IsAtRest fs pending → (calls : List Call) (given : Given) → Comings hash text fs ask Client pending made calls given ↔ ((calls ≡ []) × (given ≡ given_when_done done))
   end_is [] ask pending made done e rests calls given =
-      subst (λ p. Comings hash text [] ask Client p made calls given ↔ ((calls ≡ []) × (given ≡ given_of done))) (sym e) ((λ w. w), (λ w. w))
+      subst (λ p. Comings hash text [] ask Client p made calls given ↔ ((calls ≡ []) × (given ≡ given_when_done done))) (sym e) ((λ w. w), (λ w. w))
   end_is (f ∷ fs) ask pending made done e rests calls given = absurd (subst (IsAtRest (f ∷ fs)) e rests)

@@ -7,10 +7,10 @@ use Rattle.fresh_runs.specs.Calls.{Call}
 use Rattle.route_tree.specs.At.{plain_for}
 use Rattle.route_tree.specs.Route.{Route}
 use Rattle.route_tree.specs.Word.{Given, Gives, Then, Word}
-use Rattle.route_job.specs.Given.{given_of}
+use Rattle.route_job.specs.Given.{given_when_done}
 use Rattle.route_job.specs.Parts.{SameAt}
 use Rattle.route_job.specs.Rest.{Under, PendingOf, AdvanceBy, Comings, AfterFrame, ask_in, origin_in, ask_under, origin_under, Sure, NeedsHit}
-use Rattle.route_job.specs.Settling.{put_down, IsSureBy, AreSure, Leads, frames_work, frame_work, pending_work, advance_work_by}
+use Rattle.route_job.specs.Settling.{put_down, IsSureBy, AreSure, FramesLead, frames_work, frame_work, pending_work, advance_work_by}
 use Rattle.route_job.specs.declared.done.Done.{Done}
 use Rattle.route_job.specs.declared.frame.Frame.{Frame}
 use Rattle.route_job.specs.declared.frame.Pending.{Pending}
@@ -35,17 +35,17 @@ module _ (hash : ℕ) (text : List ℕ) where
       (subst (λ o. SameAt b (Under hash text fs a Client X) (Under hash text (fs ++ f ∷ []) a Client (PendingOf hash text pending (ask_in f (ask_under fs a)) o)) × Sure hash text (fs ++ f ∷ []) a Client b (PendingOf hash text pending (ask_in f (ask_under fs a)) o)) (sym (origin_put fs f Client))
       (here, needs))
 
-  pub went_in : (fs fs' : List Frame) (a A : Ask) (tree : Route) (fr : Option Frame) (pending : Pending) → A ≡ ask_under fs a → fs' ≡ put_down fs fr → ((origin : Origin) (b : ℕ) → SameAt b (Word (plain_for hash text tree) A origin) (AdvanceBy hash text fr pending A origin)) → ((origin : Origin) (b : ℕ) → IsSureBy hash text fr pending A origin b) → (b : ℕ) → Leads hash text b a fs (Enter tree) fs' pending
+  pub went_in : (fs fs' : List Frame) (a A : Ask) (tree : Route) (fr : Option Frame) (pending : Pending) → A ≡ ask_under fs a → fs' ≡ put_down fs fr → ((origin : Origin) (b : ℕ) → SameAt b (Word (plain_for hash text tree) A origin) (AdvanceBy hash text fr pending A origin)) → ((origin : Origin) (b : ℕ) → IsSureBy hash text fr pending A origin b) → (b : ℕ) → FramesLead hash text b a fs (Enter tree) fs' pending
   went_in fs fs' a A tree fr pending ea ef same sure b s =
       let O = origin_under fs Client in
       let same' = subst (λ x. SameAt b (Word (plain_for hash text tree) x O) (AdvanceBy hash text fr pending x O)) ea (same O b) in
       let sure' = subst (λ x. IsSureBy hash text fr pending x O b) ea (sure O b) in
       subst (λ l. SameAt b (Comings hash text fs a Client (Enter tree)) (Comings hash text l a Client pending) × AreSure hash text b a l pending) (sym ef) (entered fs a (Word (plain_for hash text tree) (ask_under fs a) O) fr pending b same' sure' s)
 
-  pub went_back : (fs fs' : List Frame) (a A : Ask) (f : Frame) (done : Done) (fr : Option Frame) (pending : Pending) → A ≡ ask_under fs a → fs' ≡ put_down fs fr → ((origin : Origin) (b : ℕ) → NeedsHit f (given_of done) → SameAt b (AfterFrame hash text f A origin (given_of done)) (AdvanceBy hash text fr pending A origin)) → ((origin : Origin) (b : ℕ) → IsSureBy hash text fr pending A origin b) → (b : ℕ) → Leads hash text b a (fs ++ f ∷ []) (Back done) fs' pending
+  pub went_back : (fs fs' : List Frame) (a A : Ask) (f : Frame) (done : Done) (fr : Option Frame) (pending : Pending) → A ≡ ask_under fs a → fs' ≡ put_down fs fr → ((origin : Origin) (b : ℕ) → NeedsHit f (given_when_done done) → SameAt b (AfterFrame hash text f A origin (given_when_done done)) (AdvanceBy hash text fr pending A origin)) → ((origin : Origin) (b : ℕ) → IsSureBy hash text fr pending A origin b) → (b : ℕ) → FramesLead hash text b a (fs ++ f ∷ []) (Back done) fs' pending
   went_back fs fs' a A f done fr pending ea ef same sure b s =
       let O = origin_under fs Client in
-      let g = given_of done in
+      let g = given_when_done done in
       let r = sure_off hash text fs f a Client b (Gives g) s in
       let need = r.1 [] g (refl, refl) in
       let Y : ℕ → List Call → Given → Type 0 = Then (Gives g) (AfterFrame hash text f (ask_under fs a) O) in
@@ -56,7 +56,7 @@ module _ (hash : ℕ) (text : List ℕ) where
       subst (λ l. SameAt b (Comings hash text (fs ++ f ∷ []) a Client (Back done)) (Comings hash text l a Client pending) × AreSure hash text b a l pending) (sym ef)
       (same_trans b (Comings hash text (fs ++ f ∷ []) a Client (Back done)) (Under hash text fs a Client Y) (Comings hash text (put_down fs fr) a Client pending) (under_put hash text fs f a Client b (Gives g)) e.0, e.1)
 
-  pub leads_on : (b : ℕ) (a : Ask) (fs : List Frame) (t : Pending) (fs1 : List Frame) (t1 : Pending) (fs2 : List Frame) (t2 : Pending) → Leads hash text b a fs t fs1 t1 → Leads hash text b a fs1 t1 fs2 t2 → Leads hash text b a fs t fs2 t2
+  pub leads_on : (b : ℕ) (a : Ask) (fs : List Frame) (t : Pending) (fs1 : List Frame) (t1 : Pending) (fs2 : List Frame) (t2 : Pending) → FramesLead hash text b a fs t fs1 t1 → FramesLead hash text b a fs1 t1 fs2 t2 → FramesLead hash text b a fs t fs2 t2
   leads_on b a fs t fs1 t1 fs2 t2 h k s =
       let x = h s in
       let y = k x.1 in

@@ -2,5 +2,5 @@
 use Rattle.route_tree.specs.Word.{Given}
 use Rattle.route_job.specs.declared.done.Done.{Done}
 
-abbrev pub given_of : Done → Given
-given_of done = record { reply = done.reply; from = done.from }
+abbrev pub given_when_done : Done → Given
+given_when_done done = record { reply = done.reply; from = done.from }

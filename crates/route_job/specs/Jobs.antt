@@ -4,7 +4,7 @@ use Rattle.mc_types.specs.declared.call.Origin.TheVariants.{Client}
 use Rattle.mc_types.specs.declared.call.Outcome.{Outcome}
 use Rattle.fresh_runs.specs.Calls.{Call}
 use Rattle.route_tree.specs.Word.{Given}
-use Rattle.route_job.specs.Given.{given_of}
+use Rattle.route_job.specs.Given.{given_when_done}
 use Rattle.route_job.specs.Parts.{broken_reply}
 use Rattle.route_job.specs.Rest.{Comings, ask_under, origin_under}
 use Rattle.route_job.specs.Settling.{frames_work, pending_work}
@@ -23,10 +23,10 @@ abbrev pub IsBroken : Job → Type 0
 IsBroken job = (calls : List Call) (given : Given) → Comes job calls given ↔ ((calls ≡ []) × (given ≡ broken_reply))
 
 -- the server that is called
-abbrev pub server_in : Pending → ℕ
-server_in (Enter tree) = 0
-server_in (Calling server) = server
-server_in (Back done) = 0
+abbrev pub server_of_pending : Pending → ℕ
+server_of_pending (Enter tree) = 0
+server_of_pending (Calling server) = server
+server_of_pending (Back done) = 0
 
 abbrev pub IsCall : Pending → Type 0
 IsCall (Enter tree) = ⊥
@@ -52,12 +52,12 @@ work_of job = frames_work job.hash job.ask.key job.frames.items + pending_work j
 
 -- the next call, with this outcome
 abbrev pub call_of : Job → Outcome → Call
-call_of job outcome = record { server = server_in job.pending; ask = ask_under job.frames.items job.ask; origin = origin_under job.frames.items Client; outcome = outcome }
+call_of job outcome = record { server = server_of_pending job.pending; ask = ask_under job.frames.items job.ask; origin = origin_under job.frames.items Client; outcome = outcome }
 
 -- what is shown: the call with which all begins that may still come, or the reply, where nothing is left to call
 abbrev pub IsNext : Job → JobStep → Type 0
 IsNext job (steps.Call server ask origin) =
     IsCalling job
-    × (server ≡ server_in job.pending) × (ask.now ≡ ask_under job.frames.items job.ask) × (origin ≡ origin_under job.frames.items Client)
+    × (server ≡ server_of_pending job.pending) × (ask.now ≡ ask_under job.frames.items job.ask) × (origin ≡ origin_under job.frames.items Client)
     × ((calls : List Call) (given : Given) → Comes job calls given → (outcome : Outcome) × (rest : List Call) × (calls ≡ call_of job outcome ∷ rest))
-IsNext job (steps.Done done) = IsDone job × ((calls : List Call) (given : Given) → Comes job calls given ↔ ((calls ≡ []) × (given ≡ given_of done.now)))
+IsNext job (steps.Done done) = IsDone job × ((calls : List Call) (given : Given) → Comes job calls given ↔ ((calls ≡ []) × (given ≡ given_when_done done.now)))

@@ -8,7 +8,7 @@ use Rattle.fresh_runs.specs.Calls.{Call}
 use Rattle.route_tree.specs.At.{plain_for, plain_for_all}
 use Rattle.route_tree.specs.Plan.{Server}
 use Rattle.route_tree.specs.Word.{Given, rank, Gives, Then, Word, plain_get, refill, AfterCold, AfterWarm, AfterRefill}
-use Rattle.route_job.specs.Given.{given_of}
+use Rattle.route_job.specs.Given.{given_when_done}
 use Rattle.route_job.specs.Parts.{AfterAll, AfterFirst, NamesHit}
 use Rattle.route_job.specs.declared.frame.Frame.{Frame}
 use Rattle.route_job.specs.declared.frame.Frame.TheVariants.{All, First, Cold, Warm, Refill}
@@ -67,20 +67,20 @@ SureOf frame b inner = (calls : List Call) (given : Given) → inner b calls giv
 module _ (hash : ℕ) (text : List ℕ) where
   -- what a frame goes on with when a child gave this
   abbrev pub AfterFrame : Frame → Ask → Origin → Given → ℕ → List Call → Given → Type 0
-  AfterFrame (All rest worst) ask origin g = AfterAll (option_map given_of worst) (plain_for_all hash text rest) ask origin g
+  AfterFrame (All rest worst) ask origin g = AfterAll (option_map given_when_done worst) (plain_for_all hash text rest) ask origin g
   AfterFrame (First rest limit) ask origin g = AfterFirst (plain_for_all hash text rest) limit ask origin g
   AfterFrame (Cold sides) ask origin g =
       AfterCold ask (Word (plain_for hash text sides.cold) ask origin) (Word (plain_for hash text sides.warm) (plain_get ask) origin) (λ hit w. Word (plain_for hash text sides.cold) (refill ask hit sides.exptime) (CopyOf w)) g (rank g)
   AfterFrame (Warm sides first get) ask origin g =
-      AfterWarm ask (Word (plain_for hash text sides.cold) ask origin) (Word (plain_for hash text sides.warm) (plain_get ask) origin) (λ hit w. Word (plain_for hash text sides.cold) (refill ask hit sides.exptime) (CopyOf w)) (given_of first) g (rank g)
+      AfterWarm ask (Word (plain_for hash text sides.cold) ask origin) (Word (plain_for hash text sides.warm) (plain_get ask) origin) (λ hit w. Word (plain_for hash text sides.cold) (refill ask hit sides.exptime) (CopyOf w)) (given_when_done first) g (rank g)
   AfterFrame (Refill sides from_warm from add) ask origin g =
-      AfterRefill ask (Word (plain_for hash text sides.cold) ask origin) (Word (plain_for hash text sides.warm) (plain_get ask) origin) (λ hit w. Word (plain_for hash text sides.cold) (refill ask hit sides.exptime) (CopyOf w)) (given_of from_warm)
+      AfterRefill ask (Word (plain_for hash text sides.cold) ask origin) (Word (plain_for hash text sides.warm) (plain_get ask) origin) (λ hit w. Word (plain_for hash text sides.cold) (refill ask hit sides.exptime) (CopyOf w)) (given_when_done from_warm)
 
   -- what is to be done next may bring this
   abbrev pub PendingOf : Pending → Ask → Origin → ℕ → List Call → Given → Type 0
   PendingOf (Enter tree) ask origin = Word (plain_for hash text tree) ask origin
   PendingOf (Calling server) ask origin = Word (Server server) ask origin
-  PendingOf (Back done) ask origin = Gives (given_of done)
+  PendingOf (Back done) ask origin = Gives (given_when_done done)
 
   -- what is to be done next, and then what the frame that is put down goes on with
   abbrev pub AdvanceBy : Option Frame → Pending → Ask → Origin → ℕ → List Call → Given → Type 0

@@ -66,8 +66,8 @@ module _ (hash : ℕ) (text : List ℕ) where
   AreSure b ask frames pending = Sure hash text frames ask Client b (PendingOf hash text pending (ask_under frames ask) (origin_under frames Client))
 
   -- these frames and this pending lead to those, from call b on
-  abbrev pub Leads : ℕ → Ask → List Frame → Pending → List Frame → Pending → Type 0
-  Leads b ask frames pending frames' pending' =
+  abbrev pub FramesLead : ℕ → Ask → List Frame → Pending → List Frame → Pending → Type 0
+  FramesLead b ask frames pending frames' pending' =
       AreSure b ask frames pending
       → SameAt b (Comings hash text frames ask Client pending) (Comings hash text frames' ask Client pending') × AreSure b ask frames' pending'
 

@@ -6,7 +6,7 @@ ghost use Rattle.fresh_runs.specs.Calls.{Call as CallMade};
 ghost use Rattle.fresh_runs.specs.Single.{FitsOutcome};
 ghost use Rattle.route_tree.specs.At.{tree_at};
 ghost use Rattle.route_tree.specs.Word.{Given, Word};
-ghost use Rattle.route_job.specs.Given.{given_of};
+ghost use Rattle.route_job.specs.Given.{given_when_done};
 ghost use Rattle.route_job.specs.Settling.{IsKept, kept_prop};
 
 use crate::done::Done;
@@ -53,7 +53,7 @@ pub enum JobStep<'b> {
 }
 
 impl Job {
-    ghost use Rattle.route_job.specs.Jobs.{Comes, IsBroken, call_of, server_in, IsNext, IsCalling, IsDone, work_of};
+    ghost use Rattle.route_job.specs.Jobs.{Comes, IsBroken, call_of, server_of_pending, IsNext, IsCalling, IsDone, work_of};
 
     /// The command on this tree for this ask: what may come of it are the words of the key's plain tree. The only error:
     /// memory was refused.
@@ -120,7 +120,7 @@ impl Job {
 
     /// The server of the next call, or `None` where the command ended. It takes no memory, and looks at no frame.
     pub fn server(&self) -> Option<ServerId>
-        ensures call { IfSome result (λ server. IsCalling self.now × (server ≡ server_in self.now.pending)) }
+        ensures call { IfSome result (λ server. IsCalling self.now × (server ≡ server_of_pending self.now.pending)) }
         ensures done { IfNone result (IsDone self.now) }
     {
         match &self.pending {
@@ -177,7 +177,7 @@ impl Job {
     /// How the command ended, whose reply alone is moved: what is left is a broken job of this ask. It takes no memory.
     pub fn take_done(&mut self, ask: SharedAsk) -> Done
         requires { IsDone self.old }
-        ensures done { (calls : List CallMade) (given : Given) → Comes self.old calls given ↔ ((calls ≡ []) × (given ≡ given_of result)) }
+        ensures done { (calls : List CallMade) (given : Given) → Comes self.old calls given ↔ ((calls ≡ []) × (given ≡ given_when_done result)) }
         ensures broken { IsBroken self.new }
     {
         self.ask = ask;
@@ -192,7 +192,7 @@ impl Job {
     /// How the command ended.
     pub fn into_done(self) -> Done
         requires { IsDone self }
-        ensures { (calls : List CallMade) (given : Given) → Comes self calls given ↔ ((calls ≡ []) × (given ≡ given_of result)) }
+        ensures { (calls : List CallMade) (given : Given) → Comes self calls given ↔ ((calls ≡ []) × (given ≡ given_when_done result)) }
     {
         let Job {
             ask: _ask,

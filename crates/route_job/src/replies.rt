@@ -3,7 +3,7 @@ ghost use Rattle.std.specs.Prelude.{◌≡◌, ◌≤◌, None, length};
 ghost use Rattle.mc_types.specs.Asks.{data_limit};
 ghost use Rattle.fresh_runs.specs.Single.{reply_of};
 ghost use Rattle.route_tree.specs.Word.{given_by, answer_of_nothing, code_of_nothing, word_of_nothing, failing_reply};
-ghost use Rattle.route_job.specs.Given.{given_of};
+ghost use Rattle.route_job.specs.Given.{given_when_done};
 ghost use Rattle.route_job.specs.Parts.{worse, broken_reply, data_of};
 
 use crate::done::Done;
@@ -12,7 +12,7 @@ use mc_types::{Answer, Code, Dialect, ErrorText, Fields, Op, Outcome, OwnText};
 /// What the call of this number gives: its answer, or an error where it failed.
 pub(crate) fn done_by(b: u64, outcome: Outcome) -> Done
     requires { length (data_of (reply_of outcome)) ≤ data_limit }
-    ensures { given_of result ≡ given_by b outcome }
+    ensures { given_when_done result ≡ given_by b outcome }
 {
     match outcome {
         Outcome::Answered(reply) => {
@@ -58,7 +58,7 @@ fn answer_of_nothing(dialect: Dialect, op: Op) -> Answer
 /// The reply of a server that holds nothing and keeps nothing.
 #[tactic(auto, using(crate::proofs::Asking::nothing_is_short))]
 pub fn null_done(dialect: Dialect, op: Op) -> Done
-    ensures { given_of result ≡ record { reply = answer_of_nothing dialect op; from = None } }
+    ensures { given_when_done result ≡ record { reply = answer_of_nothing dialect op; from = None } }
 {
     Done {
         from: None,
@@ -68,7 +68,7 @@ pub fn null_done(dialect: Dialect, op: Op) -> Done
 
 /// The reply of the route that is an error.
 pub fn failing_done() -> Done
-    ensures { given_of result ≡ failing_reply }
+    ensures { given_when_done result ≡ failing_reply }
 {
     Done {
         from: None,
@@ -78,7 +78,7 @@ pub fn failing_done() -> Done
 
 /// The end of a command that was refused memory.
 pub fn broken_done() -> Done
-    ensures { given_of result ≡ broken_reply }
+    ensures { given_when_done result ≡ broken_reply }
 {
     Done {
         from: None,
@@ -88,7 +88,7 @@ pub fn broken_done() -> Done
 
 /// The first of the two that has the greater rank.
 pub fn worse_of(first: Done, second: Done) -> Done
-    ensures { given_of result ≡ worse (given_of first) (given_of second) }
+    ensures { given_when_done result ≡ worse (given_when_done first) (given_when_done second) }
 {
     if first.reply.rank() < second.reply.rank() {
         second

@@ -7,7 +7,7 @@ ghost use Rattle.mc_types.specs.declared.call.Origin.TheVariants.{CopyOf};
 ghost use Rattle.route_tree.specs.At.{plain_for, plain_for_all};
 ghost use Rattle.route_tree.specs.Plan.{count, count_of_all};
 ghost use Rattle.route_tree.specs.Word.{Word, plain_get, refill, rank, AfterWarm, AfterRefill, Refilled};
-ghost use Rattle.route_job.specs.Given.{given_of};
+ghost use Rattle.route_job.specs.Given.{given_when_done};
 ghost use Rattle.route_job.specs.Parts.{SameAt, WorstWith, AfterAll, AfterFirst, NamesHit};
 ghost use Rattle.route_job.specs.Rest.{AdvanceOf, AfterFrame, NeedsHit};
 ghost use Rattle.route_job.specs.Settling.{IsSure, advance_work, frame_work};
@@ -24,7 +24,7 @@ use std::alloc::{AllocError, Global};
 
 // The next child of an AllSync, or its worst reply.
 fn back_all(rest: Children, worst: Option<Done>, done: Done) -> Result<Advance, AllocError>
-    ensures same { IfOk result (λ advance. (hash : ℕ) (text : List ℕ) (ask : Ask) (origin : Origin) (b : ℕ) → SameAt b (AfterAll (option_map given_of worst) (plain_for_all hash text rest) ask origin (given_of done)) (AdvanceOf hash text advance ask origin)) }
+    ensures same { IfOk result (λ advance. (hash : ℕ) (text : List ℕ) (ask : Ask) (origin : Origin) (b : ℕ) → SameAt b (AfterAll (option_map given_when_done worst) (plain_for_all hash text rest) ask origin (given_when_done done)) (AdvanceOf hash text advance ask origin)) }
     ensures sure { IfOk result (λ advance. (hash : ℕ) (text : List ℕ) (ask : Ask) (origin : Origin) (b : ℕ) → IsSure hash text advance ask origin b) }
     ensures less { IfOk result (λ advance. (hash : ℕ) (text : List ℕ) → advance_work hash text advance ≤ 3 * count_of_all (plain_for_all hash text rest) + 1) }
 {
@@ -37,7 +37,7 @@ fn back_all(rest: Children, worst: Option<Done>, done: Done) -> Result<Advance, 
 
 // The next child of an AllSync, or this reply.
 fn next_of_all(rest: Children, worst: Done) -> Result<Advance, AllocError>
-    ensures same { IfOk result (λ advance. (hash : ℕ) (text : List ℕ) (ask : Ask) (origin : Origin) (b : ℕ) → SameAt b (WorstWith (plain_for_all hash text rest) ask origin (given_of worst)) (AdvanceOf hash text advance ask origin)) }
+    ensures same { IfOk result (λ advance. (hash : ℕ) (text : List ℕ) (ask : Ask) (origin : Origin) (b : ℕ) → SameAt b (WorstWith (plain_for_all hash text rest) ask origin (given_when_done worst)) (AdvanceOf hash text advance ask origin)) }
     ensures sure { IfOk result (λ advance. (hash : ℕ) (text : List ℕ) (ask : Ask) (origin : Origin) (b : ℕ) → IsSure hash text advance ask origin b) }
     ensures less { IfOk result (λ advance. (hash : ℕ) (text : List ℕ) → advance_work hash text advance ≤ 3 * count_of_all (plain_for_all hash text rest) + 1) }
 {
@@ -65,7 +65,7 @@ fn drop_ask(_ask: FormedAsk) {}
 
 // The next child where the reply isn't good enough.
 fn back_first(rest: Children, limit: u8, done: Done) -> Result<Advance, AllocError>
-    ensures same { IfOk result (λ advance. (hash : ℕ) (text : List ℕ) (ask : Ask) (origin : Origin) (b : ℕ) → SameAt b (AfterFirst (plain_for_all hash text rest) limit ask origin (given_of done)) (AdvanceOf hash text advance ask origin)) }
+    ensures same { IfOk result (λ advance. (hash : ℕ) (text : List ℕ) (ask : Ask) (origin : Origin) (b : ℕ) → SameAt b (AfterFirst (plain_for_all hash text rest) limit ask origin (given_when_done done)) (AdvanceOf hash text advance ask origin)) }
     ensures sure { IfOk result (λ advance. (hash : ℕ) (text : List ℕ) (ask : Ask) (origin : Origin) (b : ℕ) → IsSure hash text advance ask origin b) }
     ensures less { IfOk result (λ advance. (hash : ℕ) (text : List ℕ) → advance_work hash text advance ≤ 3 * count_of_all (plain_for_all hash text rest) + 1) }
 {
@@ -93,7 +93,7 @@ fn back_first(rest: Children, limit: u8, done: Done) -> Result<Advance, AllocErr
 
 // Done where the cold side has it, else the warm side.
 fn back_cold(alloc: Global, ask: &Ask, sides: Sides, first: Done) -> Result<Advance, AllocError>
-    ensures same { IfOk result (λ advance. (hash : ℕ) (text : List ℕ) (origin : Origin) (b : ℕ) → SameAt b (AfterFrame hash text (Cold sides) ask.now origin (given_of first)) (AdvanceOf hash text advance ask.now origin)) }
+    ensures same { IfOk result (λ advance. (hash : ℕ) (text : List ℕ) (origin : Origin) (b : ℕ) → SameAt b (AfterFrame hash text (Cold sides) ask.now origin (given_when_done first)) (AdvanceOf hash text advance ask.now origin)) }
     ensures sure { IfOk result (λ advance. (hash : ℕ) (text : List ℕ) (origin : Origin) (b : ℕ) → IsSure hash text advance ask.now origin b) }
     ensures less { IfOk result (λ advance. (hash : ℕ) (text : List ℕ) → advance_work hash text advance ≤ frame_work hash text (Cold sides)) }
 {
@@ -120,7 +120,7 @@ fn back_warm(
     first: Done,
     from_warm: Done,
 ) -> Result<Advance, AllocError>
-    ensures same { IfOk result (λ advance. (hash : ℕ) (text : List ℕ) (origin : Origin) (b : ℕ) → NamesHit (given_of from_warm) → SameAt b (AfterWarm ask.now (Word (plain_for hash text sides.cold) ask.now origin) (Word (plain_for hash text sides.warm) (plain_get ask.now) origin) (λ hit w. Word (plain_for hash text sides.cold) (refill ask.now hit sides.exptime) (CopyOf w)) (given_of first) (given_of from_warm) (rank (given_of from_warm))) (AdvanceOf hash text advance ask.now origin)) }
+    ensures same { IfOk result (λ advance. (hash : ℕ) (text : List ℕ) (origin : Origin) (b : ℕ) → NamesHit (given_when_done from_warm) → SameAt b (AfterWarm ask.now (Word (plain_for hash text sides.cold) ask.now origin) (Word (plain_for hash text sides.warm) (plain_get ask.now) origin) (λ hit w. Word (plain_for hash text sides.cold) (refill ask.now hit sides.exptime) (CopyOf w)) (given_when_done first) (given_when_done from_warm) (rank (given_when_done from_warm))) (AdvanceOf hash text advance ask.now origin)) }
     ensures sure { IfOk result (λ advance. (hash : ℕ) (text : List ℕ) (origin : Origin) (b : ℕ) → IsSure hash text advance ask.now origin b) }
     ensures less { IfOk result (λ advance. (hash : ℕ) (text : List ℕ) → advance_work hash text advance ≤ 6 * count (plain_for hash text sides.cold) + 2) }
 {
@@ -154,7 +154,7 @@ fn refill_frame(
     from_warm: Done,
     from: u64,
 ) -> Result<Advance, AllocError>
-    ensures same { IfOk result (λ advance. (hash : ℕ) (text : List ℕ) (origin : Origin) (b : ℕ) → SameAt b (Refilled ask.now (Word (plain_for hash text sides.cold) ask.now origin) (Word (plain_for hash text sides.warm) (plain_get ask.now) origin) (λ hit w. Word (plain_for hash text sides.cold) (refill ask.now hit sides.exptime) (CopyOf w)) (given_of from_warm) (Some from)) (AdvanceOf hash text advance ask.now origin)) }
+    ensures same { IfOk result (λ advance. (hash : ℕ) (text : List ℕ) (origin : Origin) (b : ℕ) → SameAt b (Refilled ask.now (Word (plain_for hash text sides.cold) ask.now origin) (Word (plain_for hash text sides.warm) (plain_get ask.now) origin) (λ hit w. Word (plain_for hash text sides.cold) (refill ask.now hit sides.exptime) (CopyOf w)) (given_when_done from_warm) (Some from)) (AdvanceOf hash text advance ask.now origin)) }
     ensures sure { IfOk result (λ advance. (hash : ℕ) (text : List ℕ) (origin : Origin) (b : ℕ) → IsSure hash text advance ask.now origin b) }
     ensures less { IfOk result (λ advance. (hash : ℕ) (text : List ℕ) → advance_work hash text advance ≤ 6 * count (plain_for hash text sides.cold) + 1) }
 {
@@ -174,7 +174,7 @@ fn refill_frame(
 
 // A classic get is answered from the warm side, another asks the cold side again.
 fn back_refill(ask: &Ask, sides: Sides, from_warm: Done) -> Advance
-    ensures same { (hash : ℕ) (text : List ℕ) (origin : Origin) (b : ℕ) → SameAt b (AfterRefill ask.now (Word (plain_for hash text sides.cold) ask.now origin) (Word (plain_for hash text sides.warm) (plain_get ask.now) origin) (λ hit w. Word (plain_for hash text sides.cold) (refill ask.now hit sides.exptime) (CopyOf w)) (given_of from_warm)) (AdvanceOf hash text result ask.now origin) }
+    ensures same { (hash : ℕ) (text : List ℕ) (origin : Origin) (b : ℕ) → SameAt b (AfterRefill ask.now (Word (plain_for hash text sides.cold) ask.now origin) (Word (plain_for hash text sides.warm) (plain_get ask.now) origin) (λ hit w. Word (plain_for hash text sides.cold) (refill ask.now hit sides.exptime) (CopyOf w)) (given_when_done from_warm)) (AdvanceOf hash text result ask.now origin) }
     ensures sure { (hash : ℕ) (text : List ℕ) (origin : Origin) (b : ℕ) → IsSure hash text result ask.now origin b }
     ensures less { (hash : ℕ) (text : List ℕ) → advance_work hash text result ≤ 3 * count (plain_for hash text sides.cold) + 1 }
 {
@@ -193,7 +193,7 @@ fn back_refill(ask: &Ask, sides: Sides, from_warm: Done) -> Advance
 
 /// What the frame goes on with when a child of it gave this.
 pub fn back(alloc: Global, ask: &Ask, frame: Frame, done: Done) -> Result<Advance, AllocError>
-    ensures same { IfOk result (λ advance. (hash : ℕ) (text : List ℕ) (origin : Origin) (b : ℕ) → NeedsHit frame (given_of done) → SameAt b (AfterFrame hash text frame ask.now origin (given_of done)) (AdvanceOf hash text advance ask.now origin)) }
+    ensures same { IfOk result (λ advance. (hash : ℕ) (text : List ℕ) (origin : Origin) (b : ℕ) → NeedsHit frame (given_when_done done) → SameAt b (AfterFrame hash text frame ask.now origin (given_when_done done)) (AdvanceOf hash text advance ask.now origin)) }
     ensures sure { IfOk result (λ advance. (hash : ℕ) (text : List ℕ) (origin : Origin) (b : ℕ) → IsSure hash text advance ask.now origin b) }
     ensures less { IfOk result (λ advance. (hash : ℕ) (text : List ℕ) → advance_work hash text advance ≤ frame_work hash text frame) }
 {

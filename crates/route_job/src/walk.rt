@@ -1,7 +1,7 @@
 //! A command goes from route to route until a call is next or the whole has its reply.
 ghost use Rattle.std.specs.Prelude.{◌≡◌, ◌+◌, ◌≤◌, ℕ, List, [], ◌∷◌, ◌++◌, IfOk};
 ghost use Rattle.route_job.specs.Rest.{ask_in, origin_in, ask_under, origin_under};
-ghost use Rattle.route_job.specs.Settling.{put_down, Leads, IsAtRest, frames_work, pending_work};
+ghost use Rattle.route_job.specs.Settling.{put_down, FramesLead, IsAtRest, frames_work, pending_work};
 ghost use Rattle.route_job.specs.declared.frame.Pending.TheVariants.{Enter, Back};
 
 use crate::done::Done;
@@ -70,7 +70,7 @@ fn go_in(
     frames: &mut Vec<Frame>,
     tree: Tree,
 ) -> Result<Pending, AllocError>
-    ensures leads { IfOk result (λ pending. (b : ℕ) → Leads hash ask.now.key b ask.now frames.old.items (Enter tree) frames.new.items pending) }
+    ensures leads { IfOk result (λ pending. (b : ℕ) → FramesLead hash ask.now.key b ask.now frames.old.items (Enter tree) frames.new.items pending) }
     ensures less { IfOk result (λ pending. frames_work hash ask.now.key frames.new.items + pending_work hash ask.now.key pending + 1 ≤ frames_work hash ask.now.key frames.old.items + pending_work hash ask.now.key (Enter tree)) }
 {
     let advance = enter(
@@ -92,7 +92,7 @@ fn go_back(
     frame: Frame,
     done: Done,
 ) -> Result<Pending, AllocError>
-    ensures leads { IfOk result (λ pending. (hash : ℕ) (text : List ℕ) (b : ℕ) → Leads hash text b ask.now (frames.old.items ++ frame ∷ []) (Back done) frames.new.items pending) }
+    ensures leads { IfOk result (λ pending. (hash : ℕ) (text : List ℕ) (b : ℕ) → FramesLead hash text b ask.now (frames.old.items ++ frame ∷ []) (Back done) frames.new.items pending) }
     ensures less { IfOk result (λ pending. (hash : ℕ) (text : List ℕ) → frames_work hash text frames.new.items + pending_work hash text pending + 1 ≤ frames_work hash text (frames.old.items ++ frame ∷ []) + pending_work hash text (Back done)) }
 {
     let advance = back(alloc, ask_under(frames.as_slice(), ask).get(), frame, done)?;
@@ -109,7 +109,7 @@ pub fn settle(
     frames: &mut Vec<Frame>,
     pending: Pending,
 ) -> Result<Pending, AllocError>
-    ensures leads { IfOk result (λ next. (b : ℕ) → Leads hash ask.now.key b ask.now frames.old.items pending frames.new.items next) }
+    ensures leads { IfOk result (λ next. (b : ℕ) → FramesLead hash ask.now.key b ask.now frames.old.items pending frames.new.items next) }
     ensures rests { IfOk result (λ next. IsAtRest frames.new.items next) }
     ensures less { IfOk result (λ next. frames_work hash ask.now.key frames.new.items + pending_work hash ask.now.key next ≤ frames_work hash ask.now.key frames.old.items + pending_work hash ask.now.key pending) }
 {

@@ -26,15 +26,15 @@ use Rattle.script_events.specs.Scripted.{Scripted, Piece, Add, Result as Results
 use Rattle.script_events.specs.Servers.{turn_of, AreNewServers}
 use Rattle.script_events.specs.declared.servers.servers.ScriptServers.{ScriptServers}
 use Rattle.script_run.specs.Laws.{StandingSays}
-use Rattle.script_run.specs.Results.{CallResult, AreTold}
+use Rattle.script_run.specs.Results.{CallResult, ResultsAreTold}
 use Rattle.script_run.specs.Standing.{Kept, story_of, GoesOn, GoesOnFed, tree_by}
 use Rattle.script_run.proofs.Told.{has_calls, has_calls_by, no_result, none_told}
 use Rattle.script_run.specs.Breaking.{AreSpent, IsWithinOne, StopsAfter, StopsFed}
 use Rattle.script_run.specs.Running.{kept_of, AreOfOne, AreAskedYet, Stays, MovesFed, MovesByResults}
 use Rattle.script_run.specs.declared.driver.runner.Runner.{Runner}
 use Rattle.script_run.proofs.Breaking.{begun_spent}
-use Rattle.script_run.specs.Driving.{said_by, said_in, handed, AreThrough, HasNoResult, BringsSome, AreSteps, AreOutputs, IsStepPart, AreMarked, HaveMade, HasWorldOf, RunsBy, StepsPart, AreSpentIn, EndsStepped}
-use Rattle.script_run.specs.World.{Changes, lost_now, World}
+use Rattle.script_run.specs.Driving.{event_bytes, said_in, handed, AreThrough, HasNoResult, BringsSome, AreSteps, AreOutputs, IsStepPart, AreMarked, HaveMade, HasWorldOf, RunsBy, StepsPart, AreSpentIn, EndsStepped}
+use Rattle.script_run.specs.World.{EventChanges, lost_now, World}
 use Rattle.script_run.specs.Stepping.{HasCalls, HasStory, FedBy, AreFit, AreAskedBy, GoesOnInPart, FedInPart, Befalls, BreaksOff, HandsSome, AddsRising, HasCome, HasStood, Loads, LoadsInPart, LoadsSome, StopsPart}
 use Rattle.script_run.proofs.Direct.{fresh_if_direct}
 use Rattle.script_run.proofs.Come.{turn_on, come_on, come_ended, come_some, given_none, handed_none}
@@ -98,7 +98,7 @@ cut_by false bytes said unsaid is = refl
 
 -- one client said a beginning of the event's bytes
 abbrev in_part :
-    (event : Scripted) (client : ℕ) (bytes said unsaid : List ℕ) → ((c : ℕ) → said_by event c ≡ cond (nat_eq client c) bytes []) → bytes ≡ said ++ unsaid
+    (event : Scripted) (client : ℕ) (bytes said unsaid : List ℕ) → ((c : ℕ) → event_bytes event c ≡ cond (nat_eq client c) bytes []) → bytes ≡ said ++ unsaid
     → (opening : ℕ → List ℕ → Option Item) (tree : ℕ → Route) (log : List (Entry dialect)) (k : Kept) → (g : GoesOnFed opening tree log client said k) → GoesOnInPart opening tree log event k
 in_part event client bytes said unsaid says cut opening tree log k g =
     record {
@@ -145,7 +145,7 @@ add_breaks client bytes a s fault h =
 
 -- nothing was to be said
 abbrev in_quiet :
-    (event : Scripted) → ((c : ℕ) → said_by event c ≡ []) → (opening : ℕ → List ℕ → Option Item) (tree : ℕ → Route) (log : List (Entry dialect)) (k : Kept) → (g : GoesOn opening tree log k) → GoesOnInPart opening tree log event k
+    (event : Scripted) → ((c : ℕ) → event_bytes event c ≡ []) → (opening : ℕ → List ℕ → Option Item) (tree : ℕ → Route) (log : List (Entry dialect)) (k : Kept) → (g : GoesOn opening tree log k) → GoesOnInPart opening tree log event k
 in_quiet event says opening tree log k g =
     record { more = g.more; stands = g.stands; said = λ c. []; unsaid = λ c. []; cut = says; streams = λ c. g.streams c ∙ sym (append-nil (stream_of log c)); given = g.given }
 
@@ -179,7 +179,7 @@ nothing_breaks event fit a s t fault same spent =
       come = inl refl;
       fit = fit;
       asked = inl refl;
-      goes = λ opening tree log stands. (record { more = []; stands = stands; said = λ c. []; unsaid = λ c. said_by event c; cut = λ c. refl; streams = λ c. sym (append-nil (stream_of log c)); given = λ c. refl }, (refl, refl));
+      goes = λ opening tree log stands. (record { more = []; stands = stands; said = λ c. []; unsaid = λ c. event_bytes event c; cut = λ c. refl; streams = λ c. sym (append-nil (stream_of log c)); given = λ c. refl }, (refl, refl));
       within = inl same;
       spent = spent;
     }
@@ -297,7 +297,7 @@ module _ (first : Route) (refused : List Bool) (reloads : List Reload) (events :
           streams = λ c. record {
             said = g.said c;
             unsaid = g.unsaid c;
-            cut = append-nil (said_by event c) ∙ g.cut c;
+            cut = append-nil (event_bytes event c) ∙ g.cut c;
             stream = g.streams c ∙ ap (λ xs. xs ++ g.said c) (append_cancel_right (stream_of log c) (said_in done c) (said_in (event ∷ left) c) (sym (h.come.streams c) ∙ ap (λ l. said_in l c) h.come.done_is ∙ said_append done (event ∷ left) c));
           };
           given_is = λ c. g.given c ∙ h.come.given_is c;
@@ -326,14 +326,14 @@ module _ (first : Route) (refused : List Bool) (reloads : List Reload) (events :
       brings more (inl none) calls = inl (none_had m.results more h.come.log none calls)
       brings more (inr asked) calls = inr (brought_some event m.results a s (opening_of events) (tree_by first h.come.loads) more h.come.log h.come.stands m.fit asked calls)
 
-      by : (more : List (Entry dialect)) → (m.results ≡ []) ⊎ (Changes event s s × (lost_now event ≡ [])) → HasStory m.results s m.at more h.come.log → AreHeld events (more ++ h.come.log) m.at → HasWorldOf events h.come.done (event ∷ []) (more ++ h.come.log)
+      by : (more : List (Entry dialect)) → (m.results ≡ []) ⊎ (EventChanges event s s × (lost_now event ≡ [])) → HasStory m.results s m.at more h.come.log → AreHeld events (more ++ h.come.log) m.at → HasWorldOf events h.come.done (event ∷ []) (more ++ h.come.log)
       by more (inl none) told held =
           let same = subst (λ (rs : List CallResult). HasStory rs s m.at more h.come.log) none told in
           (s, inl (world_stays events h.come.done h.come.log more s h.come.world same.1 (subst (AreHeld events (more ++ h.come.log)) same.0 held)))
       by more (inr here) told held = (
         m.at,
         inr (world_next events h.come.done h.come.log more event m.results s s m.at h.come.world here.0 m.fit
-            (subst (λ (l : List Past). AreTold m.results s m.at (l ++ story_of (run_of h.come.log)) (story_of (run_of (more ++ h.come.log)))) (sym here.1) told) held),
+            (subst (λ (l : List Past). ResultsAreTold m.results s m.at (l ++ story_of (run_of h.come.log)) (story_of (run_of (more ++ h.come.log)))) (sym here.1) told) held),
       )
 
   -- an event was done, and not all could be handed out

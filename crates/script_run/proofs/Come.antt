@@ -27,7 +27,7 @@ use Rattle.script_run.specs.Standing.{Kept, Stands, tree_by}
 use Rattle.script_run.specs.Laws.{NothingStands, IsBegin}
 use Rattle.script_run.specs.Running.{kept_of, MovesByResults}
 use Rattle.script_run.specs.declared.driver.runner.Runner.{Runner}
-use Rattle.script_run.specs.Driving.{said_by, said_in, shown_to, AreHandedInTurn, IsReached, CameSo, CameInTurn, AreMarks}
+use Rattle.script_run.specs.Driving.{event_bytes, said_in, shown_to, AreHandedInTurn, IsReached, CameSo, CameInTurn, AreMarks}
 use Rattle.script_run.specs.Holding.{put_all_on}
 use Rattle.script_run.specs.Stepping.{Befalls, HandsOut, HandsSome, HasCome, IsDue}
 use Rattle.script_run.proofs.Held.{held_new, opened_new}
@@ -39,7 +39,7 @@ use Rattle.script_run.proofs.Steps.{handed_on}
 pub said_split : (n : ℕ) (events : List Scripted) (c : ℕ) → said_in events c ≡ said_in (take n events) c ++ said_in (drop n events) c
 said_split zero events c = refl
 said_split (suc n) [] c = refl
-said_split (suc n) (event ∷ events) c = ap (λ xs. said_by event c ++ xs) (said_split n events c) ∙ sym (append_assoc (said_by event c) (said_in (take n events) c) (said_in (drop n events) c))
+said_split (suc n) (event ∷ events) c = ap (λ xs. event_bytes event c ++ xs) (said_split n events c) ∙ sym (append_assoc (event_bytes event c) (said_in (take n events) c) (said_in (drop n events) c))
 
 -- what a longer log keeps
 pub reached_on : (more log : List (Entry dialect)) (events : List Scripted) (place begun : ℕ) → IsReached log events place begun → IsReached (more ++ log) events place begun
@@ -77,7 +77,7 @@ module _ (first : Route) (refused : List Bool) (reloads : List Reload) (events :
         loads_are = h.loads_are;
         in_turn = turn_on refused reloads events g.more h.log loaded h.loads h.in_turn;
         stands = g.stands;
-        streams = λ c. h.streams c ∙ sym (append_assoc (stream_of h.log c) (said_by event c) (said_in left c)) ∙ ap (λ xs. xs ++ said_in left c) (sym (g.streams c));
+        streams = λ c. h.streams c ∙ sym (append_assoc (stream_of h.log c) (event_bytes event c) (said_in left c)) ∙ ap (λ xs. xs ++ said_in left c) (sym (g.streams c));
         given_is = λ c. g.given c ∙ h.given_is c;
         order = handed_on given g.more h.log h.order;
         done = h.done ++ event ∷ [];

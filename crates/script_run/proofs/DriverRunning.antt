@@ -24,15 +24,15 @@ use Rattle.script_events.specs.declared.servers.event.Made.{Made}
 use Rattle.script_events.specs.Calling.{Ends}
 use Rattle.script_events.specs.Servers.{Answers}
 use Rattle.script_events.specs.declared.servers.servers.ScriptServers.{ScriptServers}
-use Rattle.script_run.specs.Standing.{Kept, calls_at, story_of, Stands, GoesOn, GoesOnFed, IsBesides}
-use Rattle.script_run.specs.Results.{CallResult, AreOfFirst, NumberedCall, call_of, calls_of, AreGiven, GoesOnWith}
+use Rattle.script_run.specs.Standing.{Kept, log_calls_at, story_of, Stands, GoesOn, GoesOnFed, IsBesides}
+use Rattle.script_run.specs.Results.{CallResult, AreOfFirst, NumberedCall, call_of_result, calls_of, AreGiven, GoesOnWith}
 use Rattle.script_run.proofs.Told.{has_calls, none_told, same_then, story_then, story_before}
 use Rattle.script_run.proofs.Outs.{called_is_out}
 use Rattle.script_run.specs.Laws.{CountsPoll, PollsGoOn, ResultsGoOn, LoadsGoOn}
-use Rattle.script_run.specs.Counting.{last_of}
+use Rattle.script_run.specs.Counting.{last_delete_of}
 use Rattle.script_run.specs.Finding.{found_of}
 use Rattle.script_run.specs.Running.{kept_of, Moves, MovesBy, MovesByOne, MovesAt, MovesByResults, MovesFed, IsLoadedBy}
-use Rattle.script_run.specs.Turns.{TakesFirst, IsLeast, IsNextResult, AreInTurn, MovesInTurn}
+use Rattle.script_run.specs.Turns.{TakesFirst, IsLeast, IsNextResult, AreNextResults, MovesInTurn}
 use Rattle.script_run.specs.declared.driver.found.FoundStamps.{FoundStamps}
 use Rattle.script_run.specs.declared.driver.runner.Runner.{Runner}
 use Rattle.script_run.proofs.Firsts.{out_call, left_out, is_there_one, none_below}
@@ -234,7 +234,7 @@ resulted law server ask origin made stamp ticket old a b room s t takes called s
               refl,
               record {
                 server_is = refl;
-                call_is = is_taken number (out_call ticket) (calls_at server a.out.items) (out_of log server) (record { number = number; ask = ask; origin = origin }) tickets refl (called_is_out opening tree log (kept_of old s) stands number server ask origin of_core);
+                call_is = is_taken number (out_call ticket) (log_calls_at server a.out.items) (out_of log server) (record { number = number; ask = ask; origin = origin }) tickets refl (called_is_out opening tree log (kept_of old s) stands number server ask origin of_core);
               },
             );
       },
@@ -251,8 +251,8 @@ resulted law server ask origin made stamp ticket old a b room s t takes called s
               caches_are = refl;
               turn_is = refl;
               stamps = λ n. found n ∙ ap (λ f. cond (nat_eq number n) (f ++ made.stamp ∷ []) f) (was n);
-              counts = record { commands = ap (λ c. c.tally.commands) counted; stale = ap (λ c. c.tally.stale) counted; last = λ key. ap (λ c. last_of c key) counted };
-              out = λ n. ap (λ v. calls_at n v.items) out ∙ left_out server ticket old a takes n;
+              counts = record { commands = ap (λ c. c.tally.commands) counted; stale = ap (λ c. c.tally.stale) counted; last = λ key. ap (λ c. last_delete_of c key) counted };
+              out = λ n. ap (λ v. log_calls_at n v.items) out ∙ left_out server ticket old a takes n;
             }
             ) in
             record { goes = p.0; told = (s, story_of (run_of log), (refl, refl), by, rest, p.1) };
@@ -260,7 +260,7 @@ resulted law server ask origin made stamp ticket old a b room s t takes called s
     )
 
 -- none was out at a server
-pub none_asked : (server : ℕ) (a b : Runner) (s : ScriptServers) → b ≡ a → calls_at server a.out.items ≡ [] → MovesAt server a s b s
+pub none_asked : (server : ℕ) (a b : Runner) (s : ScriptServers) → b ≡ a → log_calls_at server a.out.items ≡ [] → MovesAt server a s b s
 none_asked server a b s stayed none = (
   [],
   record { one = tt; first = λ opening tree log stands. subst (λ (ts : List LogTicket). AreOfFirst server ts []) (sym (stands.out server ∙ none)) refl },
@@ -270,21 +270,21 @@ none_asked server a b s stayed none = (
 -- ---- results in their turn
 
 -- what a longer log keeps
-pub in_turn_on : (rs : List CallResult) (newer more log : List (Entry dialect)) → AreInTurn rs more log → AreInTurn rs (newer ++ more) log
+pub in_turn_on : (rs : List CallResult) (newer more log : List (Entry dialect)) → AreNextResults rs more log → AreNextResults rs (newer ++ more) log
 in_turn_on [] newer more log h = tt
 in_turn_on (r ∷ rs) newer more log h = (newer ++ h.0, h.1, ap (λ l. newer ++ l) h.2 ∙ sym (append_assoc newer h.0 h.1), h.3, h.4, h.5)
 
 pub in_turn_then :
-    (later first : List CallResult) (more front log : List (Entry dialect)) → calls_of (run_of (front ++ log)) ≡ map call_of first ++ calls_of (run_of log) → AreInTurn later more (front ++ log) → AreInTurn first front log
-    → AreInTurn (later ++ first) (more ++ front) log
+    (later first : List CallResult) (more front log : List (Entry dialect)) → calls_of (run_of (front ++ log)) ≡ map call_of_result first ++ calls_of (run_of log) → AreNextResults later more (front ++ log) → AreNextResults first front log
+    → AreNextResults (later ++ first) (more ++ front) log
 in_turn_then [] first more front log had h g = in_turn_on first more front log g
 in_turn_then (r ∷ later) first more front log had h g =
     let joined = append_assoc h.1 front log in (
       h.0,
       h.1 ++ front,
       ap (λ l. l ++ front) h.2 ∙ append_assoc h.0 h.1 front,
-      ap (λ es. calls_of (run_of es)) joined ∙ h.3 ∙ ap (λ (cs : List NumberedCall). map call_of later ++ cs) had ∙ sym (append_assoc (map call_of later) (map call_of first) (calls_of (run_of log)))
-          ∙ ap (λ (cs : List NumberedCall). cs ++ calls_of (run_of log)) (sym (map-append call_of later first)),
+      ap (λ es. calls_of (run_of es)) joined ∙ h.3 ∙ ap (λ (cs : List NumberedCall). map call_of_result later ++ cs) had ∙ sym (append_assoc (map call_of_result later) (map call_of_result first) (calls_of (run_of log)))
+          ∙ ap (λ (cs : List NumberedCall). cs ++ calls_of (run_of log)) (sym (map-append call_of_result later first)),
       subst (IsNextResult r) (sym joined) h.4,
       in_turn_then later first h.1 front log had h.5 g,
     )
@@ -317,12 +317,12 @@ turns_given server a b s t least m = record { results = m.0; moves = m.2; in_tur
   where
     by :
         (opening : ℕ → List ℕ → Option Item) (tree : ℕ → Route) (log : List (Entry dialect)) → Stands opening tree log (kept_of a s) → (more : List (Entry dialect)) (calls : List LogTicket) → out_of log server ≡ calls → AreOfFirst server calls m.0
-        → AreInTurn m.0 more log
+        → AreNextResults m.0 more log
     by opening tree log stands more [] is of = absurd (is_there_one server a.out.items least.0 (sym (stands.out server) ∙ is))
     by opening tree log stands more (call ∷ calls) is of =
         let r = of.0 in
         let at = of.2.server_is in
-        subst (λ (rs : List CallResult). AreInTurn rs more log) (sym of.1) (
+        subst (λ (rs : List CallResult). AreNextResults rs more log) (sym of.1) (
           more,
           [],
           sym (append-nil more),

@@ -20,7 +20,7 @@ use Rattle.core_proxy.specs.CoreState.{dialect, nothing_beside, state_of, IsTake
 use Rattle.core_proxy.specs.Faults.{script_limits}
 use Rattle.core_proxy.specs.declared.limits.CoreLimits.{CoreLimits}
 use Rattle.core_commands.specs.declared.sharing.Sharing.TheVariants.{Alone}
-use Rattle.script_run.specs.Standing.{Kept, tree_by, calls_at, Stands, IsBesides}
+use Rattle.script_run.specs.Standing.{Kept, tree_by, log_calls_at, Stands, IsBesides}
 use Rattle.script_run.specs.Laws.{IsBegin, Says}
 use Rattle.wire_stream.specs.Version.{default_version}
 
@@ -41,7 +41,7 @@ stands_new tree k begin =
       loses = tt;
       holds = λ s key. refl;
       turn = sym begin.turn;
-      out = λ s. ap (calls_at s) (sym begin.out);
+      out = λ s. ap (log_calls_at s) (sym begin.out);
       known = λ n o own. absurd (cc);
       unknown = λ n lt. begin.stamps n;
       commands = begin.commands;
@@ -89,7 +89,7 @@ stands_loaded opening first loads log tree old new s step rest =
       loses = s.loses;
       holds = λ a key. s.holds a key ∙ ap (λ c. held_at c a key) (sym rest.servers.caches);
       turn = s.turn ∙ sym rest.servers.turn;
-      out = λ a. s.out a ∙ ap (calls_at a) (sym rest.out);
+      out = λ a. s.out a ∙ ap (log_calls_at a) (sym rest.out);
       known = λ n o own. subst (λ st. AreFound (calls_so_far (run_of log) n) (s.beside.found n) st) (sym (rest.found n)) (s.known n o own);
       unknown = λ n lt. rest.found n ∙ s.unknown n (subst (λ (m : ℕ). m < n) (ap (λ x. x.number) step.core_is) lt);
       commands = rest.counts.commands ∙ s.commands;

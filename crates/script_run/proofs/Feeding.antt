@@ -7,7 +7,7 @@ use Rattle.script_events.specs.Found.{AreFound}
 use Rattle.script_events.specs.Caches.{held_at}
 use Rattle.route_tree.specs.Word.{tree_words}
 use Rattle.core_proxy.specs.CoreState.{dialect, bars_of, state_of, FeedsOpen, GoesByOne}
-use Rattle.script_run.specs.Standing.{calls_at}
+use Rattle.script_run.specs.Standing.{log_calls_at}
 use Rattle.script_run.specs.Laws.{FeedsGoOn}
 use Rattle.script_run.proofs.PollsEntries.{same_words}
 
@@ -34,7 +34,7 @@ feeds_go_on opening tree log client bytes old new stands step rest =
           loses = stands.loses;
           holds = λ s key. ap (λ h. h s key) same.holds ∙ stands.holds s key ∙ sym (ap (λ c. held_at c s key) rest.servers.caches);
           turn = same.turn ∙ stands.turn ∙ sym rest.servers.turn;
-          out = λ s. stands.out s ∙ ap (calls_at s) (sym rest.out);
+          out = λ s. stands.out s ∙ ap (log_calls_at s) (sym rest.out);
           known = λ n o e.
               subst (λ f. AreFound (calls_so_far (run_of log) n) (f n) (new.stamps n)) (sym same.found)
               (subst (λ st. AreFound (calls_so_far (run_of log) n) (stands.beside.found n) st) (sym (rest.found n)) (stands.known n o e));

@@ -9,7 +9,7 @@ use Rattle.script_events.specs.Reloads.{tree_after}
 use Rattle.script_events.specs.Reloads as reloads
 use Rattle.script_run.specs.declared.accepted.judging.Loading.{Loading}
 use Rattle.script_run.specs.declared.accepted.judging.Loading.TheVariants.{Loaded, Refused}
-use Rattle.script_run.specs.Reloads.{is_refused}
+use Rattle.script_run.specs.Reloads.{loading_is_refused}
 
 last_is : (configs : List Configuration) (c : Configuration) → slice_get (configs ++ c ∷ []) (length configs) ≡ Some c
 last_is [] c = refl
@@ -20,8 +20,8 @@ last_of_more configs c = let e = length-append configs (c ∷ []) in let at : le
 
 -- ---- answers in order
 
-pub refused_more : (ls : List Loading) (i : ℕ) (l : Loading) → i < length ls → l ≡ get_or ls i l → map is_refused (take (i + 1) ls) ≡ map is_refused (take i ls) ++ is_refused l ∷ []
-refused_more ls i l lt is = ap (map is_refused) (take_more ls i l lt ∙ ap (λ (x : Loading). take i ls ++ x ∷ []) (sym is)) ∙ map-append is_refused (take i ls) (l ∷ [])
+pub refused_more : (ls : List Loading) (i : ℕ) (l : Loading) → i < length ls → l ≡ get_or ls i l → map loading_is_refused (take (i + 1) ls) ≡ map loading_is_refused (take i ls) ++ loading_is_refused l ∷ []
+refused_more ls i l lt is = ap (map loading_is_refused) (take_more ls i l lt ∙ ap (λ (x : Loading). take i ls ++ x ∷ []) (sym is)) ∙ map-append loading_is_refused (take i ls) (l ∷ [])
 
 -- how many of the first so many were accepted
 abbrev pub accepted_in : List Loading → ℕ → ℕ

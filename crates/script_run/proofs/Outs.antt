@@ -7,7 +7,7 @@ use Rattle.mc_types.specs.Items.{Item}
 use Rattle.fresh_runs.specs.Overlap.{Entry, Ticket as LogTicket, ticket_in, out_of}
 use Rattle.script_events.proofs.Places.{same}
 use Rattle.route_tree.specs.Route.{Route}
-use Rattle.route_job.specs.Jobs.{server_in}
+use Rattle.route_job.specs.Jobs.{server_of_pending}
 use Rattle.route_job.specs.Rest.{ask_under, origin_under}
 use Rattle.core_commands.specs.declared.command.Command.{Command}
 use Rattle.core_proxy.specs.CoreState.{dialect, has_call_out, ticket_by}
@@ -16,11 +16,11 @@ use Rattle.script_run.specs.Standing.{Kept, Stands}
 
 -- the ticket of a command at the server of its call
 ticket_is :
-    (a : Command) (number server : ℕ) (ask : Ask) (origin : Origin) → has_call_out a ≡ true → server ≡ server_in a.job.pending → ask ≡ ask_under a.job.frames.items a.job.ask → origin ≡ origin_under a.job.frames.items OfClient
+    (a : Command) (number server : ℕ) (ask : Ask) (origin : Origin) → has_call_out a ≡ true → server ≡ server_of_pending a.job.pending → ask ≡ ask_under a.job.frames.items a.job.ask → origin ≡ origin_under a.job.frames.items OfClient
     → ticket_by (Some a) number server ≡ Some (record { number = number; ask = ask; origin = origin })
 ticket_is a number server ask origin out server_is ask_is origin_is =
     let own : LogTicket = record { number = number; ask = ask_under a.job.frames.items a.job.ask; origin = origin_under a.job.frames.items OfClient } in
-    ap (λ (b : Bool). cond b (cond (nat_eq (server_in a.job.pending) server) (Some own) None) None) out
+    ap (λ (b : Bool). cond b (cond (nat_eq (server_of_pending a.job.pending) server) (Some own) None) None) out
     ∙ ap (λ (s : ℕ). cond (nat_eq s server) (Some own) None) (sym server_is)
     ∙ ap (λ (b : Bool). cond b (Some own) None) (same server)
     ∙ ap (λ (x : Ask). Some (record { number = number; ask = x; origin = own.origin })) (sym ask_is)

@@ -26,7 +26,7 @@ use Rattle.route_tree.proofs.Showing.{replies_show_what_was_found}
 use Rattle.core_commands.specs.declared.ticket.Ticket.{Ticket}
 use Rattle.core_proxy.specs.CoreState.{dialect}
 use Rattle.core_proxy.specs.declared.note.Note.{Note}
-use Rattle.script_run.specs.Standing.{Kept, calls_at, replied_in, broken_in, HasSameStory, IsBesides}
+use Rattle.script_run.specs.Standing.{Kept, log_calls_at, replies_in_run, broken_in, HasSameStory, IsBesides}
 use Rattle.script_run.specs.Laws.{is_as_old, stamp_shown, CountsOne, SendsOne}
 
 -- ---- small facts
@@ -77,10 +77,10 @@ as_old_is (Some n) None = refl
 as_old_is (Some n) (Some item) = refl
 
 -- one more call, which is out at its server
-pub out_more : (s : ℕ) (tickets : List Ticket) (t : Ticket) → calls_at s (tickets ++ t ∷ []) ≡ cond (nat_eq t.server s) (calls_at s tickets ++ record { number = t.number; ask = t.ask; origin = t.origin } ∷ []) (calls_at s tickets)
+pub out_more : (s : ℕ) (tickets : List Ticket) (t : Ticket) → log_calls_at s (tickets ++ t ∷ []) ≡ cond (nat_eq t.server s) (log_calls_at s tickets ++ record { number = t.number; ask = t.ask; origin = t.origin } ∷ []) (log_calls_at s tickets)
 out_more s [] t = refl
 out_more s (u ∷ tickets) t =
-    ap (λ (ts : List LogTicket). cond (nat_eq u.server s) (one u ∷ ts) ts) (out_more s tickets t) ∙ by (nat_eq u.server s) (nat_eq t.server s) (one u) (one t) (calls_at s tickets)
+    ap (λ (ts : List LogTicket). cond (nat_eq u.server s) (one u ∷ ts) ts) (out_more s tickets t) ∙ by (nat_eq u.server s) (nat_eq t.server s) (one u) (one t) (log_calls_at s tickets)
   where
     one : Ticket → LogTicket
     one v = record { number = v.number; ask = v.ask; origin = v.origin }
@@ -98,10 +98,10 @@ pub record Tells (opening : ℕ → List ℕ → Option Item) (base : List (Entr
   pub served : (c : ℕ) → is_dropped log c ≡ false
   pub unbroken : broken_in (run_of log) ≡ 0
   pub loses : LosesOnly (run_of log)
-  pub out : (s : ℕ) → out_of log s ≡ calls_at s k.out
+  pub out : (s : ℕ) → out_of log s ≡ log_calls_at s k.out
   pub known : (n : ℕ) (o : Owner) → owner_of log n ≡ Some o → AreFound (calls_so_far (run_of log) n) (found n) (k.stamps n)
   pub items : (n : ℕ) (o : Owner) → owner_of log n ≡ Some o → (i : ℕ) (item : Item) → slice_get (found n) i ≡ Some (Some item) → item_at opening (run_of log) n i ≡ Some item
-  pub commands : k.commands ≡ replied_in (run_of log)
+  pub commands : k.commands ≡ replies_in_run (run_of log)
   pub stale : k.stale ≡ tally_of opening (run_of log)
   pub last : (key : List ℕ) → k.last key ≡ last_gone (run_of log) key
   pub later : commands_in (run_of base) ≤ commands_in (run_of log)
@@ -117,7 +117,7 @@ module _ (opening : ℕ → List ℕ → Option Item) (base : List (Entry dialec
         served = t.served;
         unbroken = t.unbroken;
         loses = t.loses;
-        out = λ s. t.out s ∙ ap (calls_at s) (sym b.out);
+        out = λ s. t.out s ∙ ap (log_calls_at s) (sym b.out);
         known = λ n o e. subst (AreFound (calls_so_far (run_of log) n) (found n)) (sym (b.found n)) (t.known n o e);
         items = t.items;
         commands = b.counts.commands ∙ t.commands;
@@ -138,7 +138,7 @@ module _ (opening : ℕ → List ℕ → Option Item) (base : List (Entry dialec
         loses = t.loses;
         out = λ s.
             ap (λ (ts : List LogTicket). cond (nat_eq ticket.server s) (ts ++ record { number = ticket.number; ask = ticket.ask; origin = ticket.origin } ∷ []) ts) (t.out s) ∙ sym (out_more s old.out ticket)
-            ∙ ap (calls_at s) (sym b.out);
+            ∙ ap (log_calls_at s) (sym b.out);
         known = λ n o e. subst (AreFound (calls_so_far (run_of log) n) (found n)) (sym (b.found n)) (t.known n o e);
         items = t.items;
         commands = b.counts.commands ∙ t.commands;
@@ -227,7 +227,7 @@ module _ (opening : ℕ → List ℕ → Option Item) (base : List (Entry dialec
           served = t.served;
           unbroken = t.unbroken;
           loses = t.loses;
-          out = λ s. t.out s ∙ ap (calls_at s) (sym counts.out);
+          out = λ s. t.out s ∙ ap (log_calls_at s) (sym counts.out);
           known = λ n o e. subst (AreFound (calls_so_far run n) (found n)) (sym (counts.stamps n)) (ended_known n o e);
           items = λ n o e i item at. ended_items n o e i item at;
           commands = counts.commands ∙ ap (λ m. m + 1) t.commands;

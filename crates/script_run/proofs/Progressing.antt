@@ -1,17 +1,17 @@
 -- What polls of clients leave, one after another.
 use Rattle.std.proofs.Common.{◌≡◌, ℕ, ◌+◌, ◌<◌, inl, inr, arith, sym, ap, ◌∙◌, subst}
 use Rattle.std.proofs.lemmas.Bool.{cases_lt}
-use Rattle.core_proxy.specs.Polls.{Polls, IsWhy, IsBusy, NoneGoesOn, IsStalled}
+use Rattle.core_proxy.specs.Polls.{Polls, IsWhy, IsBusy, NoCommandGoesOn, IsStalled}
 use Rattle.core_proxy.specs.declared.note.Poll.{Poll}
 use Rattle.core_proxy.specs.declared.proxy.Core.{Core}
 use Rattle.script_run.specs.Progressing.{both_gave, TakesSo, LeavesSo, AreStillBelow}
-use Rattle.script_run.specs.Running.{IsIdle, AreIdle, AreStalled}
+use Rattle.script_run.specs.Running.{IsIdle, AllAreIdle, AreStalled}
 use Rattle.script_run.specs.declared.driver.runner.Progress.{Progress}
 use Rattle.script_run.specs.declared.driver.runner.Progress.TheVariants.{Idle, Waits, Moved}
 use Rattle.script_run.specs.declared.driver.runner.Runner.{Runner}
 
 -- who is busy is stalled
-busy_is_stalled : (core : Core) (client : ℕ) → NoneGoesOn core client → IsBusy core client → IsStalled core client
+busy_is_stalled : (core : Core) (client : ℕ) → NoCommandGoesOn core client → IsBusy core client → IsStalled core client
 busy_is_stalled core client held (inl full) = inr (held, inl full.1)
 busy_is_stalled core client held (inr no_key) = inr (held, inr no_key)
 
@@ -47,5 +47,5 @@ one_more Waits Moved client a b before now = tt
 one_more Moved next client a b before now = tt
 
 -- who is idle is stalled
-pub idle_are_stalled : (runner : Runner) → AreIdle runner → AreStalled runner
+pub idle_are_stalled : (runner : Runner) → AllAreIdle runner → AreStalled runner
 idle_are_stalled runner idle c lt = inl (idle c lt)

@@ -7,7 +7,7 @@ use Rattle.fresh_runs.specs.Calls.{Words}
 use Rattle.fresh_runs.specs.Protocol.{Protocol}
 use Rattle.fresh_runs.specs.Run.{Begins, Calls, Replies, Breaks, Turns, Restarts, commands_in}
 use Rattle.fresh_runs.specs.Overlap.{Owner, Entry, Feeds, Starts, Sends, Happens, Ends, Shows, Passes, Gives, Drops, Frees, Resets, run_of, owner_of, Follows}
-use Rattle.script_run.specs.Standing.{replied_in, broken_in}
+use Rattle.script_run.specs.Standing.{replies_in_run, broken_in}
 
 abbrev one_of : Option Owner → ℕ
 one_of None = 0
@@ -102,7 +102,7 @@ module _ {P : Protocol} (words : Words) (Bars : ℕ → Ask → ℕ → Ask → 
   owned_within (Resets client ∷ log) f n x e = owned_within log f.1 n x e
 
   -- each command that began has had its reply, was broken off, or is under way
-  pub all_counted : (log : List (Entry P)) → Follows words Bars opening version log → commands_in (run_of log) ≡ (replied_in (run_of log) + broken_in (run_of log)) + owned_in (owner_of log) (commands_in (run_of log))
+  pub all_counted : (log : List (Entry P)) → Follows words Bars opening version log → commands_in (run_of log) ≡ (replies_in_run (run_of log) + broken_in (run_of log)) + owned_in (owner_of log) (commands_in (run_of log))
   all_counted [] f = refl
   all_counted (Feeds client bytes ∷ log) f = all_counted log f.1
   all_counted (Starts client number part ∷ log) f =
@@ -140,12 +140,12 @@ module _ {P : Protocol} (words : Words) (Bars : ℕ → Ask → ℕ → Ask → 
   all_counted (Resets client ∷ log) f = all_counted log f.1
 
   -- where no command is under way, each that began has had its reply or was broken off
-  pub all_over : (log : List (Entry P)) → Follows words Bars opening version log → ((n : ℕ) → owner_of log n ≡ None) → commands_in (run_of log) ≡ replied_in (run_of log) + broken_in (run_of log)
+  pub all_over : (log : List (Entry P)) → Follows words Bars opening version log → ((n : ℕ) → owner_of log n ≡ None) → commands_in (run_of log) ≡ replies_in_run (run_of log) + broken_in (run_of log)
   all_over log f free =
       let all = all_counted log f in
       let none = none_owned (owner_of log) (commands_in (run_of log)) free in
       omega (arith, all, none)
 
   -- where none was broken off either, each has had its reply
-  pub replied_unbroken : (log : List (Entry P)) → Follows words Bars opening version log → broken_in (run_of log) ≡ 0 → ((n : ℕ) → owner_of log n ≡ None) → commands_in (run_of log) ≡ replied_in (run_of log)
+  pub replied_unbroken : (log : List (Entry P)) → Follows words Bars opening version log → broken_in (run_of log) ≡ 0 → ((n : ℕ) → owner_of log n ≡ None) → commands_in (run_of log) ≡ replies_in_run (run_of log)
   replied_unbroken log f none free = let all = all_over log f free in omega (arith, all, none)

@@ -23,17 +23,17 @@ use Rattle.script_events.proofs.Steps.{answers_are_steps}
 use Rattle.route_tree.specs.Plan.{Plan}
 use Rattle.route_tree.specs.Route.{Route}
 use Rattle.route_tree.specs.Word.{tree_words}
-use Rattle.route_job.specs.Jobs.{server_in}
+use Rattle.route_job.specs.Jobs.{server_of_pending}
 use Rattle.route_job.specs.Rest.{ask_under, origin_under}
 use Rattle.core_proxy.specs.Claims.{bars_by}
 use Rattle.core_proxy.specs.CoreState.{dialect, bars_of, client_at, command_at, dropped_by, owner_by, Beside, FitsBeside, IsBeside, state_of}
 use Rattle.core_proxy.specs.Settles.{Settles}
-use Rattle.core_proxy.specs.Steps.{event_of, settled}
+use Rattle.core_proxy.specs.Steps.{event_of_call, settled_beside}
 use Rattle.core_commands.specs.declared.command.Command.{Command}
 use Rattle.core_proxy.specs.declared.limits.CoreLimits.{CoreLimits}
 use Rattle.core_proxy.specs.declared.proxy.Core.{Core}
 use Rattle.core_commands.proofs.Commands.{some_command, no_command}
-use Rattle.script_run.specs.Standing.{Kept, calls_at, story_of, Stands, GoesOn, CountsAsMany}
+use Rattle.script_run.specs.Standing.{Kept, log_calls_at, story_of, Stands, GoesOn, CountsAsMany}
 use Rattle.script_run.specs.Results.{CallResult, IsTold}
 use Rattle.script_run.specs.Laws.{ResultsGoOn}
 use Rattle.script_run.proofs.ResultsLosses.{bereft, happened, still_fits, losses_lead, IsAlike, alike_then, call_alike, losses_alike, calls_same, out_same, losses_told}
@@ -71,7 +71,7 @@ module _ (opening : ℕ → List ℕ → Option Item) (tree : ℕ → Route) (lo
   a = settles.command
 
   abbrev server : ℕ
-  server = server_in a.job.pending
+  server = server_of_pending a.job.pending
 
   abbrev ask : Ask
   ask = ask_under a.job.frames.items a.job.ask
@@ -100,7 +100,7 @@ module _ (opening : ℕ → List ℕ → Option Item) (tree : ℕ → Route) (lo
     end = step.call.end
 
     abbrev event : Event
-    event = event_of number a end
+    event = event_of_call number a end
 
     abbrev spills : List Event
     spills = spills_of server step.spilled
@@ -142,7 +142,7 @@ module _ (opening : ℕ → List ℕ → Option Item) (tree : ℕ → Route) (lo
         subst (λ (o : Outcome). IsFound (record { server = server; ask = ask; origin = origin; outcome = o }) (met.holds server ask.key) made.stamp) step.call.outcome
         (subst (λ item. IsFound (record { server = server; ask = ask; origin = origin; outcome = made.outcome }) item made.stamp) item_is step.found_is)
 
-    module _ (now : Beside) (more : List (Entry dialect)) (fits : FitsBeside new.core now) (is : IsBeside (settled event met) now) (none : more ≡ [])
+    module _ (now : Beside) (more : List (Entry dialect)) (fits : FitsBeside new.core now) (is : IsBeside (settled_beside event met) now) (none : more ≡ [])
         (leads : LeadsTo (tree_words stands.beside.at) (bars_of old.core stands.beside) opening ((more ++ Happens event ∷ []) ++ past) (state_of new.core now)) (limits : new.core.limits ≡ old.core.limits) where
       leads_there : LeadsTo (tree_words now.at) (bars_of new.core now) opening (Happens event ∷ past) (state_of new.core now)
       leads_there =
@@ -154,7 +154,7 @@ module _ (opening : ℕ → List ℕ → Option Item) (tree : ℕ → Route) (lo
       number_is = leads_there.count ∙ alike.begun ∙ sym stands.leads.count
 
       module _ (caches : new.caches ≡ caches_of after) (turn : new.turn ≡ old.turn + 1) (stamps : (n : ℕ) → new.stamps n ≡ cond (nat_eq number n) (old.stamps n ++ made.stamp ∷ []) (old.stamps n)) (counts : CountsAsMany old new)
-          (out : (s : ℕ) → calls_at s new.out ≡ cond (nat_eq server s) (without number (calls_at s old.out)) (calls_at s old.out)) where
+          (out : (s : ℕ) → log_calls_at s new.out ≡ cond (nat_eq server s) (without number (log_calls_at s old.out)) (log_calls_at s old.out)) where
         known_then : (n : ℕ) → AreFound (calls_so_far (run_of log) n) (stands.beside.found n) (old.stamps n) → AreFound (calls_so_far (run_of (Happens event ∷ past)) n) (now.found n) (new.stamps n)
         known_then n known =
             subst (λ (found : ℕ → List (Option Item)). AreFound (calls_so_far (run_of (Happens event ∷ past)) n) (found n) (new.stamps n)) (sym is.found)
@@ -166,7 +166,7 @@ module _ (opening : ℕ → List ℕ → Option Item) (tree : ℕ → Route) (lo
         unknown_then n lt =
             stamps n ∙ ap (λ z. cond z (old.stamps n ++ made.stamp ∷ []) (old.stamps n)) (has_begun old.core stands.beside stands.fits number a settles.was n lt) ∙ stands.unknown n lt
 
-        out_then : (s : ℕ) → out_of (Happens event ∷ past) s ≡ calls_at s new.out
+        out_then : (s : ℕ) → out_of (Happens event ∷ past) s ≡ log_calls_at s new.out
         out_then s =
             ap (λ (ts : List LogTicket). cond (nat_eq server s) (without number ts) ts) (out_same (happened spills ++ log) step.call.lost step.call.losses s ∙ out_same log spills (are_spills server step.spilled) s ∙ stands.out s) ∙ sym (out s)
 
@@ -216,7 +216,7 @@ module _ (opening : ℕ → List ℕ → Option Item) (tree : ℕ → Route) (lo
         }
 
     -- the losses named for the call and what its server dropped, and then its result
-    goes : new.caches ≡ caches_of after → new.turn ≡ old.turn + 1 → ((n : ℕ) → new.stamps n ≡ cond (nat_eq number n) (old.stamps n ++ made.stamp ∷ []) (old.stamps n)) → CountsAsMany old new → ((s : ℕ) → calls_at s new.out ≡ cond (nat_eq server s) (without number (calls_at s old.out)) (calls_at s old.out)) → (g : GoesOn opening tree log new) × IsTold result before (story_of (run_of log)) (story_of (run_of (g.more ++ log)))
+    goes : new.caches ≡ caches_of after → new.turn ≡ old.turn + 1 → ((n : ℕ) → new.stamps n ≡ cond (nat_eq number n) (old.stamps n ++ made.stamp ∷ []) (old.stamps n)) → CountsAsMany old new → ((s : ℕ) → log_calls_at s new.out ≡ cond (nat_eq server s) (without number (log_calls_at s old.out)) (log_calls_at s old.out)) → (g : GoesOn opening tree log new) × IsTold result before (story_of (run_of log)) (story_of (run_of (g.more ++ log)))
     unfolding goes_on_as
     goes caches turn stamps counts out =
         let t = settles.goes met end (still_fits old.core spilled step.call.lost (still_fits old.core stands.beside spills stands.fits)) step.call.outcome step.call.ends in
@@ -240,19 +240,19 @@ pub results_go_on : ResultsGoOn
 results_go_on opening tree log number server ask origin made before after old new stands h =
     let a : Command = h.settles.command in
     let is : h.called.command ≡ a = some_command (sym h.called.was ∙ h.settles.was) in
-    let server_is : server ≡ server_in a.job.pending = h.called.is.server_is ∙ ap (λ (c : Command). server_in c.job.pending) is in
+    let server_is : server ≡ server_of_pending a.job.pending = h.called.is.server_is ∙ ap (λ (c : Command). server_of_pending c.job.pending) is in
     let ask_is : ask ≡ ask_under a.job.frames.items a.job.ask = h.called.is.ask_is ∙ ap (λ (c : Command). ask_under c.job.frames.items c.job.ask) is in
     let origin_is : origin ≡ origin_under a.job.frames.items OfClient = h.called.is.origin_is ∙ ap (λ (c : Command). origin_under c.job.frames.items OfClient) is in
-    let answers : Answers (stamp_given (old.stamps number) number (origin_under a.job.frames.items OfClient)) before (server_in a.job.pending) (ask_under a.job.frames.items a.job.ask) made after =
-    subst (λ o. Answers (stamp_given (old.stamps number) number o) before (server_in a.job.pending) (ask_under a.job.frames.items a.job.ask) made after) origin_is
-    (subst (λ x. Answers (stamp_given (old.stamps number) number origin) before (server_in a.job.pending) x made after) ask_is
+    let answers : Answers (stamp_given (old.stamps number) number (origin_under a.job.frames.items OfClient)) before (server_of_pending a.job.pending) (ask_under a.job.frames.items a.job.ask) made after =
+    subst (λ o. Answers (stamp_given (old.stamps number) number o) before (server_of_pending a.job.pending) (ask_under a.job.frames.items a.job.ask) made after) origin_is
+    (subst (λ x. Answers (stamp_given (old.stamps number) number origin) before (server_of_pending a.job.pending) x made after) ask_is
     (subst (λ s. Answers (stamp_given (old.stamps number) number origin) before s ask made after) server_is h.answers)) in
     let step =
-    answers_are_steps number (stamp_given (old.stamps number) number (origin_under a.job.frames.items OfClient)) (origin_under a.job.frames.items OfClient) before (server_in a.job.pending) (ask_under a.job.frames.items a.job.ask) made after
+    answers_are_steps number (stamp_given (old.stamps number) number (origin_under a.job.frames.items OfClient)) (origin_under a.job.frames.items OfClient) before (server_of_pending a.job.pending) (ask_under a.job.frames.items a.job.ask) made after
     (record { holds = stands.beside.holds; found = stands.beside.found }) answers (λ s k. stands.holds s k ∙ ap (λ l. held_at l s k) h.caches_were) (given opening tree log number made before after old new stands h.settles) in
     let g = goes opening tree log number made before after old new stands h.settles step.0 step.1 h.caches_are (h.turn_is ∙ answers.turn_is ∙ ap (λ t. t + 1) (sym h.turn_was)) h.stamps h.counts
-    (λ s. h.out s ∙ ap (λ (t : ℕ). cond (nat_eq t s) (without number (calls_at s old.out)) (calls_at s old.out)) server_is) in (
+    (λ s. h.out s ∙ ap (λ (t : ℕ). cond (nat_eq t s) (without number (log_calls_at s old.out)) (log_calls_at s old.out)) server_is) in (
       g.0,
       subst (λ (r : CallResult). IsTold r before (story_of (run_of log)) (story_of (run_of (g.0.more ++ log))))
-          (sym (same_result number server (server_in a.job.pending) ask (ask_under a.job.frames.items a.job.ask) origin (origin_under a.job.frames.items OfClient) (old.stamps number) made server_is ask_is origin_is)) g.1,
+          (sym (same_result number server (server_of_pending a.job.pending) ask (ask_under a.job.frames.items a.job.ask) origin (origin_under a.job.frames.items OfClient) (old.stamps number) made server_is ask_is origin_is)) g.1,
     )

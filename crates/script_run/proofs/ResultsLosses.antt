@@ -21,7 +21,7 @@ use Rattle.script_events.proofs.Losses.{same_event, same_held}
 use Rattle.route_tree.specs.Word.{tree_words}
 use Rattle.core_proxy.specs.declared.proxy.Core.{Core}
 use Rattle.core_proxy.specs.CoreState.{dialect, bars_of, Beside, FitsBeside, state_of}
-use Rattle.script_run.specs.Standing.{calls_at, replied_in, broken_in, story_of, GoesOn}
+use Rattle.script_run.specs.Standing.{log_calls_at, replies_in_run, broken_in, story_of, GoesOn}
 use Rattle.script_run.specs.Laws.{LossesGoOn}
 
 -- what stands beside the core after losses
@@ -73,7 +73,7 @@ pub record IsAlike (opening : ℕ → List ℕ → Option Item) (new old : List 
   pub stream : (c : ℕ) → stream_of new c ≡ stream_of old c
   pub given : (c : ℕ) → given_of new c ≡ given_of old c
   pub begun : commands_in (run_of new) ≡ commands_in (run_of old)
-  pub replied : replied_in (run_of new) ≡ replied_in (run_of old)
+  pub replied : replies_in_run (run_of new) ≡ replies_in_run (run_of old)
   pub broken : broken_in (run_of new) ≡ broken_in (run_of old)
   pub loses : LosesOnly (run_of old) → LosesOnly (run_of new)
   pub tally : tally_of opening (run_of new) ≡ tally_of opening (run_of old)
@@ -176,7 +176,7 @@ losses_go_on opening tree log loss old new stands lost =
         loses = alike.loses stands.loses;
         holds = λ s key. same_held loss stands.beside.holds (held_at old.caches) s key (stands.holds s key) ∙ sym (same_event loss (held_at old.caches) s key) ∙ sym (lost.held s key);
         turn = stands.turn ∙ sym lost.turn;
-        out = λ s. out_same log (event ∷ []) are s ∙ stands.out s ∙ ap (calls_at s) (sym lost.out);
+        out = λ s. out_same log (event ∷ []) are s ∙ stands.out s ∙ ap (log_calls_at s) (sym lost.out);
         known = λ n o e.
             subst (λ calls. AreFound calls (stands.beside.found n) (new.stamps n)) (sym (calls_same log (event ∷ []) are n))
             (subst (λ stamps. AreFound (calls_so_far (run_of log) n) (stands.beside.found n) stamps) (sym (lost.found n)) (stands.known n o (sym (alike.owner n) ∙ e)));

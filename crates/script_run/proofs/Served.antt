@@ -8,8 +8,8 @@ use Rattle.mc_types.specs.Items.{Item}
 use Rattle.fresh_runs.specs.Overlap.{Slot, Entry, owner_of}
 use Rattle.fresh_runs.specs.Protocol.{IsStuck}
 use Rattle.route_tree.specs.Route.{Route}
-use Rattle.core_proxy.specs.CoreState.{dialect, client_at, command_at, dropped_by, front_by, IsQueue, AreSlots, IsOut}
-use Rattle.core_proxy.specs.Polls.{IsDone}
+use Rattle.core_proxy.specs.CoreState.{dialect, client_at, command_at, dropped_by, front_by, IsQueue, ArePendingSlots, IsOut}
+use Rattle.core_proxy.specs.Polls.{ClientIsDone}
 use Rattle.core_client.specs.declared.client.Client.{Client}
 use Rattle.core_client.specs.declared.client.Pending.{Pending}
 use Rattle.core_proxy.specs.declared.proxy.Core.{Core}
@@ -22,9 +22,9 @@ use Rattle.script_run.specs.declared.driver.runner.Runner.{Runner}
 use Rattle.script_run.specs.Driving.{said_in, IsServedFor, IsServed, CutsCome, ComesSo}
 use Rattle.script_run.specs.Stepping.{IsServedBelow, CutsBy}
 
-none_in : (slots : List (Slot dialect)) (items : List Pending) → items ≡ [] → AreSlots items slots → slots ≡ []
+none_in : (slots : List (Slot dialect)) (items : List Pending) → items ≡ [] → ArePendingSlots items slots → slots ≡ []
 none_in [] items none are = refl
-none_in (slot ∷ slots) items none are = absurd (subst (λ (l : List Pending). AreSlots l (slot ∷ slots)) none are)
+none_in (slot ∷ slots) items none are = absurd (subst (λ (l : List Pending). ArePendingSlots l (slot ∷ slots)) none are)
 
 differ : (b : Bool) → b ≡ true → b ≡ false → ⊥
 differ b on off = cc
@@ -33,7 +33,7 @@ differ b on off = cc
 pub idle_for : (opening : ℕ → List ℕ → Option Item) (tree : ℕ → Route) (log : List (Entry dialect)) (k : Kept) → Stands opening tree log k → (c : ℕ) → IsIdle k.core c → IsServedFor log c
 idle_for opening tree log k s c idle = by (client_at k.core c) refl idle
   where
-    of : (x : Client) → client_at k.core c ≡ Some x → IsDone x → IsServedFor log c
+    of : (x : Client) → client_at k.core c ≡ Some x → ClientIsDone x → IsServedFor log c
     of x is (inl dropped) = absurd (differ x.dropped dropped (ap dropped_by (sym is) ∙ s.leads.dropped c ∙ s.served c))
     of x is (inr rests) =
         record {
@@ -41,7 +41,7 @@ idle_for opening tree log k s c idle = by (client_at k.core c) refl idle
           shown = sym (s.leads.queue c) ∙ none_in (s.beside.queue c) x.queue.items rests.0 (subst (λ (o : Option Client). IsQueue o (s.beside.queue c)) is (s.fits.queues c)).0;
         }
 
-    by : (o : Option Client) → client_at k.core c ≡ o → MatchOption o ⊥ IsDone → IsServedFor log c
+    by : (o : Option Client) → client_at k.core c ≡ o → MatchOption o ⊥ ClientIsDone → IsServedFor log c
     by None is h = absurd h
     by (Some x) is h = of x is h
 

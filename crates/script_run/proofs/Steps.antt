@@ -25,12 +25,12 @@ use Rattle.script_run.specs.Results.{CallResult}
 use Rattle.script_run.specs.Standing.{Kept, story_of, Stands, GoesOn, GoesOnFed, GoesOnGiven, LeavesAsMuch}
 use Rattle.script_run.proofs.Told.{has_calls, no_result, none_told, same_then, story_then, story_after}
 use Rattle.script_run.specs.Running.{kept_of, Stays, MovesAt, MovesByResults, MovesFed, MovesFedAtOnce, MovesGiven, IsAtRest}
-use Rattle.script_run.specs.Turns.{AreInTurn, MovesInTurn}
+use Rattle.script_run.specs.Turns.{AreNextResults, MovesInTurn}
 use Rattle.script_run.proofs.DriverRunning.{given_then, in_turn_then}
 use Rattle.script_run.proofs.Served.{served_below}
 use Rattle.script_run.specs.declared.driver.runner.Runner.{Runner}
-use Rattle.script_run.specs.Driving.{said_by, joined, CutsCome, shown_to, IsHanded, AreHandedInTurn}
-use Rattle.script_run.specs.World.{Changes, lost_now}
+use Rattle.script_run.specs.Driving.{event_bytes, joined_cuts, CutsCome, shown_to, IsHanded, AreHandedInTurn}
+use Rattle.script_run.specs.World.{EventChanges, lost_now}
 use Rattle.script_run.specs.Stepping.{FedBy, FedInTurn, FedAtOnce, IsServedBelow, FedInCuts, FedAsPiece, CutsBy, TakesTurns, AreFit, AreAskedBy, IsHeard, LeavesBy, GoesOnSaid, Befalls, IsGivenAll, HandsOut, HandsSome}
 use Rattle.wire_stream.specs.Version.{default_version}
 
@@ -75,12 +75,12 @@ fed_more client first second a b d s t u m n =
           let g = p.0 in
           let q = n.goes opening tree (g.more ++ log) g.stands in
           let h = q.0 in
-          let joined = append_assoc h.more g.more log in (
+          let joined_cuts = append_assoc h.more g.more log in (
             record {
               more = h.more ++ g.more;
-              stands = subst (λ l. Stands opening tree l (kept_of d u)) (sym joined) h.stands;
-              streams = λ c. ap (λ l. stream_of l c) joined ∙ h.streams c ∙ ap (λ xs. cond (nat_eq client c) (xs ++ second) xs) (g.streams c) ∙ one_then (nat_eq client c) (stream_of log c) first second;
-              given = λ c. ap (λ l. given_of l c) joined ∙ h.given c ∙ g.given c;
+              stands = subst (λ l. Stands opening tree l (kept_of d u)) (sym joined_cuts) h.stands;
+              streams = λ c. ap (λ l. stream_of l c) joined_cuts ∙ h.streams c ∙ ap (λ xs. cond (nat_eq client c) (xs ++ second) xs) (g.streams c) ∙ one_then (nat_eq client c) (stream_of log c) first second;
+              given = λ c. ap (λ l. given_of l c) joined_cuts ∙ h.given c ∙ g.given c;
             },
             story_then n.results m.results s t u h.more g.more log p.1 q.1,
           );
@@ -101,12 +101,12 @@ fed_results client bytes a b d s t m n =
           let g = p.0 in
           let q = n.1.goes opening tree (g.more ++ log) g.stands in
           let h = q.goes in
-          let joined = append_assoc h.more g.more log in (
+          let joined_cuts = append_assoc h.more g.more log in (
             record {
               more = h.more ++ g.more;
-              stands = subst (λ l. Stands opening tree l (kept_of d t)) (sym joined) h.stands;
-              streams = λ c. ap (λ l. stream_of l c) joined ∙ h.streams c ∙ g.streams c;
-              given = λ c. ap (λ l. given_of l c) joined ∙ h.given c ∙ g.given c;
+              stands = subst (λ l. Stands opening tree l (kept_of d t)) (sym joined_cuts) h.stands;
+              streams = λ c. ap (λ l. stream_of l c) joined_cuts ∙ h.streams c ∙ g.streams c;
+              given = λ c. ap (λ l. given_of l c) joined_cuts ∙ h.given c ∙ g.given c;
             },
             story_after n.0 s t h.more g.more log p.1 q.told,
           );
@@ -139,7 +139,7 @@ turn_results client bytes a b d s t m n =
           let p = m opening tree log stands in
           let g = p.0 in
           let h = (n.moves.goes opening tree (g.more ++ log) g.stands).goes in
-          subst (λ (rs : List CallResult). AreInTurn rs (h.more ++ g.more) log) (append-nil n.results)
+          subst (λ (rs : List CallResult). AreNextResults rs (h.more ++ g.more) log) (append-nil n.results)
           (in_turn_then n.results [] h.more g.more log (no_result log (g.more ++ log) p.1) (n.in_turn opening tree (g.more ++ log) g.stands) tt);
     }
 
@@ -173,7 +173,7 @@ pub cuts_more :
 unfolding turn_more fed_more
 cuts_more client cuts cut a b d s t u m n same rest =
     record {
-      turn = turn_more client (joined cuts) cut a b d s t u m.turn n.turn;
+      turn = turn_more client (joined_cuts cuts) cut a b d s t u m.turn n.turn;
       come = λ opening tree log stands.
           let g = (m.turn.fed.goes opening tree log stands).0 in
           let mid = g.more ++ log in
@@ -198,7 +198,7 @@ cut_joins bytes before rest cut more n is front back =
 
 -- ---- events
 
-said : (event : Scripted) (client : ℕ) (bytes : List ℕ) → ((c : ℕ) → said_by event c ≡ cond (nat_eq client c) bytes []) → (opening : ℕ → List ℕ → Option Item) (tree : ℕ → Route) (log : List (Entry dialect)) (k : Kept) → (g : GoesOnFed opening tree log client bytes k) → LeavesBy event log (g.more ++ log) → GoesOnSaid opening tree log event k
+said : (event : Scripted) (client : ℕ) (bytes : List ℕ) → ((c : ℕ) → event_bytes event c ≡ cond (nat_eq client c) bytes []) → (opening : ℕ → List ℕ → Option Item) (tree : ℕ → Route) (log : List (Entry dialect)) (k : Kept) → (g : GoesOnFed opening tree log client bytes k) → LeavesBy event log (g.more ++ log) → GoesOnSaid opening tree log event k
 said event client bytes says opening tree log k g left =
     record { more = g.more; stands = g.stands; streams = λ c. g.streams c ∙ after_it (nat_eq client c) (stream_of log c) bytes ∙ ap (λ xs. stream_of log c ++ xs) (sym (says c)); given = g.given; left = left }
 
@@ -206,7 +206,7 @@ pub piece_said : (client : ℕ) (bytes : List ℕ) (a b : Runner) (s t : ScriptS
 unfolding said
 piece_said client bytes a b s t piece =
     let m = piece.fed.turn in
-    let all = joined piece.cuts ++ piece.last in
+    let all = joined_cuts piece.cuts ++ piece.last in
     record {
       mid = s;
       changes = refl;
@@ -238,7 +238,7 @@ add_said client bytes a b s m =
     }
 
 -- an event that says nothing
-quiet : (event : Scripted) → ((c : ℕ) → said_by event c ≡ []) → (opening : ℕ → List ℕ → Option Item) (tree : ℕ → Route) (log : List (Entry dialect)) (k : Kept) → (g : GoesOn opening tree log k) → LeavesBy event log (g.more ++ log) → GoesOnSaid opening tree log event k
+quiet : (event : Scripted) → ((c : ℕ) → event_bytes event c ≡ []) → (opening : ℕ → List ℕ → Option Item) (tree : ℕ → Route) (log : List (Entry dialect)) (k : Kept) → (g : GoesOn opening tree log k) → LeavesBy event log (g.more ++ log) → GoesOnSaid opening tree log event k
 quiet event says opening tree log k g left =
     record { more = g.more; stands = g.stands; streams = λ c. g.streams c ∙ sym (append-nil (stream_of log c)) ∙ ap (λ xs. stream_of log c ++ xs) (sym (says c)); given = g.given; left = left }
 
@@ -276,7 +276,7 @@ no_turns (Now loss) more log = tt
 no_turns (Moment moment) more log = tt
 
 -- an event that changes the servers, and for which no call has a result
-pub changed : (event : Scripted) → ((c : ℕ) → said_by event c ≡ []) → AreFit event [] → ((count : ℕ) (before after : List (Entry dialect)) → CutsBy event count before after) → (a : Runner) (s t : ScriptServers) → AreAskedBy event a s [] → Changes event s t → MovesQuietly event a s t → Befalls event a s a t
+pub changed : (event : Scripted) → ((c : ℕ) → event_bytes event c ≡ []) → AreFit event [] → ((count : ℕ) (before after : List (Entry dialect)) → CutsBy event count before after) → (a : Runner) (s t : ScriptServers) → AreAskedBy event a s [] → EventChanges event s t → MovesQuietly event a s t → Befalls event a s a t
 unfolding quiet
 changed event says fit cuts a s t asked changes m =
     record {
@@ -433,7 +433,7 @@ pub hands_then : (First Then All : ℕ → Type 0) → ((c : ℕ) → All c → 
 hands_then First Then All each x y z a b d m n s opening tree log stands =
     let g = m s opening tree log stands in
     let h = n s opening tree (g.more ++ log) g.stands in
-    let joined = append_assoc h.more g.more log in
+    let joined_cuts = append_assoc h.more g.more log in
     let all : (c : ℕ) → All c → IsGivenAll (h.more ++ (g.more ++ log)) c = λ c is. elim (each c is) [
       | inl one ↦ h.kept c (g.all c one)
       | inr other ↦ h.all c other
@@ -441,14 +441,14 @@ hands_then First Then All each x y z a b d m n s opening tree log stands =
     in
     record {
       more = h.more ++ g.more;
-      stands = subst (λ l. Stands opening tree l (kept_of d s)) (sym joined) h.stands;
-      streams = λ c. ap (λ l. stream_of l c) joined ∙ h.streams c ∙ g.streams c;
-      given = λ is c. ap (λ l. given_of l c) joined ∙ h.given (g.given is) c;
-      order = λ is o. subst (AreHandedInTurn z) (sym joined) (h.order (g.given is) (g.order is o));
-      left = subst (LeavesAsMuch log) (sym joined)
+      stands = subst (λ l. Stands opening tree l (kept_of d s)) (sym joined_cuts) h.stands;
+      streams = λ c. ap (λ l. stream_of l c) joined_cuts ∙ h.streams c ∙ g.streams c;
+      given = λ is c. ap (λ l. given_of l c) joined_cuts ∙ h.given (g.given is) c;
+      order = λ is o. subst (AreHandedInTurn z) (sym joined_cuts) (h.order (g.given is) (g.order is o));
+      left = subst (LeavesAsMuch log) (sym joined_cuts)
           (record { front = λ c. h.left.front c ∙ g.left.front c; queue = λ c. h.left.queue c ∙ g.left.queue c; output = λ c. h.left.output c ∙ g.left.output c; owner = λ n. h.left.owner n ∙ g.left.owner n });
-      kept = λ c is. subst (λ l. IsGivenAll l c) (sym joined) (h.kept c (g.kept c is));
-      all = λ c is. subst (λ l. IsGivenAll l c) (sym joined) (all c is);
+      kept = λ c is. subst (λ l. IsGivenAll l c) (sym joined_cuts) (h.kept c (g.kept c is));
+      all = λ c is. subst (λ l. IsGivenAll l c) (sym joined_cuts) (all c is);
       longer = (g.longer.0 ++ h.longer.0, h.longer.1 ∙ ap (λ l. l ++ h.longer.0) g.longer.1 ∙ append_assoc x g.longer.0 h.longer.0);
       story = same_then h.more g.more log g.story h.story;
     }
@@ -516,7 +516,7 @@ nothing_new xs bytes b same is none = nil_from_length bytes (ap length (sym same
 -- ---- clients that are heard
 
 -- who was opened for an event said something in it, and nobody else
-pub heard_of : (event : Scripted) (client : ℕ) (bytes : List ℕ) (a b : Runner) → ((c : ℕ) → said_by event c ≡ cond (nat_eq client c) bytes []) → (client < b.clients) × (a.clients ≤ b.clients) → IsHeard event a b
+pub heard_of : (event : Scripted) (client : ℕ) (bytes : List ℕ) (a b : Runner) → ((c : ℕ) → event_bytes event c ≡ cond (nat_eq client c) bytes []) → (client < b.clients) × (a.clients ≤ b.clients) → IsHeard event a b
 heard_of event client bytes a b says opened =
     record {
       unheard = λ c le.
@@ -526,5 +526,5 @@ heard_of event client bytes a b says opened =
     }
 
 -- in an event that says nothing nobody said anything
-pub heard_more : (event : Scripted) (a b : Runner) → ((c : ℕ) → said_by event c ≡ []) → b.clients ≡ a.clients → IsHeard event a b
+pub heard_more : (event : Scripted) (a b : Runner) → ((c : ℕ) → event_bytes event c ≡ []) → b.clients ≡ a.clients → IsHeard event a b
 heard_more event a b says same = record { unheard = λ c le. (omega (arith, same, le), says c) }

@@ -34,7 +34,7 @@ use Rattle.script_run.specs.Standing.{Kept, Stands, LeavesAsMuch, tree_by}
 use Rattle.script_run.specs.Laws.{StandingSays, NothingStands, IsBegin}
 use Rattle.script_run.specs.Running.{kept_of, MovesByResults, AreStalled, KeepStalled, IsAtRest}
 use Rattle.script_run.specs.declared.driver.runner.Runner.{Runner}
-use Rattle.script_run.specs.Driving.{said_by, said_in, shown_to, handed, may_be_out, leaves_out, IsDoneFor, IsSettled, HaveAllOutput, IsThrough, AreThrough, IsStepThrough, AreSteps, AreOutputs, IsMarked, AreMarked, one_loaded, trees_loaded, IsReached, CameSo, CameInTurn, RunsBy, DrivesStepped}
+use Rattle.script_run.specs.Driving.{event_bytes, said_in, shown_to, handed, may_be_out, leaves_out, IsDoneFor, IsSettled, HaveAllOutput, IsThrough, AreThrough, IsStepThrough, AreSteps, AreOutputs, IsMarked, AreMarked, one_loaded, trees_loaded, IsReached, CameSo, CameInTurn, RunsBy, DrivesStepped}
 use Rattle.script_run.specs.Holding.{put_all_on}
 use Rattle.script_run.specs.Stepping.{Befalls, LeavesBy, IsHeard, RestsAfter, IsGivenAll, HandsOutAll, AddsRising, HasCome, HasStood, TakesUp, Loads}
 use Rattle.script_run.specs.World.{World}
@@ -52,11 +52,11 @@ use Rattle.wire_stream.specs.Version.{default_version}
 
 pub said_append : (first second : List Scripted) (c : ℕ) → said_in (first ++ second) c ≡ said_in first c ++ said_in second c
 said_append [] second c = refl
-said_append (event ∷ first) second c = ap (λ xs. said_by event c ++ xs) (said_append first second c) ∙ sym (append_assoc (said_by event c) (said_in first c) (said_in second c))
+said_append (event ∷ first) second c = ap (λ xs. event_bytes event c ++ xs) (said_append first second c) ∙ sym (append_assoc (event_bytes event c) (said_in first c) (said_in second c))
 
 -- nothing, and nothing more
-none_said : (done : List Scripted) (event : Scripted) (c : ℕ) → said_in done c ≡ [] → said_by event c ≡ [] → said_in (done ++ event ∷ []) c ≡ []
-none_said done event c before now = said_append done (event ∷ []) c ∙ ap (λ xs. xs ++ said_in (event ∷ []) c) before ∙ append-nil (said_by event c) ∙ now
+none_said : (done : List Scripted) (event : Scripted) (c : ℕ) → said_in done c ≡ [] → event_bytes event c ≡ [] → said_in (done ++ event ∷ []) c ≡ []
+none_said done event c before now = said_append done (event ∷ []) c ∙ ap (λ xs. xs ++ said_in (event ∷ []) c) before ∙ append-nil (event_bytes event c) ∙ now
 
 out_append : (before : Bool) (done : List Scripted) (event : Scripted) → leaves_out before (done ++ event ∷ []) ≡ may_be_out event (leaves_out before done)
 out_append before [] event = refl
@@ -178,7 +178,7 @@ piece_settled done opening tree log after b t stands rest left all heard = recor
 
 -- an event that asks clients nothing leaves nothing to do where nothing was left
 quiet_settled :
-    (done : List Scripted) (event : Scripted) (log mid after : List (Entry dialect)) → ((c : ℕ) → said_by event c ≡ []) → LeavesAsMuch log mid → LeavesAsMuch mid after → ((c : ℕ) → given_of mid c ≡ given_of log c)
+    (done : List Scripted) (event : Scripted) (log mid after : List (Entry dialect)) → ((c : ℕ) → event_bytes event c ≡ []) → LeavesAsMuch log mid → LeavesAsMuch mid after → ((c : ℕ) → given_of mid c ≡ given_of log c)
     → ((c : ℕ) → IsGivenAll mid c → IsGivenAll after c) → IsSettled done log → IsSettled (done ++ event ∷ []) after
 quiet_settled done event log mid after quiet first then given kept s = record { clients = each; free = λ n. then.owner n ∙ first.owner n ∙ s.free n }
   where

@@ -16,7 +16,7 @@ use Rattle.script_events.specs.Scripted as scripted
 use Rattle.script_events.specs.Servers.{turn_of, lost_of}
 use Rattle.script_events.specs.declared.servers.servers.ScriptServers.{ScriptServers}
 use Rattle.script_run.specs.Standing.{story_of, HasSameStory}
-use Rattle.script_run.specs.Results.{CallResult, NumberedCall, AreTold, IsTold, call_of, calls_of}
+use Rattle.script_run.specs.Results.{CallResult, NumberedCall, ResultsAreTold, IsTold, call_of_result, calls_of}
 use Rattle.script_run.specs.Stepping.{HasCalls, HasStory, HasStoryBy}
 use Rattle.script_run.specs.World.{lost_now}
 
@@ -75,26 +75,26 @@ calls_told (Begins number ask ∷ past) = calls_told past
 calls_told (Replies number key reply from ∷ past) = calls_told past
 calls_told (Breaks number ∷ past) = calls_told past
 
-one_told : (r : CallResult) (before : ScriptServers) (earlier story : List Event) → IsTold r before earlier story → calls_of story ≡ call_of r ∷ calls_of earlier
+one_told : (r : CallResult) (before : ScriptServers) (earlier story : List Event) → IsTold r before earlier story → calls_of story ≡ call_of_result r ∷ calls_of earlier
 one_told r before earlier story t =
     ap calls_of t.story_is
     ∙ ap (λ (cs : List NumberedCall). record { number = r.number; call = record { server = r.server; ask = r.ask; origin = r.origin; outcome = outcome_of t.end } } ∷ cs)
     (no_calls (events_of (lost_of before (turn_of before + 1))) (spills_of r.server t.spilled ++ earlier) (named_are_losses (lost_of before (turn_of before + 1))) ∙ no_calls (spills_of r.server t.spilled) earlier (are_spills r.server t.spilled))
     ∙ ap (λ (o : Outcome). record { number = r.number; call = record { server = r.server; ask = r.ask; origin = r.origin; outcome = o } } ∷ calls_of earlier) (sym t.outcome_is)
 
-all_told : (rs : List CallResult) (s t : ScriptServers) (earlier story : List Event) → AreTold rs s t earlier story → calls_of story ≡ map call_of rs ++ calls_of earlier
+all_told : (rs : List CallResult) (s t : ScriptServers) (earlier story : List Event) → ResultsAreTold rs s t earlier story → calls_of story ≡ map call_of_result rs ++ calls_of earlier
 all_told [] s t earlier story told = ap calls_of told.1
-all_told (r ∷ rs) s t earlier story told = one_told r told.0 told.1 story told.5 ∙ ap (λ (cs : List NumberedCall). call_of r ∷ cs) (all_told rs s told.0 earlier told.1 told.2)
+all_told (r ∷ rs) s t earlier story told = one_told r told.0 told.1 story told.5 ∙ ap (λ (cs : List NumberedCall). call_of_result r ∷ cs) (all_told rs s told.0 earlier told.1 told.2)
 
 -- the calls of a run are those of the results that its story tells of
 pub has_calls : (rs : List CallResult) (s t : ScriptServers) (more log : List (Entry dialect)) → HasStory rs s t more log → HasCalls rs more log
 has_calls rs s t more log told =
-    sym (calls_told (run_of (more ++ log))) ∙ all_told rs s t (story_of (run_of log)) (story_of (run_of (more ++ log))) told ∙ ap (λ (cs : List NumberedCall). map call_of rs ++ cs) (calls_told (run_of log))
+    sym (calls_told (run_of (more ++ log))) ∙ all_told rs s t (story_of (run_of log)) (story_of (run_of (more ++ log))) told ∙ ap (λ (cs : List NumberedCall). map call_of_result rs ++ cs) (calls_told (run_of log))
 
 pub has_calls_by : (event : Scripted) (rs : List CallResult) (s t : ScriptServers) (more log : List (Entry dialect)) → HasStoryBy event rs s t more log → HasCalls rs more log
 has_calls_by event rs s t more log told =
     sym (calls_told (run_of (more ++ log))) ∙ all_told rs s t (lost_now event ++ story_of (run_of log)) (story_of (run_of (more ++ log))) told
-    ∙ ap (λ (cs : List NumberedCall). map call_of rs ++ cs) (none_now event (story_of (run_of log)) ∙ calls_told (run_of log))
+    ∙ ap (λ (cs : List NumberedCall). map call_of_result rs ++ cs) (none_now event (story_of (run_of log)) ∙ calls_told (run_of log))
 
 -- where nothing befell the servers no call had its result
 pub no_result : (log after : List (Entry dialect)) → HasSameStory log after → calls_of (run_of after) ≡ calls_of (run_of log)
@@ -103,8 +103,8 @@ no_result log after same = sym (calls_told (run_of after)) ∙ ap calls_of same 
 -- ---- one result after another
 
 -- results after others
-pub told_then : (later first : List CallResult) (s t u : ScriptServers) (earlier between story : List Event) → AreTold first s t earlier between → AreTold later t u between story → AreTold (later ++ first) s u earlier story
-told_then [] first s t u earlier between story g h = subst (λ (x : ScriptServers). AreTold first s x earlier story) (sym h.0) (subst (λ (l : List Event). AreTold first s t earlier l) (sym h.1) g)
+pub told_then : (later first : List CallResult) (s t u : ScriptServers) (earlier between story : List Event) → ResultsAreTold first s t earlier between → ResultsAreTold later t u between story → ResultsAreTold (later ++ first) s u earlier story
+told_then [] first s t u earlier between story g h = subst (λ (x : ScriptServers). ResultsAreTold first s x earlier story) (sym h.0) (subst (λ (l : List Event). ResultsAreTold first s t earlier l) (sym h.1) g)
 told_then (r ∷ later) first s t u earlier between story g h = (h.0, h.1, told_then later first s t h.0 earlier between h.1 g h.2, h.3, h.4, h.5)
 
 -- nothing befell the servers
@@ -114,7 +114,7 @@ none_told s more log same = (refl, same)
 -- the story goes on with the log
 pub story_then : (later first : List CallResult) (s t u : ScriptServers) (more front log : List (Entry dialect)) → HasStory first s t front log → HasStory later t u more (front ++ log) → HasStory (later ++ first) s u (more ++ front) log
 story_then later first s t u more front log g h =
-    subst (λ (l : List (Entry dialect)). AreTold (later ++ first) s u (story_of (run_of log)) (story_of (run_of l))) (sym (append_assoc more front log))
+    subst (λ (l : List (Entry dialect)). ResultsAreTold (later ++ first) s u (story_of (run_of log)) (story_of (run_of l))) (sym (append_assoc more front log))
     (told_then later first s t u (story_of (run_of log)) (story_of (run_of (front ++ log))) (story_of (run_of (more ++ (front ++ log)))) g h)
 
 -- nothing befell the servers, one after another
@@ -124,11 +124,11 @@ same_then more front log g h = ap (λ (l : List (Entry dialect)). story_of (run_
 -- nothing befell the servers before these results
 pub story_after : (rs : List CallResult) (s t : ScriptServers) (more front log : List (Entry dialect)) → HasSameStory log (front ++ log) → HasStory rs s t more (front ++ log) → HasStory rs s t (more ++ front) log
 story_after rs s t more front log same h =
-    subst (λ (l : List (Entry dialect)). AreTold rs s t (story_of (run_of log)) (story_of (run_of l))) (sym (append_assoc more front log))
-    (subst (λ (l : List Event). AreTold rs s t l (story_of (run_of (more ++ (front ++ log))))) same h)
+    subst (λ (l : List (Entry dialect)). ResultsAreTold rs s t (story_of (run_of log)) (story_of (run_of l))) (sym (append_assoc more front log))
+    (subst (λ (l : List Event). ResultsAreTold rs s t l (story_of (run_of (more ++ (front ++ log))))) same h)
 
 -- nor after them
 pub story_before : (rs : List CallResult) (s t : ScriptServers) (more front log : List (Entry dialect)) → HasStory rs s t front log → HasSameStory (front ++ log) (more ++ (front ++ log)) → HasStory rs s t (more ++ front) log
 story_before rs s t more front log h same =
-    subst (λ (l : List (Entry dialect)). AreTold rs s t (story_of (run_of log)) (story_of (run_of l))) (sym (append_assoc more front log))
-    (subst (λ (l : List Event). AreTold rs s t (story_of (run_of log)) l) (sym same) h)
+    subst (λ (l : List (Entry dialect)). ResultsAreTold rs s t (story_of (run_of log)) (story_of (run_of l))) (sym (append_assoc more front log))
+    (subst (λ (l : List Event). ResultsAreTold rs s t (story_of (run_of log)) l) (sym same) h)

@@ -10,12 +10,12 @@ use Rattle.script_events.specs.Opening.{opening_of}
 use Rattle.script_events.specs.Servers.{caches_of}
 use Rattle.script_events.specs.Scripted.{Scripted, Piece, Add, Result, Fail, Hold, At, Now, Moment}
 use Rattle.script_events.specs.declared.servers.servers.ScriptServers.{ScriptServers}
-use Rattle.script_run.specs.Results.{CallResult, AreOfFirst, AreTold, call_of, calls_of}
+use Rattle.script_run.specs.Results.{CallResult, AreOfFirst, ResultsAreTold, call_of_result, calls_of}
 use Rattle.script_run.specs.Standing.{Stands, story_of, HasSameStory}
 use Rattle.script_run.specs.Running.{kept_of, AreOfOne}
 use Rattle.script_run.specs.declared.driver.runner.Runner.{Runner}
 use Rattle.script_run.specs.Driving.{HasNoResult, FirstHasResult, BringsResults, BringsSome}
-use Rattle.script_run.specs.World.{Deed, Takes, Ends, Gives, Changes, lost_now, LeadTo, AreMany, IsAwaited, AreInTurn, World, script_of}
+use Rattle.script_run.specs.World.{Deed, Takes, Ends, Gives, EventChanges, lost_now, LeadTo, AreMany, ResultIsAwaited, DeedsAreInTurn, World, script_of_deeds}
 use Rattle.script_run.proofs.DriverRunning.{in_turn_on}
 use Rattle.script_run.specs.Stepping.{HasCalls, HasStory, HasStoryBy, AreFit, AreAskedBy, TakesTurns}
 
@@ -24,11 +24,11 @@ abbrev then_given : List CallResult → List Deed → List Deed
 then_given [] deeds = deeds
 then_given (r ∷ rs) deeds = Gives r ∷ then_given rs deeds
 
-script_same : (rs : List CallResult) (deeds : List Deed) → script_of (then_given rs deeds) ≡ script_of deeds
+script_same : (rs : List CallResult) (deeds : List Deed) → script_of_deeds (then_given rs deeds) ≡ script_of_deeds deeds
 script_same [] deeds = refl
 script_same (r ∷ rs) deeds = script_same rs deeds
 
-led_on : (events : List Scripted) (rs : List CallResult) (deeds : List Deed) (earlier story : List Event) (old new : ScriptServers) → LeadTo events deeds earlier old → AreTold rs old new earlier story → LeadTo events (then_given rs deeds) story new
+led_on : (events : List Scripted) (rs : List CallResult) (deeds : List Deed) (earlier story : List Event) (old new : ScriptServers) → LeadTo events deeds earlier old → ResultsAreTold rs old new earlier story → LeadTo events (then_given rs deeds) story new
 led_on events [] deeds earlier story old new lead told = subst (λ (l : List Event). LeadTo events deeds l new) (sym told.1) (subst (LeadTo events deeds earlier) (sym told.0) lead)
 led_on events (r ∷ rs) deeds earlier story old new lead told = (told.0, told.1, led_on events rs deeds earlier told.1 old told.0 lead told.2, told.3, told.4, told.5)
 
@@ -43,40 +43,40 @@ held_so events tree log a servers stands s key = sym (stands.leads.holds s key) 
 -- after deeds of this kind come as many results as there are
 record AreOpen (deeds : List Deed) : Type 0 where
   pub many : AreMany deeds
-  pub awaited : (r : CallResult) → IsAwaited r deeds
+  pub awaited : (r : CallResult) → ResultIsAwaited r deeds
 
 still_many : (rs : List CallResult) (deeds : List Deed) → AreMany deeds → AreMany (then_given rs deeds)
 still_many [] deeds h = h
 still_many (r ∷ rs) deeds h = still_many rs deeds h
 
-awaited_then : (r : CallResult) (rs : List CallResult) (deeds : List Deed) → AreOpen deeds → IsAwaited r (then_given rs deeds)
+awaited_then : (r : CallResult) (rs : List CallResult) (deeds : List Deed) → AreOpen deeds → ResultIsAwaited r (then_given rs deeds)
 awaited_then r [] deeds h = h.awaited r
 awaited_then r (s ∷ rs) deeds h = still_many rs deeds h.many
 
-turns_on : (rs : List CallResult) (deeds : List Deed) → AreOpen deeds → AreInTurn deeds → AreInTurn (then_given rs deeds)
+turns_on : (rs : List CallResult) (deeds : List Deed) → AreOpen deeds → DeedsAreInTurn deeds → DeedsAreInTurn (then_given rs deeds)
 turns_on [] deeds h turns = turns
 turns_on (r ∷ rs) deeds h turns = (awaited_then r rs deeds h, turns_on rs deeds h turns)
 
 -- the results that an event asks for
-turns_fit : (event : Scripted) (rs : List CallResult) (deeds : List Deed) → AreFit event rs → AreInTurn deeds → AreInTurn (then_given rs (Takes event ∷ deeds))
+turns_fit : (event : Scripted) (rs : List CallResult) (deeds : List Deed) → AreFit event rs → DeedsAreInTurn deeds → DeedsAreInTurn (then_given rs (Takes event ∷ deeds))
 turns_fit (Piece client bytes) rs deeds fit turns = turns_on rs (Takes (Piece client bytes) ∷ deeds) (record { many = tt; awaited = λ r. tt }) turns
 turns_fit (Result server) rs deeds fit turns = by rs fit
   where
-    by : (rs : List CallResult) → AreOfOne server rs → AreInTurn (then_given rs (Takes (Result server) ∷ deeds))
+    by : (rs : List CallResult) → AreOfOne server rs → DeedsAreInTurn (then_given rs (Takes (Result server) ∷ deeds))
     by [] one = turns
     by (r ∷ []) one = (one, turns)
     by (r ∷ s ∷ more) one = absurd one
-turns_fit (Add client bytes) rs deeds fit turns = subst (λ (l : List CallResult). AreInTurn (then_given l (Takes (Add client bytes) ∷ deeds))) (sym fit) turns
-turns_fit (Fail turn manner) rs deeds fit turns = subst (λ (l : List CallResult). AreInTurn (then_given l (Takes (Fail turn manner) ∷ deeds))) (sym fit) turns
-turns_fit (Hold server key content) rs deeds fit turns = subst (λ (l : List CallResult). AreInTurn (then_given l (Takes (Hold server key content) ∷ deeds))) (sym fit) turns
-turns_fit (At turn loss) rs deeds fit turns = subst (λ (l : List CallResult). AreInTurn (then_given l (Takes (At turn loss) ∷ deeds))) (sym fit) turns
-turns_fit (Now loss) rs deeds fit turns = subst (λ (l : List CallResult). AreInTurn (then_given l (Takes (Now loss) ∷ deeds))) (sym fit) turns
-turns_fit (Moment moment) rs deeds fit turns = subst (λ (l : List CallResult). AreInTurn (then_given l (Takes (Moment moment) ∷ deeds))) (sym fit) turns
+turns_fit (Add client bytes) rs deeds fit turns = subst (λ (l : List CallResult). DeedsAreInTurn (then_given l (Takes (Add client bytes) ∷ deeds))) (sym fit) turns
+turns_fit (Fail turn manner) rs deeds fit turns = subst (λ (l : List CallResult). DeedsAreInTurn (then_given l (Takes (Fail turn manner) ∷ deeds))) (sym fit) turns
+turns_fit (Hold server key content) rs deeds fit turns = subst (λ (l : List CallResult). DeedsAreInTurn (then_given l (Takes (Hold server key content) ∷ deeds))) (sym fit) turns
+turns_fit (At turn loss) rs deeds fit turns = subst (λ (l : List CallResult). DeedsAreInTurn (then_given l (Takes (At turn loss) ∷ deeds))) (sym fit) turns
+turns_fit (Now loss) rs deeds fit turns = subst (λ (l : List CallResult). DeedsAreInTurn (then_given l (Takes (Now loss) ∷ deeds))) (sym fit) turns
+turns_fit (Moment moment) rs deeds fit turns = subst (λ (l : List CallResult). DeedsAreInTurn (then_given l (Takes (Moment moment) ∷ deeds))) (sym fit) turns
 
 module _ (events done : List Scripted) (log more : List (Entry dialect)) where
   -- the next event, and its results
   pub world_next :
-      (event : Scripted) (rs : List CallResult) (old mid new : ScriptServers) → World events done log old → Changes event old mid → AreFit event rs → HasStoryBy event rs mid new more log → AreHeld events (more ++ log) new
+      (event : Scripted) (rs : List CallResult) (old mid new : ScriptServers) → World events done log old → EventChanges event old mid → AreFit event rs → HasStoryBy event rs mid new more log → AreHeld events (more ++ log) new
       → World events (done ++ event ∷ []) (more ++ log) new
   world_next event rs old mid new w changes fit told held =
       record {
@@ -107,7 +107,7 @@ module _ (events done : List Scripted) (log more : List (Entry dialect)) where
 
 -- no result came
 pub none_had : (rs : List CallResult) (more log : List (Entry dialect)) → rs ≡ [] → HasCalls rs more log → HasNoResult log (more ++ log)
-none_had rs more log none has = has ∙ ap (λ (l : List CallResult). map call_of l ++ calls_of (run_of log)) none
+none_had rs more log none has = has ∙ ap (λ (l : List CallResult). map call_of_result l ++ calls_of (run_of log)) none
 
 -- the result of the first call came
 first_had : (server : ℕ) (calls : List Ticket) (rs : List CallResult) (more log : List (Entry dialect)) → AreOfFirst server calls rs → HasCalls rs more log → FirstHasResult server calls log (more ++ log)
@@ -117,7 +117,7 @@ first_had server (call ∷ calls) rs more log of has =
     let outcome = r.made.outcome in
     let past = calls_of (run_of log) in (
       outcome,
-      has ∙ ap (λ (l : List CallResult). map call_of l ++ past) of.1
+      has ∙ ap (λ (l : List CallResult). map call_of_result l ++ past) of.1
           ∙ ap (λ (s : ℕ). record { number = r.number; call = record { server = s; ask = r.ask; origin = r.origin; outcome = outcome } } ∷ past) of.2.server_is
           ∙ ap (λ (t : Ticket). record { number = t.number; call = record { server = server; ask = t.ask; origin = t.origin; outcome = outcome } } ∷ past) of.2.call_is,
     )

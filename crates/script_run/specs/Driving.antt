@@ -30,29 +30,29 @@ use Rattle.script_events.specs.Limits.{last_turn}
 use Rattle.core_proxy.specs.declared.limits.TheConstants.{LAST_COMMAND}
 use Rattle.script_events.specs.Servers.{turn_of}
 use Rattle.script_events.specs.declared.servers.servers.ScriptServers.{ScriptServers}
-use Rattle.script_run.specs.Results.{CallResult, call_of, calls_of}
-use Rattle.script_run.specs.Turns.{AreInTurn}
-use Rattle.script_run.specs.Standing.{Kept, Stands, replied_in, tree_by}
+use Rattle.script_run.specs.Results.{CallResult, call_of_result, calls_of}
+use Rattle.script_run.specs.Turns.{AreNextResults}
+use Rattle.script_run.specs.Standing.{Kept, Stands, replies_in_run, tree_by}
 use Rattle.script_run.specs.World.{World}
 use Rattle.wire_stream.specs.Version.{default_version}
 
 -- ---- what a script says
 
 -- the bytes that an event says for a client
-abbrev pub said_by : Scripted → ℕ → List ℕ
-said_by (Piece client bytes) c = if nat_eq client c then bytes else []
-said_by (Add client bytes) c = if nat_eq client c then bytes else []
-said_by (Result server) c = []
-said_by (Fail turn manner) c = []
-said_by (Hold server key content) c = []
-said_by (At turn loss) c = []
-said_by (Now loss) c = []
-said_by (Moment moment) c = []
+abbrev pub event_bytes : Scripted → ℕ → List ℕ
+event_bytes (Piece client bytes) c = if nat_eq client c then bytes else []
+event_bytes (Add client bytes) c = if nat_eq client c then bytes else []
+event_bytes (Result server) c = []
+event_bytes (Fail turn manner) c = []
+event_bytes (Hold server key content) c = []
+event_bytes (At turn loss) c = []
+event_bytes (Now loss) c = []
+event_bytes (Moment moment) c = []
 
 -- all bytes that events say for a client, in order
 abbrev pub said_in : List Scripted → ℕ → List ℕ
 said_in [] c = []
-said_in (event ∷ events) c = said_by event c ++ said_in events c
+said_in (event ∷ events) c = event_bytes event c ++ said_in events c
 
 -- all bytes that a client was given, in order
 abbrev pub shown_to : List Shown → ℕ → List ℕ
@@ -154,8 +154,8 @@ pub record HasTurns (before after : List (Entry dialect)) : Type 0 where
   pub results : List CallResult
   pub more : List (Entry dialect)
   pub goes : after ≡ more ++ before
-  pub calls : calls_of (run_of after) ≡ map call_of results ++ calls_of (run_of before)
-  pub in_turn : AreInTurn results more before
+  pub calls : calls_of (run_of after) ≡ map call_of_result results ++ calls_of (run_of before)
+  pub in_turn : AreNextResults results more before
 
 -- a piece brings as many results as there are, in their turn; where one is asked of a server, the first call that is out there has it; other events bring none
 abbrev pub BringsResults : Scripted → List (Entry dialect) → List (Entry dialect) → Type 0
@@ -182,13 +182,13 @@ BringsSome (Moment moment) before after = HasNoResult before after
 -- ---- in which cuts a piece comes
 
 -- cuts one after another; the latest comes first
-abbrev pub joined : List (List ℕ) → List ℕ
-joined [] = []
-joined (cut ∷ cuts) = joined cuts ++ cut
+abbrev pub joined_cuts : List (List ℕ) → List ℕ
+joined_cuts [] = []
+joined_cuts (cut ∷ cuts) = joined_cuts cuts ++ cut
 
 -- these bytes are in cuts: those before the last one are as long as a cut can be, and the last one is no longer, and empty only where it is the only one
 pub record AreCuts (bytes last : List ℕ) (cuts : List (List ℕ)) : Type 0 where
-  pub bytes_are : bytes ≡ joined cuts ++ last
+  pub bytes_are : bytes ≡ joined_cuts cuts ++ last
   pub full : All (λ cut. length cut ≡ PIECE_CUT) cuts
   pub within : length last ≤ PIECE_CUT
   pub some : (cuts ≡ []) ⊎ (0 < length last)
@@ -361,7 +361,7 @@ pub record DrivesStepped (first : Route) (refused : List Bool) (reloads : List R
   pub written : (c : ℕ) → IsWritten first loads events log c
   pub commands : report.commands ≡ commands_in (run_of log)
   -- each command had its reply
-  pub replied : replied_in (run_of log) ≡ commands_in (run_of log)
+  pub replied : replies_in_run (run_of log) ≡ commands_in (run_of log)
   pub calls : report.calls ≡ calls_in (run_of log)
   pub run : RunsBy first loads events log
   -- nobody but the core writes the servers

@@ -31,7 +31,7 @@ use Rattle.core_proxy.specs.declared.note.Poll.{Poll}
 use Rattle.core_proxy.specs.declared.note.Poll.TheVariants as polls
 use Rattle.script_events.specs.Caches.{held_at}
 use Rattle.script_run.specs.Results.{IsTold}
-use Rattle.script_run.specs.Standing.{Kept, story_of, HasSameStory, replied_in, broken_in, tree_by, calls_at, Stands, GoesOn, GoesOnFed, GoesOnGiven, LeavesAsMuch, CountsAsMany, HasServers, FoundAsMuch, IsBesides}
+use Rattle.script_run.specs.Standing.{Kept, story_of, HasSameStory, replies_in_run, broken_in, tree_by, log_calls_at, Stands, GoesOn, GoesOnFed, GoesOnGiven, LeavesAsMuch, CountsAsMany, HasServers, FoundAsMuch, IsBesides}
 use Rattle.wire_stream.specs.Version.{default_version}
 
 -- ---- polls
@@ -93,7 +93,7 @@ pub record HasResult (number server : ℕ) (ask : Ask) (origin : Origin) (made :
   pub turn_is : new.turn ≡ turn_of after
   pub stamps : (n : ℕ) → new.stamps n ≡ (if nat_eq number n then old.stamps n ++ made.stamp ∷ [] else old.stamps n)
   pub counts : CountsAsMany old new
-  pub out : (s : ℕ) → calls_at s new.out ≡ (if nat_eq server s then without number (calls_at s old.out) else calls_at s old.out)
+  pub out : (s : ℕ) → log_calls_at s new.out ≡ (if nat_eq server s then without number (log_calls_at s old.out) else log_calls_at s old.out)
 
 abbrev pub ResultsGoOn : Type 0
 ResultsGoOn =
@@ -166,7 +166,7 @@ NothingStands = (tree : Route) (k : Kept) → IsBegin tree k → Stands (held_at
 pub record Says (opening : ℕ → List ℕ → Option Item) (tree : ℕ → Route) (log : List (Entry dialect)) (k : Kept) : Type 0 where
   pub follows : Follows (tree_words (λ n key. tree_at (tree n) key)) (bars_by Alone (λ n key. tree_at (tree n) key)) opening default_version log
   pub begun : k.core.number ≡ commands_in (run_of log)
-  pub ended : k.commands ≡ replied_in (run_of log)
+  pub ended : k.commands ≡ replies_in_run (run_of log)
   pub unbroken : broken_in (run_of log) ≡ 0
   pub loses : LosesOnly (run_of log)
   pub calls : k.turn ≡ calls_in (run_of log)

@@ -36,5 +36,5 @@ AreStillBelow Waits count core = (c : ℕ) → c < count → IsStalled core c
 AreStillBelow Moved count core = Unit {0}
 
 -- polls of all clients that were opened leave this: where nothing was done, nothing can be done for any of them without a result
-abbrev pub AreStill : Progress → Runner → Type 0
-AreStill progress runner = AreStillBelow progress runner.clients runner.core
+abbrev pub LeavesAllStill : Progress → Runner → Type 0
+LeavesAllStill progress runner = AreStillBelow progress runner.clients runner.core

@@ -12,6 +12,6 @@ loading_of (faults.TooManyPlaces generation) = Some (Refused (faults.TooManyPlac
 loading_of (faults.Uncovered generation gap) = Some (Refused (faults.Uncovered generation gap))
 loading_of faults.NoMemory = None
 
-abbrev pub is_refused : Loading → Bool
-is_refused (Loaded n) = false
-is_refused (Refused fault) = true
+abbrev pub loading_is_refused : Loading → Bool
+loading_is_refused (Loaded n) = false
+loading_is_refused (Refused fault) = true

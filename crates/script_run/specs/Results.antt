@@ -41,8 +41,8 @@ pub record NumberedCall : Type 0 where
   pub call : Call
 
 -- the call, as a run has it
-abbrev pub call_of : CallResult → NumberedCall
-call_of r = record { number = r.number; call = record { server = r.server; ask = r.ask; origin = r.origin; outcome = r.made.outcome } }
+abbrev pub call_of_result : CallResult → NumberedCall
+call_of_result r = record { number = r.number; call = record { server = r.server; ask = r.ask; origin = r.origin; outcome = r.made.outcome } }
 
 -- the calls of a run that had their results, the latest first
 abbrev pub calls_of : List Event → List NumberedCall
@@ -70,12 +70,12 @@ AreGiven (r ∷ rs) old new =
     (mid : ScriptServers) × AreGiven rs old mid × Answers r.stamp mid r.server r.ask r.made new × (new ≡ record mid { caches = new.caches; turn = new.turn })
 
 -- the servers gave these results, the latest first, and their story tells of them, and of nothing else
-abbrev pub AreTold : List CallResult → ScriptServers → ScriptServers → List Event → List Event → Type 0
-AreTold [] old new earlier story = (new ≡ old) × (story ≡ earlier)
-AreTold (r ∷ rs) old new earlier story =
-    (mid : ScriptServers) × (between : List Event) × AreTold rs old mid earlier between × Answers r.stamp mid r.server r.ask r.made new × (new ≡ record mid { caches = new.caches; turn = new.turn }) × IsTold r mid between story
+abbrev pub ResultsAreTold : List CallResult → ScriptServers → ScriptServers → List Event → List Event → Type 0
+ResultsAreTold [] old new earlier story = (new ≡ old) × (story ≡ earlier)
+ResultsAreTold (r ∷ rs) old new earlier story =
+    (mid : ScriptServers) × (between : List Event) × ResultsAreTold rs old mid earlier between × Answers r.stamp mid r.server r.ask r.made new × (new ≡ record mid { caches = new.caches; turn = new.turn }) × IsTold r mid between story
 
 -- the log goes on, and leads there; what befell the servers are these results
 pub record GoesOnWith (opening : ℕ → List ℕ → Option Item) (tree : ℕ → Route) (log : List (Entry dialect)) (before : ScriptServers) (results : List CallResult) (k : Kept) : Type 0 where
   pub goes : GoesOn opening tree log k
-  pub told : AreTold results before k.servers (story_of (run_of log)) (story_of (run_of (goes.more ++ log)))
+  pub told : ResultsAreTold results before k.servers (story_of (run_of log)) (story_of (run_of (goes.more ++ log)))

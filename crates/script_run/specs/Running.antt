@@ -5,13 +5,13 @@ use Rattle.fresh_runs.specs.Overlap.{Entry, Feeds, out_of}
 use Rattle.route_tree.specs.Route.{Route}
 use Rattle.core_proxy.specs.CoreState.{dialect}
 use Rattle.core_proxy.specs.CoreState.{IsOut}
-use Rattle.core_proxy.specs.Polls.{ForClient, IsDone, IsStalled}
+use Rattle.core_proxy.specs.Polls.{ForClient, ClientIsDone, IsStalled}
 use Rattle.core_proxy.specs.declared.proxy.Core.{Core}
 use Rattle.script_events.specs.Servers.{caches_of, turn_of}
 use Rattle.script_events.specs.declared.servers.servers.ScriptServers.{ScriptServers}
 use Rattle.script_run.specs.Standing.{Kept, HasSameStory, Stands, GoesOn, GoesOnFed, GoesOnGiven, tree_by}
 use Rattle.script_run.specs.Results.{CallResult, AreOfFirst, AreGiven, GoesOnWith}
-use Rattle.script_run.specs.Counting.{last_of}
+use Rattle.script_run.specs.Counting.{last_delete_of}
 use Rattle.script_run.specs.Finding.{found_of}
 use Rattle.script_run.specs.declared.driver.runner.Runner.{Runner}
 
@@ -27,7 +27,7 @@ kept_of runner servers =
       stamps = found_of runner.found;
       commands = runner.counts.tally.commands;
       stale = runner.counts.tally.stale;
-      last = last_of runner.counts;
+      last = last_delete_of runner.counts;
     }
 
 -- each log that stood before goes on, and stands after; nothing befell the servers
@@ -97,11 +97,11 @@ IsLoadedBy tree old before new after =
 
 -- nothing is left to do for the client, which is there
 abbrev pub IsIdle : Core → ℕ → Type 0
-IsIdle core client = ForClient core client IsDone
+IsIdle core client = ForClient core client ClientIsDone
 
 -- nothing is left to do for any client that was opened
-abbrev pub AreIdle : Runner → Type 0
-AreIdle runner = (c : ℕ) → c < runner.clients → IsIdle runner.core c
+abbrev pub AllAreIdle : Runner → Type 0
+AllAreIdle runner = (c : ℕ) → c < runner.clients → IsIdle runner.core c
 
 -- nothing can be done for any client that was opened without a result of a call
 abbrev pub AreStalled : Runner → Type 0
@@ -113,5 +113,5 @@ KeepStalled old new = (c : ℕ) → IsStalled old.core c → IsStalled new.core 
 
 -- nothing is left to do for any client, and no command is under way
 pub record IsAtRest (runner : Runner) : Type 0 where
-  pub idle : AreIdle runner
+  pub idle : AllAreIdle runner
   pub none : IsOut runner.core → ⊥

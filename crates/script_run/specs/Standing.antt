@@ -33,14 +33,14 @@ pub record Kept : Type 0 where
   pub last : List ℕ → Option ℕ
 
 -- how many commands had their replies
-abbrev pub replied_in : List Event → ℕ
-replied_in [] = 0
-replied_in (Replies number key reply from ∷ past) = replied_in past + 1
-replied_in (Begins number ask ∷ past) = replied_in past
-replied_in (Calls number server ask origin end ∷ past) = replied_in past
-replied_in (Breaks number ∷ past) = replied_in past
-replied_in (Turns server key turned ∷ past) = replied_in past
-replied_in (Restarts server ∷ past) = replied_in past
+abbrev pub replies_in_run : List Event → ℕ
+replies_in_run [] = 0
+replies_in_run (Replies number key reply from ∷ past) = replies_in_run past + 1
+replies_in_run (Begins number ask ∷ past) = replies_in_run past
+replies_in_run (Calls number server ask origin end ∷ past) = replies_in_run past
+replies_in_run (Breaks number ∷ past) = replies_in_run past
+replies_in_run (Turns server key turned ∷ past) = replies_in_run past
+replies_in_run (Restarts server ∷ past) = replies_in_run past
 
 -- how many commands were broken off
 abbrev pub broken_in : List Event → ℕ
@@ -72,12 +72,12 @@ tree_by first [] n = first
 tree_by first (load ∷ loads) n = if nat_lt load.0 n then load.1 else tree_by first loads n
 
 -- those of these calls that are out at a server, in their order, as a log has them
-abbrev pub calls_at : ℕ → List Ticket → List LogTicket
-calls_at server [] = []
-calls_at server (ticket ∷ tickets) =
+abbrev pub log_calls_at : ℕ → List Ticket → List LogTicket
+log_calls_at server [] = []
+log_calls_at server (ticket ∷ tickets) =
     if nat_eq ticket.server server
-    then record { number = ticket.number; ask = ticket.ask; origin = ticket.origin } ∷ calls_at server tickets
-    else calls_at server tickets
+    then record { number = ticket.number; ask = ticket.ask; origin = ticket.origin } ∷ log_calls_at server tickets
+    else log_calls_at server tickets
 
 -- the log, with commands by these trees and servers that held these opening items, leads to the core and the servers as they are kept, for which every client is served, no command was broken off and nobody but the core writes the servers; and what is counted is what the log says
 pub record Stands (opening : ℕ → List ℕ → Option Item) (tree : ℕ → Route) (log : List (Entry dialect)) (k : Kept) : Type 0 where
@@ -91,10 +91,10 @@ pub record Stands (opening : ℕ → List ℕ → Option Item) (tree : ℕ → R
   pub loses : LosesOnly (run_of log)
   pub holds : (s : ℕ) (key : List ℕ) → beside.holds s key ≡ held_at k.caches s key
   pub turn : beside.turn ≡ k.turn
-  pub out : (s : ℕ) → out_of log s ≡ calls_at s k.out
+  pub out : (s : ℕ) → out_of log s ≡ log_calls_at s k.out
   pub known : (n : ℕ) (o : Owner) → owner_of log n ≡ Some o → AreFound (calls_so_far (run_of log) n) (beside.found n) (k.stamps n)
   pub unknown : (n : ℕ) → k.core.number < n → k.stamps n ≡ []
-  pub commands : k.commands ≡ replied_in (run_of log)
+  pub commands : k.commands ≡ replies_in_run (run_of log)
   pub stale : k.stale ≡ tally_of opening (run_of log)
   pub last : (key : List ℕ) → k.last key ≡ last_gone (run_of log) key
 

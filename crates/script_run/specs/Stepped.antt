@@ -14,17 +14,17 @@ use Rattle.script_events.specs.Opening.{opening_of}
 use Rattle.script_run.specs.Driving.{DrivesStepped, StepsPart, AreSpentIn}
 use Rattle.script_events.specs.declared.servers.servers.ScriptServers.{ScriptServers}
 use Rattle.script_run.specs.declared.accepted.judging.Loading.{Loading}
-use Rattle.script_run.specs.Reloads.{is_refused}
+use Rattle.script_run.specs.Reloads.{loading_is_refused}
 
 -- the script ran, its run is fresh over all loaded trees, and none of its replies is stale
 pub record StepsFreshly (first : Route) (loadings : List Loading) (reloads : List Reload) (events : List Scripted) (given : List Shown) (marks : List ℕ) (report : Report) : Type 0 where
-  pub drives : DrivesStepped first (map is_refused loadings) reloads events given marks report
+  pub drives : DrivesStepped first (map loading_is_refused loadings) reloads events given marks report
   pub fresh : IsFreshByNumber (opening_of events) (run_of drives.log)
   pub none_stale : report.stale ≡ 0
 
 -- a part of the script ran, and the run of all that was done is fresh
 pub record StepsPartFreshly (first : Route) (loadings : List Loading) (reloads : List Reload) (events : List Scripted) (given : List Shown) (marks : List ℕ) (servers : ScriptServers) : Type 0 where
-  pub part : StepsPart first (map is_refused loadings) reloads events given marks servers
+  pub part : StepsPart first (map loading_is_refused loadings) reloads events given marks servers
   pub fresh : IsFreshByNumber (opening_of events) (run_of part.log)
 
 -- what a fault leaves: where an event can't be nothing was handed out, and the servers are as they were

@@ -12,16 +12,16 @@ use Rattle.script_events.specs.declared.script.Reload.{Reload}
 use Rattle.script_events.specs.Scripted.{Scripted, Piece, Add, Result, Fail, Hold, At, Now, Moment}
 use Rattle.script_events.specs.Opening.{opening_of}
 use Rattle.script_events.specs.declared.servers.servers.ScriptServers.{ScriptServers}
-use Rattle.script_run.specs.Results.{CallResult, AreGiven, AreTold, call_of, calls_of}
+use Rattle.script_run.specs.Results.{CallResult, AreGiven, ResultsAreTold, call_of_result, calls_of}
 use Rattle.script_run.specs.Standing.{Kept, story_of, HasSameStory, Stands, GoesOnFed, LeavesAsMuch, tree_by}
 use Rattle.script_events.specs.declared.servers.event.FleetFault.{FleetFault}
 use Rattle.script_events.specs.declared.servers.event.FleetFault.TheVariants.{Spent}
 use Rattle.script_run.specs.Breaking.{AreSpent, IsWithinOne}
-use Rattle.script_run.specs.Turns.{AreInTurn}
+use Rattle.script_run.specs.Turns.{AreNextResults}
 use Rattle.script_run.specs.Running.{kept_of, IsLoadedBy, AreOfOne, AreAsked, AreStalled, KeepStalled, IsAtRest}
 use Rattle.script_run.specs.declared.driver.runner.Runner.{Runner}
-use Rattle.script_run.specs.World.{Changes, lost_now, World}
-use Rattle.script_run.specs.Driving.{said_by, said_in, shown_to, joined, AreCuts, IsServedFor, CutsCome, AreHandedInTurn, AreRising, AreOutputs, HaveAllOutput, trees_loaded, loaded_trees, CameInTurn, leaves_out, IsSettled, AreThrough, AreSteps, AreMarked, StepsPart, AreSpentIn}
+use Rattle.script_run.specs.World.{EventChanges, lost_now, World}
+use Rattle.script_run.specs.Driving.{event_bytes, said_in, shown_to, joined_cuts, AreCuts, IsServedFor, CutsCome, AreHandedInTurn, AreRising, AreOutputs, HaveAllOutput, trees_loaded, loaded_trees, CameInTurn, leaves_out, IsSettled, AreThrough, AreSteps, AreMarked, StepsPart, AreSpentIn}
 use Rattle.wire_stream.specs.Version.{default_version}
 
 -- an event that asks clients nothing leaves as much to do as there was
@@ -39,21 +39,21 @@ LeavesBy (Moment moment) before after = LeavesAsMuch before after
 pub record GoesOnSaid (opening : ℕ → List ℕ → Option Item) (tree : ℕ → Route) (log : List (Entry dialect)) (event : Scripted) (k : Kept) : Type 0 where
   pub more : List (Entry dialect)
   pub stands : Stands opening tree (more ++ log) k
-  pub streams : (c : ℕ) → stream_of (more ++ log) c ≡ stream_of log c ++ said_by event c
+  pub streams : (c : ℕ) → stream_of (more ++ log) c ≡ stream_of log c ++ event_bytes event c
   pub given : (c : ℕ) → given_of (more ++ log) c ≡ given_of log c
   pub left : LeavesBy event log (more ++ log)
 
 -- the calls of the run are those of these results, and then those of before
 abbrev pub HasCalls : List CallResult → List (Entry dialect) → List (Entry dialect) → Type 0
-HasCalls results more log = calls_of (run_of (more ++ log)) ≡ map call_of results ++ calls_of (run_of log)
+HasCalls results more log = calls_of (run_of (more ++ log)) ≡ map call_of_result results ++ calls_of (run_of log)
 
 -- what befell the servers are these results
 abbrev pub HasStory : List CallResult → ScriptServers → ScriptServers → List (Entry dialect) → List (Entry dialect) → Type 0
-HasStory results before after more log = AreTold results before after (story_of (run_of log)) (story_of (run_of (more ++ log)))
+HasStory results before after more log = ResultsAreTold results before after (story_of (run_of log)) (story_of (run_of (more ++ log)))
 
 -- what befell the servers is what the event loses, and then these results
 abbrev pub HasStoryBy : Scripted → List CallResult → ScriptServers → ScriptServers → List (Entry dialect) → List (Entry dialect) → Type 0
-HasStoryBy event results before after more log = AreTold results before after (lost_now event ++ story_of (run_of log)) (story_of (run_of (more ++ log)))
+HasStoryBy event results before after more log = ResultsAreTold results before after (lost_now event ++ story_of (run_of log)) (story_of (run_of (more ++ log)))
 
 -- a client said these bytes, and the servers gave some results: each log that stood before goes on so
 pub record FedBy (client : ℕ) (bytes : List ℕ) (old : Runner) (before : ScriptServers) (new : Runner) (after : ScriptServers) : Type 0 where
@@ -65,7 +65,7 @@ pub record FedBy (client : ℕ) (bytes : List ℕ) (old : Runner) (before : Scri
 pub record FedInTurn (client : ℕ) (bytes : List ℕ) (old : Runner) (before : ScriptServers) (new : Runner) (after : ScriptServers) : Type 0 where
   pub fed : FedBy client bytes old before new after
   pub in_turn :
-      (opening : ℕ → List ℕ → Option Item) (tree : ℕ → Route) (log : List (Entry dialect)) (stands : Stands opening tree log (kept_of old before)) → AreInTurn fed.results (fed.goes opening tree log stands).0.more log
+      (opening : ℕ → List ℕ → Option Item) (tree : ℕ → Route) (log : List (Entry dialect)) (stands : Stands opening tree log (kept_of old before)) → AreNextResults fed.results (fed.goes opening tree log stands).0.more log
 
 -- the same, and the bytes came at once, before anything was done of them
 pub record FedAtOnce (client : ℕ) (bytes : List ℕ) (old : Runner) (before : ScriptServers) (new : Runner) (after : ScriptServers) : Type 0 where
@@ -81,7 +81,7 @@ pub record IsServedBelow (count : ℕ) (log : List (Entry dialect)) : Type 0 whe
 
 -- a client said these cuts, one after another, and after each of them all was done
 pub record FedInCuts (client : ℕ) (cuts : List (List ℕ)) (old : Runner) (before : ScriptServers) (new : Runner) (after : ScriptServers) : Type 0 where
-  pub turn : FedInTurn client (joined cuts) old before new after
+  pub turn : FedInTurn client (joined_cuts cuts) old before new after
   pub come :
       (opening : ℕ → List ℕ → Option Item) (tree : ℕ → Route) (log : List (Entry dialect)) (stands : Stands opening tree log (kept_of old before))
       → CutsCome client (IsServedBelow new.clients) cuts log ((turn.fed.goes opening tree log stands).0.more ++ log)
@@ -134,7 +134,7 @@ AreAskedBy (Moment moment) old before results = Unit {0}
 
 -- the results of a piece come in their turn
 abbrev pub TakesTurns : Scripted → List CallResult → List (Entry dialect) → List (Entry dialect) → Type 0
-TakesTurns (Piece client bytes) results more log = AreInTurn results more log
+TakesTurns (Piece client bytes) results more log = AreNextResults results more log
 TakesTurns (Add client bytes) results more log = Unit {0}
 TakesTurns (Result server) results more log = Unit {0}
 TakesTurns (Fail turn manner) results more log = Unit {0}
@@ -146,7 +146,7 @@ TakesTurns (Moment moment) results more log = Unit {0}
 -- the event changes the servers, and then they give the results that it asks for: each log that stood before goes on so
 pub record Befalls (event : Scripted) (old : Runner) (before : ScriptServers) (new : Runner) (after : ScriptServers) : Type 0 where
   pub mid : ScriptServers
-  pub changes : Changes event before mid
+  pub changes : EventChanges event before mid
   pub results : List CallResult
   pub given : AreGiven results mid after
   pub fit : AreFit event results
@@ -161,7 +161,7 @@ pub record GoesOnInPart (opening : ℕ → List ℕ → Option Item) (tree : ℕ
   pub stands : Stands opening tree (more ++ log) k
   pub said : ℕ → List ℕ
   pub unsaid : ℕ → List ℕ
-  pub cut : (c : ℕ) → said_by event c ≡ said c ++ unsaid c
+  pub cut : (c : ℕ) → event_bytes event c ≡ said c ++ unsaid c
   pub streams : (c : ℕ) → stream_of (more ++ log) c ≡ stream_of log c ++ said c
   pub given : (c : ℕ) → given_of (more ++ log) c ≡ given_of log c
 
@@ -182,7 +182,7 @@ pub record BreaksOff (event : Scripted) (old : Runner) (before : ScriptServers) 
   pub at : ScriptServers
   pub results : List CallResult
   pub given : AreGiven results before at
-  pub come : (results ≡ []) ⊎ (Changes event before before × (lost_now event ≡ []))
+  pub come : (results ≡ []) ⊎ (EventChanges event before before × (lost_now event ≡ []))
   pub fit : AreFit event results
   pub asked : (results ≡ []) ⊎ AreAskedBy event old before results
   pub goes : (opening : ℕ → List ℕ → Option Item) (tree : ℕ → Route) (log : List (Entry dialect)) → Stands opening tree log (kept_of old before) → (g : GoesOnInPart opening tree log event (kept_of mid at)) × HasStory results before at g.more log
@@ -191,7 +191,7 @@ pub record BreaksOff (event : Scripted) (old : Runner) (before : ScriptServers) 
 
 -- clients that weren't opened said nothing in the event
 pub record IsHeard (event : Scripted) (old new : Runner) : Type 0 where
-  pub unheard : (c : ℕ) → new.clients ≤ c → (old.clients ≤ c) × (said_by event c ≡ [])
+  pub unheard : (c : ℕ) → new.clients ≤ c → (old.clients ≤ c) × (event_bytes event c ≡ [])
 
 -- after a piece nothing is left to do but to hand out, and after what is added, or a result, nothing more can be done without one; other events are none to clients
 abbrev pub RestsAfter : Scripted → Runner → Runner → Type 0

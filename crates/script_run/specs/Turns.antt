@@ -7,16 +7,16 @@ use Rattle.route_tree.specs.Route.{Route}
 use Rattle.core_commands.specs.declared.ticket.Ticket.{Ticket}
 use Rattle.core_proxy.specs.CoreState.{dialect}
 use Rattle.script_events.specs.declared.servers.servers.ScriptServers.{ScriptServers}
-use Rattle.script_run.specs.Results.{CallResult, AreOfFirst, call_of, calls_of}
-use Rattle.script_run.specs.Standing.{calls_at, Stands}
+use Rattle.script_run.specs.Results.{CallResult, AreOfFirst, call_of_result, calls_of}
+use Rattle.script_run.specs.Standing.{log_calls_at, Stands}
 use Rattle.script_run.specs.Running.{kept_of, MovesBy}
 use Rattle.script_run.specs.declared.driver.runner.Runner.{Runner}
 
 -- the first of the calls that were out at this server is out no more
 pub record TakesFirst (server : ℕ) (ticket : Ticket) (old new : Runner) : Type 0 where
   pub rest : new ≡ record old { out = new.out }
-  pub first : calls_at server old.out.items ≡ record { number = ticket.number; ask = ticket.ask; origin = ticket.origin } ∷ calls_at server new.out.items
-  pub others : (s : ℕ) → nat_eq server s ≡ false → calls_at s new.out.items ≡ calls_at s old.out.items
+  pub first : log_calls_at server old.out.items ≡ record { number = ticket.number; ask = ticket.ask; origin = ticket.origin } ∷ log_calls_at server new.out.items
+  pub others : (s : ℕ) → nat_eq server s ≡ false → log_calls_at s new.out.items ≡ log_calls_at s old.out.items
 
 -- a call is out at this server
 abbrev pub IsOutAt : ℕ → List Ticket → Type 0
@@ -42,14 +42,14 @@ pub record IsNextResult (r : CallResult) (log : List (Entry dialect)) : Type 0 w
   pub least : (s : ℕ) → s < r.server → out_of log s ≡ []
 
 -- the log went on by these entries with these results, the latest first, each of them the next one in the part of the log that stood before it
-abbrev pub AreInTurn : List CallResult → List (Entry dialect) → List (Entry dialect) → Type 0
-AreInTurn [] more log = Unit {0}
-AreInTurn (r ∷ rs) more log =
-    (later earlier : List (Entry dialect)) × (more ≡ later ++ earlier) × (calls_of (run_of (earlier ++ log)) ≡ map call_of rs ++ calls_of (run_of log)) × IsNextResult r (earlier ++ log) × AreInTurn rs earlier log
+abbrev pub AreNextResults : List CallResult → List (Entry dialect) → List (Entry dialect) → Type 0
+AreNextResults [] more log = Unit {0}
+AreNextResults (r ∷ rs) more log =
+    (later earlier : List (Entry dialect)) × (more ≡ later ++ earlier) × (calls_of (run_of (earlier ++ log)) ≡ map call_of_result rs ++ calls_of (run_of log)) × IsNextResult r (earlier ++ log) × AreNextResults rs earlier log
 
 -- the servers gave some results, and each log that stood before goes on by them, each in its turn
 pub record MovesInTurn (old : Runner) (before : ScriptServers) (new : Runner) (after : ScriptServers) : Type 0 where
   pub results : List CallResult
   pub moves : MovesBy results old before new after
   pub in_turn :
-      (opening : ℕ → List ℕ → Option Item) (tree : ℕ → Route) (log : List (Entry dialect)) (stands : Stands opening tree log (kept_of old before)) → AreInTurn results (moves.goes opening tree log stands).goes.more log
+      (opening : ℕ → List ℕ → Option Item) (tree : ℕ → Route) (log : List (Entry dialect)) (stands : Stands opening tree log (kept_of old before)) → AreNextResults results (moves.goes opening tree log stands).goes.more log

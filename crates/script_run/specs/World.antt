@@ -25,11 +25,11 @@ pub data Deed : Type 0 where
   Gives : CallResult → Deed
 
 -- the events, in order
-abbrev pub script_of : List Deed → List Scripted
-script_of [] = []
-script_of (Takes event ∷ deeds) = script_of deeds ++ event ∷ []
-script_of (Ends ∷ deeds) = script_of deeds
-script_of (Gives r ∷ deeds) = script_of deeds
+abbrev pub script_of_deeds : List Deed → List Scripted
+script_of_deeds [] = []
+script_of_deeds (Takes event ∷ deeds) = script_of_deeds deeds ++ event ∷ []
+script_of_deeds (Ends ∷ deeds) = script_of_deeds deeds
+script_of_deeds (Gives r ∷ deeds) = script_of_deeds deeds
 
 -- servers at the start: they hold what the script puts there, no call was made or named, and the time is 0
 pub record AreOpened (events : List Scripted) (servers : ScriptServers) : Type 0 where
@@ -40,17 +40,17 @@ pub record AreOpened (events : List Scripted) (servers : ScriptServers) : Type 0
   pub lost : (t : ℕ) → lost_of servers t ≡ []
 
 -- what an event is to the servers by itself: a failure or a loss is named for a call to come, something is lost now, or it is another time. What it puts there is there from the start
-abbrev pub Changes : Scripted → ScriptServers → ScriptServers → Type 0
-Changes (Piece client bytes) old new = new ≡ old
-Changes (Add client bytes) old new = new ≡ old
-Changes (Result server) old new = new ≡ old
-Changes (Hold server key content) old new = new ≡ old
-Changes (Fail turn manner) old new =
+abbrev pub EventChanges : Scripted → ScriptServers → ScriptServers → Type 0
+EventChanges (Piece client bytes) old new = new ≡ old
+EventChanges (Add client bytes) old new = new ≡ old
+EventChanges (Result server) old new = new ≡ old
+EventChanges (Hold server key content) old new = new ≡ old
+EventChanges (Fail turn manner) old new =
     ((t : ℕ) → named_of new t ≡ (if nat_eq (turn_of old + turn) t then Some manner else named_of old t)) × (new ≡ record old { failures = new.failures })
-Changes (At turn loss) old new =
+EventChanges (At turn loss) old new =
     ((t : ℕ) → map loss_of (lost_of new t) ≡ (if nat_eq (turn_of old + turn) t then map loss_of (lost_of old t) ++ loss ∷ [] else map loss_of (lost_of old t))) × (new ≡ record old { losses = new.losses })
-Changes (Now loss) old new = ((lost : Loss) × (loss_of lost ≡ loss) × (caches_of new ≡ losing.after_loss (losing.loss_of lost) (caches_of old))) × (new ≡ record old { caches = new.caches })
-Changes (Moment moment) old new = (moment_of new ≡ moment) × (new ≡ record old { moment = new.moment })
+EventChanges (Now loss) old new = ((lost : Loss) × (loss_of lost ≡ loss) × (caches_of new ≡ losing.after_loss (losing.loss_of lost) (caches_of old))) × (new ≡ record old { caches = new.caches })
+EventChanges (Moment moment) old new = (moment_of new ≡ moment) × (new ≡ record old { moment = new.moment })
 
 -- what an event adds to the servers' story by itself: what is lost now
 abbrev pub lost_now : Scripted → List Event
@@ -66,7 +66,7 @@ lost_now (Moment moment) = []
 -- these deeds led to the servers, and this is their story: each result is the answer of its server's table at that time, after what was named to be lost just before it, or it fails in the manner that was named; and nothing else befell them than what events lose, what servers drop by themselves, and calls that ended so
 abbrev pub LeadTo : List Scripted → List Deed → List Event → ScriptServers → Type 0
 LeadTo events [] story servers = (story ≡ []) × AreOpened events servers
-LeadTo events (Takes event ∷ deeds) story servers = (old : ScriptServers) × (earlier : List Event) × LeadTo events deeds earlier old × Changes event old servers × (story ≡ lost_now event ++ earlier)
+LeadTo events (Takes event ∷ deeds) story servers = (old : ScriptServers) × (earlier : List Event) × LeadTo events deeds earlier old × EventChanges event old servers × (story ≡ lost_now event ++ earlier)
 LeadTo events (Ends ∷ deeds) story servers = LeadTo events deeds story servers
 LeadTo events (Gives r ∷ deeds) story servers =
     (old : ScriptServers) × (earlier : List Event) × LeadTo events deeds earlier old × Answers r.stamp old r.server r.ask r.made servers × (servers ≡ record old { caches = servers.caches; turn = servers.turn }) × IsTold r old earlier story
@@ -86,29 +86,29 @@ AreMany (Takes (Now loss) ∷ deeds) = ⊥
 AreMany (Takes (Moment moment) ∷ deeds) = ⊥
 
 -- results come as they are awaited: after a piece and at the end as many as there are, and where one is asked of a server at most one, of a call of that server
-abbrev pub IsAwaited : CallResult → List Deed → Type 0
-IsAwaited r (Takes (Result server) ∷ deeds) = r.server ≡ server
-IsAwaited r (Gives earlier ∷ deeds) = AreMany deeds
-IsAwaited r (Takes (Piece client bytes) ∷ deeds) = Unit {0}
-IsAwaited r (Ends ∷ deeds) = Unit {0}
-IsAwaited r [] = ⊥
-IsAwaited r (Takes (Add client bytes) ∷ deeds) = ⊥
-IsAwaited r (Takes (Hold server key content) ∷ deeds) = ⊥
-IsAwaited r (Takes (Fail turn manner) ∷ deeds) = ⊥
-IsAwaited r (Takes (At turn loss) ∷ deeds) = ⊥
-IsAwaited r (Takes (Now loss) ∷ deeds) = ⊥
-IsAwaited r (Takes (Moment moment) ∷ deeds) = ⊥
+abbrev pub ResultIsAwaited : CallResult → List Deed → Type 0
+ResultIsAwaited r (Takes (Result server) ∷ deeds) = r.server ≡ server
+ResultIsAwaited r (Gives earlier ∷ deeds) = AreMany deeds
+ResultIsAwaited r (Takes (Piece client bytes) ∷ deeds) = Unit {0}
+ResultIsAwaited r (Ends ∷ deeds) = Unit {0}
+ResultIsAwaited r [] = ⊥
+ResultIsAwaited r (Takes (Add client bytes) ∷ deeds) = ⊥
+ResultIsAwaited r (Takes (Hold server key content) ∷ deeds) = ⊥
+ResultIsAwaited r (Takes (Fail turn manner) ∷ deeds) = ⊥
+ResultIsAwaited r (Takes (At turn loss) ∷ deeds) = ⊥
+ResultIsAwaited r (Takes (Now loss) ∷ deeds) = ⊥
+ResultIsAwaited r (Takes (Moment moment) ∷ deeds) = ⊥
 
-abbrev pub AreInTurn : List Deed → Type 0
-AreInTurn [] = Unit {0}
-AreInTurn (Takes event ∷ deeds) = AreInTurn deeds
-AreInTurn (Ends ∷ deeds) = AreInTurn deeds
-AreInTurn (Gives r ∷ deeds) = IsAwaited r deeds × AreInTurn deeds
+abbrev pub DeedsAreInTurn : List Deed → Type 0
+DeedsAreInTurn [] = Unit {0}
+DeedsAreInTurn (Takes event ∷ deeds) = DeedsAreInTurn deeds
+DeedsAreInTurn (Ends ∷ deeds) = DeedsAreInTurn deeds
+DeedsAreInTurn (Gives r ∷ deeds) = ResultIsAwaited r deeds × DeedsAreInTurn deeds
 
 -- the world of a log is what its script makes of it: there are deeds of these events whose story is that of its run, which leaves on the servers what they hold
 pub record World (events done : List Scripted) (log : List (Entry dialect)) (servers : ScriptServers) : Type 0 where
   pub deeds : List Deed
-  pub script_is : script_of deeds ≡ done
+  pub script_is : script_of_deeds deeds ≡ done
   pub lead : LeadTo events deeds (story_of (run_of log)) servers
-  pub in_turn : AreInTurn deeds
+  pub in_turn : DeedsAreInTurn deeds
   pub holds : (s : ℕ) (key : List ℕ) → held (opening_of events) (run_of log) s key ≡ held_at (caches_of servers) s key

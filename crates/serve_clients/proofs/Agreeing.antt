@@ -13,7 +13,7 @@ use Rattle.serve_wire.proofs.Flows.{client_reads, client_sends}
 use Rattle.serve_clients.specs.declared.clients.Client.{Client}
 use Rattle.serve_clients.specs.declared.clients.Clients.{Clients}
 use Rattle.serve_clients.specs.Marks.{client_of, Changes, AreAlike, with_ready, with_unsent, with_busy, ready_if, unsent_if, told_of, one_settled, one_got, one_answered, one_waits, one_waited}
-use Rattle.serve_clients.specs.Agrees.{said_of, StateAgrees, EndAgrees, AllAgree, KeepsEnds}
+use Rattle.serve_clients.specs.Agrees.{end_said_of, StateAgrees, EndAgrees, AllAgree, KeepsEnds}
 use Rattle.serve_clients.proofs.Marked.{changed, kept}
 
 -- ---- one client
@@ -145,7 +145,7 @@ same_some e = cc
 pub agree_still : (h : List Event) (input output : ℕ → List ℕ) (old new : Clients) → KeepsEnds old new → AllAgree h input output old → AllAgree h input output new
 agree_still h input output old new keeps was id = by (client_of old id) (client_of new id) (keeps id) (was id)
   where
-    by : (x y : Option Client) → option_map said_of y ≡ option_map said_of x → IfSome x (EndAgrees h input output id) → IfSome y (EndAgrees h input output id)
+    by : (x y : Option Client) → option_map end_said_of y ≡ option_map end_said_of x → IfSome x (EndAgrees h input output id) → IfSome y (EndAgrees h input output id)
     by None None e p = tt
     by (Some x) None e p = tt
     by None (Some y) e p = absurd cc
@@ -160,27 +160,27 @@ pub keeps_twice : (old mid new : Clients) → KeepsEnds old mid → KeepsEnds mi
 keeps_twice old mid new a b = λ id. b id ∙ a id
 
 pub keeps_alike : (old new : Clients) → AreAlike old new → KeepsEnds old new
-keeps_alike old new alike = λ id. ap (λ xs. option_map said_of (client_of_all xs id)) alike.clients
+keeps_alike old new alike = λ id. ap (λ xs. option_map end_said_of (client_of_all xs id)) alike.clients
   where
     client_of_all : List (Option Client) → ℕ → Option Client
     client_of_all xs id = option_flatten (slice_get xs id)
 
 -- a change that leaves the end of a client as it is
-pub keeps_by : (change : Client → Client) (at : ℕ) (old new : Clients) → ((x : Client) → said_of (change x) ≡ said_of x) → Changes change at old new → KeepsEnds old new
+pub keeps_by : (change : Client → Client) (at : ℕ) (old new : Clients) → ((x : Client) → end_said_of (change x) ≡ end_said_of x) → Changes change at old new → KeepsEnds old new
 keeps_by change at old new same is id = by_place (cases_eq id at)
   where
-    of_one : (o : Option Client) → option_map said_of (option_map change o) ≡ option_map said_of o
+    of_one : (o : Option Client) → option_map end_said_of (option_map change o) ≡ option_map end_said_of o
     of_one None = refl
     of_one (Some x) = ap (λ (s : ℕ × List ℕ × List ℕ × Bool × Bool). Some s) (same x)
 
-    by_place : (id ≡ at) ⊎ (id ≢ at) → option_map said_of (client_of new id) ≡ option_map said_of (client_of old id)
-    by_place (inl here) = subst (λ k. option_map said_of (client_of new k) ≡ option_map said_of (client_of old k)) (sym here) (ap (option_map said_of) (changed change old.all.items new.all.items at is) ∙ of_one (client_of old at))
-    by_place (inr other) = ap (option_map said_of) (kept old.all.items new.all.items at id _ other is)
+    by_place : (id ≡ at) ⊎ (id ≢ at) → option_map end_said_of (client_of new id) ≡ option_map end_said_of (client_of old id)
+    by_place (inl here) = subst (λ k. option_map end_said_of (client_of new k) ≡ option_map end_said_of (client_of old k)) (sym here) (ap (option_map end_said_of) (changed change old.all.items new.all.items at is) ∙ of_one (client_of old at))
+    by_place (inr other) = ap (option_map end_said_of) (kept old.all.items new.all.items at id _ other is)
 
 pub settled_keeps : (at : ℕ) (old new : Clients) → Changes (λ x. with_ready true (one_settled x)) at old new → KeepsEnds old new
 settled_keeps at old new is = keeps_by (λ x. with_ready true (one_settled x)) at old new (λ x. refl) is
 
-answered_said : (is_get : Bool) (len : ℕ) (x : Client) → said_of (one_answered is_get len x) ≡ said_of x
+answered_said : (is_get : Bool) (len : ℕ) (x : Client) → end_said_of (one_answered is_get len x) ≡ end_said_of x
 answered_said true len x = refl
 answered_said false len x = refl
 
@@ -201,13 +201,13 @@ busy_keeps at old new is = keeps_by (with_busy true) at old new (λ x. refl) is
 
 -- the same clients are there
 pub same_keeps : (old new : Clients) → new.all ≡ old.all → KeepsEnds old new
-same_keeps old new is id = ap (λ all. option_map said_of (option_flatten (slice_get all.items id))) is
+same_keeps old new is id = ap (λ all. option_map end_said_of (option_flatten (slice_get all.items id))) is
 
-pub ready_said : (reads : Bool) (x : Client) → said_of (ready_if reads x) ≡ said_of x
+pub ready_said : (reads : Bool) (x : Client) → end_said_of (ready_if reads x) ≡ end_said_of x
 ready_said true x = refl
 ready_said false x = refl
 
-pub unsent_said : (writes : Bool) (x : Client) → said_of (unsent_if writes x) ≡ said_of x
+pub unsent_said : (writes : Bool) (x : Client) → end_said_of (unsent_if writes x) ≡ end_said_of x
 unsent_said true x = refl
 unsent_said false x = refl
 

@@ -9,7 +9,7 @@ use Rattle.serve_clients.specs.declared.clients.Client.{Client}
 use Rattle.serve_clients.specs.declared.clients.Clients.{Clients}
 use Rattle.serve_clients.specs.declared.clients.Marking.{Marking}
 use Rattle.serve_wire.specs.declared.outcomes.Ready.{Ready}
-use Rattle.serve_clients.specs.Marks.{client_of, Changes, AreAlike, EndsBusy, is_idle, is_marked, HasMarked, with_busy, ids_if, ready_if, unsent_if, told_of, noted, will_send}
+use Rattle.serve_clients.specs.Marks.{client_of, Changes, AreAlike, EndsBusy, client_is_idle, is_marked, HasMarked, with_busy, ids_if, ready_if, unsent_if, told_of, noted, will_send}
 
 -- what was put at a place is there
 at_place : {A : Type 0} (xs : List A) (i : ℕ) (x : A) → i < length xs → slice_get (slice_set xs i x) i ≡ Some x
@@ -78,12 +78,12 @@ erased_more old mid new at erased change id = by_place (cases_eq id at)
     by_place (inl same) = subst (λ k. option_map (with_busy false) (client_of new k) ≡ option_map (with_busy false) (client_of old k)) (sym same) (ap (option_map (with_busy false)) (changed (with_busy false) mid.all.items new.all.items at change) ∙ twice (client_of mid at) ∙ erased at)
     by_place (inr other) = ap (option_map (with_busy false)) (kept mid.all.items new.all.items at id _ other change) ∙ erased id
 
-same_idle : (o : Option Client) → is_idle (option_map (with_busy false) o) ≡ is_idle o
+same_idle : (o : Option Client) → client_is_idle (option_map (with_busy false) o) ≡ client_is_idle o
 same_idle None = refl
 same_idle (Some x) = refl
 
-pub idle_still : (old mid : Clients) (id : ℕ) → Erased old mid → is_idle (client_of mid id) ≡ is_idle (client_of old id)
-idle_still old mid id erased = sym (same_idle (client_of mid id)) ∙ ap is_idle (erased id) ∙ same_idle (client_of old id)
+pub idle_still : (old mid : Clients) (id : ℕ) → Erased old mid → client_is_idle (client_of mid id) ≡ client_is_idle (client_of old id)
+idle_still old mid id erased = sym (same_idle (client_of mid id)) ∙ ap client_is_idle (erased id) ∙ same_idle (client_of old id)
 
 of_one : (x y : ℕ) → Contains (y ∷ []) x → x ≡ y
 of_one x y (zero, within, is) = sym is

@@ -9,8 +9,8 @@ use Rattle.serve_clients.specs.declared.clients.Clients.{Clients}
 use Rattle.serve_clients.specs.Marks.{client_of}
 
 -- what an end has to do with its connection: its number, what is held of it, what is to be sent, and whether it is broken off or has ended
-abbrev pub said_of : Client → ℕ × List ℕ × List ℕ × Bool × Bool
-said_of x = (x.conn.number, x.conn.held.items, bytes_of x.conn.unsent, x.is_broken, x.is_ended)
+abbrev pub end_said_of : Client → ℕ × List ℕ × List ℕ × Bool × Bool
+end_said_of x = (x.conn.number, x.conn.held.items, bytes_of x.conn.unsent, x.is_broken, x.is_ended)
 
 -- a client's end is broken off: nothing is held of it and nothing is to be sent, and the rest is as it was
 pub record Breaks (old new : Client) : Type 0 where
@@ -38,4 +38,4 @@ AllAgree h input output clients = (id : ℕ) → IfSome (client_of clients id) (
 
 -- all clients have the ends that they had
 abbrev pub KeepsEnds : Clients → Clients → Type 0
-KeepsEnds old new = (id : ℕ) → option_map said_of (client_of new id) ≡ option_map said_of (client_of old id)
+KeepsEnds old new = (id : ℕ) → option_map end_said_of (client_of new id) ≡ option_map end_said_of (client_of old id)

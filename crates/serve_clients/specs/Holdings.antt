@@ -10,20 +10,20 @@ abbrev pub unshown : Client → ℕ
 unshown x = if nat_eq x.calls_out 0 then 0 else x.answered
 
 -- how many bytes of replies are held for it: to be sent, and to be shown
-abbrev pub replies_of : Client → ℕ
-replies_of x = length (bytes_of x.conn.unsent) + unshown x
+abbrev pub reply_bytes : Client → ℕ
+reply_bytes x = length (bytes_of x.conn.unsent) + unshown x
 
 -- a command of it may begin where so many bytes of replies are its share: none of its calls waits for a server, and less is held
 abbrev pub MayBegin : ℕ → Client → Type 0
-MayBegin share x = (x.waiting ≡ 0) × (replies_of x < share)
+MayBegin share x = (x.waiting ≡ 0) × (reply_bytes x < share)
 
 -- one of its commands may go on, as a call of it was settled, or begin
 abbrev pub MayGoOn : ℕ → Client → Type 0
 MayGoOn share x = (0 < x.settled) ⊎ MayBegin share x
 
 -- nothing of it is under way: no call waits, is out or was settled just now, nothing that came waits, nothing is to be sent, and all was read
-abbrev pub IsQuiet : Client → Type 0
-IsQuiet x = (x.waiting ≡ 0) × (x.calls_out ≡ 0) × (x.settled ≡ 0) × (x.conn.held.items ≡ []) × (bytes_of x.conn.unsent ≡ []) × (x.conn.readable ≡ false)
+abbrev pub ClientIsQuiet : Client → Type 0
+ClientIsQuiet x = (x.waiting ≡ 0) × (x.calls_out ≡ 0) × (x.settled ≡ 0) × (x.conn.held.items ≡ []) × (bytes_of x.conn.unsent ≡ []) × (x.conn.readable ≡ false)
 
 -- how many bytes of what it sent the core holds at most, when one of its commands went on or began: one that begins is the end of a message, behind which stands only what came last
 abbrev pub input_left : Client → ℕ
@@ -31,7 +31,7 @@ input_left x = if nat_eq x.settled 0 then min x.input x.fed else x.input
 
 -- how many bytes are held for it, so far as they can be counted: of what it sent, and of replies; of one that is broken off none
 abbrev pub held_for : Client → ℕ
-held_for x = if x.is_broken then 0 else min (length x.conn.held.items + replies_of x + x.input) (2 ^ 64 - 1)
+held_for x = if x.is_broken then 0 else min (length x.conn.held.items + reply_bytes x + x.input) (2 ^ 64 - 1)
 
 abbrev pub held_of : Option Client → ℕ
 held_of None = 0

@@ -33,9 +33,9 @@ abbrev pub ids_if : Bool → (Client → Bool) → Option Client → ℕ → Lis
 ids_if is flag client id ids = if is then ids_with flag client id ids else ids
 
 -- there is a client, and it isn't ready
-abbrev pub is_idle : Option Client → Bool
-is_idle None = false
-is_idle (Some client) = not client.is_ready
+abbrev pub client_is_idle : Option Client → Bool
+client_is_idle None = false
+client_is_idle (Some client) = not client.is_ready
 
 -- the client with one of its flags set, or not
 abbrev pub with_ready : Bool → Client → Client

@@ -4,11 +4,11 @@ ghost use Rattle.std.specs.Prelude.{◌≡◌, ◌≢◌, ◌↔◌, IsTrue, ℕ
 ghost use Rattle.std.specs.Option.{option_map, option_flatten, option_copied_mut};
 ghost use Rattle.std.specs.Borrow.{sem};
 ghost use Rattle.wire_parts.specs.Sending.{bytes_of};
-ghost use Rattle.serve_clients.specs.Marks.{client_of, Changes, AreAlike, EndsBusy, ids_with, ids_if, is_idle, is_marked, HasMarked, AreListed, with_ready, with_unsent, with_busy, ready_if, unsent_if, told_of, noted, will_send, one_settled, one_got, one_answered, one_waits, one_waited};
+ghost use Rattle.serve_clients.specs.Marks.{client_of, Changes, AreAlike, EndsBusy, ids_with, ids_if, client_is_idle, is_marked, HasMarked, AreListed, with_ready, with_unsent, with_busy, ready_if, unsent_if, told_of, noted, will_send, one_settled, one_got, one_answered, one_waits, one_waited};
 ghost use Rattle.serve_clients.specs.Agrees.{Breaks, KeepsEnds};
 ghost use Rattle.serve_clients.specs.Lending.{LendsClient};
 ghost use Rattle.serve_clients.specs.Waits.{waits_a_turn};
-ghost use Rattle.serve_clients.specs.Holdings.{unshown, replies_of, input_left, held_for, held_at, MayBegin, MayGoOn, IsQuiet};
+ghost use Rattle.serve_clients.specs.Holdings.{unshown, reply_bytes, input_left, held_for, held_at, MayBegin, MayGoOn, ClientIsQuiet};
 ghost use Rattle.serve_clients.specs.declared.clients.TheConstants.{HELD_BACK, INPUT};
 
 use serve_wire::Ready;
@@ -116,7 +116,7 @@ impl Client {
 
     // How many bytes of replies are held for it.
     fn replies(&self) -> usize
-        ensures { result ≡ min (replies_of self.now) usize.MAX }
+        ensures { result ≡ min (reply_bytes self.now) usize.MAX }
     {
         self.conn.unsent.len().saturating_add(self.unshown())
     }
@@ -171,7 +171,7 @@ impl Client {
     ///
     /// Source: mcgate's own.
     pub fn is_quiet(&self) -> bool
-        ensures { IsTrue result ↔ IsQuiet self.now }
+        ensures { IsTrue result ↔ ClientIsQuiet self.now }
     {
         self.conn.held.is_empty()
             && self.conn.unsent.is_empty()
@@ -443,7 +443,7 @@ fn end_ready_at(place: &mut Option<Client>)
 // It is busy no longer: whether it is there, and isn't ready.
 fn end_busy_at(place: &mut Option<Client>) -> bool
     ensures client { place.new ≡ option_map (with_busy false) place.old }
-    ensures idle { result ≡ is_idle place.old }
+    ensures idle { result ≡ client_is_idle place.old }
 {
     match place {
         Some(client) => {
@@ -662,7 +662,7 @@ impl Clients {
     #[tactic(auto, using(crate::proofs::Agreeing::keeps_none))]
     pub fn move_busy(&mut self, to: &mut Vec<usize>) -> Result<(), AllocError>
         ensures ends { KeepsEnds self.old self.new }
-        ensures moved { OnOk result (to.new.items ≡ to.old.items ++ filter (λ id. is_idle (client_of self.old id)) self.old.busy.items) }
+        ensures moved { OnOk result (to.new.items ≡ to.old.items ++ filter (λ id. client_is_idle (client_of self.old id)) self.old.busy.items) }
         ensures clients { OnOk result (EndsBusy self.old.busy.items self.old self.new) }
         ensures none { OnOk result (self.new.busy.items ≡ []) }
         ensures rest { self.new ≡ record self.old { all = self.new.all; busy = self.new.busy } }
@@ -680,7 +680,7 @@ impl Clients {
     fn move_one(&mut self, id: usize, to: &mut Vec<usize>) -> Result<(), AllocError>
         ensures ends { KeepsEnds self.old self.new }
         ensures client { OnOk result (Changes (with_busy false) id self.old self.new) }
-        ensures moved { OnOk result (to.new.items ≡ (if is_idle (client_of self.old id) then to.old.items ++ id ∷ [] else to.old.items)) }
+        ensures moved { OnOk result (to.new.items ≡ (if client_is_idle (client_of self.old id) then to.old.items ++ id ∷ [] else to.old.items)) }
         ensures rest { self.new ≡ record self.old { all = self.new.all } }
     {
         if self.is_idle(id) {
@@ -692,7 +692,7 @@ impl Clients {
 
     // Whether it is there, and isn't ready.
     fn is_idle(&self, id: usize) -> bool
-        ensures { result ≡ is_idle (client_of self.now id) }
+        ensures { result ≡ client_is_idle (client_of self.now id) }
     {
         match self.all.get(id) {
             Some(Some(client)) => !client.is_ready,
@@ -739,7 +739,7 @@ impl Clients {
     /// It stands no longer among those that wait: whether it is to be served for that, as it isn't ready.
     pub fn end_busy(&mut self, id: usize) -> bool
         ensures client { Changes (with_busy false) id self.old self.new }
-        ensures idle { result ≡ is_idle (client_of self.old id) }
+        ensures idle { result ≡ client_is_idle (client_of self.old id) }
         ensures rest { self.new ≡ record self.old { all = self.new.all } }
     {
         match self.all.get_mut(id) {

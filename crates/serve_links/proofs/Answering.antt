@@ -12,7 +12,7 @@ use Rattle.serve_wire.proofs.Steps.{equal}
 use Rattle.core_proxy.specs.Settles as of_calls
 use Rattle.core_accepted.specs.declared.served.ServedCore.{ServedCore}
 use Rattle.serve_links.specs.declared.calls.calls.SentCall.{SentCall}
-use Rattle.serve_links.specs.CoreSteps.{Step, Settled, Spelled, Walks, AreOf, IsOfTurn}
+use Rattle.serve_links.specs.CoreSteps.{Step, Settled, Spelled, Walks, StepsAreOf, IsOfTurn}
 use Rattle.serve_links.specs.Dialects.{SpellsIn}
 use Rattle.serve_links.specs.Settled.{SettlesOne, SettlesEach, SettlesSome}
 use Rattle.serve_links.specs.Called.{call_in, TellsCalls}
@@ -26,9 +26,9 @@ use Rattle.serve_links.proofs.Showing.{IsUnlost}
 -- the walk that answers to calls make, and what it tells of their server
 pub record Answers (at : ℕ) (sent : List SentCall) (bytes : List ℕ) (a : ServedCore) (sent' : List SentCall) (rest : List ℕ) (b : ServedCore) : Type 0 where
   pub steps : List Step
-  pub kinds : AreOf IsOfTurn steps
-  pub own : AreOf (IsOfServer at) steps
-  pub unlost : AreOf IsUnlost steps
+  pub kinds : StepsAreOf IsOfTurn steps
+  pub own : StepsAreOf (IsOfServer at) steps
+  pub unlost : StepsAreOf IsUnlost steps
   pub gone : List SentCall
   pub parts : sent ≡ gone ++ sent'
   pub keeps : (past : List Step) → KeepsBut (said_asks gone) past (steps ++ past)

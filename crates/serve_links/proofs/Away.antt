@@ -6,10 +6,10 @@ use Rattle.serve_wire.specs.Ends.{Reads}
 use Rattle.serve_wire.specs.declared.conn.conn.Got.{Got}
 use Rattle.serve_wire.specs.declared.conn.conn.Got.TheVariants as got
 use Rattle.serve_wire.proofs.Flows.{reads_on}
-use Rattle.serve_links.specs.Lines.{ended_by, ReadsAway}
+use Rattle.serve_links.specs.Lines.{ended_by_read, ReadsAway}
 
 -- what a read gave of one of which nothing was held
-pub reads_away : (c limit : ℕ) (held held' : List ℕ) (what : Got) (h h' : List Event) → held ≡ [] → Reads c limit held what held' h h' → ReadsAway (ended_by what) c h h'
+pub reads_away : (c limit : ℕ) (held held' : List ℕ) (what : Got) (h h' : List Event) → held ≡ [] → Reads c limit held what held' h h' → ReadsAway (ended_by_read what) c h h'
 reads_away c limit held held' got.Bytes h h' none r = (held', subst (λ l. ReadsOn c l held' h h') none (reads_on c limit held got.Bytes held' h h' r))
 reads_away c limit held held' got.Nothing h h' none r = (held', subst (λ l. ReadsOn c l held' h h') none (reads_on c limit held got.Nothing held' h h' r))
 reads_away c limit held held' got.Full h h' none r = (held', subst (λ l. ReadsOn c l held' h h') none (reads_on c limit held got.Full held' h h' r))

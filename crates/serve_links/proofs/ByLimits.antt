@@ -4,7 +4,7 @@ use Rattle.std.specs.Prelude.{slice_get}
 use Rattle.std.specs.Option.{option_map}
 use Rattle.serve_links.specs.declared.settings.LinkLimits.{LinkLimits}
 use Rattle.serve_links.specs.declared.link.Link.{Link}
-use Rattle.serve_links.specs.CoreSteps.{Step, Opened, NotOpened, Fed, Polled, Stopped, Settled, Gave, Closed, LeftLine, Broke, Ticked, Loaded, Linked, Asked, Greeted, Spelled, Late, CameLate, Lost, AreOf}
+use Rattle.serve_links.specs.CoreSteps.{Step, Opened, NotOpened, Fed, Polled, Stopped, Settled, Gave, Closed, LeftLine, Broke, Ticked, Loaded, Linked, Asked, Greeted, Spelled, Late, CameLate, Lost, StepsAreOf}
 use Rattle.serve_links.specs.Talks.{IsOfClients, IsOfServer}
 use Rattle.serve_links.specs.Story.{server_of, servers_of, most_of, IsByLimit, KeepsServer, KeepsServers}
 use Rattle.serve_links.proofs.Talking.{clients_plain}
@@ -12,7 +12,7 @@ use Rattle.serve_links.proofs.Walked.{of_both}
 use Rattle.serve_links.proofs.Showing.{IsUnlost, plain_unlost}
 
 -- steps by which no call is late
-pub unlost_late : (most : ℕ → Option ℕ) (steps : List Step) → AreOf IsUnlost steps → AreOf (IsByLimit most) steps
+pub unlost_late : (most : ℕ → Option ℕ) (steps : List Step) → StepsAreOf IsUnlost steps → StepsAreOf (IsByLimit most) steps
 unlost_late most [] kinds = tt
 unlost_late most (step ∷ steps) kinds = (by step kinds.0, unlost_late most steps kinds.1)
   where
@@ -38,7 +38,7 @@ unlost_late most (step ∷ steps) kinds = (by step kinds.0, unlost_late most ste
     by (Spelled at number ask answer bytes) is = tt
 
 -- steps of one server, of which both say the same
-own_late : (most most' : ℕ → Option ℕ) (i : ℕ) (steps : List Step) → most' i ≡ most i → AreOf (IsOfServer i) steps → AreOf (IsByLimit most) steps → AreOf (IsByLimit most') steps
+own_late : (most most' : ℕ → Option ℕ) (i : ℕ) (steps : List Step) → most' i ≡ most i → StepsAreOf (IsOfServer i) steps → StepsAreOf (IsByLimit most) steps → StepsAreOf (IsByLimit most') steps
 own_late most most' i [] same own late = tt
 own_late most most' i (step ∷ steps) same own late = (by step own.0 late.0, own_late most most' i steps same own.1 late.1)
   where
@@ -75,7 +75,7 @@ same_text x y same = ap (λ (s : List ℕ × LinkLimits). s.0) same
 pub server_then : (first later : List Step) (x y z : Link) → KeepsServer first x y → KeepsServer later y z → KeepsServer (later ++ first) x z
 server_then first later x y z g k = record {
   same = k.same ∙ g.same;
-  late = of_both (IsByLimit (λ at. Some x.limits.call_ms)) later first (subst (λ (s : List ℕ × LinkLimits). AreOf (IsByLimit (λ at. Some s.1.call_ms)) later) g.same k.late) g.late;
+  late = of_both (IsByLimit (λ at. Some x.limits.call_ms)) later first (subst (λ (s : List ℕ × LinkLimits). StepsAreOf (IsByLimit (λ at. Some s.1.call_ms)) later) g.same k.late) g.late;
 }
 
 -- ---- all links
@@ -87,11 +87,11 @@ servers_same xs ys same = record { same = same; late = tt }
 pub servers_then : (first later : List Step) (xs ys zs : List Link) → KeepsServers first xs ys → KeepsServers later ys zs → KeepsServers (later ++ first) xs zs
 servers_then first later xs ys zs g k = record {
   same = k.same ∙ g.same;
-  late = of_both (IsByLimit (most_of (servers_of xs))) later first (subst (λ (s : List (List ℕ × LinkLimits)). AreOf (IsByLimit (most_of s)) later) g.same k.late) g.late;
+  late = of_both (IsByLimit (most_of (servers_of xs))) later first (subst (λ (s : List (List ℕ × LinkLimits)). StepsAreOf (IsByLimit (most_of s)) later) g.same k.late) g.late;
 }
 
 -- by steps that tell nothing of servers
-pub clients_servers : (steps : List Step) (xs ys : List Link) → AreOf IsOfClients steps → servers_of ys ≡ servers_of xs → KeepsServers steps xs ys
+pub clients_servers : (steps : List Step) (xs ys : List Link) → StepsAreOf IsOfClients steps → servers_of ys ≡ servers_of xs → KeepsServers steps xs ys
 clients_servers steps xs ys own same = record { same = same; late = unlost_late (most_of (servers_of xs)) steps (plain_unlost steps (clients_plain steps own)) }
 
 most_there : (links : List Link) (at : ℕ) (x : Link) → slice_get links at ≡ Some x → most_of (servers_of links) at ≡ Some x.limits.call_ms
@@ -104,5 +104,5 @@ most_there (link ∷ links) (suc at) x is = most_there links at x is
 
 -- by those of one of them
 pub line_servers :
-    (at : ℕ) (steps : List Step) (old new : List Link) (x y : Link) → slice_get old at ≡ Some x → servers_of new ≡ servers_of old → AreOf (IsOfServer at) steps → KeepsServer steps x y → KeepsServers steps old new
+    (at : ℕ) (steps : List Step) (old new : List Link) (x y : Link) → slice_get old at ≡ Some x → servers_of new ≡ servers_of old → StepsAreOf (IsOfServer at) steps → KeepsServer steps x y → KeepsServers steps old new
 line_servers at steps old new x y was same own g = record { same = same; late = own_late (λ i. Some x.limits.call_ms) (most_of (servers_of old)) at steps (most_there old at x was) own g.late }

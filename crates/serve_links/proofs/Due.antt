@@ -10,7 +10,7 @@ use Rattle.core_proxy.specs.declared.note.Poll.{Poll}
 use Rattle.core_proxy.specs.declared.note.Poll.TheVariants as polls
 use Rattle.serve_wire.proofs.Steps.{equal}
 use Rattle.serve_links.specs.declared.calls.calls.SentCall.{SentCall}
-use Rattle.serve_links.specs.CoreSteps.{Step, Opened, NotOpened, Fed, Polled, Stopped, Settled, Gave, Closed, LeftLine, Broke, Ticked, Loaded, Linked, Asked, Greeted, Spelled, Late, CameLate, Lost, AreOf}
+use Rattle.serve_links.specs.CoreSteps.{Step, Opened, NotOpened, Fed, Polled, Stopped, Settled, Gave, Closed, LeftLine, Broke, Ticked, Loaded, Linked, Asked, Greeted, Spelled, Late, CameLate, Lost, StepsAreOf}
 use Rattle.serve_links.specs.Called.{call_by, call_in, due_in, clock_in, given_in, IsGivenOnce, GivesOnce, GiveOnce}
 use Rattle.serve_links.specs.Talks.{SaidAsk, Talk, behind, first_talk, with_ask, greeted, with_answer, turned_late, with_late, given_up, talk_in, IsCalledIn, IsNotAmong, AreDue, AreCalled, MayFollow, IsOrderly, IsOfClients}
 use Rattle.serve_links.specs.Story.{said_asks, StayOut, LeavesCalls}
@@ -454,7 +454,7 @@ own_nowhere past at n ask o is not j = elim (cases_Bool (nat_eq j at)) [ inl e �
 -- ---- steps of clients
 
 -- all calls that were out stay so
-pub clients_stay : (at : ℕ) (steps : List Step) → AreOf IsOfClients steps → (past : List Step) → GiveOnce steps past → StayOut at past (steps ++ past)
+pub clients_stay : (at : ℕ) (steps : List Step) → StepsAreOf IsOfClients steps → (past : List Step) → GiveOnce steps past → StayOut at past (steps ++ past)
 clients_stay at [] kinds past once = λ n ask is. (refl, refl, refl)
 clients_stay at (step ∷ steps) kinds past once = λ n ask is.
     let before = clients_stay at steps kinds.1 past once.1 n ask is in

@@ -14,7 +14,7 @@ use Rattle.route_job.specs.Jobs.{IsCall}
 use Rattle.route_job.specs.declared.frame.Pending.{Pending as NextStep}
 use Rattle.route_job.specs.declared.frame.Pending.TheVariants.{Enter, Call as Calling, Back}
 use Rattle.route_job.specs.Rest.{ask_under}
-use Rattle.route_job.specs.Jobs.{server_in}
+use Rattle.route_job.specs.Jobs.{server_of_pending}
 use Rattle.core_commands.specs.declared.command.Command.{Command}
 use Rattle.core_commands.specs.Begun.{owner_by}
 use Rattle.core_commands.specs.Out.{is_call, has_call_out}
@@ -26,13 +26,13 @@ use Rattle.core_accepted.specs.Logs.{MayHaveLed}
 use Rattle.core_accepted.specs.Late as at_servers
 use Rattle.core_accepted.specs.Late.{Moment, Lands, seen}
 use Rattle.core_accepted.specs.Pipes as pipes
-use Rattle.core_accepted.specs.Pipes.{Sends, moments_of, behind_first, after_end, IsFirstIn, IsInTurn, pipe_of, Obeys}
+use Rattle.core_accepted.specs.Pipes.{Sends, moments_of, behind_first, tickets_after, IsFirstIn, IsInTurn, pipe_of, Obeys}
 use Rattle.core_accepted.specs.Parts.{AreInOrder}
 use Rattle.core_accepted.specs.LateCores.{only_line}
 use Rattle.serve_links.specs.declared.settings.Greeting.{Greeting}
 use Rattle.serve_links.specs.CoreSteps.{Step, Opened, NotOpened, Fed, Polled, Stopped, Settled, Gave, Closed, LeftLine, Broke, Ticked, Loaded, Linked, Asked, Greeted, Spelled, Late, CameLate, Lost, Walks}
 use Rattle.serve_links.specs.Called.{TellsCalls}
-use Rattle.serve_links.specs.Talks.{Standing, Apart, InUse, Ending, left_by, Talk, first_talk, with_ask, greeted, with_answer, turned_late, with_late, given_up, talk_in, MayFollow, IsOrderly}
+use Rattle.serve_links.specs.Talks.{Standing, Apart, InUse, Ending, standing_after, Talk, first_talk, with_ask, greeted, with_answer, turned_late, with_late, given_up, talk_in, MayFollow, IsOrderly}
 use Rattle.serve_links.specs.InOrder.{Move, OfProxy, OfServer, walk_of, log_of, with_commands, moments_in, out_origin, sent_over, left_with, queued_at, changed_in, conns_by, conns_after, conns_in, MayApply, AreApplied, LeadAlong, with_moves, closed_if, with_step, as_pipes, ConnectionsAreInOrder}
 use Rattle.serve_links.proofs.Called.{walks_tell_calls}
 use Rattle.serve_links.proofs.Due.{due_out}
@@ -95,7 +95,7 @@ step_keeps (Linked at greeting) past log i conns steps may was =
     linked (nat_eq at i) (talk_in past i) conns (pipe_of only_line steps 0 i) greeting (λ same. was.0 (subst (λ j. (talk_in past j).stands ≡ Apart) (eqb-true at i same) may)) was
 step_keeps (Asked at number spoken ask since) past log i conns steps may was =
     asked (nat_eq at i) (talk_in past i) (with_ask number spoken ask since (talk_in past i)) conns (pipe_of only_line steps 0 i) (record { number = number; ask = ask; origin = out_origin log at number }) refl was
-step_keeps (Lost at why) past log i conns steps may was = lost (left_by why) at i (talk_in past i) (given_up why (talk_in past i)) conns steps refl was
+step_keeps (Lost at why) past log i conns steps may was = lost (standing_after why) at i (talk_in past i) (given_up why (talk_in past i)) conns steps refl was
 step_keeps (Greeted at spoken bytes) past log i conns steps may was = stays (nat_eq at i) (talk_in past i) (greeted spoken bytes (talk_in past i)) conns (pipe_of only_line steps 0 i) refl was
 step_keeps (Late at number limit now) past log i conns steps may was = stays (nat_eq at i) (talk_in past i) (turned_late (talk_in past i)) conns (pipe_of only_line steps 0 i) refl was
 step_keeps (CameLate at number ask answer bytes) past log i conns steps may was = stays (nat_eq at i) (talk_in past i) (with_late bytes (talk_in past i)) conns (pipe_of only_line steps 0 i) refl was
@@ -153,7 +153,7 @@ module _ (place number : ℕ) (ask : Ask) (origin : Origin) where
   )
 
 -- what is never applied changes nothing
-unchanged : (conns : List (List Ticket)) (place : ℕ) → changed_in (after_end Never) conns place ≡ conns
+unchanged : (conns : List (List Ticket)) (place : ℕ) → changed_in (tickets_after Never) conns place ≡ conns
 unchanged [] place = refl
 unchanged (calls ∷ others) zero = refl
 unchanged (calls ∷ others) (suc place) = ap (λ l. calls ∷ l) (unchanged others place)
@@ -161,7 +161,7 @@ unchanged (calls ∷ others) (suc place) = ap (λ l. calls ∷ l) (unchanged oth
 -- something happens at a server
 call_keeps :
     (b : Bool) (end : End) (place number : ℕ) (ask : Ask) (origin : Origin) (stands : Standing) (conns : List (List Ticket)) (pipe : List Ticket) → (b ≡ true → IsInTurn (queued_at conns place) number ask origin end)
-    → Keeps stands conns pipe → Keeps stands (if b then changed_in (after_end end) conns place else conns) (if b then after_end end pipe else pipe)
+    → Keeps stands conns pipe → Keeps stands (if b then changed_in (tickets_after end) conns place else conns) (if b then tickets_after end pipe else pipe)
 call_keeps false end place number ask origin stands conns pipe turn was = was
 call_keeps true (Read stamp answer spaces) place number ask origin stands conns pipe turn was = taken place number ask origin stands conns pipe (turn refl) was
 call_keeps true (Unread stamp answer spaces) place number ask origin stands conns pipe turn was = taken place number ask origin stands conns pipe (turn refl) was
@@ -212,7 +212,7 @@ moments_ended InUse at steps = refl
 moments_ended Ending at steps = refl
 
 moments_step : (step : Step) (log : List (Entry dialect)) (steps : List pipes.PipeStep) → moments_of (with_step step log steps) ≡ moments_of steps
-moments_step (Lost at why) log steps = moments_ended (left_by why) at steps
+moments_step (Lost at why) log steps = moments_ended (standing_after why) at steps
 moments_step (Linked at greeting) log steps = refl
 moments_step (Asked at number spoken ask since) log steps = refl
 moments_step (Opened client) log steps = refl
@@ -302,7 +302,7 @@ call_way served believes past led n at ask is = by (command_at served.core n) re
     by : (o : Option Command) → command_at served.core n ≡ o → (client : Ask) × (under_way (run_of past) n ≡ Some client) × (ask.key ≡ client.key)
     by None e = absurd (none_some (sym (ap called_by e) ∙ is))
     by (Some a) e =
-        let c = pair_is (has_call_out a) (server_in a.job.pending, ask_under a.job.frames.items a.job.ask) (at, ask) (sym (ap called_by e) ∙ is) in (
+        let c = pair_is (has_call_out a) (server_of_pending a.job.pending, ask_under a.job.frames.items a.job.ask) (at, ask) (sym (ap called_by e) ∙ is) in (
           a.ask,
           owner_way (tree_words led.beside.at) (bars_of served.core led.beside) believes (version_by served.core.limits) past led.leads.follows n (owner_by a) (sym (led.leads.owner n) ∙ ap (option_map owner_by) e),
           ap (λ (p : ℕ × Ask). p.1.key) (sym c.1)
@@ -362,7 +362,7 @@ module _ (first : ServedCore) (believes : ℕ → List ℕ → Option Item) (tel
   order_step (Asked at number spoken ask since) past mid leads applied may order =
       let way = call_way mid believes (log_of past) (led_along past mid leads) number at ask ((tells_along past mid leads).calls number (at, ask) (due_out (walk_of past) number (at, ask) may.1)) in
       ((way.0, ap (λ (l : List Moment). under_way (seen l) number) (same_moments past) ∙ same_way past applied number ∙ way.1, way.2), order)
-  order_step (Lost at why) past mid leads applied may order = order_ended (left_by why) at (as_pipes past) order
+  order_step (Lost at why) past mid leads applied may order = order_ended (standing_after why) at (as_pipes past) order
   order_step (Linked at greeting) past mid leads applied may order = order
   order_step (Opened client) past mid leads applied may order = order
   order_step (NotOpened fault) past mid leads applied may order = order

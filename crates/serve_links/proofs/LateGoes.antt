@@ -25,7 +25,7 @@ use Rattle.serve_links.specs.Calls.{stores_first, SparesStores, as_late, IsFirst
 use Rattle.serve_links.specs.Lateness.{IsLate, HasLate, HasOneLate, awaits_store, LetsStoresWait}
 use Rattle.serve_links.specs.CoreSteps.{Step, Settled, Late, CameLate, IsOfTurn, IsSending}
 use Rattle.serve_links.specs.Dialects.{SpellsIn}
-use Rattle.serve_links.specs.Talks.{SaidAsk, Talk, HasWaited, behind, first_of, turned_late, with_late, talk_in, IsNotAmong, AreDue, AreCalled, MaySettle, IsOrderly, IsFirstOut, IsNextLate}
+use Rattle.serve_links.specs.Talks.{SaidAsk, Talk, HasWaited, behind, first_of_asks, turned_late, with_late, talk_in, IsNotAmong, AreDue, AreCalled, MaySettle, IsOrderly, IsFirstOut, IsNextLate}
 use Rattle.serve_links.specs.Story.{said_asks, said_late, MayAllGo, TalkAgrees, LineAgrees, LineGoes, server_of, LineState, line_of}
 use Rattle.serve_links.proofs.Talking.{calls_later}
 use Rattle.serve_links.proofs.Due.{due_stays, called_stays, keeps_settled, SentGone, sent_gone, own_nowhere}
@@ -162,7 +162,7 @@ talk_turns h at text t c held unsent first rest late awaits dialect was = record
   out_is = ap behind was.out_is;
   awaits_is = was.awaits_is;
   dialect_is = was.dialect_is;
-  late_is = ap (λ (l : List SaidAsk). l ++ first_of t.out) was.late_is ∙ ap (λ (l : List SaidAsk). late ++ first_of l) was.out_is;
+  late_is = ap (λ (l : List SaidAsk). l ++ first_of_asks t.out) was.late_is ∙ ap (λ (l : List SaidAsk). late ++ first_of_asks l) was.out_is;
 }
 
 -- the first call that is out fails, and keeps its place

@@ -16,7 +16,7 @@ use Rattle.fresh_runs.proofs.Runs.{some_ask}
 use Rattle.route_tree.specs.At.{tree_at}
 use Rattle.route_tree.specs.Plan.{Plan}
 use Rattle.route_tree.specs.Word.{tree_words}
-use Rattle.route_job.specs.Jobs.{server_in, call_of}
+use Rattle.route_job.specs.Jobs.{server_of_pending, call_of}
 use Rattle.route_job.specs.Rest.{ask_under, origin_under}
 use Rattle.core_commands.specs.declared.command.Command.{Command}
 use Rattle.core_commands.specs.Begun.{owner_by}
@@ -49,12 +49,12 @@ ticket_if false here x t e = absurd (none_some e)
 
 -- the ticket of a command whose call is out
 module _ (a : Command) (n s : ℕ) (ticket : Ticket) (is : ticket_by (Some a) n s ≡ Some ticket) where
-  ticket_parts : (has_call_out a ≡ true) × (nat_eq (server_in a.job.pending) s ≡ true) × (record { number = n; ask = ask_under a.job.frames.items a.job.ask; origin = origin_under a.job.frames.items Client } ≡ ticket)
+  ticket_parts : (has_call_out a ≡ true) × (nat_eq (server_of_pending a.job.pending) s ≡ true) × (record { number = n; ask = ask_under a.job.frames.items a.job.ask; origin = origin_under a.job.frames.items Client } ≡ ticket)
   ticket_parts =
-      ticket_if (has_call_out a) (nat_eq (server_in a.job.pending) s) (record { number = n; ask = ask_under a.job.frames.items a.job.ask; origin = origin_under a.job.frames.items Client }) ticket is
+      ticket_if (has_call_out a) (nat_eq (server_of_pending a.job.pending) s) (record { number = n; ask = ask_under a.job.frames.items a.job.ask; origin = origin_under a.job.frames.items Client }) ticket is
 
-  server_is : server_in a.job.pending ≡ s
-  server_is = eqb-true (server_in a.job.pending) s ticket_parts.1
+  server_is : server_of_pending a.job.pending ≡ s
+  server_is = eqb-true (server_of_pending a.job.pending) s ticket_parts.1
 
   ask_is : ask_under a.job.frames.items a.job.ask ≡ ticket.ask
   ask_is = ap (λ (t : Ticket). t.ask) ticket_parts.2
@@ -64,7 +64,7 @@ module _ (a : Command) (n s : ℕ) (ticket : Ticket) (is : ticket_by (Some a) n 
 
   pair_is : called_by (Some a) ≡ Some (s, ticket.ask)
   pair_is =
-      ap (λ b. if b then Some (server_in a.job.pending, ask_under a.job.frames.items a.job.ask) else None) ticket_parts.0
+      ap (λ b. if b then Some (server_of_pending a.job.pending, ask_under a.job.frames.items a.job.ask) else None) ticket_parts.0
       ∙ ap (λ i. Some (i, ask_under a.job.frames.items a.job.ask)) server_is
       ∙ ap (λ (x : Ask). Some (s, x)) ask_is
 
@@ -102,7 +102,7 @@ module _ (served : ServedCore) (believes : ℕ → List ℕ → Option Item) (pa
           goes_on served.core.limits.sharing (led.beside.at n a.ask.key) a (led.fits.to_come n a e) (is_calling a.is_out a.job.pending parts.0) call.outcome
           (subst (λ (x : Ask). FitsOutcome x call.outcome) (sym ask) awaited.fits) in
           let same : call_of a.job call.outcome ≡ call =
-          call_by_parts (server_in a.job.pending) call.server (ask_under a.job.frames.items a.job.ask) call.ask (origin_under a.job.frames.items Client) call.origin call.outcome
+          call_by_parts (server_of_pending a.job.pending) call.server (ask_under a.job.frames.items a.job.ask) call.ask (origin_under a.job.frames.items Client) call.origin call.outcome
           (server_is a n call.server ticket its) ask (origin_is a n call.server ticket its) in
           let word =
           led.leads.to_come n (owner_by a) (ap (option_map owner_by) e) (call ∷ next.0) next.1.reply next.1.from

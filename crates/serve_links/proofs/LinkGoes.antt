@@ -22,15 +22,15 @@ use Rattle.serve_links.specs.declared.link.Opening.{Opening}
 use Rattle.serve_links.specs.declared.link.Opening.TheVariants as opening
 use Rattle.serve_links.specs.declared.link.Link.{Link}
 use Rattle.serve_links.specs.declared.news.Cause.{Cause}
-use Rattle.serve_links.specs.CoreSteps.{Step, Opened, NotOpened, Fed, Polled, Stopped, Settled, Gave, Closed, LeftLine, Broke, Ticked, Loaded, Linked, Asked, Greeted, Spelled, Late, CameLate, Lost, AreOf, IsOfTurn, IsFailure, IsGivingUp, IsSending, Fails}
+use Rattle.serve_links.specs.CoreSteps.{Step, Opened, NotOpened, Fed, Polled, Stopped, Settled, Gave, Closed, LeftLine, Broke, Ticked, Loaded, Linked, Asked, Greeted, Spelled, Late, CameLate, Lost, StepsAreOf, IsOfTurn, IsFailure, IsGivingUp, IsSending, Fails}
 use Rattle.serve_links.specs.Dialects.{asked_in, AnswersFirst, awaits_flush}
-use Rattle.serve_links.specs.Lines.{first_asked_of, awaits_first, first_dialect, greeting_of, SameLine, KeepsLines, IsNewEnd, HasNewEnd, OpensBy, TakesGreeting, HasLearnt, Learns}
+use Rattle.serve_links.specs.Lines.{first_asked_of, awaits_first, first_dialect, greeting_of, SameLine, KeepsLines, IsNewEnd, HasNewEnd, OpensLink, TakesGreeting, HasLearnt, Learns}
 use Rattle.serve_links.specs.Links.{FailsTo}
 use Rattle.serve_links.specs.Settled.{SettlesSome}
-use Rattle.serve_links.specs.Talks.{SaidAsk, Talk, Apart, Ending, left_by, first_talk, with_ask, greeted, given_up, talk_in, AreDue, AreCalled, IsOrderly, IsOfServer}
+use Rattle.serve_links.specs.Talks.{SaidAsk, Talk, Apart, Ending, standing_after, first_talk, with_ask, greeted, given_up, talk_in, AreDue, AreCalled, IsOrderly, IsOfServer}
 use Rattle.serve_links.specs.Called.{TellsCalls}
 use Rattle.serve_links.proofs.Called.{walks_tell_calls}
-use Rattle.serve_links.specs.Story.{said_asks, said_late, MayGo, MayAllGo, TalkAgrees, Unused, ConnAgrees, LineAgrees, LineLost, LineFails, ShowsWhy, WasShown, AreShown, LineCalled, server_of, LineState, line_of, KeepsOthers, LeavesCalls, LineGoesFrom, LineGoes}
+use Rattle.serve_links.specs.Story.{said_asks, said_late, MayGo, MayAllGo, TalkAgrees, Unused, ConnAgrees, LineAgrees, LineLost, LineFails, ShowsWhy, WasShown, StepsAreShown, LineCalled, server_of, LineState, line_of, KeepsOthers, LeavesCalls, LineGoesFrom, LineGoes}
 use Rattle.serve_links.proofs.Talking.{calls_later, one_more, IsPlain, plain_talk, AreOut, sent_out, waiting_out, FailsInOrder, fail_in_order}
 use Rattle.serve_links.proofs.Due.{due_stays, called_stays, leaves_twice, due_last, called_last, due_behind, due_taken, SentGone, sent_gone, waiting_gone, AskedOne, asked_one}
 use Rattle.serve_links.proofs.Walked.{walked, of_both}
@@ -143,7 +143,7 @@ line_then {P} {Q} {R} {Is} {at} {a} {b} {c} {h} {h'} {h''} {x} {y} {z} g k = rec
       (both.0, both.1, others_twice (1, at) h h' h'' first.2 later.2, both.2);
   shown = λ past o tells was shown.
       let first = g.agrees past o tells was in
-      subst (λ l. AreShown l h'') (sym (append_assoc k.steps g.steps past)) (k.shown (g.steps ++ past) first.0 (told past tells) first.1 (g.shown past o tells was shown));
+      subst (λ l. StepsAreShown l h'') (sym (append_assoc k.steps g.steps past)) (k.shown (g.steps ++ past) first.0 (told past tells) first.1 (g.shown past o tells was shown));
   shut = λ was. k.shut (g.shut was);
   server = server_then g.steps k.steps x y z g.server k.server;
 }
@@ -396,7 +396,7 @@ at_same at core h h' x y same keeps = line_keeps (λ d. subst (IsUntouched d h) 
 
 -- a connection was begun, or not
 pub line_opens :
-    {at : ℕ} {core : ServedCore} {h h' : List Event} (x y : Link) (dialect : ServerDialect) (o : Opening) → OpensBy at dialect o x y h h' → LineGoes IsSending at core h x core h' y
+    {at : ℕ} {core : ServedCore} {h h' : List Event} (x y : Link) (dialect : ServerDialect) (o : Opening) → OpensLink at dialect o x y h h' → LineGoes IsSending at core h x core h' y
 line_opens {at} {core} {h} {h'} x y dialect opening.Begun opens = begins at core h h' x y (greeting_of x dialect) opens.0 opens.1 opens.2 opens.3
 line_opens {at} {core} {h} {h'} x y dialect opening.NoAddress opens = at_same at core h h' x y opens.0 opens.1
 line_opens {at} {core} {h} {h'} x y dialect opening.Failed opens = at_same at core h h' x y opens.0 opens.1
@@ -677,7 +677,7 @@ gives_up {at} {core} {h} {h'} why x y c e only same_role closed server waiting s
 
 -- its connection was closed, whatever it held, for what it showed
 pub line_closes :
-    {at : ℕ} {core : ServedCore} {h h' : List Event} (why : Option Cause) → left_by why ≡ Apart → (x y : Link) (r : Option ℕ) → r ≡ option_map (λ (z : Conn). z.number) x.conn → IfSome r (λ c. Closes c h h') → (r ≡ None → h' ≡ h) → y.conn ≡ None
+    {at : ℕ} {core : ServedCore} {h h' : List Event} (why : Option Cause) → standing_after why ≡ Apart → (x y : Link) (r : Option ℕ) → r ≡ option_map (λ (z : Conn). z.number) x.conn → IfSome r (λ c. Closes c h h') → (r ≡ None → h' ≡ h) → y.conn ≡ None
     → MatchOption x.conn (y.draining ≡ x.draining) (λ c. y.draining ≡ None) → server_of y ≡ server_of x → y.waiting.items ≡ x.waiting.items → y.calls.sent.items ≡ x.calls.sent.items
     → LineGoesFrom (LineFails why) LineAgrees (IsGivingUp why) at core h x core h' y
 line_closes {at} {core} {h} {h'} why apart x y r r_is some none closed draining server waiting sent = by x.conn refl draining
@@ -697,7 +697,7 @@ line_closes {at} {core} {h} {h'} why apart x y r r_is some none closed draining 
 
 -- or it can't be kept, and its end is awaited
 pub line_drains :
-    {at : ℕ} {core : ServedCore} {h h' : List Event} (why : Option Cause) → left_by why ≡ Ending → (x y : Link) → h' ≡ h → y.conn ≡ None → conn_of y ≡ conn_of x → (x.conn ≡ None → y.draining ≡ x.draining) → server_of y ≡ server_of x
+    {at : ℕ} {core : ServedCore} {h h' : List Event} (why : Option Cause) → standing_after why ≡ Ending → (x y : Link) → h' ≡ h → y.conn ≡ None → conn_of y ≡ conn_of x → (x.conn ≡ None → y.draining ≡ x.draining) → server_of y ≡ server_of x
     → y.waiting.items ≡ x.waiting.items → y.calls.sent.items ≡ x.calls.sent.items → LineGoesFrom (LineFails why) LineAgrees (IsGivingUp why) at core h x core h' y
 line_drains {at} {core} {h} {h'} why ending x y same closed conns draining server waiting sent = by x.conn refl
   where
@@ -763,7 +763,7 @@ line_away {at = at} {h = h} {h' = h'} x y c d bytes none was is number r =
 
 -- it has ended, or failed, or is awaited no longer, and was closed for that
 pub line_ends :
-    {Is : Step → Type 0} {at : ℕ} {core : ServedCore} {h k h' : List Event} (why : Option Cause) → Is (Lost at why) → left_by why ≡ Apart → (x y : Link) (c : Conn) → x.conn ≡ None → x.draining ≡ Some c → y ≡ record x { draining = None }
+    {Is : Step → Type 0} {at : ℕ} {core : ServedCore} {h k h' : List Event} (why : Option Cause) → Is (Lost at why) → standing_after why ≡ Apart → (x y : Link) (c : Conn) → x.conn ≡ None → x.draining ≡ Some c → y ≡ record x { draining = None }
     → ReadsOn c.number [] [] h k → ((t : Talk) → t.stands ≡ Ending → ShowsWhy why t c.number k) → Closes c.number k h' → LineGoes Is at core h x core h' y
 line_ends {Is} {at} {core} {h} {k} {h'} why kind apart x y c none was is r shows closes_it = record {
   steps = Lost at why ∷ [];
@@ -838,7 +838,7 @@ line_shuts {at = at} {h' = h'} {x = x} {y = y} {z = z} g none closed draining se
   server = server_then g.steps [] x y z g.server (record { same = server; late = tt });
 }
 
-failed_own : (at : ℕ) (steps : List Step) → AreOf IsFailure steps → AreOf (IsOfServer at) steps × AreOf IsPlain steps
+failed_own : (at : ℕ) (steps : List Step) → StepsAreOf IsFailure steps → StepsAreOf (IsOfServer at) steps × StepsAreOf IsPlain steps
 failed_own at [] kinds = (tt, tt)
 failed_own at (Settled number outcome ∷ steps) kinds = let rest = failed_own at steps kinds.1 in ((tt, rest.0), (kinds.0, rest.1))
 failed_own at (Opened client ∷ steps) kinds = absurd kinds.0
@@ -861,7 +861,7 @@ failed_own at (Spelled a number ask answer bytes ∷ steps) kinds = absurd kinds
 failed_own at (Lost a why ∷ steps) kinds = absurd kinds.0
 
 -- calls that fail, as a connection is given up
-failed_giving : (why : Option Cause) (steps : List Step) → AreOf IsFailure steps → AreOf (IsGivingUp why) steps
+failed_giving : (why : Option Cause) (steps : List Step) → StepsAreOf IsFailure steps → StepsAreOf (IsGivingUp why) steps
 failed_giving why [] kinds = tt
 failed_giving why (step ∷ steps) kinds = (gives step kinds.0, failed_giving why steps kinds.1)
   where
@@ -924,10 +924,10 @@ line_fails {why} {at} {core} {core'} {h} x y mid sent waiting had none draining 
     w : FailsInOrder at waiting.0 mid core'
     w = fail_in_order at waiting.0 mid core' waiting.2
 
-    kinds : AreOf IsFailure (w.steps ++ f.steps)
+    kinds : StepsAreOf IsFailure (w.steps ++ f.steps)
     kinds = of_both IsFailure w.steps f.steps w.kinds f.kinds
 
-    own : AreOf (IsOfServer at) (w.steps ++ f.steps) × AreOf IsPlain (w.steps ++ f.steps)
+    own : StepsAreOf (IsOfServer at) (w.steps ++ f.steps) × StepsAreOf IsPlain (w.steps ++ f.steps)
     own = failed_own at (w.steps ++ f.steps) kinds
 
     called : (past : List Step) → LineAgrees at past h x → AreCalled past at (said_asks (sent.0 ++ y.calls.sent.items))

@@ -4,8 +4,8 @@ use Rattle.serve_wire.specs.Events.{Event}
 use Rattle.serve_wire.specs.Agreement.{Extends}
 use Rattle.serve_wire.proofs.Steps.{extends_twice}
 use Rattle.serve_links.specs.declared.news.Cause.{Cause}
-use Rattle.serve_links.specs.CoreSteps.{Step, Opened, NotOpened, Fed, Polled, Stopped, Settled, Gave, Closed, LeftLine, Broke, Ticked, Loaded, Linked, Asked, Greeted, Spelled, Late, CameLate, Lost, AreOf}
-use Rattle.serve_links.specs.Story.{WasShown, ShownBy, AreShown}
+use Rattle.serve_links.specs.CoreSteps.{Step, Opened, NotOpened, Fed, Polled, Stopped, Settled, Gave, Closed, LeftLine, Broke, Ticked, Loaded, Linked, Asked, Greeted, Spelled, Late, CameLate, Lost, StepsAreOf}
+use Rattle.serve_links.specs.Story.{WasShown, StepIsShown, StepsAreShown}
 use Rattle.serve_links.proofs.Talking.{IsPlain}
 
 -- no server's connection is given up, and no call is late
@@ -30,7 +30,7 @@ IsUnlost (Late at number limit now) = ⊥
 IsUnlost (CameLate at number ask answer bytes) = Unit {0}
 IsUnlost (Spelled at number ask answer bytes) = Unit {0}
 
-pub plain_unlost : (steps : List Step) → AreOf IsPlain steps → AreOf IsUnlost steps
+pub plain_unlost : (steps : List Step) → StepsAreOf IsPlain steps → StepsAreOf IsUnlost steps
 plain_unlost [] kinds = tt
 plain_unlost (step ∷ steps) kinds = (unlost step kinds.0, plain_unlost steps kinds.1)
   where
@@ -72,11 +72,11 @@ was_since why at past h h' more was = record {
 }
 
 -- what was shown stays so
-pub shown_since : (steps : List Step) (h h' : List Event) → Extends h h' → AreShown steps h → AreShown steps h'
+pub shown_since : (steps : List Step) (h h' : List Event) → Extends h h' → StepsAreShown steps h → StepsAreShown steps h'
 shown_since [] h h' more shown = tt
 shown_since (step ∷ steps) h h' more shown = (by step shown.0, shown_since steps h h' more shown.1)
   where
-    by : (s : Step) → ShownBy s steps h → ShownBy s steps h'
+    by : (s : Step) → StepIsShown s steps h → StepIsShown s steps h'
     by (Lost at why) was = was_since why at steps h h' more was
     by (Opened client) was = tt
     by (NotOpened fault) was = tt
@@ -98,11 +98,11 @@ shown_since (step ∷ steps) h h' more shown = (by step shown.0, shown_since ste
     by (Spelled at number ask answer bytes) was = tt
 
 -- and so it is with steps by which none is given up
-pub shown_later : (steps past : List Step) (h h' : List Event) → AreOf IsUnlost steps → Extends h h' → AreShown past h → AreShown (steps ++ past) h'
+pub shown_later : (steps past : List Step) (h h' : List Event) → StepsAreOf IsUnlost steps → Extends h h' → StepsAreShown past h → StepsAreShown (steps ++ past) h'
 shown_later [] past h h' kinds more shown = shown_since past h h' more shown
 shown_later (step ∷ steps) past h h' kinds more shown = (by step kinds.0, shown_later steps past h h' kinds.1 more shown)
   where
-    by : (s : Step) → IsUnlost s → ShownBy s (steps ++ past) h'
+    by : (s : Step) → IsUnlost s → StepIsShown s (steps ++ past) h'
     by (Lost at why) is = absurd is
     by (Opened client) is = tt
     by (NotOpened fault) is = tt

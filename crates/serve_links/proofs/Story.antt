@@ -18,9 +18,9 @@ use Rattle.serve_clients.proofs.Agreeing.{its, state_stays, client_lost}
 use Rattle.serve_clients.specs.Marks.{client_of}
 use Rattle.serve_links.specs.declared.settings.Greeting.{Greeting}
 use Rattle.serve_links.specs.declared.link.Link.{Link}
-use Rattle.serve_links.specs.CoreSteps.{Step, Closed, Opened, Polled, AreOf, IsSending}
+use Rattle.serve_links.specs.CoreSteps.{Step, Closed, Opened, Polled, StepsAreOf, IsSending}
 use Rattle.serve_links.specs.Talks.{SaidAsk, Talk, Apart, talk_in, AreDue, AreCalled}
-use Rattle.serve_links.specs.Story.{fed_in, gave_in, is_open_in, is_broken_in, AgreesWith, IsTold, AreTold, TellsNone, TookAll, EndsBy, IsGone, HasOrHad, TalkAgrees, Unused, said_asks, StayOut, LineAgrees, LinesAgree, servers_of, OneGoes, LineGoesFrom, LineGoes, AnEnd, Agrees, AgreesBut, AgreesCalled, AllGoFrom, AllGo, StoriesGoOn}
+use Rattle.serve_links.specs.Story.{fed_in, gave_in, is_open_in, is_broken_in, ClientAgreesWith, ClientIsTold, ClientsAreTold, TellsNone, TookAll, ClientEndsBy, IsGone, HasOrHad, TalkAgrees, Unused, said_asks, StayOut, LineAgrees, LinesAgree, servers_of, OneGoes, LineGoesFrom, LineGoes, AnEnd, Agrees, AgreesBut, AgreesCalled, AllGoFrom, AllGo, StoriesGoOn}
 use Rattle.serve_links.specs.Called.{TellsCalls, GiveOnce}
 use Rattle.serve_links.proofs.Called.{walks_tell_calls}
 use Rattle.serve_links.proofs.Talking.{calls_later, IsPlain, clients_plain, plain_talk, clients_orderly, clients_clock, server_tells_none, server_clock, sending_clock, sending_given, talk_elsewhere}
@@ -60,21 +60,21 @@ each_client h input output clients each id = by (client_of clients id) refl
     by (Some x) e = each id x e
 
 -- how an end stands is told still where nothing more was told of it
-pub told_still : (past steps : List Step) (id : ℕ) (x y : Client) → TellsNone id past steps → y.is_broken ≡ x.is_broken → IsTold past id x → IsTold (steps ++ past) id y
+pub told_still : (past steps : List Step) (id : ℕ) (x y : Client) → TellsNone id past steps → y.is_broken ≡ x.is_broken → ClientIsTold past id x → ClientIsTold (steps ++ past) id y
 told_still past steps id x y none same was = (none.2 ∙ was.0, none.3 ∙ was.1 ∙ sym same)
 
-pub at_told : (past : List Step) (clients : Clients) (id : ℕ) (x : Client) → client_of clients id ≡ Some x → AreTold past clients → IsTold past id x
-at_told past clients id x is all = subst (λ o. IfSome o (IsTold past id)) is (all id)
+pub at_told : (past : List Step) (clients : Clients) (id : ℕ) (x : Client) → client_of clients id ≡ Some x → ClientsAreTold past clients → ClientIsTold past id x
+at_told past clients id x is all = subst (λ o. IfSome o (ClientIsTold past id)) is (all id)
 
-pub each_told : (past : List Step) (clients : Clients) → ((id : ℕ) (x : Client) → client_of clients id ≡ Some x → IsTold past id x) → AreTold past clients
+pub each_told : (past : List Step) (clients : Clients) → ((id : ℕ) (x : Client) → client_of clients id ≡ Some x → ClientIsTold past id x) → ClientsAreTold past clients
 each_told past clients each id = by (client_of clients id) refl
   where
-    by : (o : Option Client) → client_of clients id ≡ o → IfSome o (IsTold past id)
+    by : (o : Option Client) → client_of clients id ≡ o → IfSome o (ClientIsTold past id)
     by None e = tt
     by (Some x) e = each id x e
 
 -- of all, where nothing more was told of any
-pub all_told : (past steps : List Step) (clients : Clients) → ((j : ℕ) → TellsNone j past steps) → AreTold past clients → AreTold (steps ++ past) clients
+pub all_told : (past steps : List Step) (clients : Clients) → ((j : ℕ) → TellsNone j past steps) → ClientsAreTold past clients → ClientsAreTold (steps ++ past) clients
 all_told past steps clients none was = each_told (steps ++ past) clients (λ j z there. told_still past steps j z z (none j) refl (at_told past clients j z there was))
 
 -- a connection that nothing touched, and of which nothing more was told
@@ -149,7 +149,7 @@ took_told : (past : List Step) (h h' : List Event) (id conn : ℕ) → TellsSame
 took_told past h h' id conn same (inl all) = inl (all ∙ sym same.2)
 took_told past h h' id conn same (inr broken) = inr broken
 
-ends_told : (last : Step) (past : List Step) (h h' : List Event) (id conn : ℕ) → TellsSame conn h h' → EndsBy last past h id conn → EndsBy last past h' id conn
+ends_told : (last : Step) (past : List Step) (h h' : List Event) (id conn : ℕ) → TellsSame conn h h' → ClientEndsBy last past h id conn → ClientEndsBy last past h' id conn
 ends_told last past h h' id conn same (inl closed) = inl (closed.0, closed.1, took_told past h h' id conn same closed.2)
 ends_told last past h h' id conn same (inr opened) = inr opened
 
@@ -173,7 +173,7 @@ end_lost h input output id x was = by x.is_broken refl
     by true e = was.lost e
 
 -- where nothing is unsent, all was taken, or the end is broken off
-pub took_all : (past : List Step) (h : List Event) (id : ℕ) (x : Client) → AgreesWith past h id x → IsTold past id x → bytes_of x.conn.unsent ≡ [] → TookAll past h id x.conn.number
+pub took_all : (past : List Step) (h : List Event) (id : ℕ) (x : Client) → ClientAgreesWith past h id x → ClientIsTold past id x → bytes_of x.conn.unsent ≡ [] → TookAll past h id x.conn.number
 took_all past h id x was told none = by x.is_broken refl
   where
     by : (b : Bool) → x.is_broken ≡ b → TookAll past h id x.conn.number
@@ -182,7 +182,7 @@ took_all past h id x was told none = by x.is_broken refl
 
 -- the client whose end this was is gone by this call
 pub end_gone :
-    (past steps : List Step) (last : Step) (h h' : List Event) (id conn : ℕ) (x : Client) → EndsBy last past h id conn → AgreesWith past h id x → x.conn.number ≡ conn → TellsSame conn h h'
+    (past steps : List Step) (last : Step) (h h' : List Event) (id conn : ℕ) (x : Client) → ClientEndsBy last past h id conn → ClientAgreesWith past h id x → x.conn.number ≡ conn → TellsSame conn h h'
     → IsGone (steps ++ last ∷ past) h' id conn
 end_gone past steps last h h' id conn x ends was is same = record {
   later = steps;
@@ -242,32 +242,32 @@ one_agrees {Is} id old new x y was is others links g = agree
     h' : List Event
     h' = new.history
 
-    was_of : (past : List Step) → Agrees past old → (j : ℕ) (z : Client) → client_of old.clients j ≡ Some z → AgreesWith past h j z
+    was_of : (past : List Step) → Agrees past old → (j : ℕ) (z : Client) → client_of old.clients j ≡ Some z → ClientAgreesWith past h j z
     was_of past a j z there = at_client h (fed_in past) (gave_in past) old.clients j z there a.clients
 
-    client : (past : List Step) → Agrees past old → (j : ℕ) (z : Client) → client_of new.clients j ≡ Some z → AgreesWith (g.steps ++ past) h' j z
+    client : (past : List Step) → Agrees past old → (j : ℕ) (z : Client) → client_of new.clients j ≡ Some z → ClientAgreesWith (g.steps ++ past) h' j z
     client past a j z there = elim (cases_Bool (nat_eq id j)) [ inl e ↦ mine (eqb-true id j e) | inr e ↦ other e ]
       where
-        mine : id ≡ j → AgreesWith (g.steps ++ past) h' j z
+        mine : id ≡ j → ClientAgreesWith (g.steps ++ past) h' j z
         mine e =
             let z_is : y ≡ z = same_some y z (sym is ∙ ap (client_of new.clients) e ∙ there) in
-            subst (λ k. AgreesWith (g.steps ++ past) h' k z) e (subst (λ c. AgreesWith (g.steps ++ past) h' id c) z_is (g.agrees past (was_of past a id x was)))
+            subst (λ k. ClientAgreesWith (g.steps ++ past) h' k z) e (subst (λ c. ClientAgreesWith (g.steps ++ past) h' id c) z_is (g.agrees past (was_of past a id x was)))
 
-        other : nat_eq id j ≡ false → AgreesWith (g.steps ++ past) h' j z
+        other : nat_eq id j ≡ false → ClientAgreesWith (g.steps ++ past) h' j z
         other e =
             let mine_was = was_of past a id x was in let was_z = was_of past a j z (sym (others j e) ∙ there) in let told = g.others past j e in
             let apart_is = apart x.conn.number z.conn.number h (0, id) (0, j) (its h (fed_in past) (gave_in past) id x mine_was) (its h (fed_in past) (gave_in past) j z was_z) (λ same. client_apart id j e (sym same)) in
             end_stays h h' (fed_in past) (gave_in past) (fed_in (g.steps ++ past)) (gave_in (g.steps ++ past)) j z (g.only z.conn.number apart_is) told.0 told.1 was_z
 
-    told : (past : List Step) → Agrees past old → (j : ℕ) (z : Client) → client_of new.clients j ≡ Some z → IsTold (g.steps ++ past) j z
+    told : (past : List Step) → Agrees past old → (j : ℕ) (z : Client) → client_of new.clients j ≡ Some z → ClientIsTold (g.steps ++ past) j z
     told past a j z there = elim (cases_Bool (nat_eq id j)) [ inl e ↦ mine (eqb-true id j e) | inr e ↦ told_still past g.steps j z z (g.others past j e) refl (at_told past old.clients j z (sym (others j e) ∙ there) a.told) ]
       where
-        mine : id ≡ j → IsTold (g.steps ++ past) j z
+        mine : id ≡ j → ClientIsTold (g.steps ++ past) j z
         mine e =
             let z_is : y ≡ z = same_some y z (sym is ∙ ap (client_of new.clients) e ∙ there) in
-            subst (λ k. IsTold (g.steps ++ past) k z) e (subst (λ c. IsTold (g.steps ++ past) id c) z_is (g.told past (at_told past old.clients id x was a.told)))
+            subst (λ k. ClientIsTold (g.steps ++ past) k z) e (subst (λ c. ClientIsTold (g.steps ++ past) id c) z_is (g.told past (at_told past old.clients id x was a.told)))
 
-    plain : AreOf IsPlain g.steps
+    plain : StepsAreOf IsPlain g.steps
     plain = clients_plain g.steps g.own
 
     tells : (past : List Step) → Agrees past old → TellsCalls (g.steps ++ past) new.core × GiveOnce g.steps past
@@ -339,7 +339,7 @@ line_among {Before} {After} {Is} at old new x y was is others servers clients_ar
     h' : List Event
     h' = new.history
 
-    client : (past : List Step) → AgreesBut Before at past old → (j : ℕ) (z : Client) → client_of new.clients j ≡ Some z → AgreesWith (g.steps ++ past) h' j z
+    client : (past : List Step) → AgreesBut Before at past old → (j : ℕ) (z : Client) → client_of new.clients j ≡ Some z → ClientAgreesWith (g.steps ++ past) h' j z
     client past a j z there =
         let was_z = at_client h (fed_in past) (gave_in past) old.clients j z (sym (clients_are j) ∙ there) a.clients in let told = server_tells_none at g.steps g.own past j in
         let keeps = (g.agrees past a.orderly a.calls (a.this x was)).2 in

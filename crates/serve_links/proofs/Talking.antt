@@ -5,7 +5,7 @@ use Rattle.mc_types.specs.declared.ask.Ask.{Ask}
 use Rattle.mc_types.specs.declared.call.Outcome.TheVariants.{Failed}
 use Rattle.core_proxy.specs.declared.note.Poll.TheVariants as polls
 use Rattle.serve_links.specs.declared.calls.calls.SentCall.{SentCall}
-use Rattle.serve_links.specs.CoreSteps.{Step, Opened, NotOpened, Fed, Polled, Stopped, Settled, Gave, Closed, LeftLine, Broke, Ticked, Loaded, Linked, Asked, Greeted, Spelled, Late, CameLate, Lost, AreOf}
+use Rattle.serve_links.specs.CoreSteps.{Step, Opened, NotOpened, Fed, Polled, Stopped, Settled, Gave, Closed, LeftLine, Broke, Ticked, Loaded, Linked, Asked, Greeted, Spelled, Late, CameLate, Lost, StepsAreOf}
 use Rattle.serve_links.specs.Talks.{SaidAsk, first_talk, with_ask, greeted, with_answer, turned_late, with_late, given_up, talk_in, IsCalledIn, IsNotAmong, AreDue, AreCalled, MaySettle, MayFollow, IsOrderly, IsOfClients, IsOfServer}
 use Rattle.serve_links.specs.Story.{TellsNone, MayGo, MayAllGo, said_asks}
 use Rattle.serve_links.specs.Called.{call_in, clock_in, given_in, GivesOnce, GiveOnce}
@@ -64,7 +64,7 @@ IsPlain (CameLate at number ask answer bytes) = ⊥
 IsPlain (Spelled at number ask answer bytes) = ⊥
 IsPlain (Lost at why) = ⊥
 
-pub clients_plain : (steps : List Step) → AreOf IsOfClients steps → AreOf IsPlain steps
+pub clients_plain : (steps : List Step) → StepsAreOf IsOfClients steps → StepsAreOf IsPlain steps
 clients_plain [] kinds = tt
 clients_plain (step ∷ steps) kinds = (plain step kinds.0, clients_plain steps kinds.1)
   where
@@ -90,7 +90,7 @@ clients_plain (step ∷ steps) kinds = (plain step kinds.0, clients_plain steps 
     plain (Lost at why) is = is
 
 -- nothing is told of servers
-pub plain_talk : (steps : List Step) → AreOf IsPlain steps → (past : List Step) (j : ℕ) → talk_in (steps ++ past) j ≡ talk_in past j
+pub plain_talk : (steps : List Step) → StepsAreOf IsPlain steps → (past : List Step) (j : ℕ) → talk_in (steps ++ past) j ≡ talk_in past j
 plain_talk [] kinds past j = refl
 plain_talk (Settled number outcome ∷ steps) kinds past j = plain_talk steps kinds.1 past j
 plain_talk (Opened client ∷ steps) kinds past j = plain_talk steps kinds.1 past j
@@ -113,7 +113,7 @@ plain_talk (Spelled at number ask answer bytes ∷ steps) kinds past j = absurd 
 plain_talk (Lost at why ∷ steps) kinds past j = absurd kinds.0
 
 -- steps of clients may come at any time
-pub clients_orderly : (steps : List Step) → AreOf IsOfClients steps → (past : List Step) → GiveOnce steps past → IsOrderly past → IsOrderly (steps ++ past)
+pub clients_orderly : (steps : List Step) → StepsAreOf IsOfClients steps → (past : List Step) → GiveOnce steps past → IsOrderly past → IsOrderly (steps ++ past)
 clients_orderly [] kinds past once o = o
 clients_orderly (step ∷ steps) kinds past once o = (follows step (steps ++ past) kinds.0 once.0, clients_orderly steps kinds.1 past once.1 o)
   where
@@ -161,7 +161,7 @@ waiting_out past at (call ∷ first) later due = (
 -- the walk that they make as they fail, while none is out there
 pub record FailsInOrder (at : ℕ) (calls : List SentCall) (a b : ServedCore) : Type 0 where
   pub steps : List Step
-  pub kinds : AreOf IsFailure steps
+  pub kinds : StepsAreOf IsFailure steps
   pub walks : Walks steps a b
   pub keeps : (past : List Step) → KeepsBut (said_asks calls) past (steps ++ past)
   pub orderly : (past : List Step) → AreOut past at (said_asks calls) → (talk_in past at).out ≡ [] → IsOrderly past → IsOrderly (steps ++ past)
@@ -201,7 +201,7 @@ fail_in_order at (call ∷ calls) a b all = fails_before at call calls a all.0 b
 -- ---- steps of one server
 
 -- nothing is told of clients
-pub server_tells_none : (at : ℕ) (steps : List Step) → AreOf (IsOfServer at) steps → (past : List Step) (j : ℕ) → TellsNone j past steps
+pub server_tells_none : (at : ℕ) (steps : List Step) → StepsAreOf (IsOfServer at) steps → (past : List Step) (j : ℕ) → TellsNone j past steps
 server_tells_none at [] own past j = (refl, refl, refl, refl)
 server_tells_none at (Settled number outcome ∷ steps) own past j = server_tells_none at steps own.1 past j
 server_tells_none at (Linked a dialect ∷ steps) own past j = server_tells_none at steps own.1 past j
@@ -224,7 +224,7 @@ server_tells_none at (Broke client ∷ steps) own past j = absurd own.0
 server_tells_none at (Loaded configuration generation ∷ steps) own past j = absurd own.0
 
 -- nor of other servers
-pub talk_elsewhere : (at : ℕ) (steps : List Step) → AreOf (IsOfServer at) steps → (past : List Step) (j : ℕ) → nat_eq at j ≡ false → talk_in (steps ++ past) j ≡ talk_in past j
+pub talk_elsewhere : (at : ℕ) (steps : List Step) → StepsAreOf (IsOfServer at) steps → (past : List Step) (j : ℕ) → nat_eq at j ≡ false → talk_in (steps ++ past) j ≡ talk_in past j
 talk_elsewhere at [] own past j other = refl
 talk_elsewhere at (Settled number outcome ∷ steps) own past j other = talk_elsewhere at steps own.1 past j other
 talk_elsewhere at (Linked a dialect ∷ steps) own past j other =
@@ -256,7 +256,7 @@ talk_elsewhere at (Loaded configuration generation ∷ steps) own past j other =
 -- ---- the clock
 
 -- by steps of clients it isn't looked at
-pub clients_clock : (steps : List Step) → AreOf IsOfClients steps → (past : List Step) → clock_in (steps ++ past) ≡ clock_in past
+pub clients_clock : (steps : List Step) → StepsAreOf IsOfClients steps → (past : List Step) → clock_in (steps ++ past) ≡ clock_in past
 clients_clock [] own past = refl
 clients_clock (Settled number outcome ∷ steps) own past = absurd own.0
 clients_clock (Opened client ∷ steps) own past = clients_clock steps own.1 past
@@ -279,7 +279,7 @@ clients_clock (Spelled at number ask answer bytes ∷ steps) own past = absurd o
 clients_clock (Lost at why ∷ steps) own past = absurd own.0
 
 -- nor by those of one server
-pub server_clock : (at : ℕ) (steps : List Step) → AreOf (IsOfServer at) steps → (past : List Step) → clock_in (steps ++ past) ≡ clock_in past
+pub server_clock : (at : ℕ) (steps : List Step) → StepsAreOf (IsOfServer at) steps → (past : List Step) → clock_in (steps ++ past) ≡ clock_in past
 server_clock at [] own past = refl
 server_clock at (Settled number outcome ∷ steps) own past = server_clock at steps own.1 past
 server_clock at (Opened client ∷ steps) own past = absurd own.0
@@ -302,7 +302,7 @@ server_clock at (Spelled a number ask answer bytes ∷ steps) own past = server_
 server_clock at (Lost a why ∷ steps) own past = server_clock at steps own.1 past
 
 -- nor as calls are sent
-pub sending_clock : (steps : List Step) → AreOf IsSending steps → (past : List Step) → clock_in (steps ++ past) ≡ clock_in past
+pub sending_clock : (steps : List Step) → StepsAreOf IsSending steps → (past : List Step) → clock_in (steps ++ past) ≡ clock_in past
 sending_clock [] kinds past = refl
 sending_clock (Settled number outcome ∷ steps) kinds past = sending_clock steps kinds.1 past
 sending_clock (Opened client ∷ steps) kinds past = absurd kinds.0
@@ -325,7 +325,7 @@ sending_clock (Spelled at number ask answer bytes ∷ steps) kinds past = absurd
 sending_clock (Lost at why ∷ steps) kinds past = sending_clock steps kinds.1 past
 
 -- and none is given out by that
-pub sending_given : (steps : List Step) → AreOf IsSending steps → (past : List Step) (n : ℕ) → given_in (steps ++ past) n ≡ given_in past n
+pub sending_given : (steps : List Step) → StepsAreOf IsSending steps → (past : List Step) (n : ℕ) → given_in (steps ++ past) n ≡ given_in past n
 sending_given [] kinds past n = refl
 sending_given (Settled number outcome ∷ steps) kinds past n = sending_given steps kinds.1 past n
 sending_given (Opened client ∷ steps) kinds past n = absurd kinds.0

@@ -8,7 +8,7 @@ use Rattle.core_proxy.specs.declared.fault.CoreFault.{CoreFault}
 use Rattle.core_proxy.specs.declared.fault.CoreFault.TheVariants as faults
 use Rattle.core_proxy.specs.declared.note.Poll.{Poll}
 use Rattle.core_proxy.specs.Faults.{CanFeed, CanClose, FeedFault, OutputFault, CloseFault}
-use Rattle.core_proxy.specs.CoreState.{Feeds, Gives, Closes, LeavesLine, client_at, dropped_by, output_by}
+use Rattle.core_proxy.specs.CoreState.{Feeds, Gives, ClosesClient, LeavesLine, client_at, dropped_by, output_by}
 use Rattle.core_proxy.specs.Polls.{Polls, PollFault}
 use Rattle.route_json.specs.Configuration.{Configuration}
 use Rattle.core_accepted.specs.declared.served.ServedCore.{ServedCore}
@@ -24,13 +24,13 @@ use Rattle.core_accepted.specs.Known.{Known, more}
 use Rattle.core_accepted.specs.Loading.{IsLoaded}
 use Rattle.serve_links.specs.Calls.{SettlesFirst, SettlesNext}
 use Rattle.serve_links.specs.CoreSteps.{WalksKeepSince}
-use Rattle.serve_links.specs.CoreSteps.{Step, Opened, NotOpened, Fed, Polled, Stopped, Settled, Gave, Closed, LeftLine, Broke, Ticked, Loaded, Linked, Asked, Greeted, Spelled, Late, CameLate, Lost, Does, Walks, AreOf, GoesBy, IsOfTurn, IsSettlement, IsFailure, GoesOn, Fails, WalksKeep}
+use Rattle.serve_links.specs.CoreSteps.{Step, Opened, NotOpened, Fed, Polled, Stopped, Settled, Gave, Closed, LeftLine, Broke, Ticked, Loaded, Linked, Asked, Greeted, Spelled, Late, CameLate, Lost, Does, Walks, StepsAreOf, GoesBy, IsOfTurn, IsSettlement, IsFailure, GoesOn, Fails, WalksKeep}
 
 pub walked : (later first : List Step) (a b c : ServedCore) → Walks first a b → Walks later b c → Walks (later ++ first) a c
 walked [] first a b c w v = subst (λ x. Walks first a x) (sym v) w
 walked (step ∷ later) first a b c w v = (v.0, walked later first a b v.0 w v.1, v.2)
 
-pub of_both : (Is : Step → Type 0) (later first : List Step) → AreOf Is later → AreOf Is first → AreOf Is (later ++ first)
+pub of_both : (Is : Step → Type 0) (later first : List Step) → StepsAreOf Is later → StepsAreOf Is first → StepsAreOf Is (later ++ first)
 of_both Is [] first l f = f
 of_both Is (step ∷ later) first l f = (l.0, of_both Is later first l.1 f)
 
@@ -67,7 +67,7 @@ one : (Is : Step → Type 0) (step : Step) (a b : ServedCore) → Is step → Do
 one Is step a b is does = record { steps = step ∷ []; kinds = (is, tt); walks = (a, refl, does) }
 
 -- what fails goes on
-each_of_turn : (steps : List Step) → AreOf IsFailure steps → AreOf IsOfTurn steps
+each_of_turn : (steps : List Step) → StepsAreOf IsFailure steps → StepsAreOf IsOfTurn steps
 each_of_turn [] kinds = tt
 each_of_turn (step ∷ steps) each = (of_turn step each.0, each_of_turn steps each.1)
   where
@@ -96,7 +96,7 @@ pub failed : {a b : ServedCore} → Fails a b → GoesOn a b
 failed f = record { steps = f.steps; kinds = each_of_turn f.steps f.kinds; walks = f.walks }
 
 -- where calls have outcomes it goes on
-pub each_settled : (steps : List Step) → AreOf IsSettlement steps → AreOf IsOfTurn steps
+pub each_settled : (steps : List Step) → StepsAreOf IsSettlement steps → StepsAreOf IsOfTurn steps
 each_settled [] kinds = tt
 each_settled (step ∷ steps) each = (of_turn step each.0, each_settled steps each.1)
   where
@@ -141,7 +141,7 @@ by_output client (Ok done) a b ok err fresh = one IsOfTurn (Gave client (output_
 by_output client (Err fault) a b ok err fresh = still err.1
 
 pub by_close :
-    (client : ℕ) (r : Result (Unit {0}) CoreFault) (a b : ServedCore) → OnOk r (CanClose a.core client × Closes a.core client b.core)
+    (client : ℕ) (r : Result (Unit {0}) CoreFault) (a b : ServedCore) → OnOk r (CanClose a.core client × ClosesClient a.core client b.core)
     → IfErr r (λ fault. CloseFault a.core client fault × (b ≡ a)) → OnOk r (LogsGoBy a (λ entries. entries ≡ log.Resets client ∷ []) b) → GoesOn a b
 by_close client (Ok done) a b ok err fresh = one IsOfTurn (Closed client) a b tt (ok.0, ok.1, fresh)
 by_close client (Err fault) a b ok err fresh = still err.1

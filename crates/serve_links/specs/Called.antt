@@ -103,19 +103,19 @@ clock_in [] = 0
 clock_in (step ∷ steps) = clock_after step (clock_in steps)
 
 -- by a poll that gives out a call of this number it is given out at this time
-abbrev pub given_by : Poll → ℕ → (time given : ℕ) → ℕ
-given_by (polls.Call ticket) n time given = if nat_eq ticket.number n then time else given
-given_by polls.Idle n time given = given
-given_by polls.Own n time given = given
-given_by polls.Refused n time given = given
-given_by polls.Waiting n time given = given
-given_by polls.Queued n time given = given
-given_by polls.Busy n time given = given
-given_by (polls.Did note) n time given = given
+abbrev pub given_at_poll : Poll → ℕ → (time given : ℕ) → ℕ
+given_at_poll (polls.Call ticket) n time given = if nat_eq ticket.number n then time else given
+given_at_poll polls.Idle n time given = given
+given_at_poll polls.Own n time given = given
+given_at_poll polls.Refused n time given = given
+given_at_poll polls.Waiting n time given = given
+given_at_poll polls.Queued n time given = given
+given_at_poll polls.Busy n time given = given
+given_at_poll (polls.Did note) n time given = given
 
 -- what a step changes of that, by what the clock showed
 abbrev pub given_after : Step → ℕ → (time given : ℕ) → ℕ
-given_after (Polled client poll) n time given = given_by poll n time given
+given_after (Polled client poll) n time given = given_at_poll poll n time given
 given_after (Asked at number dialect ask since) n time given = given
 given_after (Settled number outcome) n time given = given
 given_after (Opened client) n time given = given

@@ -10,7 +10,7 @@ use Rattle.route_json.specs.Configuration.{Configuration}
 use Rattle.core_proxy.specs.declared.fault.CoreFault.{CoreFault}
 use Rattle.core_proxy.specs.declared.note.Poll.{Poll}
 use Rattle.core_proxy.specs.Faults.{CanOpen, CanFeed, CanClose, OpenFault}
-use Rattle.core_proxy.specs.CoreState.{Opens, Feeds, Gives, Closes, LeavesLine, client_at, dropped_by}
+use Rattle.core_proxy.specs.CoreState.{Opens, Feeds, Gives, ClosesClient, LeavesLine, client_at, dropped_by}
 use Rattle.core_proxy.specs.Settles as of_calls
 use Rattle.core_proxy.specs.Polls.{Polls, PollFault}
 use Rattle.core_accepted.specs.declared.beginnings.Beginnings.{Beginnings}
@@ -58,7 +58,7 @@ Does (Polled client poll) old new = Polls old.core client poll new.core × PollG
 Does (Stopped client fault) old new = PollFault old.core client fault new.core × PollStops old client fault new
 Does (Settled number outcome) old new = IsSettled old number outcome new
 Does (Gave client bytes) old new = Gives old.core client bytes new.core × LogsGoBy old (λ entries. entries ≡ log.Gives client bytes ∷ []) new
-Does (Closed client) old new = CanClose old.core client × Closes old.core client new.core × LogsGoBy old (λ entries. entries ≡ log.Resets client ∷ []) new
+Does (Closed client) old new = CanClose old.core client × ClosesClient old.core client new.core × LogsGoBy old (λ entries. entries ≡ log.Resets client ∷ []) new
 Does (LeftLine client) old new = LeavesLine old.core client new.core × LogsGoBy old (λ entries. entries ≡ []) new
 Does (Ticked now) old new = new ≡ old
 Does (Broke client) old new = new ≡ old
@@ -77,14 +77,14 @@ Walks [] old new = new ≡ old
 Walks (step ∷ steps) old new = (mid : ServedCore) × Walks steps old mid × Does step mid new
 
 -- each is of this kind
-abbrev pub AreOf : (Step → Type 0) → List Step → Type 0
-AreOf Is [] = Unit {0}
-AreOf Is (step ∷ steps) = Is step × AreOf Is steps
+abbrev pub StepsAreOf : (Step → Type 0) → List Step → Type 0
+StepsAreOf Is [] = Unit {0}
+StepsAreOf Is (step ∷ steps) = Is step × StepsAreOf Is steps
 
 -- some calls, each of this kind, lead from one state to the other
 pub record GoesBy (Is : Step → Type 0) (old new : ServedCore) : Type 0 where
   pub steps : List Step
-  pub kinds : AreOf Is steps
+  pub kinds : StepsAreOf Is steps
   pub walks : Walks steps old new
 
 -- any call

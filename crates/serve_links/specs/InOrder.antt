@@ -13,12 +13,12 @@ use Rattle.core_accepted.specs.Logs.{MayHaveLed}
 use Rattle.core_accepted.specs.Late as at_servers
 use Rattle.core_accepted.specs.Late.{Moment, Lands, seen, IsFreshBy, WasOver}
 use Rattle.core_accepted.specs.Pipes as pipes
-use Rattle.core_accepted.specs.Pipes.{Sends, Moves, Closes, moments_of, behind_first, after_end, IsFirstIn, IsInTurn}
+use Rattle.core_accepted.specs.Pipes.{Sends, Moves, Closes, moments_of, behind_first, tickets_after, IsFirstIn, IsInTurn}
 use Rattle.core_accepted.specs.Parts.{Serves, AreInOrder}
 use Rattle.core_accepted.specs.LateCores.{only_line, EveryLateRunIsFresh}
 use Rattle.serve_links.specs.CoreSteps.{Step, Opened, NotOpened, Fed, Polled, Stopped, Settled, Gave, Closed, LeftLine, Broke, Ticked, Loaded, Linked, Asked, Greeted, Spelled, Late, CameLate, Lost, Does}
 use Rattle.serve_links.specs.Called.{TellsCalls}
-use Rattle.serve_links.specs.Talks.{Standing, Apart, InUse, Ending, left_by, IsOrderly}
+use Rattle.serve_links.specs.Talks.{Standing, Apart, InUse, Ending, standing_after, IsOrderly}
 
 -- a step of the proxy, and what the log has of it; or something happens at a server. Where that applies a call, it came over this one of the connections to it that aren't closed, the latest of which is 0
 pub data Move : Type 0 where
@@ -91,7 +91,7 @@ changed_in change (calls ∷ others) (suc place) = calls ∷ changed_in change o
 abbrev pub conns_by : Step → List (Entry dialect) → ℕ → List (List Ticket) → List (List Ticket)
 conns_by (Linked at greeting) log s conns = if nat_eq at s then [] ∷ conns else conns
 conns_by (Asked at number spoken ask since) log s conns = if nat_eq at s then sent_over (record { number = number; ask = ask; origin = out_origin log at number }) conns else conns
-conns_by (Lost at why) log s conns = if nat_eq at s then left_with (left_by why) conns else conns
+conns_by (Lost at why) log s conns = if nat_eq at s then left_with (standing_after why) conns else conns
 conns_by (Opened client) log s conns = conns
 conns_by (NotOpened fault) log s conns = conns
 conns_by (Fed client piece) log s conns = conns
@@ -111,7 +111,7 @@ conns_by (Spelled at number ask answer bytes) log s conns = conns
 
 -- what a server makes of the connections to it: a call that it applies is taken from the one over which it came
 abbrev pub conns_after : ℕ → Moment → ℕ → List (List Ticket) → List (List Ticket)
-conns_after place (at_servers.Does (Calls number server ask origin end)) s conns = if nat_eq server s then changed_in (after_end end) conns place else conns
+conns_after place (at_servers.Does (Calls number server ask origin end)) s conns = if nat_eq server s then changed_in (tickets_after end) conns place else conns
 conns_after place (Lands number server ask origin stamp answer spaces) s conns = if nat_eq server s then changed_in behind_first conns place else conns
 conns_after place (at_servers.Does (Begins number ask)) s conns = conns
 conns_after place (at_servers.Does (Replies number key reply from)) s conns = conns
@@ -182,7 +182,7 @@ closed_if Ending at steps = steps
 abbrev pub with_step : Step → List (Entry dialect) → List pipes.PipeStep → List pipes.PipeStep
 with_step (Linked at greeting) log steps = Closes 0 at ∷ steps
 with_step (Asked at number spoken ask since) log steps = Sends number at ask (out_origin log at number) ∷ steps
-with_step (Lost at why) log steps = closed_if (left_by why) at steps
+with_step (Lost at why) log steps = closed_if (standing_after why) at steps
 with_step (Opened client) log steps = steps
 with_step (NotOpened fault) log steps = steps
 with_step (Fed client piece) log steps = steps

@@ -58,8 +58,8 @@ abbrev pub IsReadBy : (now : ℕ) → Link → Type 0
 IsReadBy now link = (now ≤ link.asked_at) × (may_give link.conn ≡ false)
 
 -- so it is with the link of this number
-abbrev pub IsReadAt : (at now : ℕ) → List Link → Type 0
-IsReadAt at now links = (link : Link) × (slice_get links at ≡ Some link) × IsReadBy now link
+abbrev pub LinkIsRead : (at now : ℕ) → List Link → Type 0
+LinkIsRead at now links = (link : Link) × (slice_get links at ≡ Some link) × IsReadBy now link
 
 abbrev pub HasLateAt : (at now : ℕ) → List Link → Type 0
 HasLateAt at now links = (link : Link) × (slice_get links at ≡ Some link) × HasLate now link

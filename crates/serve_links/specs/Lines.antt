@@ -99,11 +99,11 @@ abbrev pub greeting_of : Link → ServerDialect → Greeting
 greeting_of link dialect = record { flushes = link.flushes; dialect = dialect }
 
 -- a new connection to this server was begun, at the address that the link's text names; and where memory was refused for its end it was closed
-abbrev pub OpensBy : ℕ → ServerDialect → Opening → Link → Link → List Event → List Event → Type 0
-OpensBy server dialect opening.Begun old new h h' = (number : ℕ) × IsNew number h × (h' ≡ connects number server old.text.items ∷ h) × HasNewEnd number (greeting_of old dialect) old new
-OpensBy server dialect opening.NoAddress old new h h' = (h' ≡ h) × KeepsLines old new
-OpensBy server dialect opening.Failed old new h h' = (h' ≡ h) × KeepsLines old new
-OpensBy server dialect opening.NoMemory old new h h' = (number : ℕ) × IsNew number h × Closes number (connects number server old.text.items ∷ h) h' × KeepsLines old new
+abbrev pub OpensLink : ℕ → ServerDialect → Opening → Link → Link → List Event → List Event → Type 0
+OpensLink server dialect opening.Begun old new h h' = (number : ℕ) × IsNew number h × (h' ≡ connects number server old.text.items ∷ h) × HasNewEnd number (greeting_of old dialect) old new
+OpensLink server dialect opening.NoAddress old new h h' = (h' ≡ h) × KeepsLines old new
+OpensLink server dialect opening.Failed old new h h' = (h' ≡ h) × KeepsLines old new
+OpensLink server dialect opening.NoMemory old new h h' = (number : ℕ) × IsNew number h × Closes number (connects number server old.text.items ∷ h) h' × KeepsLines old new
 
 -- of a link's end the first bytes are held no more, by which a server tells this dialect and all that is awaited before, and nothing else has changed
 abbrev pub TakesGreeting : Option Greeting → Dialect → Option Conn → Option Conn → Type 0
@@ -124,12 +124,12 @@ pub record Learns (can : Bool) (old new : Link) : Type 0 where
   pub told : (new ≡ old) ⊎ HasLearnt old new
 
 -- why a connection is over by what a read gave, if it is
-abbrev pub ended_by : Got → Option Cause
-ended_by got.Bytes = None
-ended_by got.Nothing = None
-ended_by got.Full = None
-ended_by got.Ended = Some causes.Closed
-ended_by got.Failed = Some causes.Broken
+abbrev pub ended_by_read : Got → Option Cause
+ended_by_read got.Bytes = None
+ended_by_read got.Nothing = None
+ended_by_read got.Full = None
+ended_by_read got.Ended = Some causes.Closed
+ended_by_read got.Failed = Some causes.Broken
 
 -- one read of a connection whose end is awaited: nothing came over it, or bytes did, which are thrown away; or it is to be closed, as it has ended or failed
 abbrev pub ReadsAway : Option Cause → ℕ → List Event → List Event → Type 0

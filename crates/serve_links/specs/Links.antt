@@ -19,8 +19,8 @@ AllFail [] old new = new ≡ old
 AllFail (call ∷ calls) old new = (mid : ServedCore) × IsSettled old call.ticket.number Failed mid × AllFail calls mid new
 
 -- of these calls this one is gone, and the others are left in their order
-abbrev pub IsTaken : List SentCall → SentCall → List SentCall → Type 0
-IsTaken calls call calls' = (before after : List SentCall) × (calls ≡ before ++ call ∷ after) × (calls' ≡ before ++ after)
+abbrev pub CallIsTaken : List SentCall → SentCall → List SentCall → Type 0
+CallIsTaken calls call calls' = (before after : List SentCall) × (calls ≡ before ++ call ∷ after) × (calls' ≡ before ++ after)
 
 -- of these calls the first have failed, in this order, and these are left; nothing else was done
 abbrev pub FailsTo : List SentCall → List SentCall → ServedCore → ServedCore → Type 0

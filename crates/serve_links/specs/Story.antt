@@ -19,7 +19,7 @@ use Rattle.serve_links.specs.declared.calls.late_call.LateCall.{LateCall}
 use Rattle.serve_links.specs.declared.link.Link.{Link}
 use Rattle.serve_links.specs.declared.news.Cause.{Cause}
 use Rattle.serve_links.specs.declared.news.Cause.TheVariants as causes
-use Rattle.serve_links.specs.CoreSteps.{Step, Opened, NotOpened, Fed, Polled, Stopped, Settled, Gave, Closed, LeftLine, Broke, Ticked, Loaded, Linked, Asked, Greeted, Spelled, Late, CameLate, Lost, Walks, AreOf}
+use Rattle.serve_links.specs.CoreSteps.{Step, Opened, NotOpened, Fed, Polled, Stopped, Settled, Gave, Closed, LeftLine, Broke, Ticked, Loaded, Linked, Asked, Greeted, Spelled, Late, CameLate, Lost, Walks, StepsAreOf}
 use Rattle.serve_links.specs.Shut.{drain_of, AreShut, StaysShut}
 use Rattle.serve_links.specs.Called.{call_in, due_in, clock_in, given_in, TellsCalls}
 use Rattle.serve_links.specs.Talks.{SaidAsk, Talk, Apart, Ending, talk_in, IsCalledIn, MayBeAsked, IsStoreFirst, IsNotAmong, AreDue, AreCalled, IsOrderly, IsOfClients, IsOfServer}
@@ -118,15 +118,15 @@ is_broken_in (Spelled at number ask answer bytes ∷ steps) i = is_broken_in ste
 is_broken_in (Lost at why ∷ steps) i = is_broken_in steps i
 
 -- a client's end agrees with what was fed and given for it by these calls
-abbrev pub AgreesWith : List Step → List Event → ℕ → Client → Type 0
-AgreesWith steps h id client = EndAgrees h (fed_in steps) (gave_in steps) id client
+abbrev pub ClientAgreesWith : List Step → List Event → ℕ → Client → Type 0
+ClientAgreesWith steps h id client = EndAgrees h (fed_in steps) (gave_in steps) id client
 
 -- these steps tell how the client's end stands: it was opened, and is broken off where they say so
-abbrev pub IsTold : List Step → ℕ → Client → Type 0
-IsTold steps id client = (is_open_in steps id ≡ true) × (is_broken_in steps id ≡ client.is_broken)
+abbrev pub ClientIsTold : List Step → ℕ → Client → Type 0
+ClientIsTold steps id client = (is_open_in steps id ≡ true) × (is_broken_in steps id ≡ client.is_broken)
 
-abbrev pub AreTold : List Step → Clients → Type 0
-AreTold steps clients = (id : ℕ) → IfSome (client_of clients id) (IsTold steps id)
+abbrev pub ClientsAreTold : List Step → Clients → Type 0
+ClientsAreTold steps clients = (id : ℕ) → IfSome (client_of clients id) (ClientIsTold steps id)
 
 -- each client's end agrees with what was fed and given for it by these calls
 abbrev pub AgreeWith : List Step → List Event → Clients → Type 0
@@ -148,15 +148,15 @@ pub record IsJustGiven (id : ℕ) (steps : List Step) : Type 0 where
   pub last : steps ≡ Gave id bytes ∷ earlier
 
 -- a client ends by this step: the core closes it once it gave all that it had for it and the connection took that, or opens it anew though it is open
-abbrev pub EndsBy : Step → List Step → List Event → ℕ → ℕ → Type 0
-EndsBy last steps h id conn = ((last ≡ Closed id) × IsJustGiven id steps × TookAll steps h id conn) ⊎ ((last ≡ Opened id) × (is_open_in steps id ≡ true))
+abbrev pub ClientEndsBy : Step → List Step → List Event → ℕ → ℕ → Type 0
+ClientEndsBy last steps h id conn = ((last ≡ Closed id) × IsJustGiven id steps × TookAll steps h id conn) ⊎ ((last ≡ Opened id) × (is_open_in steps id ≡ true))
 
 -- the client whose connection this was is gone by this last step: until then the connection delivered what was fed for it, and more perhaps, and took what was given for it, or where it was broken off the first of that
 pub record IsGone (past : List Step) (h : List Event) (id conn : ℕ) : Type 0 where
   pub later : List Step
   pub last : Step
   pub earlier : List Step
-  pub ends : EndsBy last earlier h id conn
+  pub ends : ClientEndsBy last earlier h id conn
   pub parts : past ≡ later ++ last ∷ earlier
   pub lost : ClientLost h (fed_in earlier) (gave_in earlier) id conn
 
@@ -267,31 +267,31 @@ abbrev pub HasShown : ℕ → List Event → Type 0
 HasShown now h = (before : List Event) × Extends before h × (time before ≡ now)
 
 -- so it is with a step by which one is given up; and where a call is late, the clock showed by then what it is late by
-abbrev pub ShownBy : Step → List Step → List Event → Type 0
-ShownBy (Lost at why) past h = WasShown why at past h
-ShownBy (Opened client) past h = Unit {0}
-ShownBy (NotOpened fault) past h = Unit {0}
-ShownBy (Fed client piece) past h = Unit {0}
-ShownBy (Polled client poll) past h = Unit {0}
-ShownBy (Stopped client fault) past h = Unit {0}
-ShownBy (Settled number outcome) past h = Unit {0}
-ShownBy (Gave client bytes) past h = Unit {0}
-ShownBy (Closed client) past h = Unit {0}
-ShownBy (LeftLine client) past h = Unit {0}
-ShownBy (Ticked now) past h = Unit {0}
-ShownBy (Broke client) past h = Unit {0}
-ShownBy (Loaded configuration generation) past h = Unit {0}
-ShownBy (Linked at dialect) past h = Unit {0}
-ShownBy (Asked at number dialect ask since) past h = Unit {0}
-ShownBy (Greeted at dialect bytes) past h = Unit {0}
-ShownBy (Late at number limit now) past h = HasShown now h
-ShownBy (CameLate at number ask answer bytes) past h = Unit {0}
-ShownBy (Spelled at number ask answer bytes) past h = Unit {0}
+abbrev pub StepIsShown : Step → List Step → List Event → Type 0
+StepIsShown (Lost at why) past h = WasShown why at past h
+StepIsShown (Opened client) past h = Unit {0}
+StepIsShown (NotOpened fault) past h = Unit {0}
+StepIsShown (Fed client piece) past h = Unit {0}
+StepIsShown (Polled client poll) past h = Unit {0}
+StepIsShown (Stopped client fault) past h = Unit {0}
+StepIsShown (Settled number outcome) past h = Unit {0}
+StepIsShown (Gave client bytes) past h = Unit {0}
+StepIsShown (Closed client) past h = Unit {0}
+StepIsShown (LeftLine client) past h = Unit {0}
+StepIsShown (Ticked now) past h = Unit {0}
+StepIsShown (Broke client) past h = Unit {0}
+StepIsShown (Loaded configuration generation) past h = Unit {0}
+StepIsShown (Linked at dialect) past h = Unit {0}
+StepIsShown (Asked at number dialect ask since) past h = Unit {0}
+StepIsShown (Greeted at dialect bytes) past h = Unit {0}
+StepIsShown (Late at number limit now) past h = HasShown now h
+StepIsShown (CameLate at number ask answer bytes) past h = Unit {0}
+StepIsShown (Spelled at number ask answer bytes) past h = Unit {0}
 
 -- and with each of these
-abbrev pub AreShown : List Step → List Event → Type 0
-AreShown [] h = Unit {0}
-AreShown (step ∷ steps) h = ShownBy step steps h × AreShown steps h
+abbrev pub StepsAreShown : List Step → List Event → Type 0
+StepsAreShown [] h = Unit {0}
+StepsAreShown (step ∷ steps) h = StepIsShown step steps h × StepsAreShown steps h
 
 -- a link is to be given up so: it agrees but for what it holds, and its connection shows why
 pub record LineFails (why : Option Cause) (at : ℕ) (past : List Step) (h : List Event) (link : Link) : Type 0 where
@@ -347,7 +347,7 @@ IsByLimit most (Lost at why) = Unit {0}
 -- a link is to the server that it was to, which has the limits that it had, and by these steps, which tell of that one alone, calls are late by its limit
 pub record KeepsServer (steps : List Step) (old new : Link) : Type 0 where
   pub same : server_of new ≡ server_of old
-  pub late : AreOf (IsByLimit (λ at. Some old.limits.call_ms)) steps
+  pub late : StepsAreOf (IsByLimit (λ at. Some old.limits.call_ms)) steps
 
 -- all connections that were of others than this one, and all that aren't its now, are as they were, and the clock wasn't looked at
 pub record KeepsOthers (its : ℕ × ℕ) (h h' : List Event) : Type 0 where
@@ -358,11 +358,11 @@ pub record KeepsOthers (its : ℕ × ℕ) (h h' : List Event) : Type 0 where
 -- by calls of this kind, which tell nothing of servers, the core goes on, and a client's end on the wire with it: where it agreed with all calls before, it agrees with all calls after, and no other connection is touched
 pub record OneGoes (Is : Step → Type 0) (id : ℕ) (core : ServedCore) (h : List Event) (client : Client) (core' : ServedCore) (h' : List Event) (client' : Client) : Type 0 where
   pub steps : List Step
-  pub kinds : AreOf Is steps
-  pub own : AreOf IsOfClients steps
+  pub kinds : StepsAreOf Is steps
+  pub own : StepsAreOf IsOfClients steps
   pub walks : Walks steps core core'
-  pub agrees : (past : List Step) → AgreesWith past h id client → AgreesWith (steps ++ past) h' id client'
-  pub told : (past : List Step) → IsTold past id client → IsTold (steps ++ past) id client'
+  pub agrees : (past : List Step) → ClientAgreesWith past h id client → ClientAgreesWith (steps ++ past) h' id client'
+  pub told : (past : List Step) → ClientIsTold past id client → ClientIsTold (steps ++ past) id client'
   pub number : client'.conn.number ≡ client.conn.number
   pub only : TouchesOnly client.conn.number h h'
   pub others : (past : List Step) (j : ℕ) → nat_eq id j ≡ false → TellsNone j past steps
@@ -379,11 +379,11 @@ LeavesCalls at past past' = (j : ℕ) → nat_eq at j ≡ false → StayOut j pa
 -- holds of it and of all calls after, and all happened in order if it had before. No other's connection is touched, nor its calls, of its own none is left open but the one that it has, where a connection is given up the wire showed why, and where a call is late it is so by the server's limit
 pub record LineGoesFrom (Before After : ℕ → List Step → List Event → Link → Type 0) (Is : Step → Type 0) (at : ℕ) (core : ServedCore) (h : List Event) (link : Link) (core' : ServedCore) (h' : List Event) (link' : Link) : Type 0 where
   pub steps : List Step
-  pub kinds : AreOf Is steps
-  pub own : AreOf (IsOfServer at) steps
+  pub kinds : StepsAreOf Is steps
+  pub own : StepsAreOf (IsOfServer at) steps
   pub walks : Walks steps core core'
   pub agrees : (past : List Step) → IsOrderly past → TellsCalls past core → Before at past h link → IsOrderly (steps ++ past) × After at (steps ++ past) h' link' × KeepsOthers (1, at) h h' × LeavesCalls at past (steps ++ past)
-  pub shown : (past : List Step) → IsOrderly past → TellsCalls past core → Before at past h link → AreShown past h → AreShown (steps ++ past) h'
+  pub shown : (past : List Step) → IsOrderly past → TellsCalls past core → Before at past h link → StepsAreShown past h → StepsAreShown (steps ++ past) h'
   pub shut : StaysShut at h link h' link'
   pub server : KeepsServer steps link link'
 
@@ -412,17 +412,17 @@ most_of servers at = option_map (λ (server : List ℕ × LinkLimits). server.1.
 -- all links are to the servers that they were to, which have the limits that they had, and by these steps each call is late by the limit of its own server
 pub record KeepsServers (steps : List Step) (old new : List Link) : Type 0 where
   pub same : servers_of new ≡ servers_of old
-  pub late : AreOf (IsByLimit (most_of (servers_of old))) steps
+  pub late : StepsAreOf (IsByLimit (most_of (servers_of old))) steps
 
 -- all happened in order by these calls, the core has those out that they tell to be, the clock showed last what they tell, and each end agrees with them, and so does each connection that was a client's; the wire showed why each of a server's was given up; and none is open but what ends have
 pub record Agrees (past : List Step) (x : AnEnd) : Type 0 where
   pub orderly : IsOrderly past
   pub calls : TellsCalls past x.core
   pub clients : AgreeWith past x.history x.clients
-  pub told : AreTold past x.clients
+  pub told : ClientsAreTold past x.clients
   pub links : LinesAgree past x.history x.links
   pub gone : (conn id : ℕ) → role conn x.history ≡ Some (0, id) → HasOrHad past x.history x.clients id conn
-  pub shown : AreShown past x.history
+  pub shown : StepsAreShown past x.history
   pub unlinked : (at : ℕ) → slice_get x.links at ≡ None → ((talk_in past at).out ≡ []) × ((talk_in past at).stands ≡ Apart)
   pub shut : AreShut x.history x.clients x.links
   pub clock : clock_in past ≡ time x.history
@@ -432,11 +432,11 @@ pub record AgreesBut (This : ℕ → List Step → List Event → Link → Type 
   pub orderly : IsOrderly past
   pub calls : TellsCalls past x.core
   pub clients : AgreeWith past x.history x.clients
-  pub told : AreTold past x.clients
+  pub told : ClientsAreTold past x.clients
   pub links : (j : ℕ) (link : Link) → nat_eq at j ≡ false → slice_get x.links j ≡ Some link → LineAgrees j past x.history link
   pub this : (link : Link) → slice_get x.links at ≡ Some link → This at past x.history link
   pub gone : (conn id : ℕ) → role conn x.history ≡ Some (0, id) → HasOrHad past x.history x.clients id conn
-  pub shown : AreShown past x.history
+  pub shown : StepsAreShown past x.history
   pub unlinked : (at : ℕ) → slice_get x.links at ≡ None → ((talk_in past at).out ≡ []) × ((talk_in past at).stands ≡ Apart)
   pub shut : AreShut x.history x.clients x.links
   pub clock : clock_in past ≡ time x.history
@@ -468,7 +468,7 @@ AgreesDue number past x = Agrees past x × IsInHand number past x.links
 -- by calls of this kind it goes on: where the one held of it and of all calls before, the other holds of it and of all calls after. The links are to the servers that they were to, with the limits that they had, and each call that is late is so by its server's
 pub record AllGoFrom (Before After : List Step → AnEnd → Type 0) (Is : Step → Type 0) (old new : AnEnd) : Type 0 where
   pub steps : List Step
-  pub kinds : AreOf Is steps
+  pub kinds : StepsAreOf Is steps
   pub walks : Walks steps old.core new.core
   pub agree : (past : List Step) → Before past old → After (steps ++ past) new
   pub servers : KeepsServers steps old.links new.links

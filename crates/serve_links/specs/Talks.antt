@@ -30,16 +30,16 @@ pub data Standing : Type 0 where
   Ending : Standing
 
 -- how it stands once it was given up for a cause, or as that was wanted: what is no answer came, or there was no room for what came, or reads were in vain; otherwise it was closed
-abbrev pub left_by : Option Cause → Standing
-left_by None = Apart
-left_by (Some causes.Unreachable) = Apart
-left_by (Some causes.ConnectLate) = Apart
-left_by (Some causes.AnswerLate) = Apart
-left_by (Some causes.Closed) = Apart
-left_by (Some causes.Broken) = Apart
-left_by (Some causes.Foreign) = Ending
-left_by (Some causes.NoRoom) = Ending
-left_by (Some causes.VainReads) = Ending
+abbrev pub standing_after : Option Cause → Standing
+standing_after None = Apart
+standing_after (Some causes.Unreachable) = Apart
+standing_after (Some causes.ConnectLate) = Apart
+standing_after (Some causes.AnswerLate) = Apart
+standing_after (Some causes.Closed) = Apart
+standing_after (Some causes.Broken) = Apart
+standing_after (Some causes.Foreign) = Ending
+standing_after (Some causes.NoRoom) = Ending
+standing_after (Some causes.VainReads) = Ending
 
 -- of a server's connection: how it stands, what was to be sent over it, which bytes that came over it told something, the calls that are out there, the one that was asked first in front, before them those that were late, which have
 -- failed, and whose answers are still to come first; what the server was asked first, if it is still to say all that it says to that, before it answers any call, in which dialect calls are asked there from now on
@@ -58,9 +58,9 @@ behind [] = []
 behind (ask ∷ asks) = asks
 
 -- the first, if there is one
-abbrev pub first_of : List SaidAsk → List SaidAsk
-first_of [] = []
-first_of (ask ∷ asks) = ask ∷ []
+abbrev pub first_of_asks : List SaidAsk → List SaidAsk
+first_of_asks [] = []
+first_of_asks (ask ∷ asks) = ask ∷ []
 
 -- where there was no connection yet
 abbrev pub no_talk : Talk
@@ -84,7 +84,7 @@ with_answer bytes talk = record talk { told = talk.told ++ bytes; out = behind t
 
 -- the first call is late: it keeps its place
 abbrev pub turned_late : Talk → Talk
-turned_late talk = record talk { out = behind talk.out; late = talk.late ++ first_of talk.out }
+turned_late talk = record talk { out = behind talk.out; late = talk.late ++ first_of_asks talk.out }
 
 -- the answer to the first late call came
 abbrev pub with_late : List ℕ → Talk → Talk
@@ -92,7 +92,7 @@ with_late bytes talk = record talk { told = talk.told ++ bytes; late = behind ta
 
 -- it was given up: no call is out there any more, and no answer is awaited
 abbrev pub given_up : Option Cause → Talk → Talk
-given_up why talk = record talk { stands = left_by why; out = []; late = []; awaits = None }
+given_up why talk = record talk { stands = standing_after why; out = []; late = []; awaits = None }
 
 -- what a step adds to what was said over the connection of the server of this number
 abbrev pub talk_after : Step → ℕ → Talk → Talk

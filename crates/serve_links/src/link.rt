@@ -2,13 +2,13 @@
 
 ghost use Rattle.std.specs.Prelude.{◌≡◌, ◌≢◌, true, IfSome, IsSome, ◌+◌, ◌<◌, ◌++◌, false, ◌∷◌, [], None, length, MatchOption, IfOk, IfErr, OnOk, OnErr, option_map};
 ghost use Rattle.mc_types.specs.declared.ask.Dialect.TheVariants.{Classic};
-ghost use Rattle.serve_links.specs.Links.{IsDown, IsTaken, vain_cause};
+ghost use Rattle.serve_links.specs.Links.{IsDown, CallIsTaken, vain_cause};
 ghost use Rattle.serve_links.specs.Calls.{stores_first};
 ghost use Rattle.serve_links.specs.Lateness.{HasLate, awaits_store, AwaitsLate, IsUnready, IsConnectLate, IsReadBy, may_give};
 ghost use Rattle.wire_parts.specs.Sending.{bytes_of};
 ghost use Rattle.serve_links.specs.Dialects.{awaits_flush};
 ghost use Rattle.serve_links.specs.Epochs.{is_retired, with_retired, IsQuiet};
-ghost use Rattle.serve_links.specs.Lines.{dialect_asked, flush_asked, first_asked_of, asks_dialect, awaits_first, first_dialect, greeting_of, KeepsLines, HasNewEnd, OpensBy, Learns, ended_by, DrainsOne, DrainsBy};
+ghost use Rattle.serve_links.specs.Lines.{dialect_asked, flush_asked, first_asked_of, asks_dialect, awaits_first, first_dialect, greeting_of, KeepsLines, HasNewEnd, OpensLink, Learns, ended_by_read, DrainsOne, DrainsBy};
 ghost use Rattle.serve_links.specs.Story.{line_of, LineIsForeign};
 ghost use Rattle.serve_links.specs.Shut.{conn_of};
 
@@ -148,7 +148,7 @@ fn emptied(conn: Conn) -> Conn
 
 // Why a connection is over by what a read gave, if it is.
 fn ended_by(got: Got) -> Option<Cause>
-    ensures { result ≡ ended_by got }
+    ensures { result ≡ ended_by_read got }
 {
     match got {
         Got::Bytes | Got::Nothing | Got::Full => None,
@@ -481,7 +481,7 @@ impl Link {
     /// Of the calls that wait the first that may go out now.
     #[tactic(auto, using(crate::proofs::Taking::taken))]
     pub fn next_to_go(&mut self, places: usize, clients: &Clients) -> Option<SentCall>
-        ensures waiting { MatchOption result (self.new.waiting.items ≡ self.old.waiting.items) (λ call. IsTaken self.old.waiting.items call self.new.waiting.items) }
+        ensures waiting { MatchOption result (self.new.waiting.items ≡ self.old.waiting.items) (λ call. CallIsTaken self.old.waiting.items call self.new.waiting.items) }
         ensures rest { self.new ≡ record self.old { waiting = self.new.waiting } }
     {
         if !self.takes_calls(places) {
@@ -722,7 +722,7 @@ impl Link {
         now: u64,
         dialect: ServerDialect,
     ) -> Opening
-        ensures opens { OpensBy server dialect result self.old self.new (W.history wire.old) (W.history wire.new) }
+        ensures opens { OpensLink server dialect result self.old self.new (W.history wire.old) (W.history wire.new) }
     {
         if self.conn.is_some()
             || self.draining.is_some()

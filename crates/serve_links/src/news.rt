@@ -1,7 +1,7 @@
 //! What there is to tell of a server's link.
 
 ghost use Rattle.std.specs.Prelude.{◌≡◌, true, false, Some};
-ghost use Rattle.serve_links.specs.Talks.{Apart, Ending, left_by};
+ghost use Rattle.serve_links.specs.Talks.{Apart, Ending, standing_after};
 
 use std::fmt;
 use std::fmt::Display;
@@ -42,8 +42,8 @@ pub const CAUSES: [Cause; 8] = [
 impl Cause {
     /// Whether a connection that is given up for it is closed only once its end has come: it stands still, and its server may apply what came over it.
     pub fn drains(self) -> bool
-        ensures ends { result ≡ true → left_by (Some self) ≡ Ending }
-        ensures closes { result ≡ false → left_by (Some self) ≡ Apart }
+        ensures ends { result ≡ true → standing_after (Some self) ≡ Ending }
+        ensures closes { result ≡ false → standing_after (Some self) ≡ Apart }
     {
         match self {
             Cause::Foreign | Cause::NoRoom | Cause::VainReads => true,

@@ -8,7 +8,7 @@ use Rattle.serve_links.specs.declared.settings.LinkLimits.{LinkLimits}
 use Rattle.serve_links.specs.declared.link.Link.{Link}
 use Rattle.serve_links.specs.Shut.{first_some, drain_of, link_conn}
 use Rattle.serve_links.specs.Story.{LineState}
-use Rattle.serve_proxy.specs.Ends.{lines_of, down_line, AddsLines}
+use Rattle.serve_proxy.specs.Ends.{link_lines, down_line, AddsLines}
 
 abbrev conn_by : LineState → Option ℕ
 conn_by line = first_some (option_map (λ (e : ℕ × List ℕ × List ℕ). e.0) line.1) line.7
@@ -20,13 +20,13 @@ one_conn : (o : Option Conn) → option_map (λ (e : ℕ × List ℕ × List ℕ
 one_conn None = refl
 one_conn (Some x) = refl
 
-conn_line : (links : List Link) (at : ℕ) → conn_in (lines_of links) at ≡ link_conn links at
+conn_line : (links : List Link) (at : ℕ) → conn_in (link_lines links) at ≡ link_conn links at
 conn_line [] at = refl
 conn_line (link ∷ links) zero = ap (λ o. first_some o (drain_of link)) (one_conn link.conn)
 conn_line (link ∷ links) (suc at) = conn_line links at
 
 -- links of the same lines have the same connections
-pub conns_kept : (ls ls' : List Link) → lines_of ls' ≡ lines_of ls → (at : ℕ) → link_conn ls' at ≡ link_conn ls at
+pub conns_kept : (ls ls' : List Link) → link_lines ls' ≡ link_lines ls → (at : ℕ) → link_conn ls' at ≡ link_conn ls at
 conns_kept ls ls' same at = sym (conn_line ls' at) ∙ ap (λ l. conn_in l at) same ∙ conn_line ls at
 
 down_in : (lines : List LineState) (servers : List (List ℕ × LinkLimits)) (at : ℕ) → conn_in (lines ++ each down_line servers) at ≡ conn_in lines at
@@ -38,4 +38,4 @@ down_in (line ∷ lines) servers (suc at) = down_in lines servers at
 
 -- links that are added have none
 pub conns_grow : (ls ls' : List Link) → AddsLines ls ls' → (at : ℕ) → link_conn ls' at ≡ link_conn ls at
-conns_grow ls ls' adds at = sym (conn_line ls' at) ∙ ap (λ l. conn_in l at) adds.1 ∙ down_in (lines_of ls) adds.0 at ∙ conn_line ls at
+conns_grow ls ls' adds at = sym (conn_line ls' at) ∙ ap (λ l. conn_in l at) adds.1 ∙ down_in (link_lines ls) adds.0 at ∙ conn_line ls at

@@ -16,7 +16,7 @@ use Rattle.serve_links.specs.declared.news.Cause.{Cause}
 use Rattle.serve_links.specs.declared.news.Cause.TheVariants as causes
 use Rattle.serve_links.specs.Lines.{ReadsAway, DrainsAt, DrainsBy}
 use Rattle.serve_links.specs.Shut.{drain_of}
-use Rattle.serve_links.specs.Talks.{Talk, Apart, left_by}
+use Rattle.serve_links.specs.Talks.{Talk, Apart, standing_after}
 use Rattle.serve_links.specs.Story.{said_asks, said_late, server_of, LineState, line_of, ShowsWhy, LineGoes}
 use Rattle.serve_links.specs.CoreSteps.{IsSending}
 use Rattle.core_accepted.specs.declared.served.ServedCore.{ServedCore}
@@ -40,7 +40,7 @@ line_drain x y is same =
     ∙ ap (λ (o : Option ℕ). let s : LineState = (server_of x, option_map {U = ℕ × List ℕ × List ℕ} (λ (z : Conn). (z.number, z.held.items, bytes_of z.unsent)) x.conn, said_asks x.calls.sent.items, x.waiting.items, x.awaits_dialect, x.dialect, said_late x.late.items, o) in s) same
 
 -- why it is to be closed, and what the wire shows of that
-read_over : (cause : Cause) (c : ℕ) (h k : List Event) → ReadsAway (Some cause) c h k → (left_by (Some cause) ≡ Apart) × ReadsOn c [] [] h k × ((t : Talk) → ShowsWhy (Some cause) t c k)
+read_over : (cause : Cause) (c : ℕ) (h k : List Event) → ReadsAway (Some cause) c h k → (standing_after (Some cause) ≡ Apart) × ReadsOn c [] [] h k × ((t : Talk) → ShowsWhy (Some cause) t c k)
 read_over causes.Closed c h k noted = (refl, reads_on c 1 [] got.Ended [] h k (omega arith, refl, noted), λ t. ([], h, noted))
 read_over causes.Broken c h k noted = (refl, reads_on c 1 [] got.Failed [] h k (omega arith, refl, noted), λ t. ([], h, noted))
 read_over causes.Unreachable c h k never = absurd never

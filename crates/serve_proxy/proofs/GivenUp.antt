@@ -19,7 +19,7 @@ use Rattle.serve_links.specs.declared.news.Cause.TheVariants as causes
 use Rattle.serve_links.specs.Calls.{stores_first}
 use Rattle.serve_links.specs.Lateness.{AwaitsLate}
 use Rattle.serve_links.specs.Links.{vain_cause}
-use Rattle.serve_links.specs.CoreSteps.{Step, Opened, NotOpened, Fed, Polled, Stopped, Settled, Gave, Closed, LeftLine, Broke, Ticked, Loaded, Linked, Asked, Greeted, Spelled, Late, CameLate, Lost, Walks, AreOf, IsOfTurn, IsGivingUp, IsSending, Fails, GoesBy}
+use Rattle.serve_links.specs.CoreSteps.{Step, Opened, NotOpened, Fed, Polled, Stopped, Settled, Gave, Closed, LeftLine, Broke, Ticked, Loaded, Linked, Asked, Greeted, Spelled, Late, CameLate, Lost, Walks, StepsAreOf, IsOfTurn, IsGivingUp, IsSending, Fails, GoesBy}
 use Rattle.serve_links.specs.Talks.{SaidAsk, IsStoreFirst, talk_in}
 use Rattle.serve_links.specs.Story.{said_asks, said_late, line_of, IsForeign, LineIsForeign, LineAgrees, LineLost, LineFails, LineGoesFrom, AnEnd, Agrees, AgreesBut, AllGoFrom, ShowsWhy}
 use Rattle.serve_links.proofs.LinkGoes.{as_failing, line_between, line_keeps}
@@ -183,7 +183,7 @@ pub wanted : {Q : List Step → AnEnd → Type 0} {Is : Step → Type 0} {a b : 
 wanted {a = a} at g = go_between (λ past was. failing_at None at past a (λ link there. as_failing None at past a.history link (λ conn is. tt) (was.links at link there)) was) (λ past was. was) g
 
 -- of the core nothing is asked but that calls fail
-pub fails_of : (why : Option Cause) (steps : List Step) (a b : ServedCore) → AreOf (IsGivingUp why) steps → Walks steps a b → Fails a b
+pub fails_of : (why : Option Cause) (steps : List Step) (a b : ServedCore) → StepsAreOf (IsGivingUp why) steps → Walks steps a b → Fails a b
 fails_of why [] a b kinds walks = record { steps = []; kinds = tt; walks = walks }
 fails_of why (Settled number outcome ∷ steps) a b kinds walks =
     let first = fails_of why steps a walks.0 kinds.1 walks.1 in record { steps = Settled number outcome ∷ first.steps; kinds = (kinds.0, first.kinds); walks = (walks.0, first.walks, walks.2) }

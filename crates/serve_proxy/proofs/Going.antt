@@ -18,7 +18,7 @@ use Rattle.core_commands.specs.declared.ticket.Ticket.{Ticket}
 use Rattle.core_proxy.specs.declared.note.Poll.{Poll}
 use Rattle.core_proxy.specs.declared.note.Poll.TheVariants as polls
 use Rattle.core_proxy.specs.Faults.{CanClose, OpenFault, CloseFault}
-use Rattle.core_proxy.specs.CoreState.{Closes as ClosesIn, LeavesLine, client_at, output_by}
+use Rattle.core_proxy.specs.CoreState.{ClosesClient as ClosesIn, LeavesLine, client_at, output_by}
 use Rattle.core_proxy.specs.Polls.{Polls, PollFault}
 use Rattle.core_accepted.specs.Logs.{LogsGoBy}
 use Rattle.core_accepted.specs.Results.{StaysCounting, PollGoes, PollStops}
@@ -27,19 +27,19 @@ use Rattle.core_accepted.specs.declared.served.ServedCore.{ServedCore}
 use Rattle.serve_clients.specs.declared.clients.Client.{Client}
 use Rattle.serve_clients.specs.declared.clients.Clients.{Clients}
 use Rattle.serve_clients.specs.Marks.{client_of}
-use Rattle.serve_clients.specs.Agrees.{KeepsEnds, said_of, Breaks, StateAgrees, EndAgrees, GoesOnAgreeing, AllAgree}
-use Rattle.serve_clients.specs.Lending.{with_client}
+use Rattle.serve_clients.specs.Agrees.{KeepsEnds, end_said_of, Breaks, StateAgrees, EndAgrees, GoesOnAgreeing, AllAgree}
+use Rattle.serve_clients.specs.Lending.{with_client_at}
 use Rattle.serve_clients.proofs.Agreeing.{state_stays, agree_still}
 use Rattle.serve_links.specs.declared.calls.calls.SentCall.{SentCall}
 use Rattle.serve_links.specs.declared.settings.LinkLimits.{LinkLimits}
 use Rattle.serve_links.specs.declared.link.Link.{Link}
 use Rattle.serve_links.specs.declared.news.Cause.{Cause}
-use Rattle.serve_links.specs.CoreSteps.{Step, Opened, NotOpened, Fed, Polled, Stopped, Settled, Gave, Closed, LeftLine, Broke, Ticked, Loaded, Linked, Asked, Greeted, Spelled, Late, CameLate, Lost, Does, Walks, AreOf, GoesBy, IsOfTurn, IsFailure, IsSending, IsGivingUp, Fails}
+use Rattle.serve_links.specs.CoreSteps.{Step, Opened, NotOpened, Fed, Polled, Stopped, Settled, Gave, Closed, LeftLine, Broke, Ticked, Loaded, Linked, Asked, Greeted, Spelled, Late, CameLate, Lost, Does, Walks, StepsAreOf, GoesBy, IsOfTurn, IsFailure, IsSending, IsGivingUp, Fails}
 use Rattle.serve_links.specs.Called.{clock_in, given_in, TellsCalls, GiveOnce}
 use Rattle.serve_links.specs.Talks.{Talk, IsNotAmong, AreDue, MaySettle, IsOrderly, IsOfClients}
 use Rattle.serve_links.proofs.Called.{given_besides, walks_tell_calls}
 use Rattle.serve_links.specs.Pieces.{FeedsHeld}
-use Rattle.serve_links.specs.Story.{fed_in, gave_in, is_open_in, is_broken_in, AgreesWith, IsTold, AreTold, TellsNone, HasOrHad, said_asks, StayOut, IsInHand, server_of, LineState, line_of, LineAgrees, LineCalled, LinesAgree, OneGoes, LineGoesFrom, LineGoes, AnEnd, Agrees, AgreesGiven, AgreesBut, AgreesCalled, AgreesDue, AllGoFrom, AllGo, texts_of, servers_of, AgreesSent}
+use Rattle.serve_links.specs.Story.{fed_in, gave_in, is_open_in, is_broken_in, ClientAgreesWith, ClientIsTold, ClientsAreTold, TellsNone, HasOrHad, said_asks, StayOut, IsInHand, server_of, LineState, line_of, LineAgrees, LineCalled, LinesAgree, OneGoes, LineGoesFrom, LineGoes, AnEnd, Agrees, AgreesGiven, AgreesBut, AgreesCalled, AgreesDue, AllGoFrom, AllGo, texts_of, servers_of, AgreesSent}
 use Rattle.serve_links.proofs.Reading.{breaks_now}
 use Rattle.serve_links.proofs.Talking.{IsPlain, plain_talk, clients_orderly, clients_clock}
 use Rattle.serve_links.proofs.Story.{one_agrees, at_told, each_told, all_told, same_told, had_stays, one_of_all, line_among, line_stays_by, line_stays, unlinked_stays, all_still, from_then, go_between, all_but, but_all}
@@ -50,7 +50,7 @@ use Rattle.serve_links.proofs.Due.{due_out, keeps_settled, hand_gone, due_nowher
 use Rattle.core_accepted.specs.Results.{IsSettled}
 use Rattle.serve_links.proofs.LinkGoes.{same_line}
 use Rattle.serve_links.proofs.Walked.{walked, of_both}
-use Rattle.serve_proxy.specs.Ends.{lines_of, IsClosing, OneGives, EndsStay, EndsGoFrom, EndsGo, LineStands}
+use Rattle.serve_proxy.specs.Ends.{link_lines, IsClosing, OneGives, EndsStay, EndsGoFrom, EndsGo, LineStands}
 use Rattle.serve_proxy.proofs.Conns.{conns_kept}
 use Rattle.serve_proxy.proofs.Lent.{lent_here, lent_others}
 
@@ -73,23 +73,23 @@ same_some e = cc
 none_some : {A : Type 0} {x : A} → None ≡ Some x → ⊥
 none_some e = cc
 
-pub get_line : (links : List Link) (at : ℕ) → option_map line_of (slice_get links at) ≡ slice_get (lines_of links) at
+pub get_line : (links : List Link) (at : ℕ) → option_map line_of (slice_get links at) ≡ slice_get (link_lines links) at
 get_line [] at = refl
 get_line (link ∷ links) zero = refl
 get_line (link ∷ links) (suc at) = get_line links at
 
-pub texts_by_lines : (links : List Link) → each (λ (p : LineState). p.0.0) (lines_of links) ≡ texts_of links
+pub texts_by_lines : (links : List Link) → each (λ (p : LineState). p.0.0) (link_lines links) ≡ texts_of links
 texts_by_lines [] = refl
 texts_by_lines (link ∷ links) = ap (λ l. link.text.items ∷ l) (texts_by_lines links)
 
-servers_by_lines : (links : List Link) → each (λ (p : LineState). p.0) (lines_of links) ≡ servers_of links
+servers_by_lines : (links : List Link) → each (λ (p : LineState). p.0) (link_lines links) ≡ servers_of links
 servers_by_lines [] = refl
 servers_by_lines (link ∷ links) = ap (λ l. server_of link ∷ l) (servers_by_lines links)
 
-same_servers : (ls ls' : List Link) → lines_of ls' ≡ lines_of ls → servers_of ls' ≡ servers_of ls
+same_servers : (ls ls' : List Link) → link_lines ls' ≡ link_lines ls → servers_of ls' ≡ servers_of ls
 same_servers ls ls' same = sym (servers_by_lines ls') ∙ ap (each (λ (p : LineState). p.0)) same ∙ servers_by_lines ls
 
-lines_stay : (h h' : List Event) (past : List Step) (ls ls' : List Link) → ((d : ℕ) → IsUntouched d h h') → lines_of ls' ≡ lines_of ls → LinesAgree past h ls → LinesAgree past h' ls'
+lines_stay : (h h' : List Event) (past : List Step) (ls ls' : List Link) → ((d : ℕ) → IsUntouched d h h') → link_lines ls' ≡ link_lines ls → LinesAgree past h ls → LinesAgree past h' ls'
 lines_stay h h' past ls ls' quiet same was at link there = by (slice_get ls at) refl (get_line ls at ∙ ap (λ l. slice_get l at) (sym same) ∙ sym (get_line ls' at) ∙ ap (option_map line_of) there)
   where
     by : (o : Option Link) → slice_get ls at ≡ o → option_map line_of o ≡ Some (line_of link) → LineAgrees at past h' link
@@ -97,11 +97,11 @@ lines_stay h h' past ls ls' quiet same was at link there = by (slice_get ls at) 
     by (Some x) e l = line_stays h h' at [] past link (λ c of_c. quiet c) refl (λ n ask is. (refl, refl, refl)) (same_line at past h x link (sym (same_some l)) (was at x e))
 
 -- steps of which servers are told nothing, and by which all calls that were out stay so
-pub lines_told : (h : List Event) (steps past : List Step) (ls : List Link) → AreOf IsPlain steps → ((at : ℕ) → StayOut at past (steps ++ past)) → LinesAgree past h ls → LinesAgree (steps ++ past) h ls
+pub lines_told : (h : List Event) (steps past : List Step) (ls : List Link) → StepsAreOf IsPlain steps → ((at : ℕ) → StayOut at past (steps ++ past)) → LinesAgree past h ls → LinesAgree (steps ++ past) h ls
 lines_told h steps past ls plain stay was at link there = line_stays h h at steps past link (λ c of_c. untouched c h) (plain_talk steps plain past at) (stay at) (was at link there)
 
 -- what is in hand is so still where links have the lines that they had
-hand_stays : (number : ℕ) (past : List Step) (ls ls' : List Link) → lines_of ls' ≡ lines_of ls → IsInHand number past ls → IsInHand number past ls'
+hand_stays : (number : ℕ) (past : List Step) (ls ls' : List Link) → link_lines ls' ≡ link_lines ls → IsInHand number past ls → IsInHand number past ls'
 hand_stays number past ls ls' same was = record {
   at = was.at;
   ask = was.ask;
@@ -121,17 +121,17 @@ clients_quiet h h' input output cs quiet was id = by (client_of cs id) (was id)
     by (Some x) a = state_stays h h' input output id x.conn.number x.conn.held.items (bytes_of x.conn.unsent) x.is_broken x.is_ended (quiet x.conn.number) a
 
 -- the numbers of ends that are as they were
-pub numbers_kept : (o o' : Option Client) → option_map said_of o' ≡ option_map said_of o → option_map (λ (x : Client). x.conn.number) o' ≡ option_map (λ (x : Client). x.conn.number) o
+pub numbers_kept : (o o' : Option Client) → option_map end_said_of o' ≡ option_map end_said_of o → option_map (λ (x : Client). x.conn.number) o' ≡ option_map (λ (x : Client). x.conn.number) o
 numbers_kept None None e = refl
 numbers_kept (Some x) None e = absurd (none_some e)
 numbers_kept None (Some y) e = absurd (none_some (sym e))
 numbers_kept (Some x) (Some y) e = ap (λ (s : ℕ × List ℕ × List ℕ × Bool × Bool). Some s.0) (same_some e)
 
 -- how ends stand that are as they were
-pub told_kept : (past : List Step) (cs cs' : Clients) → ((id : ℕ) → option_map said_of (client_of cs' id) ≡ option_map said_of (client_of cs id)) → AreTold past cs → AreTold past cs'
+pub told_kept : (past : List Step) (cs cs' : Clients) → ((id : ℕ) → option_map end_said_of (client_of cs' id) ≡ option_map end_said_of (client_of cs id)) → ClientsAreTold past cs → ClientsAreTold past cs'
 told_kept past cs cs' keeps was id = by (client_of cs id) (client_of cs' id) (keeps id) (was id)
   where
-    by : (o o' : Option Client) → option_map said_of o' ≡ option_map said_of o → IfSome o (IsTold past id) → IfSome o' (IsTold past id)
+    by : (o o' : Option Client) → option_map end_said_of o' ≡ option_map end_said_of o → IfSome o (ClientIsTold past id) → IfSome o' (ClientIsTold past id)
     by None None e told = tt
     by (Some x) None e told = tt
     by None (Some y) e told = absurd (none_some (sym e))
@@ -144,7 +144,7 @@ pub had_quiet :
 had_quiet past steps h h' cs cs' id conn same ends is was = had_stays past steps h h' cs cs' id conn (same_told conn h h' same) ends (was conn id (sym same.same_role ∙ is))
 
 -- where no link stands, none stood with the same lines
-none_there : (ls ls' : List Link) → lines_of ls' ≡ lines_of ls → (at : ℕ) → slice_get ls' at ≡ None → slice_get ls at ≡ None
+none_there : (ls ls' : List Link) → link_lines ls' ≡ link_lines ls → (at : ℕ) → slice_get ls' at ≡ None → slice_get ls at ≡ None
 none_there ls ls' same at none = of_none (slice_get ls at) (get_line ls at ∙ ap (λ l. slice_get l at) (sym same) ∙ sym (get_line ls' at) ∙ ap (option_map line_of) none)
   where
     of_none : (o : Option Link) → option_map line_of o ≡ None → o ≡ None
@@ -237,7 +237,7 @@ IsSilent (CameLate at number ask answer bytes) = ⊥
 IsSilent (Spelled at number ask answer bytes) = ⊥
 IsSilent (Lost at why) = ⊥
 
-pub tells_none : (steps : List Step) → AreOf IsSilent steps → (past : List Step) (j : ℕ) → TellsNone j past steps
+pub tells_none : (steps : List Step) → StepsAreOf IsSilent steps → (past : List Step) (j : ℕ) → TellsNone j past steps
 tells_none [] kinds past j = (refl, refl, refl, refl)
 tells_none (NotOpened fault ∷ steps) kinds past j = tells_none steps kinds.1 past j
 tells_none (Polled client poll ∷ steps) kinds past j = tells_none steps kinds.1 past j
@@ -259,7 +259,7 @@ tells_none (CameLate at number ask answer bytes ∷ steps) kinds past j = absurd
 tells_none (Spelled at number ask answer bytes ∷ steps) kinds past j = absurd kinds.0
 tells_none (Lost at why ∷ steps) kinds past j = absurd kinds.0
 
-pub silent_turn : (steps : List Step) → AreOf IsSilent steps → AreOf IsOfTurn steps
+pub silent_turn : (steps : List Step) → StepsAreOf IsSilent steps → StepsAreOf IsOfTurn steps
 silent_turn [] kinds = tt
 silent_turn (step ∷ steps) kinds = (of_turn step kinds.0, silent_turn steps kinds.1)
   where
@@ -284,7 +284,7 @@ silent_turn (step ∷ steps) kinds = (of_turn step kinds.0, silent_turn steps ki
     of_turn (Spelled at number ask answer bytes) is = tt
     of_turn (Lost at why) is = absurd is
 
-pub silent_plain : (steps : List Step) → AreOf IsSilent steps → AreOf IsPlain steps
+pub silent_plain : (steps : List Step) → StepsAreOf IsSilent steps → StepsAreOf IsPlain steps
 silent_plain [] kinds = tt
 silent_plain (step ∷ steps) kinds = (plain step kinds.0, silent_plain steps kinds.1)
   where
@@ -309,7 +309,7 @@ silent_plain (step ∷ steps) kinds = (plain step kinds.0, silent_plain steps ki
     plain (Spelled at number ask answer bytes) is = is
     plain (Lost at why) is = is
 
-pub silent_clients : (steps : List Step) → AreOf IsSilent steps → AreOf IsOfClients steps
+pub silent_clients : (steps : List Step) → StepsAreOf IsSilent steps → StepsAreOf IsOfClients steps
 silent_clients [] kinds = tt
 silent_clients (step ∷ steps) kinds = (of_clients step kinds.0, silent_clients steps kinds.1)
   where
@@ -334,7 +334,7 @@ silent_clients (step ∷ steps) kinds = (of_clients step kinds.0, silent_clients
     of_clients (Spelled at number ask answer bytes) is = is
     of_clients (Lost at why) is = is
 
-fails_send : (steps : List Step) → AreOf IsFailure steps → AreOf IsSending steps
+fails_send : (steps : List Step) → StepsAreOf IsFailure steps → StepsAreOf IsSending steps
 fails_send [] kinds = tt
 fails_send (step ∷ steps) kinds = (sends step kinds.0, fails_send steps kinds.1)
   where
@@ -360,7 +360,7 @@ fails_send (step ∷ steps) kinds = (sends step kinds.0, fails_send steps kinds.
     sends (Lost at why) is = absurd is
 
 -- one that is given up for a cause
-gives_up_send : (cause : Cause) (steps : List Step) → AreOf (IsGivingUp (Some cause)) steps → AreOf IsSending steps
+gives_up_send : (cause : Cause) (steps : List Step) → StepsAreOf (IsGivingUp (Some cause)) steps → StepsAreOf IsSending steps
 gives_up_send cause [] kinds = tt
 gives_up_send cause (step ∷ steps) kinds = (sends step kinds.0, gives_up_send cause steps kinds.1)
   where
@@ -385,7 +385,7 @@ gives_up_send cause (step ∷ steps) kinds = (sends step kinds.0, gives_up_send 
     sends (CameLate at number ask answer bytes) is = is
     sends (Spelled at number ask answer bytes) is = is
 
-sends_turn : (steps : List Step) → AreOf IsSending steps → AreOf IsOfTurn steps
+sends_turn : (steps : List Step) → StepsAreOf IsSending steps → StepsAreOf IsOfTurn steps
 sends_turn [] kinds = tt
 sends_turn (step ∷ steps) kinds = (of_turn step kinds.0, sends_turn steps kinds.1)
   where
@@ -410,7 +410,7 @@ sends_turn (step ∷ steps) kinds = (of_turn step kinds.0, sends_turn steps kind
     of_turn (Spelled at number ask answer bytes) is = tt
     of_turn (Lost at why) is = is
 
-all_of : {Is Is' : Step → Type 0} → ((step : Step) → Is step → Is' step) → (steps : List Step) → AreOf Is steps → AreOf Is' steps
+all_of : {Is Is' : Step → Type 0} → ((step : Step) → Is step → Is' step) → (steps : List Step) → StepsAreOf Is steps → StepsAreOf Is' steps
 all_of more [] kinds = tt
 all_of more (step ∷ steps) kinds = (more step kinds.0, all_of more steps kinds.1)
 
@@ -479,7 +479,7 @@ agree_told h input output input' output' cs told was id = by (client_of cs id) (
 
 -- calls of the core alone, of which nobody is told anything
 calls_agree :
-    {h : List Event} {cs : Clients} {ls : List Link} (a b : ServedCore) (past steps : List Step) → AreOf IsSilent steps → TellsCalls (steps ++ past) b → GiveOnce steps past
+    {h : List Event} {cs : Clients} {ls : List Link} (a b : ServedCore) (past steps : List Step) → StepsAreOf IsSilent steps → TellsCalls (steps ++ past) b → GiveOnce steps past
     → Agrees past (record { core = a; history = h; clients = cs; links = ls }) → Agrees (steps ++ past) (record { core = b; history = h; clients = cs; links = ls })
 calls_agree {h} {cs} {ls} a b past steps silent tells once was = record {
   orderly = clients_orderly steps (silent_clients steps silent) past once was.orderly;
@@ -495,7 +495,7 @@ calls_agree {h} {cs} {ls} a b past steps silent tells once was = record {
 }
 
 calls_go :
-    {Is : Step → Type 0} {h : List Event} {cs : Clients} {ls : List Link} (a b : ServedCore) (steps : List Step) → AreOf Is steps → AreOf IsSilent steps → Walks steps a b
+    {Is : Step → Type 0} {h : List Event} {cs : Clients} {ls : List Link} (a b : ServedCore) (steps : List Step) → StepsAreOf Is steps → StepsAreOf IsSilent steps → Walks steps a b
     → AllGo Is (record { core = a; history = h; clients = cs; links = ls }) (record { core = b; history = h; clients = cs; links = ls })
 calls_go {Is} {h} {cs} {ls} a b steps kinds silent walks = record {
   steps = steps;
@@ -622,7 +622,7 @@ close_none {h} {cs} {ls} client (Ok done) a b nobody ok err fresh = record {
   servers = record { same = refl; late = (tt, tt) };
 }
   where
-    told : (past : List Step) (j : ℕ) (z : Client) → client_of cs j ≡ Some z → IsTold past j z → IsTold (Closed client ∷ past) j z
+    told : (past : List Step) (j : ℕ) (z : Client) → client_of cs j ≡ Some z → ClientIsTold past j z → ClientIsTold (Closed client ∷ past) j z
     told past j z there was = elim (cases_Bool (nat_eq client j)) [ inl e ↦ absurd (none_some (sym nobody ∙ ap (client_of cs) (eqb-true client j e) ∙ there)) | inr e ↦ (ap (λ (t : Bool). if t then false else is_open_in past j) e ∙ was.0, was.1) ]
 close_none {h} {cs} {ls} client (Err fault) a b nobody ok err fresh = same_core err.1
 
@@ -686,7 +686,7 @@ abbrev of_said : (h : List Event) (input output : ℕ → List ℕ) (id : ℕ) �
 of_said h input output id s = StateAgrees h input output id s.0 s.1 s.2 s.3 s.4
 
 -- an end that has what it had
-pub same_agrees : (h : List Event) (x y : Client) → said_of y ≡ said_of x → GoesOnAgreeing h h x y
+pub same_agrees : (h : List Event) (x y : Client) → end_said_of y ≡ end_said_of x → GoesOnAgreeing h h x y
 same_agrees h x y same = λ input output id was. subst (of_said h input output id) (sym same) was
 
 -- it goes on without a call of the core
@@ -733,16 +733,16 @@ one_may_break {Is} {id} {a} {h} {h'} {x} {y} kind goes number only still = by y.
     by false false e f = one_touched refl goes number only (e ∙ sym f)
     by false true e f = absurd (true_false (sym (still f) ∙ e))
 
-pub number_said : (x y : Client) → said_of y ≡ said_of x → y.conn.number ≡ x.conn.number
+pub number_said : (x y : Client) → end_said_of y ≡ end_said_of x → y.conn.number ≡ x.conn.number
 number_said x y same = ap (λ (s : ℕ × List ℕ × List ℕ × Bool × Bool). s.0) same
 
-pub broken_said : (x y : Client) → said_of y ≡ said_of x → y.is_broken ≡ x.is_broken
+pub broken_said : (x y : Client) → end_said_of y ≡ end_said_of x → y.is_broken ≡ x.is_broken
 broken_said x y same = ap (λ (s : ℕ × List ℕ × List ℕ × Bool × Bool). s.3) same
 
 pub number_broken : (x y : Client) → Breaks x y → y.conn.number ≡ x.conn.number
 number_broken x y breaks = ap (λ (z : Client). z.conn.number) breaks.rest
 
-pub one_same : {Is : Step → Type 0} {id : ℕ} {a : ServedCore} {h : List Event} (x y : Client) → said_of y ≡ said_of x → OneGoes Is id a h x a h y
+pub one_same : {Is : Step → Type 0} {id : ℕ} {a : ServedCore} {h : List Event} (x y : Client) → end_said_of y ≡ end_said_of x → OneGoes Is id a h x a h y
 one_same {h = h} x y same = one_touched refl (same_agrees h x y same) (number_said x y same) (λ d other. untouched d h) (broken_said x y same)
 
 pub one_breaks : {id : ℕ} {a b : ServedCore} {h : List Event} (x y : Client) → b ≡ a → Breaks x y → OneGoes IsOfTurn id a h x b h y
@@ -772,8 +772,8 @@ one_then {Is} {id} {a} {b} {c} {h} {h'} {h''} {x} {y} {z} g k =
       own = of_both IsOfClients k.steps g.steps k.own g.own;
       walks = walked k.steps g.steps a b c g.walks k.walks;
       agrees = λ past was.
-          subst (λ l. AgreesWith l h'' id z) (sym (append_assoc k.steps g.steps past)) (k.agrees (g.steps ++ past) (g.agrees past was));
-      told = λ past was. subst (λ l. IsTold l id z) (sym (append_assoc k.steps g.steps past)) (k.told (g.steps ++ past) (g.told past was));
+          subst (λ l. ClientAgreesWith l h'' id z) (sym (append_assoc k.steps g.steps past)) (k.agrees (g.steps ++ past) (g.agrees past was));
+      told = λ past was. subst (λ l. ClientIsTold l id z) (sym (append_assoc k.steps g.steps past)) (k.told (g.steps ++ past) (g.told past was));
       number = k.number ∙ g.number;
       only = only_twice x.conn.number h h' h'' g.only (subst (λ c. TouchesOnly c h' h'') g.number k.only);
       others = λ past j other.
@@ -785,7 +785,7 @@ one_then {Is} {id} {a} {b} {c} {h} {h'} {h''} {x} {y} {z} g k =
 
 -- it is done to one among all, to which the core gave all that it had
 pub one_given :
-    {h h' : List Event} {ls : List Link} {a b : ServedCore} (id : ℕ) (s n : Clients) (x y : Client) → client_of s id ≡ Some x → n ≡ with_client s id y → OneGives id a h x b h' y
+    {h h' : List Event} {ls : List Link} {a b : ServedCore} (id : ℕ) (s n : Clients) (x y : Client) → client_of s id ≡ Some x → n ≡ with_client_at s id y → OneGives id a h x b h' y
     → AllGoFrom Agrees (AgreesGiven id) (IsClosing id) (record { core = a; history = h; clients = s; links = ls }) (record { core = b; history = h'; clients = n; links = ls })
 one_given {h} {h'} {ls} {a} {b} id s n x y was is given =
     let g = given.0 in
@@ -803,7 +803,7 @@ one_given {h} {h'} {ls} {a} {b} id s n x y was is given =
 
 -- it is done to one among all
 pub one_goes :
-    {Is : Step → Type 0} {h h' : List Event} {ls : List Link} {a b : ServedCore} (id : ℕ) (s n : Clients) (x y : Client) → client_of s id ≡ Some x → n ≡ with_client s id y → OneGoes Is id a h x b h' y
+    {Is : Step → Type 0} {h h' : List Event} {ls : List Link} {a b : ServedCore} (id : ℕ) (s n : Clients) (x y : Client) → client_of s id ≡ Some x → n ≡ with_client_at s id y → OneGoes Is id a h x b h' y
     → AllGo Is (record { core = a; history = h; clients = s; links = ls }) (record { core = b; history = h'; clients = n; links = ls })
 one_goes {Is} {h} {h'} {ls} {a} {b} id s n x y was is g =
     one_of_all id (record { core = a; history = h; clients = s; links = ls }) (record { core = b; history = h'; clients = n; links = ls })
@@ -841,7 +841,7 @@ gave_state h input output output' id c held unsent bytes b e more was =
 pub one_fed : {id : ℕ} {a b : ServedCore} {h : List Event} (x y : Client) → FeedsHeld id x y a b → OneGoes IsOfTurn id a h x b h y
 one_fed {id} {a} {b} {h} x y (inl fed) =
     let piece = x.conn.held.items in
-    let said : said_of y ≡ (x.conn.number, [], bytes_of x.conn.unsent, x.is_broken, x.is_ended) = ap said_of fed.2 ∙ ap (λ l. (x.conn.number, l, bytes_of x.conn.unsent, x.is_broken, x.is_ended)) fed.1 in
+    let said : end_said_of y ≡ (x.conn.number, [], bytes_of x.conn.unsent, x.is_broken, x.is_ended) = ap end_said_of fed.2 ∙ ap (λ l. (x.conn.number, l, bytes_of x.conn.unsent, x.is_broken, x.is_ended)) fed.1 in
     record {
       steps = Fed id piece ∷ [];
       kinds = (tt, tt);
@@ -855,13 +855,13 @@ one_fed {id} {a} {b} {h} x y (inl fed) =
       only = λ d other. untouched d h;
       others = λ past j other. (ap (λ (t : Bool). if t then fed_in past j ++ piece else fed_in past j) other, refl, refl, refl);
     }
-one_fed {id} {a} {b} {h} x y (inr (core, inl same)) = one_touched core (same_agrees h x y (ap said_of same)) (ap (λ (z : Client). z.conn.number) same) (λ d other. untouched d h) (ap (λ (z : Client). z.is_broken) same)
+one_fed {id} {a} {b} {h} x y (inr (core, inl same)) = one_touched core (same_agrees h x y (ap end_said_of same)) (ap (λ (z : Client). z.conn.number) same) (λ d other. untouched d h) (ap (λ (z : Client). z.is_broken) same)
 one_fed {id} {a} {b} {h} x y (inr (core, inr breaks)) = one_breaks x y core breaks
 
 -- the core gave what it had for the client
 pub gave_one :
     {id : ℕ} {a b : ServedCore} {h : List Event} (x y : Client) (bytes : List ℕ) → Does (Gave id bytes) a b → y.conn.number ≡ x.conn.number → y.is_broken ≡ x.is_broken
-    → ((past : List Step) → AgreesWith past h id x → AgreesWith (Gave id bytes ∷ past) h id y) → OneGoes IsOfTurn id a h x b h y
+    → ((past : List Step) → ClientAgreesWith past h id x → ClientAgreesWith (Gave id bytes ∷ past) h id y) → OneGoes IsOfTurn id a h x b h y
 gave_one {id} {a} {b} {h} x y bytes does number broken goes =
     record {
       steps = Gave id bytes ∷ [];
@@ -878,7 +878,7 @@ gave_one {id} {a} {b} {h} x y bytes does number broken goes =
 -- and then its end was broken off
 pub gave_broken :
     {id : ℕ} {a b : ServedCore} {h : List Event} (x y : Client) (bytes : List ℕ) → Does (Gave id bytes) a b → y.conn.number ≡ x.conn.number → y.is_broken ≡ true
-    → ((past : List Step) → AgreesWith past h id x → AgreesWith (Gave id bytes ∷ past) h id y) → OneGoes IsOfTurn id a h x b h y
+    → ((past : List Step) → ClientAgreesWith past h id x → ClientAgreesWith (Gave id bytes ∷ past) h id y) → OneGoes IsOfTurn id a h x b h y
 gave_broken {id} {a} {b} {h} x y bytes does number broken goes =
     record {
       steps = Broke id ∷ Gave id bytes ∷ [];
@@ -902,12 +902,12 @@ pub one_shown :
     → y ≡ record x { conn = record x.conn { unsent = y.conn.unsent } } → OneGoes IsOfTurn id a h x b h y
 one_shown {id} {a} {b} {h} x y (Ok shown) gives same more kept rest =
     let bytes = output_by (client_at a.core id) in
-    let said : said_of y ≡ (x.conn.number, x.conn.held.items, bytes_of x.conn.unsent ++ bytes, x.is_broken, x.is_ended) = ap said_of rest ∙ ap (λ l. (x.conn.number, x.conn.held.items, l, x.is_broken, x.is_ended)) more in
+    let said : end_said_of y ≡ (x.conn.number, x.conn.held.items, bytes_of x.conn.unsent ++ bytes, x.is_broken, x.is_ended) = ap end_said_of rest ∙ ap (λ l. (x.conn.number, x.conn.held.items, l, x.is_broken, x.is_ended)) more in
     gave_one x y bytes gives (ap (λ (s : ℕ × List ℕ × List ℕ × Bool × Bool). s.0) said) (ap (λ (s : ℕ × List ℕ × List ℕ × Bool × Bool). s.3) said) (λ past was.
     subst (of_said h (fed_in past) (gave_in (Gave id bytes ∷ past)) id) (sym said)
     (gave_state h (fed_in past) (gave_in past) (gave_in (Gave id bytes ∷ past)) id x.conn.number x.conn.held.items (bytes_of x.conn.unsent) bytes x.is_broken x.is_ended (more_given past id bytes) was))
 one_shown {id} {a} {b} {h} x y (Err fault) gives same more kept rest =
-    one_touched same (same_agrees h x y (ap said_of rest ∙ ap (λ l. (x.conn.number, x.conn.held.items, l, x.is_broken, x.is_ended)) kept)) (ap (λ (z : Client). z.conn.number) rest) (λ d other. untouched d h) (ap (λ (z : Client). z.is_broken) rest)
+    one_touched same (same_agrees h x y (ap end_said_of rest ∙ ap (λ l. (x.conn.number, x.conn.held.items, l, x.is_broken, x.is_ended)) kept)) (ap (λ (z : Client). z.conn.number) rest) (λ d other. untouched d h) (ap (λ (z : Client). z.is_broken) rest)
 
 -- the core gave all that it had, and that is all that was done
 pub one_gives :
@@ -915,7 +915,7 @@ pub one_gives :
     → y ≡ record x { conn = record x.conn { unsent = y.conn.unsent } } → OneGives id a h x b h y
 one_gives {id} {a} {b} {h} x y gives more rest =
     let bytes = output_by (client_at a.core id) in
-    let said : said_of y ≡ (x.conn.number, x.conn.held.items, bytes_of x.conn.unsent ++ bytes, x.is_broken, x.is_ended) = ap said_of rest ∙ ap (λ l. (x.conn.number, x.conn.held.items, l, x.is_broken, x.is_ended)) more in (
+    let said : end_said_of y ≡ (x.conn.number, x.conn.held.items, bytes_of x.conn.unsent ++ bytes, x.is_broken, x.is_ended) = ap end_said_of rest ∙ ap (λ l. (x.conn.number, x.conn.held.items, l, x.is_broken, x.is_ended)) more in (
       record {
         steps = Gave id bytes ∷ [];
         kinds = (inl (bytes, refl), tt);
@@ -937,4 +937,4 @@ one_gives {id} {a} {b} {h} x y gives more rest =
 pub one_kept :
     {Is : Step → Type 0} {id : ℕ} {a b : ServedCore} {h : List Event} (x y : Client) → b ≡ a → bytes_of y.conn.unsent ≡ bytes_of x.conn.unsent → y ≡ record x { conn = record x.conn { unsent = y.conn.unsent } } → OneGoes Is id a h x b h y
 one_kept {h = h} x y same kept rest =
-    one_touched same (same_agrees h x y (ap said_of rest ∙ ap (λ l. (x.conn.number, x.conn.held.items, l, x.is_broken, x.is_ended)) kept)) (ap (λ (z : Client). z.conn.number) rest) (λ d other. untouched d h) (ap (λ (z : Client). z.is_broken) rest)
+    one_touched same (same_agrees h x y (ap end_said_of rest ∙ ap (λ l. (x.conn.number, x.conn.held.items, l, x.is_broken, x.is_ended)) kept)) (ap (λ (z : Client). z.conn.number) rest) (λ d other. untouched d h) (ap (λ (z : Client). z.is_broken) rest)

@@ -6,7 +6,7 @@ use Rattle.std.specs.Prelude.{nat_le, IfSome, slice_get}
 use Rattle.std.specs.Option.{option_map, option_flatten}
 use Rattle.serve_clients.specs.declared.clients.Clients.{Clients}
 use Rattle.serve_clients.specs.Marks.{client_of, AreAlike}
-use Rattle.serve_clients.specs.Agrees.{said_of, KeepsEnds}
+use Rattle.serve_clients.specs.Agrees.{end_said_of, KeepsEnds}
 use Rattle.serve_clients.specs.Holdings.{held_of, held_at}
 use Rattle.serve_proxy.specs.Stalls.{HasMost, OnlyMost, greater_of}
 
@@ -59,9 +59,9 @@ pub only_most :
     (s g b n : Clients) (id : ℕ) → KeepsEnds s g → ((other : ℕ) → other ≢ id → client_of b other ≡ client_of g other) → KeepsEnds b n → HasMost s id → OnlyMost s n
 only_most s g b n id keeps others after most k = split (cases_eq k id)
   where
-    split : (k ≡ id) ⊎ (k ≢ id) → (option_map said_of (client_of n k) ≡ option_map said_of (client_of s k)) ⊎ HasMost s k
+    split : (k ≡ id) ⊎ (k ≢ id) → (option_map end_said_of (client_of n k) ≡ option_map end_said_of (client_of s k)) ⊎ HasMost s k
     split (inl here) = inr (subst (HasMost s) (sym here) most)
-    split (inr other) = inl (after k ∙ ap (option_map said_of) (others k other) ∙ keeps k)
+    split (inr other) = inl (after k ∙ ap (option_map end_said_of) (others k other) ∙ keeps k)
 
 -- of an option that is there
 pub if_there : {A : Type 0} (P : A → Type 0) (r : Option A) (x : A) → r ≡ Some x → IfSome r P → P x

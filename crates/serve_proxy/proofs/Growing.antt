@@ -25,14 +25,14 @@ use Rattle.serve_links.specs.declared.link.Link.{Link}
 use Rattle.serve_links.specs.Links.{IsDown}
 use Rattle.serve_links.specs.CoreSteps.{Step, Loaded}
 use Rattle.serve_links.specs.declared.settings.Greeting.{Greeting}
-use Rattle.serve_links.specs.Story.{fed_in, gave_in, IsTold, said_asks, said_late, server_of, LineState, line_of, Unused, LineAgrees, LinesAgree, AnEnd, Agrees, AllGoFrom, AllGo, texts_of, servers_of, MayAllGo}
+use Rattle.serve_links.specs.Story.{fed_in, gave_in, ClientIsTold, said_asks, said_late, server_of, LineState, line_of, Unused, LineAgrees, LinesAgree, AnEnd, Agrees, AllGoFrom, AllGo, texts_of, servers_of, MayAllGo}
 use Rattle.serve_links.specs.Shut.{drain_of, link_conn, IsShutBut}
 use Rattle.serve_links.specs.Talks.{Apart, talk_in, AreDue, AreCalled, IsOrderly}
 use Rattle.serve_links.specs.Called.{TellsCalls}
 use Rattle.serve_links.proofs.Called.{walks_tell_calls}
 use Rattle.serve_links.proofs.Shutting.{shut_quiet}
 use Rattle.serve_links.proofs.Walked.{walked, of_both}
-use Rattle.serve_proxy.specs.Ends.{lines_of, down_line, AddsLines, EndsStay, with_limits, AllGrowFrom, AllGrow, IsLoadOf, HasNoConns}
+use Rattle.serve_proxy.specs.Ends.{link_lines, down_line, AddsLines, EndsStay, with_limits, AllGrowFrom, AllGrow, IsLoadOf, HasNoConns}
 use Rattle.serve_proxy.specs.Beginning.{limits_by, BeginsFresh, BeginsUnchecked}
 use Rattle.serve_proxy.proofs.Conns.{conns_grow}
 use Rattle.serve_proxy.proofs.Going.{stays, agree_told, had_quiet, lines_told, get_line, texts_by_lines}
@@ -41,7 +41,7 @@ use Rattle.serve_links.proofs.LinkGoes.{same_line, has_none}
 -- ---- lines that are added
 
 pub adds_none : (old new : List Link) → new ≡ old → AddsLines old new
-adds_none old new same = ([], ap lines_of same ∙ sym (append-nil (lines_of old)))
+adds_none old new same = ([], ap link_lines same ∙ sym (append-nil (link_lines old)))
 
 -- the line of a link that is down
 down_of : (link : Link) → IsDown link → link.draining ≡ None → link.late.items ≡ [] → link.awaits_dialect ≡ None → link.dialect ≡ Classic → line_of link ≡ down_line (server_of link)
@@ -53,13 +53,13 @@ down_of link down undrained alone off classic =
     ∙ ap (λ (d : Dialect). let s : LineState = (server_of link, None, [], [], None, d, said_late link.late.items, drain_of link) in s) classic ∙ ap (λ (l : List LateCall). let s : LineState = (server_of link, None, [], [], None, Classic, said_late l, drain_of link) in s) alone
     ∙ ap (λ (o : Option Conn). let s : LineState = (server_of link, None, [], [], None, Classic, [], option_map (λ (x : Conn). x.number) o) in s) undrained
 
-lines_more : (links : List Link) (link : Link) → lines_of (links ++ link ∷ []) ≡ lines_of links ++ line_of link ∷ []
+lines_more : (links : List Link) (link : Link) → link_lines (links ++ link ∷ []) ≡ link_lines links ++ line_of link ∷ []
 lines_more [] link = refl
 lines_more (x ∷ links) link = ap (λ l. line_of x ∷ l) (lines_more links link)
 
 -- one without a connection
 pub adds_one : (old new : List Link) (link : Link) → new ≡ old ++ link ∷ [] → IsDown link → link.draining ≡ None → link.late.items ≡ [] → link.awaits_dialect ≡ None → link.dialect ≡ Classic → AddsLines old new
-adds_one old new link more down undrained alone off classic = (server_of link ∷ [], ap lines_of more ∙ lines_more old link ∙ ap (λ (s : LineState). lines_of old ++ s ∷ []) (down_of link down undrained alone off classic))
+adds_one old new link more down undrained alone off classic = (server_of link ∷ [], ap link_lines more ∙ lines_more old link ∙ ap (λ (s : LineState). link_lines old ++ s ∷ []) (down_of link down undrained alone off classic))
 
 down_both : (xs ys : List (List ℕ × LinkLimits)) → each down_line (xs ++ ys) ≡ each down_line xs ++ each down_line ys
 down_both [] ys = refl
@@ -68,7 +68,7 @@ down_both (x ∷ xs) ys = ap (λ l. down_line x ∷ l) (down_both xs ys)
 -- one after another
 pub adds_twice : (a b c : List Link) → AddsLines a b → AddsLines b c → AddsLines a c
 adds_twice a b c x y =
-    (x.0 ++ y.0, y.1 ∙ ap (λ l. l ++ each down_line y.0) x.1 ∙ append_assoc (lines_of a) (each down_line x.0) (each down_line y.0) ∙ ap (λ l. lines_of a ++ l) (sym (down_both x.0 y.0)))
+    (x.0 ++ y.0, y.1 ∙ ap (λ l. l ++ each down_line y.0) x.1 ∙ append_assoc (link_lines a) (each down_line x.0) (each down_line y.0) ∙ ap (λ l. link_lines a ++ l) (sym (down_both x.0 y.0)))
 
 -- ---- ends of links that were added
 
@@ -98,7 +98,7 @@ no_conn None is = refl
 no_conn (Some conn) is = absurd (none_some (sym is))
 
 -- no link stands where no line does
-none_of : (ls : List Link) (at : ℕ) → slice_get (lines_of ls) at ≡ None → slice_get ls at ≡ None
+none_of : (ls : List Link) (at : ℕ) → slice_get (link_lines ls) at ≡ None → slice_get ls at ≡ None
 none_of ls at none = by (slice_get ls at) (get_line ls at ∙ none)
   where
     by : (o : Option Link) → option_map line_of o ≡ None → o ≡ None
@@ -107,16 +107,16 @@ none_of ls at none = by (slice_get ls at) (get_line ls at ∙ none)
 
 -- nor where none stands among more
 none_before : (ls ls' : List Link) → AddsLines ls ls' → (at : ℕ) → slice_get ls' at ≡ None → slice_get ls at ≡ None
-none_before ls ls' adds at none = none_of ls at (in_first (lines_of ls) (each down_line adds.0) at (ap (λ l. slice_get l at) (sym adds.1) ∙ sym (get_line ls' at) ∙ ap (option_map line_of) none))
+none_before ls ls' adds at none = none_of ls at (in_first (link_lines ls) (each down_line adds.0) at (ap (λ l. slice_get l at) (sym adds.1) ∙ sym (get_line ls' at) ∙ ap (option_map line_of) none))
 
 pub lines_grow : (h : List Event) (past : List Step) (ls ls' : List Link) → AddsLines ls ls' → IsOrderly past → ((at : ℕ) → slice_get ls at ≡ None → ((talk_in past at).out ≡ []) × ((talk_in past at).stands ≡ Apart)) → LinesAgree past h ls → LinesAgree past h ls'
-lines_grow h past ls ls' adds orderly unlinked was at link there = by (in_both (lines_of ls) (each down_line adds.0) at (line_of link) (ap (λ l. slice_get l at) (sym adds.1) ∙ sym (get_line ls' at) ∙ ap (option_map line_of) there))
+lines_grow h past ls ls' adds orderly unlinked was at link there = by (in_both (link_lines ls) (each down_line adds.0) at (line_of link) (ap (λ l. slice_get l at) (sym adds.1) ∙ sym (get_line ls' at) ∙ ap (option_map line_of) there))
   where
     of_old : (o : Option Link) → slice_get ls at ≡ o → option_map line_of o ≡ Some (line_of link) → LineAgrees at past h link
     of_old None e l = absurd (none_some l)
     of_old (Some x) e l = same_line at past h x link (sym (same_some l)) (was at x e)
 
-    by : (slice_get (lines_of ls) at ≡ Some (line_of link)) ⊎ ((slice_get (lines_of ls) at ≡ None) × (k : ℕ) × (slice_get (each down_line adds.0) k ≡ Some (line_of link))) → LineAgrees at past h link
+    by : (slice_get (link_lines ls) at ≡ Some (line_of link)) ⊎ ((slice_get (link_lines ls) at ≡ None) × (k : ℕ) × (slice_get (each down_line adds.0) k ≡ Some (line_of link))) → LineAgrees at past h link
     by (inl old) = of_old (slice_get ls at) refl (get_line ls at ∙ old)
     by (inr new) = let down = is_down adds.0 new.1 (line_of link) new.2 in has_none at past h link (no_conn link.conn down.0) (subst (λ w. MayAllGo past at w) (sym down.1) tt) (subst (λ w. AreDue past at (said_asks w)) (sym down.1) tt) (unlinked at (none_of ls at new.0)).0 (subst (Unused h at link.text.items (talk_in past at)) (sym down.3) (unlinked at (none_of ls at new.0)).1) (subst (λ l. AreCalled past at l) (sym down.2) tt)
 
@@ -130,7 +130,7 @@ texts_both (line ∷ lines) servers = ap (λ l. line.0.0 ∷ l) (texts_both line
 
 texts_grow : (ls ls' : List Link) (adds : AddsLines ls ls') → texts_of ls' ≡ texts_of ls ++ texts_in adds.0
 texts_grow ls ls' adds =
-    sym (texts_by_lines ls') ∙ ap (each (λ (p : LineState). p.0.0)) adds.1 ∙ texts_both (lines_of ls) adds.0 ∙ ap (λ l. l ++ texts_in adds.0) (texts_by_lines ls)
+    sym (texts_by_lines ls') ∙ ap (each (λ (p : LineState). p.0.0)) adds.1 ∙ texts_both (link_lines ls) adds.0 ∙ ap (λ l. l ++ texts_in adds.0) (texts_by_lines ls)
 
 texts_by_servers : (links : List Link) → texts_in (servers_of links) ≡ texts_of links
 texts_by_servers [] = refl
@@ -277,7 +277,7 @@ unchecked_tells tree settings core begins = walks_tell_calls.begins tree (limits
 
 -- no client is there, and no link has a connection
 pub new_agrees : (h : List Event) (core : ServedCore) (cs : Clients) (ls : List Link) → TellsCalls [] core → cs.all.items ≡ [] → AddsLines [] ls → HasNoConns h → Agrees [] (record { core = core; history = h; clients = cs; links = ls })
-new_agrees h core cs ls tells none adds new = record { orderly = tt; calls = tells; clients = λ id. subst (λ o. IfSome o (EndAgrees h (fed_in []) (gave_in []) id)) (sym (nobody id)) tt; told = λ id. subst (λ o. IfSome o (IsTold [] id)) (sym (nobody id)) tt; links = lines_grow h [] [] ls adds tt (λ at none. (refl, refl)) (λ at link there. absurd (none_some there)); gone = λ conn id is. absurd (none_some (sym (new.0 conn).0 ∙ is)); shown = tt; shut = record { clients = λ id conn is. absurd (none_some (sym (new.0 conn).0 ∙ is)); links = λ at conn is. absurd (none_some (sym (new.0 conn).0 ∙ is)); nobodys = λ conn is. (new.0 conn).1 }; unlinked = λ at none. (refl, refl); clock = sym new.1 }
+new_agrees h core cs ls tells none adds new = record { orderly = tt; calls = tells; clients = λ id. subst (λ o. IfSome o (EndAgrees h (fed_in []) (gave_in []) id)) (sym (nobody id)) tt; told = λ id. subst (λ o. IfSome o (ClientIsTold [] id)) (sym (nobody id)) tt; links = lines_grow h [] [] ls adds tt (λ at none. (refl, refl)) (λ at link there. absurd (none_some there)); gone = λ conn id is. absurd (none_some (sym (new.0 conn).0 ∙ is)); shown = tt; shut = record { clients = λ id conn is. absurd (none_some (sym (new.0 conn).0 ∙ is)); links = λ at conn is. absurd (none_some (sym (new.0 conn).0 ∙ is)); nobodys = λ conn is. (new.0 conn).1 }; unlinked = λ at none. (refl, refl); clock = sym new.1 }
   where
     nobody : (id : ℕ) → client_of cs id ≡ None
     nobody id = ap (λ (xs : List (Option Client)). option_flatten (slice_get xs id)) none

@@ -35,8 +35,8 @@ use Rattle.serve_links.specs.Called.{given_in}
 use Rattle.serve_links.specs.Dialects.{asked_in, awaits_flush}
 use Rattle.serve_links.specs.Settled.{SettlesSome, SettlesFront}
 use Rattle.serve_links.specs.Lateness.{HasLate, HasLateAt, LetsStoresWait, AllLetStoresWait}
-use Rattle.serve_links.specs.Links.{IsTaken}
-use Rattle.serve_links.specs.Lines.{IsNewEnd, OpensBy, greeting_of}
+use Rattle.serve_links.specs.Links.{CallIsTaken}
+use Rattle.serve_links.specs.Lines.{IsNewEnd, OpensLink, greeting_of}
 use Rattle.serve_links.specs.Shut.{drain_of}
 use Rattle.serve_links.specs.Talks.{SaidAsk, talk_in, IsCalledIn}
 use Rattle.serve_links.specs.Story.{server_of, LineState, line_of, said_asks, said_late, MayGo, LineAgrees, LineLost, LineGoesFrom, LineGoes, AnEnd, Agrees, AgreesBut, AgreesCalled, AgreesSent, AllGoFrom, fed_in, gave_in}
@@ -45,7 +45,7 @@ use Rattle.serve_links.proofs.LinkGoes.{as_lost, line_between, line_settles, lin
 use Rattle.serve_links.proofs.Story.{go_between}
 use Rattle.serve_links.proofs.Due.{one_due, one_apart}
 use Rattle.serve_links.proofs.Shutting.{shut_quiet}
-use Rattle.serve_proxy.specs.Ends.{lines_of, LinksTake, LinksGive, LineTakes, HoldsAwaited, HoldsAwaitedAt, IsOpenAt, AsksIn}
+use Rattle.serve_proxy.specs.Ends.{link_lines, LinksTake, LinksGive, LineTakes, HoldsAwaited, HoldsAwaitedAt, IsOpenAt, AsksIn}
 use Rattle.serve_proxy.proofs.Going.{line_took, line_gave, had_quiet, numbers_kept, told_kept, set_here}
 use Rattle.std.proofs.lemmas.Option.{slice_get_read}
 use Rattle.serve_proxy.proofs.Staying.{line_lent}
@@ -106,22 +106,22 @@ pub taken : (links : List Link) (at : ℕ) (x y : Link) (call : SentCall) → at
 taken links at x y call within was takes = λ h cs core. line_took links at x y call within was (takes at h core)
 
 pub not_taken :
-    (links : List Link) (at : ℕ) (x y : Link) (call given : SentCall) → x ≡ get_or links at x → (given ≡ call) × (line_of y ≡ line_of x) → (given ≡ call) × (lines_of (set links at y) ≡ lines_of links)
+    (links : List Link) (at : ℕ) (x y : Link) (call given : SentCall) → x ≡ get_or links at x → (given ≡ call) × (line_of y ≡ line_of x) → (given ≡ call) × (link_lines (set links at y) ≡ link_lines links)
 not_taken links at x y call given was did = (did.0, line_lent links at x y was did.1)
 
 -- of those that wait the first is taken
 pub given :
     (links : List Link) (at : ℕ) (x y : Link) (r : Option SentCall) → at < length links → x ≡ get_or links at x → y ≡ record x { waiting = y.waiting }
     → MatchOption r (y.waiting.items ≡ x.waiting.items) (λ call. x.waiting.items ≡ call ∷ y.waiting.items)
-    → MatchOption r (lines_of (set links at y) ≡ lines_of links) (λ call. LinksGive at call links (set links at y))
+    → MatchOption r (link_lines (set links at y) ≡ link_lines links) (λ call. LinksGive at call links (set links at y))
 given links at x y None within was is did = line_lent links at x y was (line_waiting x y is did)
 given links at x y (Some call) within was is did = λ h cs core. line_gave links at x y call within was (line_takes x y call [] y.waiting.items is did refl)
 
 -- or one that may go out, wherever it stands
 pub given_from :
     (links : List Link) (at : ℕ) (x y : Link) (r : Option SentCall) → at < length links → x ≡ get_or links at x → y ≡ record x { waiting = y.waiting }
-    → MatchOption r (y.waiting.items ≡ x.waiting.items) (λ call. IsTaken x.waiting.items call y.waiting.items)
-    → MatchOption r (lines_of (set links at y) ≡ lines_of links) (λ call. LinksGive at call links (set links at y))
+    → MatchOption r (y.waiting.items ≡ x.waiting.items) (λ call. CallIsTaken x.waiting.items call y.waiting.items)
+    → MatchOption r (link_lines (set links at y) ≡ link_lines links) (λ call. LinksGive at call links (set links at y))
 given_from links at x y None within was is did = line_lent links at x y was (line_waiting x y is did)
 given_from links at x y (Some call) within was is did = λ h cs core. line_gave links at x y call within was (line_takes x y call did.0 did.1 is did.2 did.3)
 
@@ -139,7 +139,7 @@ open_still at ls ls' same there = subst (IsOpenAt at) (sym same) there
 pub open_set : (links : List Link) (at : ℕ) (y : Link) → at < length links → IsSome y.conn → IsOpenAt at (set links at y)
 open_set links at y within some = (y, set_here links at y within, some)
 
-pub begun_open : (at : ℕ) (dialect : ServerDialect) (x y : Link) (h h' : List Event) (what : Opening) → OpensBy at dialect what x y h h' → what ≡ opening.Begun → IsSome y.conn
+pub begun_open : (at : ℕ) (dialect : ServerDialect) (x y : Link) (h h' : List Event) (what : Opening) → OpensLink at dialect what x y h h' → what ≡ opening.Begun → IsSome y.conn
 begun_open at dialect x y h h' opening.Begun opens is = has y.conn opens.3.conn
   where
     has : (o : Option Conn) → IsNewEnd opens.0 (greeting_of x dialect) o → IsSome o

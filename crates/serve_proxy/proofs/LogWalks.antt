@@ -9,13 +9,13 @@ use Rattle.fresh_runs.specs.Run.{Event, LosesOnly, after_event}
 use Rattle.fresh_runs.specs.Overlap.{Slot, Entry, Starts, Sends, Happens, Ends, Shows, Passes, Gives, Drops, Frees, Resets, run_of}
 use Rattle.fresh_runs.specs.Calls.{outcome_of}
 use Rattle.route_job.specs.Rest.{ask_under, origin_under}
-use Rattle.route_job.specs.Jobs.{server_in}
+use Rattle.route_job.specs.Jobs.{server_of_pending}
 use Rattle.core_proxy.specs.declared.fault.CoreFault.{CoreFault}
 use Rattle.core_proxy.specs.declared.fault.CoreFault.TheVariants as faults
 use Rattle.core_proxy.specs.CoreState.{dialect, dropped_by, client_at, Beside}
-use Rattle.core_proxy.specs.Polls.{Then, Perhaps, BeginsOne, EndsOne, IsEnded, IsPolled, AreShown, SoEnded, SoFar}
+use Rattle.core_proxy.specs.Polls.{EntriesThen, Perhaps, BeginsOne, EndsOne, CommandIsEnded, IsPolled, AreShown, SoEnded, SoFar}
 use Rattle.core_proxy.specs.Settles.{freed}
-use Rattle.core_proxy.specs.Steps.{event_of}
+use Rattle.core_proxy.specs.Steps.{event_of_call}
 use Rattle.core_proxy.specs.declared.note.Note.{Note}
 use Rattle.core_proxy.specs.declared.note.Poll.{Poll}
 use Rattle.core_proxy.specs.declared.note.Poll.TheVariants as polls
@@ -68,7 +68,7 @@ begun_own : (client : ℕ) (entries : List (Entry dialect)) → Perhaps (BeginsO
 begun_own client entries (inl none) = none_own entries none
 begun_own client entries (inr some) = one_own (Starts client some.0 some.2.0) (λ past l. l) entries some.2.2
 
-ended_own : (client : ℕ) (note : Note) (entries : List (Entry dialect)) → IsEnded client note entries → AreOwn entries
+ended_own : (client : ℕ) (note : Note) (entries : List (Entry dialect)) → CommandIsEnded client note entries → AreOwn entries
 ended_own client note entries is = one_own (Ends client note.number is.0 is.1 note.from) (λ past l. l) entries is.4
 
 perhaps_ended : (client : ℕ) (entries : List (Entry dialect)) → Perhaps (EndsOne client) entries → AreOwn entries
@@ -85,7 +85,7 @@ polled_own client polls.Queued entries is = none_own entries is
 polled_own client polls.Busy entries is = none_own entries is
 polled_own client (polls.Did note) entries is = both_own entries is.0 is.1 is.4 (ended_own client note is.0 is.2) (shown_own client is.1 is.3)
 
-poll_own : (client : ℕ) (poll : Poll) (entries : List (Entry dialect)) → Then (Perhaps (BeginsOne client)) (IsPolled client poll) entries → AreOwn entries
+poll_own : (client : ℕ) (poll : Poll) (entries : List (Entry dialect)) → EntriesThen (Perhaps (BeginsOne client)) (IsPolled client poll) entries → AreOwn entries
 poll_own client poll entries is = both_own entries is.0 is.1 is.4 (begun_own client is.0 is.2) (polled_own client poll is.1 is.3)
 
 so_ended_own : (client : ℕ) (entries : List (Entry dialect)) → SoEnded client entries → AreOwn entries
@@ -94,7 +94,7 @@ so_ended_own client entries is = both_own entries is.0 is.1 is.4 (perhaps_ended 
 so_far_own : (client : ℕ) (entries : List (Entry dialect)) → SoFar client entries → AreOwn entries
 so_far_own client entries is = both_own entries is.0 is.1 is.4 (begun_own client is.0 is.2) (so_ended_own client is.1 is.3)
 
-stops_own : (client : ℕ) (numbers : List ℕ) (entries : List (Entry dialect)) → Then (SoFar client) (λ es. es ≡ freed numbers ++ Drops client ∷ []) entries → AreOwn entries
+stops_own : (client : ℕ) (numbers : List ℕ) (entries : List (Entry dialect)) → EntriesThen (SoFar client) (λ es. es ≡ freed numbers ++ Drops client ∷ []) entries → AreOwn entries
 stops_own client numbers entries is =
     both_own entries is.0 is.1 is.4 (so_far_own client is.0 is.2) (both_own is.1 (Drops client ∷ []) (freed numbers) is.3 (λ past l. l) (freed_own numbers))
 
@@ -138,13 +138,13 @@ module _ (opening : ℕ → List ℕ → Option Item) (past : List (Entry dialec
   settled_on : (number : ℕ) (outcome : Outcome) → TakesResult old number outcome new → SettlesOnLog opening number past old led new Holds (λ end. outcome ≡ outcome_of end)
   settled_on number outcome s =
       let a = s.settles.command in (
-        server_in a.job.pending,
+        server_of_pending a.job.pending,
         ask_under a.job.frames.items a.job.ask,
         origin_under a.job.frames.items OfClient,
         record { command = a; was = s.settles.was; is = record { out = s.settles.out; server_is = refl; ask_is = refl; origin_is = refl } },
         λ end seen ends.
             let g = s.goes opening past led end seen ends in
-            let event = event_of number a end in
+            let event = event_of_call number a end in
             let own : AreOwn (g.0 ++ Happens event ∷ []) = then_own (Happens event ∷ []) g.0 (λ past l. l) (as_own g.0 _ g.1 (freed_or_not (dropped_by (client_at old.core a.client)) number)) in
             (g.0 ++ Happens event ∷ [], (g.0, refl), own, g.2, holds _ g.2),
       )
@@ -153,13 +153,13 @@ module _ (opening : ℕ → List ℕ → Option Item) (past : List (Entry dialec
   settle_stops number outcome faults.NoMemory s =
       let a = s.breaks.command in
       inr (
-        server_in a.job.pending,
+        server_of_pending a.job.pending,
         ask_under a.job.frames.items a.job.ask,
         origin_under a.job.frames.items OfClient,
         record { command = a; was = s.breaks.was; is = record { out = s.breaks.out; server_is = refl; ask_is = refl; origin_is = refl } },
         λ end seen ends.
             let g = s.goes opening past led end seen ends in
-            let event = event_of number a end in
+            let event = event_of_call number a end in
             let more : AreOwn g.0 = both_own g.0 (Frees number ∷ (Drops a.client ∷ [])) (freed s.breaks.numbers) g.1 (λ past l. l) (freed_own s.breaks.numbers) in
             (g.0 ++ Happens event ∷ [], (g.0, refl), then_own (Happens event ∷ []) g.0 (λ past l. l) more, g.2, holds _ g.2),
       )

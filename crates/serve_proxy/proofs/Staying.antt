@@ -23,17 +23,17 @@ use Rattle.serve_links.specs.declared.link.Link.{Link}
 use Rattle.serve_links.specs.declared.link.Opening.{Opening}
 use Rattle.std.specs.Option.{is_some}
 use Rattle.std.specs.Prelude.{map as each}
-use Rattle.serve_links.specs.Lines.{SameLine, KeepsLines, OpensBy}
+use Rattle.serve_links.specs.Lines.{SameLine, KeepsLines, OpensLink}
 use Rattle.serve_links.specs.Story.{server_of, LineState, line_of}
 use Rattle.serve_links.proofs.LinkGoes.{keeps_line, line_keeps, line_reads, line_reads_over, line_sends, line_sends_over, line_opens as line_begins, line_shuts}
-use Rattle.serve_proxy.specs.Ends.{lines_of, with_limits, over_by, broken_unless, IsQuiet, EndsStay, LineStands, LineStandsUnless}
+use Rattle.serve_proxy.specs.Ends.{link_lines, with_limits, over_by, broken_unless, WireIsQuiet, EndsStay, LineStands, LineStandsUnless}
 
 -- ---- lines of links
 
 -- a link that stands where another stood, with the same line
-pub line_lent : (links : List Link) (at : ℕ) (x y : Link) → x ≡ get_or links at x → line_of y ≡ line_of x → lines_of (set links at y) ≡ lines_of links
+pub line_lent : (links : List Link) (at : ℕ) (x y : Link) → x ≡ get_or links at x → line_of y ≡ line_of x → link_lines (set links at y) ≡ link_lines links
 line_lent [] at x y was same = refl
-line_lent (first ∷ links) zero x y was same = ap (λ l. l ∷ lines_of links) (same ∙ ap line_of was)
+line_lent (first ∷ links) zero x y was same = ap (λ l. l ∷ link_lines links) (same ∙ ap line_of was)
 line_lent (first ∷ links) (suc at) x y was same = ap (λ ls. line_of first ∷ ls) (line_lent links at x y was same)
 
 -- a link that keeps its lines has the line that it had
@@ -85,21 +85,21 @@ none_kept (Some c) p none same = absurd (some_none none)
     some_none e = cc
 
 -- a connection was begun
-pub line_opens : (at : ℕ) (dialect : ServerDialect) (what : Opening) (h h' : List Event) (x y : Link) → OpensBy at dialect what x y h h' → LineStands at h h' x y
+pub line_opens : (at : ℕ) (dialect : ServerDialect) (what : Opening) (h h' : List Event) (x y : Link) → OpensLink at dialect what x y h h' → LineStands at h h' x y
 line_opens at dialect what h h' x y o = λ core. line_begins x y dialect what o
 
 -- or none, and its calls fail for a while
 pub line_opens_not :
-    (at : ℕ) (dialect : ServerDialect) (what : Opening) (h h' : List Event) (x y z : Link) → OpensBy at dialect what x y h h' → y.conn ≡ None → z.conn ≡ None → z.draining ≡ y.draining → server_of z ≡ server_of y → z.waiting.items ≡ y.waiting.items → z.calls.sent.items ≡ y.calls.sent.items → LineStands at h h' x z
+    (at : ℕ) (dialect : ServerDialect) (what : Opening) (h h' : List Event) (x y z : Link) → OpensLink at dialect what x y h h' → y.conn ≡ None → z.conn ≡ None → z.draining ≡ y.draining → server_of z ≡ server_of y → z.waiting.items ≡ y.waiting.items → z.calls.sent.items ≡ y.calls.sent.items → LineStands at h h' x z
 line_opens_not at dialect what h h' x y z o none closed draining server waiting sent = λ core. line_shuts (line_begins x y dialect what o) none closed draining server waiting sent
 
 -- ---- all ends
 
-pub quiet : (h : List Event) → IsQuiet h h
+pub quiet : (h : List Event) → WireIsQuiet h h
 quiet h = λ d. untouched d h
 
-pub quiet_as : (h h' : List Event) → h' ≡ h → IsQuiet h h'
-quiet_as h h' same = subst (IsQuiet h) (sym same) (quiet h)
+pub quiet_as : (h h' : List Event) → h' ≡ h → WireIsQuiet h h'
+quiet_as h h' same = subst (WireIsQuiet h) (sym same) (quiet h)
 
 -- nothing was done
 pub stay_still : (h : List Event) (cs : Clients) (ls : List Link) → EndsStay h h cs cs ls ls
@@ -112,7 +112,7 @@ stay_clients h cs cs' ls keeps = record { quiet = quiet h; clients = keeps; link
 pub stay_alike : {h : List Event} {ls : List Link} {cs cs' : Clients} → AreAlike cs cs' → EndsStay h h cs cs' ls ls
 stay_alike {h} {ls} {cs} {cs'} alike = stay_clients h cs cs' ls (keeps_alike cs cs' alike)
 
-pub stay_links : (h : List Event) (cs : Clients) (ls ls' : List Link) → lines_of ls' ≡ lines_of ls → EndsStay h h cs cs ls ls'
+pub stay_links : (h : List Event) (cs : Clients) (ls ls' : List Link) → link_lines ls' ≡ link_lines ls → EndsStay h h cs cs ls ls'
 stay_links h cs ls ls' keeps = record { quiet = quiet h; clients = keeps_none cs; links = keeps }
 
 -- one after another
@@ -132,12 +132,12 @@ limits_lent any limits (first ∷ links) (suc at) x y was is = ap (λ ls. record
 -- and so have all, of which nothing else has changed
 pub stay_limits :
     (h : List Event) (cs : Clients) (ls ls' : List Link) → ((any : LinkLimits) → with_limits any ls' ≡ with_limits any ls) → (any : LinkLimits) → EndsStay h h cs cs (with_limits any ls) (with_limits any ls')
-stay_limits h cs ls ls' same any = stay_links h cs (with_limits any ls) (with_limits any ls') (ap lines_of (same any))
+stay_limits h cs ls ls' same any = stay_links h cs (with_limits any ls) (with_limits any ls') (ap link_lines (same any))
 
 abbrev limited : LinkLimits → LineState → LineState
 limited any s = ((s.0.0, any), s.1, s.2, s.3, s.4, s.5, s.6, s.7)
 
-lines_limited : (any : LinkLimits) (links : List Link) → lines_of (with_limits any links) ≡ each (limited any) (lines_of links)
+lines_limited : (any : LinkLimits) (links : List Link) → link_lines (with_limits any links) ≡ each (limited any) (link_lines links)
 lines_limited any [] = refl
 lines_limited any (link ∷ links) = ap (λ l. line_of (record link { limits = any }) ∷ l) (lines_limited any links)
 

@@ -18,12 +18,12 @@ use Rattle.core_accepted.specs.declared.served.ServedCore.{ServedCore}
 use Rattle.serve_clients.specs.declared.clients.Client.{Client}
 use Rattle.serve_clients.specs.declared.clients.Clients.{Clients}
 use Rattle.serve_clients.specs.Marks.{client_of}
-use Rattle.serve_clients.specs.Agrees.{said_of, Breaks, StateAgrees, EndAgrees, GoesOnAgreeing, AllAgree}
+use Rattle.serve_clients.specs.Agrees.{end_said_of, Breaks, StateAgrees, EndAgrees, GoesOnAgreeing, AllAgree}
 use Rattle.serve_clients.proofs.Agreeing.{its, keeps_none, state_stays, state_breaks}
 use Rattle.serve_clients.proofs.Marked.{kept}
 use Rattle.serve_links.specs.declared.link.Link.{Link}
-use Rattle.serve_links.specs.CoreSteps.{Step, Opened, Gave, Closed, Does, AreOf, GoesBy, IsOfTurn}
-use Rattle.serve_links.specs.Story.{fed_in, gave_in, is_open_in, is_broken_in, IsTold, AreTold, TookAll, IsJustGiven, IsGone, IsUnused, HasOrHad, StayOut, LinesAgree, OneGoes, Agrees, AgreesGiven, AllGoFrom, AllGo}
+use Rattle.serve_links.specs.CoreSteps.{Step, Opened, Gave, Closed, Does, StepsAreOf, GoesBy, IsOfTurn}
+use Rattle.serve_links.specs.Story.{fed_in, gave_in, is_open_in, is_broken_in, ClientIsTold, ClientsAreTold, TookAll, IsJustGiven, IsGone, IsUnused, HasOrHad, StayOut, LinesAgree, OneGoes, Agrees, AgreesGiven, AllGoFrom, AllGo}
 use Rattle.serve_links.specs.Shut.{client_conn}
 use Rattle.serve_links.proofs.Shutting.{closed_shut, shut_without, shut_opened, shut_turned}
 use Rattle.serve_links.proofs.ByLimits.{servers_same, clients_servers}
@@ -76,7 +76,7 @@ if_moved h h' input output input' output' id (Some x) same fed gave was = end_mo
 
 -- what touches no server's connection leaves all links as they were
 lines_apart :
-    (h h' : List Event) (steps past : List Step) (ls : List Link) → ((d at : ℕ) → role d h ≡ Some (1, at) → IsUntouched d h h') → AreOf IsPlain steps → ((at : ℕ) → StayOut at past (steps ++ past)) → LinesAgree past h ls → LinesAgree (steps ++ past) h' ls
+    (h h' : List Event) (steps past : List Step) (ls : List Link) → ((d at : ℕ) → role d h ≡ Some (1, at) → IsUntouched d h h') → StepsAreOf IsPlain steps → ((at : ℕ) → StayOut at past (steps ++ past)) → LinesAgree past h ls → LinesAgree (steps ++ past) h' ls
 lines_apart h h' steps past ls only plain stay was at link there =
     line_stays h h' at steps past link (λ c of_c. only c at of_c) (plain_talk steps plain past at) (stay at) (was at link there)
 
@@ -218,7 +218,7 @@ opened_go {h} {h1} {h2} {h'} {cs} {cs'} {ls} id c b last new is dropped only unu
             of_opened : (o : Option Client) → client_of cs j ≡ o → j ≡ id → HasOrHad past h cs j conn → HasOrHad (q.steps ++ Opened id ∷ past) h' cs' j conn
             of_opened None e here (inl now) = absurd (none_is (sym (ap (option_map (λ (x : Client). x.conn.number)) e) ∙ now))
             of_opened (Some x) e here (inl now) =
-                inr (inr (end_gone past q.steps (Opened id) h h' j conn x (inr (ap (λ k. Opened k) (sym here), (subst (λ o. IfSome o (IsTold past j)) e (was.told j)).0)) (subst (λ o. IfSome o (EndAgrees h (fed_in past) (gave_in past) j)) e (was.clients j)) (number_is (sym (ap (option_map (λ (x : Client). x.conn.number)) e) ∙ now)) told))
+                inr (inr (end_gone past q.steps (Opened id) h h' j conn x (inr (ap (λ k. Opened k) (sym here), (subst (λ o. IfSome o (ClientIsTold past j)) e (was.told j)).0)) (subst (λ o. IfSome o (EndAgrees h (fed_in past) (gave_in past) j)) e (was.clients j)) (number_is (sym (ap (option_map (λ (x : Client). x.conn.number)) e) ∙ now)) told))
             of_opened o e here (inr (inl none)) = inr (inl (told.1 ∙ none.0, told.2 ∙ none.1))
             of_opened o e here (inr (inr more)) = inr (inr (subst (λ l. IsGone l h' j conn) (append_assoc q.steps (Opened id ∷ []) past) (gone_stays past (q.steps ++ Opened id ∷ []) h h' j conn told more)))
 
@@ -228,20 +228,20 @@ opened_go {h} {h1} {h2} {h'} {cs} {cs'} {ls} id c b last new is dropped only unu
                 subst (λ l. HasOrHad l h' cs' j conn) (append_assoc q.steps (Opened id ∷ []) past)
                 (had_stays past (q.steps ++ Opened id ∷ []) h h' cs cs' j conn told (ap (option_map (λ (x : Client). x.conn.number)) (others j other)) was_known)
 
-    told_mid : (past : List Step) → AreTold past cs → AreTold (Opened id ∷ past) cs'
+    told_mid : (past : List Step) → ClientsAreTold past cs → ClientsAreTold (Opened id ∷ past) cs'
     told_mid past was j = by (cases_eq j id)
       where
-        of_new : (o : Option Client) → IfSome o (λ x. x.is_broken ≡ false) → IfSome o (IsTold (Opened id ∷ past) id)
+        of_new : (o : Option Client) → IfSome o (λ x. x.is_broken ≡ false) → IfSome o (ClientIsTold (Opened id ∷ past) id)
         of_new None is = tt
         of_new (Some x) is = (ap (λ (t : Bool). if t then true else is_open_in past id) (same_client id), ap (λ (t : Bool). if t then false else is_broken_in past id) (same_client id) ∙ sym is)
 
-        of_other : nat_eq id j ≡ false → (o : Option Client) → IfSome o (IsTold past j) → IfSome o (IsTold (Opened id ∷ past) j)
+        of_other : nat_eq id j ≡ false → (o : Option Client) → IfSome o (ClientIsTold past j) → IfSome o (ClientIsTold (Opened id ∷ past) j)
         of_other e None told = tt
         of_other e (Some x) told = (ap (λ (t : Bool). if t then true else is_open_in past j) e ∙ told.0, ap (λ (t : Bool). if t then false else is_broken_in past j) e ∙ told.1)
 
-        by : (j ≡ id) ⊎ (j ≢ id) → IfSome (client_of cs' j) (IsTold (Opened id ∷ past) j)
-        by (inl here) = subst (λ k. IfSome (client_of cs' k) (IsTold (Opened id ∷ past) k)) (sym here) (of_new (client_of cs' id) stood)
-        by (inr other) = subst (λ o. IfSome o (IsTold (Opened id ∷ past) j)) (sym (others j other)) (of_other (unequal id j (λ e. other (sym e))) (client_of cs j) (was j))
+        by : (j ≡ id) ⊎ (j ≢ id) → IfSome (client_of cs' j) (ClientIsTold (Opened id ∷ past) j)
+        by (inl here) = subst (λ k. IfSome (client_of cs' k) (ClientIsTold (Opened id ∷ past) k)) (sym here) (of_new (client_of cs' id) stood)
+        by (inr other) = subst (λ o. IfSome o (ClientIsTold (Opened id ∷ past) j)) (sym (others j other)) (of_other (unequal id j (λ e. other (sym e))) (client_of cs j) (was j))
 
     mid : (past : List Step) → AllAgree h (fed_in past) (gave_in past) cs → AllAgree h' (fed_in (Opened id ∷ past)) (gave_in (Opened id ∷ past)) cs'
     mid past was j = by (cases_eq j id)
@@ -264,14 +264,14 @@ opened_go {h} {h1} {h2} {h'} {cs} {cs'} {ls} id c b last new is dropped only unu
             (if_moved h h' (fed_in past) (gave_in past) (fed_in (Opened id ∷ past)) (gave_in (Opened id ∷ past)) j (client_of cs j) (λ d of_d. apart_of past was d (0, j) of_d (λ e. other (ap (λ (p : ℕ × ℕ). p.1) e))) (of_other (nat_eq id j) (fed_in past j) apart_is) (of_other (nat_eq id j) (gave_in past j) apart_is) (was j))
 
 -- what a new end has
-pub new_said : (x : Client) (c : ℕ) → x.conn.number ≡ c → (x.conn.held.items ≡ []) × (bytes_of x.conn.unsent ≡ []) → (x.is_ended ≡ false) × (x.is_broken ≡ false) → said_of x ≡ (c, [], [], false, false)
+pub new_said : (x : Client) (c : ℕ) → x.conn.number ≡ c → (x.conn.held.items ≡ []) × (bytes_of x.conn.unsent ≡ []) → (x.is_ended ≡ false) × (x.is_broken ≡ false) → end_said_of x ≡ (c, [], [], false, false)
 new_said x c number none stands =
     ap (λ n. (n, x.conn.held.items, bytes_of x.conn.unsent, x.is_broken, x.is_ended)) number ∙ ap (λ l. (c, l, bytes_of x.conn.unsent, x.is_broken, x.is_ended)) none.0
     ∙ ap (λ l. (c, [], l, x.is_broken, x.is_ended)) none.1 ∙ ap (λ b. (c, [], [], b, x.is_ended)) stands.1 ∙ ap (λ b. (c, [], [], false, b)) stands.0
 
 -- its end agrees with nothing fed and nothing given
 pub begun_agrees :
-    (h h' : List Event) (id c : ℕ) (o : Option Client) → IsUnused c h → h' ≡ admits c id ∷ h → option_map said_of o ≡ Some (c, [], [], false, false) → IfSome o (EndAgrees h' (λ j. []) (λ j. []) id)
+    (h h' : List Event) (id c : ℕ) (o : Option Client) → IsUnused c h → h' ≡ admits c id ∷ h → option_map end_said_of o ≡ Some (c, [], [], false, false) → IfSome o (EndAgrees h' (λ j. []) (λ j. []) id)
 begun_agrees h h' id c None new is said = tt
 begun_agrees h h' id c (Some x) new is said =
     subst (λ (s : ℕ × List ℕ × List ℕ × Bool × Bool). StateAgrees h' (λ j. []) (λ j. []) id s.0 s.1 s.2 s.3 s.4) (sym (same_some said))
@@ -288,7 +288,7 @@ pub none_agrees : (h : List Event) (id : ℕ) (o : Option Client) → o ≡ None
 none_agrees h id o none = subst (λ p. IfSome p (EndAgrees h (λ j. []) (λ j. []) id)) (sym none) tt
 
 -- a new end isn't broken off
-pub begun_stands : (c : ℕ) (o : Option Client) → option_map said_of o ≡ Some (c, [], [], false, false) → IfSome o (λ x. x.is_broken ≡ false)
+pub begun_stands : (c : ℕ) (o : Option Client) → option_map end_said_of o ≡ Some (c, [], [], false, false) → IfSome o (λ x. x.is_broken ≡ false)
 begun_stands c None said = tt
 begun_stands c (Some x) said = ap (λ (s : ℕ × List ℕ × List ℕ × Bool × Bool). s.3) (same_some said)
   where
@@ -314,7 +314,7 @@ pub unused_closed : (c : ℕ) (h h' : List Event) → Closes c h h' → IsUnused
 unused_closed c h h' closes was = let same = closed_tells c c h h' closes in (same.1 ∙ was.0, same.2 ∙ was.1)
 
 -- the connection that a new end has
-pub begun_conn : (c : ℕ) (o : Option Client) → option_map said_of o ≡ Some (c, [], [], false, false) → option_map (λ (x : Client). x.conn.number) o ≡ Some c
+pub begun_conn : (c : ℕ) (o : Option Client) → option_map end_said_of o ≡ Some (c, [], [], false, false) → option_map (λ (x : Client). x.conn.number) o ≡ Some c
 begun_conn c None said = absurd (nobody said)
   where
     nobody : {s : ℕ × List ℕ × List ℕ × Bool × Bool} → ◌≡◌ {A = Option (ℕ × List ℕ × List ℕ × Bool × Bool)} None (Some s) → ⊥
@@ -377,11 +377,11 @@ gone_go {h} {h'} {cs} {cs'} {ls} id gone dropped before core does sent = record 
         by (inl none) = took_all past h j x (subst (λ o. IfSome o (EndAgrees h (fed_in past) (gave_in past) j)) e (was.clients j)) (at_told past cs j x e was.told) none
         by (inr broken) = inr ((at_told past cs j x e was.told).1 ∙ broken)
 
-    still_told : (past : List Step) → AreTold past cs → (j : ℕ) → (j ≡ id) ⊎ (j ≢ id) → IfSome (client_of cs' j) (IsTold (Closed id ∷ past) j)
-    still_told past was j (inl here) = subst (λ o. IfSome o (IsTold (Closed id ∷ past) j)) (sym (ap (client_of cs') here ∙ gone_here cs cs' id gone)) tt
-    still_told past was j (inr other) = subst (λ o. IfSome o (IsTold (Closed id ∷ past) j)) (sym (gone_others cs cs' id gone j other)) (by (client_of cs j) (was j))
+    still_told : (past : List Step) → ClientsAreTold past cs → (j : ℕ) → (j ≡ id) ⊎ (j ≢ id) → IfSome (client_of cs' j) (ClientIsTold (Closed id ∷ past) j)
+    still_told past was j (inl here) = subst (λ o. IfSome o (ClientIsTold (Closed id ∷ past) j)) (sym (ap (client_of cs') here ∙ gone_here cs cs' id gone)) tt
+    still_told past was j (inr other) = subst (λ o. IfSome o (ClientIsTold (Closed id ∷ past) j)) (sym (gone_others cs cs' id gone j other)) (by (client_of cs j) (was j))
       where
-        by : (o : Option Client) → IfSome o (IsTold past j) → IfSome o (IsTold (Closed id ∷ past) j)
+        by : (o : Option Client) → IfSome o (ClientIsTold past j) → IfSome o (ClientIsTold (Closed id ∷ past) j)
         by None told = tt
         by (Some x) told = (ap (λ (t : Bool). if t then false else is_open_in past j) (unequal id j (λ e. other (sym e))) ∙ told.0, told.1)
 

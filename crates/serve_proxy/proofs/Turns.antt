@@ -6,7 +6,7 @@ use Rattle.route_json.specs.NumberedServers.{Addresses}
 use Rattle.route_json.specs.ServerNames.{is_over}
 use Rattle.serve_links.specs.declared.link.Link.{Link}
 use Rattle.serve_links.specs.Epochs.{is_retired, with_retired, IsQuiet}
-use Rattle.serve_proxy.specs.Epochs.{share_address, HaveEnded, IsInTurn, Retires}
+use Rattle.serve_proxy.specs.Epochs.{share_address, HaveEnded, EpochIsInTurn, Retires}
 use Rattle.serve_links.specs.declared.settings.LinkLimits.{LinkLimits}
 use Rattle.serve_proxy.specs.Emptying.{EmptiesAt}
 use Rattle.serve_proxy.specs.Limiting.{LimitsAt}
@@ -94,14 +94,14 @@ still_ended names at k b old new r ended = λ earlier before shares link is.
     still_quiet s.0 link s.2 (ended earlier before shares s.0 s.1)
 
 -- another one is set
-pub still_in_turn : (names : Addresses) (at k : ℕ) (b : Bool) (old new : List Link) → Retires k b old new → (at ≡ k → ⊥) → IsInTurn names old at → IsInTurn names new at
+pub still_in_turn : (names : Addresses) (at k : ℕ) (b : Bool) (old new : List Link) → Retires k b old new → (at ≡ k → ⊥) → EpochIsInTurn names old at → EpochIsInTurn names new at
 still_in_turn names at k b old new r other turn = λ link is used.
     let was = turn link (r.others at link other is) used in
     (was.0, still_ended names at k b old new r was.1)
 
 -- this one is
 pub now_in_turn :
-    (names : Addresses) (at : ℕ) (b : Bool) (old new : List Link) → Retires at b old new → (b ≡ false → (is_over names at ≡ false) × HaveEnded names at old) → IsInTurn names new at
+    (names : Addresses) (at : ℕ) (b : Bool) (old new : List Link) → Retires at b old new → (b ≡ false → (is_over names at ≡ false) × HaveEnded names at old) → EpochIsInTurn names new at
 now_in_turn names at b old new r when = λ link is used.
     let was = when (sym (r.one link is) ∙ used) in
     (was.0, still_ended names at at b old new r was.1)
@@ -119,13 +119,13 @@ split_last (suc k) (suc n) h = by (split_last k n (omega (arith, h)))
     by (inr same) = inr (ap suc same)
 
 pub one_more :
-    (names : Addresses) (at : ℕ) (b : Bool) (old new : List Link) → Retires at b old new → IsInTurn names new at → ((k : ℕ) → k < at → IsInTurn names old k)
-    → (k : ℕ) → k < at + 1 → IsInTurn names new k
+    (names : Addresses) (at : ℕ) (b : Bool) (old new : List Link) → Retires at b old new → EpochIsInTurn names new at → ((k : ℕ) → k < at → EpochIsInTurn names old k)
+    → (k : ℕ) → k < at + 1 → EpochIsInTurn names new k
 one_more names at b old new r here before = λ k within. by k (split_last k at within)
   where
-    by : (k : ℕ) → (k < at) ⊎ (k ≡ at) → IsInTurn names new k
+    by : (k : ℕ) → (k < at) ⊎ (k ≡ at) → EpochIsInTurn names new k
     by k (inl less) = still_in_turn names k at b old new r (λ same. omega (arith, less, same)) (before k less)
-    by k (inr same) = subst (IsInTurn names new) (sym same) here
+    by k (inr same) = subst (EpochIsInTurn names new) (sym same) here
 
 -- one more server has left
 pub ended_more :
@@ -144,5 +144,5 @@ not_false false is = sym is
 
 -- this one is in turn if that was so before
 pub in_turn_if :
-    (names : Addresses) (at : ℕ) (b : Bool) (old new : List Link) → Retires at (not b) old new → (b ≡ true → (is_over names at ≡ false) × HaveEnded names at old) → IsInTurn names new at
+    (names : Addresses) (at : ℕ) (b : Bool) (old new : List Link) → Retires at (not b) old new → (b ≡ true → (is_over names at ≡ false) × HaveEnded names at old) → EpochIsInTurn names new at
 in_turn_if names at b old new r when = now_in_turn names at (not b) old new r (λ is. when (not_false b is))

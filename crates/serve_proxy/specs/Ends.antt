@@ -15,29 +15,29 @@ use Rattle.serve_clients.specs.Agrees.{KeepsEnds}
 use Rattle.serve_links.specs.declared.calls.calls.SentCall.{SentCall}
 use Rattle.serve_links.specs.declared.settings.LinkLimits.{LinkLimits}
 use Rattle.serve_links.specs.declared.link.Link.{Link}
-use Rattle.serve_links.specs.CoreSteps.{Step, Opened, Gave, Closed, Broke, Loaded, Does, Walks, AreOf, IsOfTurn, IsGivingUp, IsSending}
+use Rattle.serve_links.specs.CoreSteps.{Step, Opened, Gave, Closed, Broke, Loaded, Does, Walks, StepsAreOf, IsOfTurn, IsGivingUp, IsSending}
 use Rattle.serve_links.specs.declared.news.Cause.{Cause}
 use Rattle.serve_links.specs.declared.news.Cause.TheVariants as causes
 use Rattle.serve_wire.specs.declared.conn.conn.Got.{Got}
 use Rattle.serve_wire.specs.declared.conn.conn.Got.TheVariants as got
 use Rattle.serve_proxy.specs.declared.sockets.Sockets.{Sockets}
 use Rattle.serve_links.specs.Lateness.{AwaitsLate}
-use Rattle.serve_links.specs.Talks.{Standing, left_by}
+use Rattle.serve_links.specs.Talks.{Standing, standing_after}
 use Rattle.serve_links.specs.Story.{LineState, line_of, LineAgrees, LineFails, LineCalled, LineGoesFrom, LineGoes, OneGoes, AnEnd, Agrees, AgreesGiven, AgreesBut, AgreesCalled, AgreesSent, AllGoFrom, AllGo, texts_of}
 
 -- what each link has to do with its connection and its calls
-abbrev pub lines_of : List Link → List LineState
-lines_of links = each line_of links
+abbrev pub link_lines : List Link → List LineState
+link_lines links = each line_of links
 
 -- of no connection anything has changed, and the clock wasn't looked at
-abbrev pub IsQuiet : List Event → List Event → Type 0
-IsQuiet h h' = (d : ℕ) → IsUntouched d h h'
+abbrev pub WireIsQuiet : List Event → List Event → Type 0
+WireIsQuiet h h' = (d : ℕ) → IsUntouched d h h'
 
 -- nothing happened on any connection, each client has the end that it had, and each link the line
 pub record EndsStay (h h' : List Event) (cs cs' : Clients) (ls ls' : List Link) : Type 0 where
-  pub quiet : IsQuiet h h'
+  pub quiet : WireIsQuiet h h'
   pub clients : KeepsEnds cs cs'
-  pub links : lines_of ls' ≡ lines_of ls
+  pub links : link_lines ls' ≡ link_lines ls
 
 -- whatever a core is, without a call of it the ends go on: where the one held of them and of all calls before, the other holds of them and of all calls after
 abbrev pub EndsGoFrom : (Before After : List Step → AnEnd → Type 0) (h h' : List Event) (cs cs' : Clients) (ls ls' : List Link) → Type 0
@@ -177,7 +177,7 @@ AllFailOn history core sockets core' sockets' = AllSendFrom Agrees history core 
 -- the link at this place, whose bytes may be lost, is given up, for whatever its connection shows that leaves it so: its calls fail, and nothing else is done with the core
 abbrev pub AllLeave : {W : Type 0} → Standing → ℕ → (W → List Event) → ServedCore → Sockets W → ServedCore → Sockets W → Type 0
 AllLeave standing at history core sockets core' sockets' =
-    (why : Option Cause) → left_by why ≡ standing → AllGoFrom (AgreesBut (LineFails why) at) Agrees (IsGivingUp why) (end_of history core sockets) (end_of history core' sockets')
+    (why : Option Cause) → standing_after why ≡ standing → AllGoFrom (AgreesBut (LineFails why) at) Agrees (IsGivingUp why) (end_of history core sockets) (end_of history core' sockets')
 
 -- it is given up for this cause, and where it can't be kept its end may be seen with that
 abbrev pub AllGiveUp : {W : Type 0} → ℕ → Cause → (W → List Event) → ServedCore → Sockets W → ServedCore → Sockets W → Type 0
@@ -251,12 +251,12 @@ down_line server = (server, None, [], [], None, Classic, [], None)
 
 -- behind the links that were there, which have the lines that they had, come links to these servers, without a connection
 abbrev pub AddsLines : List Link → List Link → Type 0
-AddsLines old new = (servers : List (List ℕ × LinkLimits)) × (lines_of new ≡ lines_of old ++ each down_line servers)
+AddsLines old new = (servers : List (List ℕ × LinkLimits)) × (link_lines new ≡ link_lines old ++ each down_line servers)
 
 -- by calls of this kind it goes on: where the one held of it and of all calls before, the other holds of it and of all calls after. The links that were there are to the servers that they were to, and others may be there
 pub record AllGrowFrom (Before After : List Step → AnEnd → Type 0) (Is : Step → Type 0) (old new : AnEnd) : Type 0 where
   pub steps : List Step
-  pub kinds : AreOf Is steps
+  pub kinds : StepsAreOf Is steps
   pub walks : Walks steps old.core new.core
   pub agree : (past : List Step) → Before past old → After (steps ++ past) new
   pub texts : (more : List (List ℕ)) × (texts_of new.links ≡ texts_of old.links ++ more)

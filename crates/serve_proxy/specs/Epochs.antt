@@ -22,12 +22,12 @@ HaveEnded names at links =
     (earlier : ℕ) → earlier < at → share_address names earlier at ≡ true → (link : Link) → slice_get links earlier ≡ Some link → IsQuiet link
 
 -- calls go to this server only once those before it at its address have none any more, and while none comes after it there
-abbrev pub IsInTurn : Addresses → List Link → ℕ → Type 0
-IsInTurn names links at = (link : Link) → slice_get links at ≡ Some link → is_retired link ≡ false → (is_over names at ≡ false) × HaveEnded names at links
+abbrev pub EpochIsInTurn : Addresses → List Link → ℕ → Type 0
+EpochIsInTurn names links at = (link : Link) → slice_get links at ≡ Some link → is_retired link ≡ false → (is_over names at ≡ false) × HaveEnded names at links
 
 -- so it is with each of these servers, if some have epochs
-abbrev pub AreInTurn : Addresses → List Link → Type 0
-AreInTurn names links = have_epochs names ≡ true → (at : ℕ) → at < length names → IsInTurn names links at
+abbrev pub EpochsAreInTurn : Addresses → List Link → Type 0
+EpochsAreInTurn names links = have_epochs names ≡ true → (at : ℕ) → at < length names → EpochIsInTurn names links at
 
 -- whether calls go to the link of this number is set, and nothing else
 pub record Retires (at : ℕ) (retired : Bool) (old new : List Link) : Type 0 where

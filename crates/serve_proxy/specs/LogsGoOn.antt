@@ -10,13 +10,13 @@ use Rattle.fresh_runs.specs.Overlap as log
 use Rattle.fresh_runs.specs.Overlap.{Entry, Happens, run_of}
 use Rattle.route_json.specs.Configuration.{Configuration}
 use Rattle.core_proxy.specs.CoreState.{dialect, client_at, dropped_by}
-use Rattle.core_proxy.specs.Polls.{Then, Perhaps, BeginsOne, IsPolled}
+use Rattle.core_proxy.specs.Polls.{EntriesThen, Perhaps, BeginsOne, IsPolled}
 use Rattle.core_proxy.specs.Settles.{IsCalled}
 use Rattle.core_accepted.specs.declared.served.ServedCore.{ServedCore}
 use Rattle.core_accepted.specs.declared.beginnings.Beginnings.{Beginnings}
 use Rattle.core_accepted.specs.Known.{Known}
 use Rattle.core_accepted.specs.Logs.{MayHaveLed, IsFreshLog, EveryLogFromIsFresh, IsAcceptedSince, BeginSo, fed}
-use Rattle.core_accepted.specs.Losses.{IsLoss}
+use Rattle.core_accepted.specs.Losses.{IsLossEvent}
 use Rattle.serve_links.specs.CoreSteps.{Step, Opened, NotOpened, Fed, Polled, Stopped, Settled, Gave, Closed, LeftLine, Broke, Ticked, Loaded, Linked, Asked, Greeted, Spelled, Late, CameLate, Lost, Walks}
 
 -- by these entries nobody else writes the servers
@@ -26,7 +26,7 @@ AreOwn entries = (past : List (Entry dialect)) → LosesOnly (run_of past) → L
 -- what servers lost, and others wrote there, the latest first
 abbrev pub AreTurns : List Event → Type 0
 AreTurns [] = Unit {0}
-AreTurns (event ∷ events) = IsLoss event × AreTurns events
+AreTurns (event ∷ events) = IsLossEvent event × AreTurns events
 
 -- as entries of a log
 abbrev pub happened : List Event → List (Entry dialect)
@@ -68,7 +68,7 @@ module _ (opening : ℕ → List ℕ → Option Item) where
   StepGoes (Opened client) past old led new Holds = GoesOnSaying (λ entries. entries ≡ []) past new Holds
   StepGoes (NotOpened fault) past old led new Holds = GoesOnSaying (λ entries. entries ≡ []) past new Holds
   StepGoes (Fed client piece) past old led new Holds = GoesOnSaying (λ entries. entries ≡ fed (dropped_by (client_at old.core client)) client piece) past new Holds
-  StepGoes (Polled client poll) past old led new Holds = GoesOnSaying (Then (Perhaps (BeginsOne client)) (IsPolled client poll)) past new Holds
+  StepGoes (Polled client poll) past old led new Holds = GoesOnSaying (EntriesThen (Perhaps (BeginsOne client)) (IsPolled client poll)) past new Holds
   StepGoes (Stopped client fault) past old led new Holds = GoesOnSaying (λ entries. Unit {0}) past new Holds
   StepGoes (Settled number outcome) past old led new Holds = AfterTurns past old led (λ later by. StaysOn later old new Holds ⊎ SettlesOnLog number later old by new Holds (λ end. outcome ≡ outcome_of end))
   StepGoes (Gave client bytes) past old led new Holds = GoesOnSaying (λ entries. entries ≡ log.Gives client bytes ∷ []) past new Holds

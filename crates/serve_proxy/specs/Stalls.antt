@@ -6,7 +6,7 @@ use Rattle.wire_parts.specs.Sending.{bytes_of}
 use Rattle.serve_clients.specs.declared.clients.Client.{Client}
 use Rattle.serve_clients.specs.declared.clients.Clients.{Clients}
 use Rattle.serve_clients.specs.Marks.{client_of}
-use Rattle.serve_clients.specs.Agrees.{said_of}
+use Rattle.serve_clients.specs.Agrees.{end_said_of}
 use Rattle.serve_clients.specs.Holdings.{held_of, held_at}
 use Rattle.serve_proxy.specs.declared.stalls.TheConstants.{MUCH}
 use Rattle.serve_proxy.specs.declared.stalls.Stalls.{Stalls}
@@ -32,7 +32,7 @@ HasStalled ms now (Some from) client = (MUCH < length (bytes_of client.conn.unse
 -- each client has the end that it had, or it has stalled
 abbrev pub OnlyStalled : (now : ℕ) → Stalls → Clients → Clients → Type 0
 OnlyStalled now stalls old new =
-    (id : ℕ) → (option_map said_of (client_of new id) ≡ option_map said_of (client_of old id)) ⊎ IfSome (client_of old id) (HasStalled stalls.ms now (since_of stalls id))
+    (id : ℕ) → (option_map end_said_of (client_of new id) ≡ option_map end_said_of (client_of old id)) ⊎ IfSome (client_of old id) (HasStalled stalls.ms now (since_of stalls id))
 
 -- for none more bytes are held than for the client of this id
 abbrev pub HasMost : Clients → ℕ → Type 0
@@ -45,7 +45,7 @@ greater_of (Some best) id count = if nat_le count best.1 then Some best else Som
 
 -- each client has the end that it had, or for none was more held
 abbrev pub OnlyMost : Clients → Clients → Type 0
-OnlyMost old new = (id : ℕ) → (option_map said_of (client_of new id) ≡ option_map said_of (client_of old id)) ⊎ HasMost old id
+OnlyMost old new = (id : ℕ) → (option_map end_said_of (client_of new id) ≡ option_map end_said_of (client_of old id)) ⊎ HasMost old id
 
 -- how many bytes are held for all clients together
 abbrev pub held_by_all : Clients → ℕ

@@ -4,7 +4,7 @@ ghost use Rattle.std.specs.Prelude.{◌≡◌, ◌≢◌, ℕ, ◌↔◌, ◌∷
 ghost use Rattle.std.specs.Option.{option_map};
 ghost use Rattle.serve_wire.specs.Events.{admits, role};
 ghost use Rattle.serve_clients.specs.Marks.{client_of};
-ghost use Rattle.serve_clients.specs.Agrees.{said_of};
+ghost use Rattle.serve_clients.specs.Agrees.{end_said_of};
 ghost use Rattle.serve_proxy.specs.Ends.{AllGoOn, AllGoAccepted, AllGoOpened, MayAdmit};
 ghost use Rattle.serve_proxy.specs.Stillness.{MayAccept};
 
@@ -122,7 +122,7 @@ impl<W: Wire> Sockets<W> {
     // The client's end is one of the clients'. Whether it could be.
     fn insert_client(&mut self, id: usize, conn: usize) -> bool
         requires { role conn (W.history self.old.wire) ≡ None }
-        ensures begins { result ≡ true → option_map said_of (client_of self.new.clients id) ≡ Some (conn, [], [], false, false) }
+        ensures begins { result ≡ true → option_map end_said_of (client_of self.new.clients id) ≡ Some (conn, [], [], false, false) }
         ensures admitted { result ≡ true → W.history self.new.wire ≡ admits conn id ∷ W.history self.old.wire }
         ensures may { MayAdmit conn id (W.history self.old.wire) (W.history self.new.wire) }
         ensures others { (other : ℕ) → other ≢ id → client_of self.new.clients other ≡ client_of self.old.clients other }
@@ -139,7 +139,7 @@ impl<W: Wire> Sockets<W> {
 
     // The same of its end alone.
     fn insert_new(&mut self, id: usize, conn: usize) -> bool
-        ensures begins { result ≡ true → option_map said_of (client_of self.new.clients id) ≡ Some (conn, [], [], false, false) }
+        ensures begins { result ≡ true → option_map end_said_of (client_of self.new.clients id) ≡ Some (conn, [], [], false, false) }
         ensures others { (other : ℕ) → other ≢ id → client_of self.new.clients other ≡ client_of self.old.clients other }
         ensures rest { self.new ≡ record self.old { clients = self.new.clients } }
     {

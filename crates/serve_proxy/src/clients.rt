@@ -2,7 +2,7 @@
 
 ghost use Rattle.std.specs.Prelude.{◌≡◌, true, None, IfSome, sum, slice_set};
 ghost use Rattle.serve_wire.specs.Calls.{Closes};
-ghost use Rattle.serve_clients.specs.Agrees.{said_of};
+ghost use Rattle.serve_clients.specs.Agrees.{end_said_of};
 ghost use Rattle.serve_clients.specs.Marks.{client_of};
 ghost use Rattle.serve_clients.specs.Holdings.{MayGoOn};
 ghost use Rattle.serve_proxy.specs.Stalls.{HoldAlike};
@@ -51,7 +51,7 @@ fn may_go_on(client: &Client, share: usize, in_rounds: bool) -> bool
 
 // What its polls ended with, and whether more may be done for it where it has so large a share. In rounds all is read as it comes.
 fn note_rest(client: &mut Client, rest: Rest, share: usize, in_rounds: bool) -> bool
-    ensures said { said_of client.new ≡ said_of client.old }
+    ensures said { end_said_of client.new ≡ end_said_of client.old }
 {
     let is_left = rest == Rest::Full && client.is_broken && client.wants_more;
     client.wants_more = in_rounds || rest == Rest::Idle || rest == Rest::Waiting || is_left;

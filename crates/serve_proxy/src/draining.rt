@@ -1,7 +1,7 @@
 //! Clients go, once nothing of them is under way: for a proxy that is to end.
 
 ghost use Rattle.std.specs.Prelude.{◌≡◌, true, IfSome};
-ghost use Rattle.serve_clients.specs.Holdings.{IsQuiet};
+ghost use Rattle.serve_clients.specs.Holdings.{ClientIsQuiet};
 ghost use Rattle.serve_clients.specs.Marks.{client_of};
 ghost use Rattle.serve_proxy.specs.Ends.{Stay, AllGoOn};
 
@@ -38,7 +38,7 @@ impl<W: Wire> Sockets<W> {
     // Whether there is such a client, and nothing of it is under way, as far as its end shows.
     fn is_quiet(&mut self, id: usize) -> bool
         ensures ends { Stay W.history self.old self.new }
-        ensures quiet { result ≡ true → IfSome (client_of self.old.clients id) IsQuiet }
+        ensures quiet { result ≡ true → IfSome (client_of self.old.clients id) ClientIsQuiet }
     {
         match self.clients.get_mut(id) {
             Some(client) => client.is_quiet(),

@@ -2,7 +2,7 @@
 
 ghost use Rattle.std.specs.Prelude.{◌≡◌, ◌⊎◌, ℕ, true, IsSome};
 ghost use Rattle.serve_wire.specs.Events.{time};
-ghost use Rattle.serve_links.specs.Lateness.{HasLateAt, AllLetStoresWait, IsConnectLateAt, IsReadAt};
+ghost use Rattle.serve_links.specs.Lateness.{HasLateAt, AllLetStoresWait, IsConnectLateAt, LinkIsRead};
 ghost use Rattle.serve_links.specs.Links.{IsDownAt, IsClosedAt};
 ghost use Rattle.serve_links.specs.Talks.{Apart, Ending};
 ghost use Rattle.serve_proxy.specs.Ends.{idle_cause, AwaitsNothing, GoAlone, GoAloneUnless, LineStands, AllFailOn, AllGiveUp, AllLeave, AllGoOn};
@@ -104,7 +104,7 @@ fn fail_if_late<W: Wire>(core: &mut ServedCore, sockets: &mut Sockets<W>, at: us
 
 // What the link has waited for has taken too long.
 fn fail_by<W: Wire>(core: &mut ServedCore, sockets: &mut Sockets<W>, at: usize, late: Lateness)
-    requires read { IsReadAt at (time (W.history sockets.old.wire)) sockets.old.links.all.items }
+    requires read { LinkIsRead at (time (W.history sockets.old.wire)) sockets.old.links.all.items }
     ensures ends { AllFailOn W.history core.old sockets.old core.new sockets.new }
 {
     match late {
@@ -116,7 +116,7 @@ fn fail_by<W: Wire>(core: &mut ServedCore, sockets: &mut Sockets<W>, at: usize, 
 
 // The link's late answers didn't come for too long, or not that to a store, or not the end of its connection: that is kept no longer.
 fn give_up<W: Wire>(core: &mut ServedCore, sockets: &mut Sockets<W>, at: usize)
-    requires read { IsReadAt at (time (W.history sockets.old.wire)) sockets.old.links.all.items }
+    requires read { LinkIsRead at (time (W.history sockets.old.wire)) sockets.old.links.all.items }
     ensures ends { AllFailOn W.history core.old sockets.old core.new sockets.new }
 {
     sockets.stop_draining(at);
@@ -128,7 +128,7 @@ fn give_up<W: Wire>(core: &mut ServedCore, sockets: &mut Sockets<W>, at: usize)
 
 // If the link's connection has taken too long to stand, by what the clock showed last, it is given up.
 fn fail_unconnected<W: Wire>(core: &mut ServedCore, sockets: &mut Sockets<W>, at: usize)
-    requires read { IsReadAt at (time (W.history sockets.old.wire)) sockets.old.links.all.items }
+    requires read { LinkIsRead at (time (W.history sockets.old.wire)) sockets.old.links.all.items }
     ensures ends { AllFailOn W.history core.old sockets.old core.new sockets.new }
     ensures late { IsConnectLateAt at (time (W.history sockets.old.wire)) sockets.old.links.all.items ⊎ ((sockets.new ≡ sockets.old) × (core.new ≡ core.old)) }
 {
@@ -142,7 +142,7 @@ fn fail_unconnected<W: Wire>(core: &mut ServedCore, sockets: &mut Sockets<W>, at
 // The link's calls have all failed, but stores and those behind them where stores are awaited however long they take. Those that are out keep their
 // places, so that their answers meet no other calls; until these have come, further calls fail at once.
 fn fail_calls<W: Wire>(core: &mut ServedCore, sockets: &mut Sockets<W>, at: usize)
-    requires read { IsReadAt at (time (W.history sockets.old.wire)) sockets.old.links.all.items }
+    requires read { LinkIsRead at (time (W.history sockets.old.wire)) sockets.old.links.all.items }
     ensures ends { AllFailOn W.history core.old sockets.old core.new sockets.new }
 {
     fail_sent(core, sockets, at);
@@ -151,7 +151,7 @@ fn fail_calls<W: Wire>(core: &mut ServedCore, sockets: &mut Sockets<W>, at: usiz
 
 // If one of those that are out is late by what the clock showed last, they have.
 fn fail_sent<W: Wire>(core: &mut ServedCore, sockets: &mut Sockets<W>, at: usize)
-    requires read { IsReadAt at (time (W.history sockets.old.wire)) sockets.old.links.all.items }
+    requires read { LinkIsRead at (time (W.history sockets.old.wire)) sockets.old.links.all.items }
     ensures ends { AllFailOn W.history core.old sockets.old core.new sockets.new }
     ensures late { HasLateAt at (time (W.history sockets.old.wire)) sockets.old.links.all.items ⊎ (core.new ≡ core.old) }
     ensures stores { AllLetStoresWait sockets.old.links.all.items sockets.new.links.all.items }
@@ -306,7 +306,7 @@ impl<W: Wire> Sockets<W> {
 
     // What the link has waited for too long by what the clock showed last. Then all that had come over it was read.
     fn lateness(&self, at: usize) -> Option<Lateness>
-        ensures read { IsSome result → IsReadAt at (time (W.history self.now.wire)) self.now.links.all.items }
+        ensures read { IsSome result → LinkIsRead at (time (W.history self.now.wire)) self.now.links.all.items }
     {
         self.links.lateness(at, self.wire.last_millis())
     }

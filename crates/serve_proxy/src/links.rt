@@ -5,15 +5,15 @@ ghost use Rattle.std.specs.Prelude.{◌≡◌, ◌↔◌, Bool, true, false, Non
 ghost use Rattle.serve_links.specs.declared.settings.LinkLimits.{LinkLimits};
 ghost use Rattle.serve_links.specs.declared.link.Link.{Link};
 ghost use Rattle.serve_clients.specs.declared.clients.Clients.{Clients};
-ghost use Rattle.serve_links.specs.Lateness.{IsConnectLateAt, IsReadAt};
+ghost use Rattle.serve_links.specs.Lateness.{IsConnectLateAt, LinkIsRead};
 ghost use Rattle.serve_links.specs.Links.{calls_out};
 ghost use Rattle.serve_links.specs.Epochs.{IsQuiet};
 ghost use Rattle.route_json.specs.ServerNames.{is_over};
-ghost use Rattle.serve_proxy.specs.Epochs.{share_address, HaveEnded, IsInTurn, AreInTurn, Retires};
+ghost use Rattle.serve_proxy.specs.Epochs.{share_address, HaveEnded, EpochIsInTurn, EpochsAreInTurn, Retires};
 ghost use Rattle.serve_proxy.specs.Emptying.{AddsEach, EmptiesAt};
 ghost use Rattle.serve_proxy.specs.Limiting.{LimitsAt};
 ghost use Rattle.serve_links.specs.Story.{line_of, texts_of};
-ghost use Rattle.serve_proxy.specs.Ends.{lines_of, LinksTake, LinksGive, LineStands, LineTakes, HoldsAwaited, HoldsAwaitedAt, IsOpenAt, AsksIn, AwaitsLateAt, AwaitsNoneAt, EndsGo, AddsLines, with_limits};
+ghost use Rattle.serve_proxy.specs.Ends.{link_lines, LinksTake, LinksGive, LineStands, LineTakes, HoldsAwaited, HoldsAwaitedAt, IsOpenAt, AsksIn, AwaitsLateAt, AwaitsNoneAt, EndsGo, AddsLines, with_limits};
 
 use crate::clock::earlier;
 use crate::texts::{is_over, share_address, text_at};
@@ -200,7 +200,7 @@ impl Links {
 
     /// The clock shows this.
     pub fn look(&mut self, time: u64)
-        ensures lines { lines_of self.new.all.items ≡ lines_of self.old.all.items }
+        ensures lines { link_lines self.new.all.items ≡ link_lines self.old.all.items }
     {
         let passed = time.saturating_sub(self.looked);
         self.looked = time;
@@ -245,7 +245,7 @@ impl Links {
     /// The server of this number is emptied before its first call.
     pub fn empty_first(&mut self, at: usize)
         ensures emptied { EmptiesAt at self.old.all.items self.new.all.items }
-        ensures lines { lines_of self.new.all.items ≡ lines_of self.old.all.items }
+        ensures lines { link_lines self.new.all.items ≡ link_lines self.old.all.items }
     {
         if let Some(link) = self.all.get_mut(at) {
             link.empty_first();
@@ -281,7 +281,7 @@ impl Links {
     // Calls of this server fail at once from now on, or they do no longer.
     fn retire(&mut self, at: usize, is_retired: bool)
         ensures retired { Retires at is_retired self.old.all.items self.new.all.items }
-        ensures lines { lines_of self.new.all.items ≡ lines_of self.old.all.items }
+        ensures lines { link_lines self.new.all.items ≡ link_lines self.old.all.items }
     {
         if let Some(link) = self.all.get_mut(at) {
             link.retire(is_retired);
@@ -331,9 +331,9 @@ impl Links {
 
     // Calls of this server go out where they may, and fail at once where they may not.
     fn keep_epoch(&mut self, servers: &Servers, at: usize)
-        ensures turn { IsInTurn servers.now self.new.all.items at }
+        ensures turn { EpochIsInTurn servers.now self.new.all.items at }
         ensures retired { (retired : Bool) × Retires at retired self.old.all.items self.new.all.items }
-        ensures lines { lines_of self.new.all.items ≡ lines_of self.old.all.items }
+        ensures lines { link_lines self.new.all.items ≡ link_lines self.old.all.items }
     {
         let is_in_turn = self.is_in_turn(servers, at);
         self.retire(at, !is_in_turn);
@@ -342,8 +342,8 @@ impl Links {
     /// Where servers have epochs: calls go to each while no later one has its address, once earlier ones there have no calls any more; all others fail at once. Whether none is
     /// waited for.
     pub fn keep_epochs(&mut self, servers: &Servers) -> bool
-        ensures turns { AreInTurn servers.now self.new.all.items }
-        ensures lines { lines_of self.new.all.items ≡ lines_of self.old.all.items }
+        ensures turns { EpochsAreInTurn servers.now self.new.all.items }
+        ensures lines { link_lines self.new.all.items ≡ link_lines self.old.all.items }
     {
         if !servers.have_epochs() {
             return true;
@@ -373,7 +373,7 @@ impl Links {
 
     /// What the system told of a link.
     pub fn note(&mut self, at: usize, told: Ready)
-        ensures lines { lines_of self.new.all.items ≡ lines_of self.old.all.items }
+        ensures lines { link_lines self.new.all.items ≡ link_lines self.old.all.items }
     {
         let Some(link) = self.all.get_mut(at) else {
             return;
@@ -387,7 +387,7 @@ impl Links {
 
     /// Its connection stands, where that is news.
     pub fn note_news(&mut self, at: usize, is_news: bool)
-        ensures lines { lines_of self.new.all.items ≡ lines_of self.old.all.items }
+        ensures lines { link_lines self.new.all.items ≡ link_lines self.old.all.items }
     {
         if is_news {
             self.has_stood(at);
@@ -396,7 +396,7 @@ impl Links {
 
     // It is to be read and written, where that was told.
     fn mark_told(&mut self, at: usize, told: Ready)
-        ensures lines { lines_of self.new.all.items ≡ lines_of self.old.all.items }
+        ensures lines { link_lines self.new.all.items ≡ link_lines self.old.all.items }
     {
         if told.reads {
             self.mark_ready(at);
@@ -408,7 +408,7 @@ impl Links {
 
     /// It is to be read.
     pub fn mark_ready(&mut self, at: usize)
-        ensures lines { lines_of self.new.all.items ≡ lines_of self.old.all.items }
+        ensures lines { link_lines self.new.all.items ≡ link_lines self.old.all.items }
     {
         if let Some(link) = self.all.get_mut(at) {
             if !link.is_ready {
@@ -420,7 +420,7 @@ impl Links {
 
     /// It stands no longer among those that are ready.
     pub fn end_ready(&mut self, at: usize)
-        ensures lines { lines_of self.new.all.items ≡ lines_of self.old.all.items }
+        ensures lines { link_lines self.new.all.items ≡ link_lines self.old.all.items }
     {
         if let Some(link) = self.all.get_mut(at) {
             link.is_ready = false;
@@ -429,7 +429,7 @@ impl Links {
 
     /// It has something to send.
     pub fn mark_output(&mut self, at: usize)
-        ensures lines { lines_of self.new.all.items ≡ lines_of self.old.all.items }
+        ensures lines { link_lines self.new.all.items ≡ link_lines self.old.all.items }
     {
         if let Some(link) = self.all.get_mut(at) {
             if !link.has_output {
@@ -441,7 +441,7 @@ impl Links {
 
     /// Where one may be missing in a list, all that are marked are listed anew, as far as memory is there for that.
     pub fn list_again(&mut self)
-        ensures lines { lines_of self.new.all.items ≡ lines_of self.old.all.items }
+        ensures lines { link_lines self.new.all.items ≡ link_lines self.old.all.items }
     {
         if !self.is_short {
             return;
@@ -472,7 +472,7 @@ impl Links {
 
     /// It stands no longer among those that have something to send.
     pub fn end_output(&mut self, at: usize)
-        ensures lines { lines_of self.new.all.items ≡ lines_of self.old.all.items }
+        ensures lines { link_lines self.new.all.items ≡ link_lines self.old.all.items }
     {
         if let Some(link) = self.all.get_mut(at) {
             link.has_output = false;
@@ -489,7 +489,7 @@ impl Links {
 
     /// It is to be read again, where that may give more.
     pub fn mark_rest(&mut self, at: usize)
-        ensures lines { lines_of self.new.all.items ≡ lines_of self.old.all.items }
+        ensures lines { link_lines self.new.all.items ≡ link_lines self.old.all.items }
     {
         if self.may_have_more(at) {
             self.mark_ready(at);
@@ -498,7 +498,7 @@ impl Links {
 
     /// The link's connection stands, which is news.
     pub fn has_stood(&mut self, at: usize)
-        ensures lines { lines_of self.new.all.items ≡ lines_of self.old.all.items }
+        ensures lines { link_lines self.new.all.items ≡ link_lines self.old.all.items }
     {
         self.has_news = true;
         self.note_limit(at);
@@ -507,7 +507,7 @@ impl Links {
     /// The system is asked by now whether the link's connection stands, though it told of nothing: whether it does, which is news, and it is to
     /// be read and written. Where it stood before, it is to be read at once.
     pub fn look_again<W: Wire>(&mut self, wire: &W, at: usize, now: u64) -> bool
-        ensures lines { lines_of self.new.all.items ≡ lines_of self.old.all.items }
+        ensures lines { link_lines self.new.all.items ≡ link_lines self.old.all.items }
     {
         let Some(link) = self.all.get_mut(at) else {
             return false;
@@ -577,7 +577,7 @@ impl Links {
     /// The call waits until its server takes more, or is given back.
     pub fn let_wait(&mut self, at: usize, call: SentCall) -> Result<(), SentCall>
         ensures ok { OnOk result (LinksTake at call self.old.all.items self.new.all.items) }
-        ensures err { IfErr result (λ given. (given ≡ call) × (lines_of self.new.all.items ≡ lines_of self.old.all.items)) }
+        ensures err { IfErr result (λ given. (given ≡ call) × (link_lines self.new.all.items ≡ link_lines self.old.all.items)) }
     {
         match self.all.get_mut(at) {
             Some(link) => link.let_wait(call),
@@ -595,7 +595,7 @@ impl Links {
 
     /// Of the calls that wait for it the first that may go out.
     pub fn next_waiting(&mut self, at: usize, clients: &serve_clients::Clients) -> Option<SentCall>
-        ensures call { MatchOption result (lines_of self.new.all.items ≡ lines_of self.old.all.items) (λ call. LinksGive at call self.old.all.items self.new.all.items) }
+        ensures call { MatchOption result (link_lines self.new.all.items ≡ link_lines self.old.all.items) (λ call. LinksGive at call self.old.all.items self.new.all.items) }
     {
         let places = self.settings.places;
         self.all.get_mut(at)?.next_to_go(places, clients)
@@ -603,7 +603,7 @@ impl Links {
 
     /// The first of the calls that wait for it, if that has waited too long to go out, or none goes out for now.
     pub fn next_too_late(&mut self, at: usize) -> Option<SentCall>
-        ensures call { MatchOption result (lines_of self.new.all.items ≡ lines_of self.old.all.items) (λ call. LinksGive at call self.old.all.items self.new.all.items) }
+        ensures call { MatchOption result (link_lines self.new.all.items ≡ link_lines self.old.all.items) (λ call. LinksGive at call self.old.all.items self.new.all.items) }
     {
         let pace = self.pace;
         self.all.get_mut(at)?.next_too_late(pace)
@@ -613,7 +613,7 @@ impl Links {
     pub fn write_call(&mut self, at: usize, call: SentCall, now: u64) -> Result<(), SentCall>
         ensures ok { OnOk result (LinksTake at call self.old.all.items self.new.all.items) }
         ensures awaited { OnOk result (HoldsAwaitedAt at self.old.all.items) }
-        ensures err { IfErr result (λ given. (given ≡ call) × (lines_of self.new.all.items ≡ lines_of self.old.all.items)) }
+        ensures err { IfErr result (λ given. (given ≡ call) × (link_lines self.new.all.items ≡ link_lines self.old.all.items)) }
     {
         match self.all.get_mut(at) {
             Some(link) => write_to(link, call, now),
@@ -652,7 +652,7 @@ impl Links {
 
     /// What the link has waited for too long by now. It isn't late before all that has come over it by now was read.
     pub fn lateness(&self, at: usize, now: u64) -> Option<Lateness>
-        ensures read { IsSome result → IsReadAt at now self.now.all.items }
+        ensures read { IsSome result → LinkIsRead at now self.now.all.items }
     {
         match self.all.get(at) {
             Some(link) => link.lateness(now, &self.settings),
@@ -663,7 +663,7 @@ impl Links {
     /// The link may be late before the others, by what happened to it: it was opened, or stands, or calls went out.
     pub fn note_limit(&mut self, at: usize)
         ensures all { self.new.all ≡ self.old.all }
-        ensures lines { lines_of self.new.all.items ≡ lines_of self.old.all.items }
+        ensures lines { link_lines self.new.all.items ≡ link_lines self.old.all.items }
     {
         if let Some(link) = self.all.get(at) {
             self.late_from = earlier(self.late_from, limit_of(link, &self.settings));
@@ -680,7 +680,7 @@ impl Links {
 
     /// All were looked at: none is late before the first of them is.
     pub fn note_limits(&mut self)
-        ensures lines { lines_of self.new.all.items ≡ lines_of self.old.all.items }
+        ensures lines { link_lines self.new.all.items ≡ link_lines self.old.all.items }
     {
         let mut first = None;
         for link in self.all.as_slice() {
@@ -708,7 +708,7 @@ impl Links {
 
     /// What happened to a link, and its server's number, if that may be told by now.
     pub fn next_news(&mut self, time: u64) -> Option<(usize, LinkNews)>
-        ensures lines { lines_of self.new.all.items ≡ lines_of self.old.all.items }
+        ensures lines { link_lines self.new.all.items ≡ link_lines self.old.all.items }
     {
         if !self.has_news {
             return None;
@@ -724,14 +724,14 @@ impl Links {
 
     // What happened to this link, if that may be told by now.
     fn take_news(&mut self, at: usize, time: u64) -> Option<LinkNews>
-        ensures lines { lines_of self.new.all.items ≡ lines_of self.old.all.items }
+        ensures lines { link_lines self.new.all.items ≡ link_lines self.old.all.items }
     {
         self.all.get_mut(at)?.take_news(time)
     }
 
     /// They give back the room that they don't need now. Whether one has much that it needs.
     pub fn give_back(&mut self) -> bool
-        ensures lines { lines_of self.new.all.items ≡ lines_of self.old.all.items }
+        ensures lines { link_lines self.new.all.items ≡ link_lines self.old.all.items }
     {
         let mut has_room = false;
         for at in 0..self.all.len() {
@@ -742,7 +742,7 @@ impl Links {
 
     // One of them does.
     fn give_back_at(&mut self, at: usize) -> bool
-        ensures lines { lines_of self.new.all.items ≡ lines_of self.old.all.items }
+        ensures lines { link_lines self.new.all.items ≡ link_lines self.old.all.items }
     {
         match self.all.get_mut(at) {
             Some(link) => give_back_line(link, self.alloc),

@@ -16,7 +16,7 @@ ghost use Rattle.serve_proxy.specs.Stillness.{IsStill};
 ghost use Rattle.serve_proxy.specs.Beginning.{BeginsFresh, BeginsUnchecked, LoadStops};
 ghost use Rattle.serve_proxy.specs.Emptying.{EmptiesAt};
 ghost use Rattle.serve_proxy.specs.Limiting.{LimitsAt};
-ghost use Rattle.serve_proxy.specs.Epochs.{AreInTurn};
+ghost use Rattle.serve_proxy.specs.Epochs.{EpochsAreInTurn};
 
 use crate::accepting::accept_ready;
 use crate::answers::read_links;
@@ -215,7 +215,7 @@ impl<W: Wire> ProxyEnd<W> {
     /// Where servers have epochs: calls go to a server while no later one has its address, and once the earlier ones there have no calls any more; all others fail at once.
     /// Whether none is waited for. It is asked after a load, and after each turn until it says so.
     pub fn keep_epochs(&mut self, servers: &Servers) -> bool
-        ensures turns { AreInTurn servers.now self.new.sockets.links.all.items }
+        ensures turns { EpochsAreInTurn servers.now self.new.sockets.links.all.items }
         ensures core { self.new.core ≡ self.old.core }
         ensures ends { Stay W.history self.old.sockets self.new.sockets }
     {

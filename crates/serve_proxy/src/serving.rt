@@ -5,7 +5,7 @@ ghost use Rattle.wire_parts.specs.Sending.{bytes_of};
 ghost use Rattle.serve_wire.specs.Events.{Event};
 ghost use Rattle.core_accepted.specs.declared.served.ServedCore.{ServedCore};
 ghost use Rattle.serve_links.specs.CoreSteps.{IsOfTurn, Broke};
-ghost use Rattle.serve_clients.specs.Agrees.{said_of, KeepsEnds};
+ghost use Rattle.serve_clients.specs.Agrees.{end_said_of, KeepsEnds};
 ghost use Rattle.serve_links.specs.Story.{OneGoes};
 ghost use Rattle.serve_proxy.specs.Ends.{Stay, AllGoOn, AllClose, AllGiven, OneGives, IsClosing, IsAllSent, IsAllSentTo};
 
@@ -161,7 +161,7 @@ fn feed_end(core: &mut ServedCore, id: usize, client: &mut Client, rooms: &mut R
 
 // Of so many bytes that its end held the core was given those that it holds no more.
 fn note_fed(client: &mut Client, before: usize)
-    ensures said { said_of client.new ≡ said_of client.old }
+    ensures said { end_said_of client.new ≡ end_said_of client.old }
 {
     let fed = before.saturating_sub(client.conn.held.len());
     if fed > 0 {

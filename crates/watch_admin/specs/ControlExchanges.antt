@@ -5,8 +5,8 @@ use Rattle.watch_admin.specs.declared.control.exchange.Exchange.{Exchange}
 use Rattle.watch_admin.specs.declared.control.exchange.Exchange.TheVariants.{Asking, Asked, Owed, Answering}
 
 -- it stands there by these bytes, which it has sent: they hold no line yet, or it waits for what their first line asks for; one that is too long asks for nothing
-abbrev pub Stands : List ℕ → Exchange → Type 0
-Stands came (Asking held) = (held.items ≡ came) × IsOpen came
-Stands came (Asked text) = ((end used : ℕ) × TakesLine came end used × (text.items ≡ take end came)) ⊎ (IsTooLong came × (text.items ≡ []))
-Stands came Owed = ⊥
-Stands came (Answering answering) = ⊥
+abbrev pub ExchangeStands : List ℕ → Exchange → Type 0
+ExchangeStands came (Asking held) = (held.items ≡ came) × IsOpen came
+ExchangeStands came (Asked text) = ((end used : ℕ) × TakesLine came end used × (text.items ≡ take end came)) ⊎ (IsTooLong came × (text.items ≡ []))
+ExchangeStands came Owed = ⊥
+ExchangeStands came (Answering answering) = ⊥

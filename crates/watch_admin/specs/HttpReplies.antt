@@ -5,7 +5,7 @@ use Rattle.watch_admin.specs.declared.http.request.Page.TheVariants.{Home, Confi
 use Rattle.watch_admin.specs.declared.http.request.Refusal.{Refusal}
 use Rattle.watch_admin.specs.declared.http.request.Refusal.TheVariants.{Bad, NotFound, NotAllowed, TooLarge}
 use Rattle.watch_admin.specs.declared.http.request.AskedPage.TheVariants.{For, Refused}
-use Rattle.watch_admin.specs.HttpRequests.{Asks}
+use Rattle.watch_admin.specs.HttpRequests.{AsksPage}
 
 abbrev pub kind_of : Page → List ℕ
 kind_of Home = codes "text/html; charset=utf-8"
@@ -13,11 +13,11 @@ kind_of Config = codes "application/json"
 kind_of Metrics = codes "text/plain; version=0.0.4; charset=utf-8"
 kind_of Stats = codes "application/json"
 
-abbrev pub words_of : Refusal → List ℕ
-words_of Bad = codes "400 Bad Request"
-words_of NotFound = codes "404 Not Found"
-words_of NotAllowed = codes "405 Method Not Allowed"
-words_of TooLarge = codes "431 Request Header Fields Too Large"
+abbrev pub refusal_words : Refusal → List ℕ
+refusal_words Bad = codes "400 Bad Request"
+refusal_words NotFound = codes "404 Not Found"
+refusal_words NotAllowed = codes "405 Method Not Allowed"
+refusal_words TooLarge = codes "431 Request Header Fields Too Large"
 
 -- only a refused method has a field of its own: which one is allowed
 abbrev pub field_of : Refusal → List ℕ
@@ -53,14 +53,14 @@ abbrev pub page_text : Page → List ℕ → List ℕ
 page_text page body = answer_text (codes "200 OK") [] (kind_of page) body
 
 -- the body is the status
-abbrev pub refusal_text : Refusal → List ℕ
-refusal_text refusal = answer_text (words_of refusal) (field_of refusal) (codes "text/plain") (words_of refusal)
+abbrev pub http_refusal_text : Refusal → List ℕ
+http_refusal_text refusal = answer_text (refusal_words refusal) (field_of refusal) (codes "text/plain") (refusal_words refusal)
 
 abbrev pub PageAnswers : List ℕ → List ℕ → Type 0
-PageAnswers came answer = (page : Page) × (body : List ℕ) × Asks came (For page) × (answer ≡ page_text page body)
+PageAnswers came answer = (page : Page) × (body : List ℕ) × AsksPage came (For page) × (answer ≡ page_text page body)
 
 abbrev pub RefusalAnswers : List ℕ → List ℕ → Type 0
-RefusalAnswers came answer = (refusal : Refusal) × Asks came (Refused refusal) × (answer ≡ refusal_text refusal)
+RefusalAnswers came answer = (refusal : Refusal) × AsksPage came (Refused refusal) × (answer ≡ http_refusal_text refusal)
 
 -- to these bytes of a client this answers: the page that they ask for, with some body, or why there is none
 abbrev pub Answers : List ℕ → List ℕ → Type 0

@@ -29,10 +29,10 @@ abbrev pub BeginAsking : List ℕ → AskedPage → Type 0
 BeginAsking bytes asked = (head : RequestHead) × (rest : List ℕ) × ReadsRequest bytes head rest × AsksBy head.method head.target asked
 
 -- the bytes ask for this: with less than 8 KiB of a head that isn't whole for nothing yet; a head with more than 64 fields is too large
-abbrev pub Asks : List ℕ → AskedPage → Type 0
-Asks bytes Unfinished = HasNoRequest bytes × (length bytes < 8192)
-Asks bytes (For page) = BeginAsking bytes (For page)
-Asks bytes (Refused Bad) = NeverHasRequest bytes
-Asks bytes (Refused NotFound) = BeginAsking bytes (Refused NotFound)
-Asks bytes (Refused NotAllowed) = BeginAsking bytes (Refused NotAllowed)
-Asks bytes (Refused TooLarge) = RequestExceeds 64 bytes ⊎ (HasNoRequest bytes × (8192 ≤ length bytes))
+abbrev pub AsksPage : List ℕ → AskedPage → Type 0
+AsksPage bytes Unfinished = HasNoRequest bytes × (length bytes < 8192)
+AsksPage bytes (For page) = BeginAsking bytes (For page)
+AsksPage bytes (Refused Bad) = NeverHasRequest bytes
+AsksPage bytes (Refused NotFound) = BeginAsking bytes (Refused NotFound)
+AsksPage bytes (Refused NotAllowed) = BeginAsking bytes (Refused NotAllowed)
+AsksPage bytes (Refused TooLarge) = RequestExceeds 64 bytes ⊎ (HasNoRequest bytes × (8192 ≤ length bytes))

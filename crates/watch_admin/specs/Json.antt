@@ -8,11 +8,11 @@ use Rattle.watch_admin.specs.declared.families.Spread.{Spread}
 use Rattle.watch_admin.specs.declared.families.Samples.TheVariants.{One, Each, Times}
 use Rattle.watch_admin.specs.declared.families.Family.{Family}
 use Rattle.watch_admin.specs.Families.{amount_text}
-use Rattle.watch_admin.specs.Quoted.{quoted}
+use Rattle.watch_admin.specs.Quoted.{json_quoted}
 
 -- "NAME":"VALUE",
 abbrev pub label_json : Label → List ℕ
-label_json label = quoted label.name.now ++ codes ":" ++ quoted (string_bytes label.value) ++ codes ","
+label_json label = json_quoted label.name.now ++ codes ":" ++ json_quoted (string_bytes label.value) ++ codes ","
 
 abbrev pub labels_json : List Label → List ℕ
 labels_json labels = flat_map label_json labels
@@ -51,7 +51,7 @@ samples_json (Times spread) = spread_json spread
 
 -- "NAME":NUMBERS
 abbrev pub family_json : Family → List ℕ
-family_json family = quoted family.name.now ++ codes ":" ++ samples_json family.samples
+family_json family = json_quoted family.name.now ++ codes ":" ++ samples_json family.samples
 
 abbrev pub next_family_json : Family → List ℕ
 next_family_json family = codes ",\n" ++ family_json family

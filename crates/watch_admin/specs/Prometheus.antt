@@ -8,11 +8,11 @@ use Rattle.watch_admin.specs.declared.families.Spread.{Spread}
 use Rattle.watch_admin.specs.declared.families.Samples.TheVariants.{One, Each, Times}
 use Rattle.watch_admin.specs.declared.families.Family.{Family}
 use Rattle.watch_admin.specs.Families.{amount_text, kind_text}
-use Rattle.watch_admin.specs.Quoted.{quoted}
+use Rattle.watch_admin.specs.Quoted.{json_quoted}
 
 -- NAME="VALUE"
 abbrev pub label_text : Label → List ℕ
-label_text label = label.name.now ++ codes "=" ++ quoted (string_bytes label.value)
+label_text label = label.name.now ++ codes "=" ++ json_quoted (string_bytes label.value)
 
 abbrev pub next_label_text : Label → List ℕ
 next_label_text label = codes "," ++ label_text label
@@ -37,15 +37,15 @@ abbrev pub each_text : List ℕ → List ℕ → List Sample → List ℕ
 each_text name part samples = flat_map (sample_text name part) samples
 
 -- NAME AMOUNT
-abbrev pub one_text : List ℕ → Amount → List ℕ
-one_text name amount = name ++ codes " " ++ amount_text amount ++ codes "\n"
+abbrev pub amount_line : List ℕ → Amount → List ℕ
+amount_line name amount = name ++ codes " " ++ amount_text amount ++ codes "\n"
 
 abbrev pub spread_text : List ℕ → Spread → List ℕ
 spread_text name spread =
     each_text name (codes "_bucket") spread.buckets.items ++ each_text name (codes "_sum") spread.sums.items ++ each_text name (codes "_count") spread.counts.items
 
 abbrev pub samples_text : List ℕ → Samples → List ℕ
-samples_text name (One amount) = one_text name amount
+samples_text name (One amount) = amount_line name amount
 samples_text name (Each samples) = each_text name [] samples.items
 samples_text name (Times spread) = spread_text name spread
 

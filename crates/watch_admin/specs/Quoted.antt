@@ -2,16 +2,16 @@
 use Rattle.std.specs.Prelude.{ℕ, List, [], ◌∷◌, ◌++◌, ◌&&◌, ◌==◌, if◌then◌else◌, nat_lt, codes, flat_map}
 
 -- a byte of the text
-abbrev pub quoted_byte : ℕ → List ℕ
-quoted_byte byte =
+abbrev pub json_quoted_byte : ℕ → List ℕ
+json_quoted_byte byte =
     if byte == 34 then codes "\\\""
     else if byte == 92 then codes "\\\\"
     else if nat_lt 31 byte && nat_lt byte 127 then byte ∷ []
     else codes "?"
 
 abbrev pub quoted_bytes : List ℕ → List ℕ
-quoted_bytes = flat_map quoted_byte
+quoted_bytes = flat_map json_quoted_byte
 
 -- the text, and the marks around it
-abbrev pub quoted : List ℕ → List ℕ
-quoted text = codes "\"" ++ quoted_bytes text ++ codes "\""
+abbrev pub json_quoted : List ℕ → List ℕ
+json_quoted text = codes "\"" ++ quoted_bytes text ++ codes "\""

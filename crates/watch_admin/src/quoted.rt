@@ -1,7 +1,7 @@
 //! A text within quotation marks.
 
 ghost use Rattle.std.specs.Prelude.{◌++◌, Some, codes};
-ghost use Rattle.watch_admin.specs.Quoted.{quoted_byte, quoted_bytes, quoted};
+ghost use Rattle.watch_admin.specs.Quoted.{json_quoted_byte, quoted_bytes, json_quoted};
 
 use std::fmt;
 use std::fmt::Display;
@@ -10,7 +10,7 @@ use std::fmt::Display;
 struct QuotedByte(u8);
 
 impl Display for QuotedByte {
-    ghost output = { λ b. Some (quoted_byte b.0) };
+    ghost output = { λ b. Some (json_quoted_byte b.0) };
 
     fn fmt<W: fmt::Write>(&self, f: &mut fmt::Formatter<W>) -> fmt::Result {
         let byte = self.0;
@@ -46,7 +46,7 @@ impl Display for QuotedBytes<'_> {
 pub struct Quoted<'a>(pub &'a str);
 
 impl Display for Quoted<'_> {
-    ghost output = { λ t. Some (quoted t.0.now) };
+    ghost output = { λ t. Some (json_quoted t.0.now) };
 
     fn fmt<W: fmt::Write>(&self, f: &mut fmt::Formatter<W>) -> fmt::Result {
         f.write_str("\"")?;

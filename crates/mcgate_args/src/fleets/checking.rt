@@ -3,7 +3,7 @@
 ghost use Rattle.std.specs.Prelude.{◌≡◌, ◌+◌, ◌++◌, ◌∷◌, ◌<◌, ◌^◌, [], IfErr, IfOk, OnOk, length};
 ghost use Rattle.std.specs.Io.KnownBytes.{Appends};
 ghost use Rattle.mcgate_check.specs.Checking.{StopsUnwritten};
-ghost use Rattle.mcgate_args.specs.Fleets.{AddsRead, AreRead, ChecksAlone, ChecksFleet, ChecksTogether, FindsRefused, IsToldFault, JudgesAlone, SaysFault, fault_line, name_at};
+ghost use Rattle.mcgate_args.specs.Fleets.{AddsRead, AreRead, ChecksAlone, ChecksFleet, ChecksTogether, FindsRefused, IsToldFault, JudgesAlone, SaysFault, fleet_fault_line, name_at};
 
 use crate::fleets::lines::{
     write_copying, write_fleet, write_many_files, write_many_places, write_pair_gap,
@@ -125,7 +125,7 @@ pub(super) fn write_fleet_fault<W: Write>(
     fault: &FleetFault,
     out: &mut W,
 ) -> io::Result<()>
-    ensures { OnOk result (Appends (W.contents out.old) (W.contents out.new) (fault_line files.now configs.now fault.now)) }
+    ensures { OnOk result (Appends (W.contents out.old) (W.contents out.new) (fleet_fault_line files.now configs.now fault.now)) }
 {
     match fault {
         FleetFault::Copies(index, prefix) => match configs.get(*index) {
@@ -160,7 +160,7 @@ fn print_fleet_fault<W: Write>(
     fault: &FleetFault,
     out: &mut W,
 ) -> Result<u8, RunFault>
-    ensures ok { IfOk result (λ status. (status ≡ 1) × IsToldFault fault.now × Appends (W.contents out.old) (W.contents out.new) (fault_line files.now configs.now fault.now)) }
+    ensures ok { IfOk result (λ status. (status ≡ 1) × IsToldFault fault.now × Appends (W.contents out.old) (W.contents out.new) (fleet_fault_line files.now configs.now fault.now)) }
     ensures err { IfErr result (StopsUnwritten (W.contents out.old) (W.contents out.new)) }
 {
     match fault {

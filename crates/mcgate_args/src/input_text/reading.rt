@@ -2,7 +2,7 @@
 
 ghost use Rattle.std.specs.Prelude.{◌≡◌, IfSome, string_bytes};
 ghost use Rattle.std.specs.IoError.{error_kind};
-ghost use Rattle.mcgate_args.specs.Input.{ReadsInput, IsFailure, input_fault_at};
+ghost use Rattle.mcgate_args.specs.Input.{ReadsInput, InputFails, input_fault_at};
 
 use std::alloc::Global;
 use std::io;
@@ -27,7 +27,7 @@ pub enum InputFault {
 /// What a device's error means for an input: memory was refused, where the error is of that kind, or else the device failed.
 pub fn fault_of(error: &io::Error) -> InputFault
     ensures kind { result ≡ input_fault_at (error_kind error.now) }
-    ensures failure { IsFailure result }
+    ensures failure { InputFails result }
 {
     match error.kind() {
         ErrorKind::OutOfMemory => InputFault::NoMemory,

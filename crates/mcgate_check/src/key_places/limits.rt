@@ -8,7 +8,7 @@ ghost use Rattle.serde_json.specs.Read.{read};
 ghost use Rattle.serde_json.specs.View.{view};
 ghost use Rattle.mcgate_check.specs.Checking.{IsNoOverrun};
 ghost use Rattle.mcgate_check.specs.LimitLines as spec;
-ghost use Rattle.mcgate_check.specs.LimitLines.{value_said, limit_word, limit_words, is_some_said, limits_line, limits_at, limits_line_of, limits_lines};
+ghost use Rattle.mcgate_check.specs.LimitLines.{limits_value, limit_word, limit_words, is_some_said, limits_line, limits_at, limits_line_of, limits_lines};
 
 use crate::RunFault;
 use crate::key_places::asking::add_asked;
@@ -27,7 +27,7 @@ use std::io::Write;
 /// The value of a configuration's text, which a configuration that was read doesn't keep; null where it is no JSON. The only error is
 /// running out of memory.
 pub fn value_of(alloc: Global, text: &str) -> Result<Value, AllocError>
-    ensures { IfOk result (λ value. view value ≡ value_said (read text.now)) }
+    ensures { IfOk result (λ value. view value ≡ limits_value (read text.now)) }
 {
     match Value::from_str(alloc, text) {
         Ok(value) => Ok(value),

@@ -7,7 +7,7 @@ ghost use Rattle.mcgate_check.specs.Checking.{IsNoOverrun};
 ghost use Rattle.gate_gaps.specs.Pools.{pools_in};
 ghost use Rattle.mcgate_check.specs.Blocks.{WritesBlocks};
 ghost use Rattle.mcgate_check.specs.Finding.{FindsAt, FindsKeys};
-ghost use Rattle.mcgate_check.specs.LimitLines.{value_said};
+ghost use Rattle.mcgate_check.specs.LimitLines.{limits_value};
 
 use crate::checking::print_fault;
 use crate::key_places::limits::value_of;
@@ -32,7 +32,7 @@ fn write_found<W: Write>(
     out: &mut W,
 ) -> Result<(), RunFault>
     requires { IsTable (config.now.tree ∷ []) table.now }
-    ensures ok { OnOk result (WritesBlocks config.now.servers (pools_in config.now.servers (read text.now)) (value_said (read text.now)) config.now.tree keys.now (W.contents out.old) (W.contents out.new)) }
+    ensures ok { OnOk result (WritesBlocks config.now.servers (pools_in config.now.servers (read text.now)) (limits_value (read text.now)) config.now.tree keys.now (W.contents out.old) (W.contents out.new)) }
     ensures err { IfErr result IsNoOverrun }
 {
     let pools = read_pools(alloc, text, config.servers())?;

@@ -8,7 +8,7 @@ ghost use Rattle.route_tree.specs.At.{tree_at};
 ghost use Rattle.mcgate_check.specs.Asking as spec;
 ghost use Rattle.gate_check.specs.Tables.{IsTable};
 ghost use Rattle.mcgate_check.specs.Checking.{IsNoOverrun};
-ghost use Rattle.mcgate_check.specs.Blocks.{key_line, named_text, servers_text, op_front, op_line, op_lines, plain_lines, WritesBlock, WritesBlocks};
+ghost use Rattle.mcgate_check.specs.Blocks.{key_line, pool_places_text, servers_text, op_front, op_line, op_lines, plain_lines, WritesBlock, WritesBlocks};
 
 use crate::RunFault;
 use crate::key_places::asking::add_asked;
@@ -44,7 +44,7 @@ fn write_named<W: Write>(
     server: ServerId,
     out: &mut W,
 ) -> io::Result<()>
-    ensures { OnOk result (Appends (W.contents out.old) (W.contents out.new) (named_text servers.now pools.now server)) }
+    ensures { OnOk result (Appends (W.contents out.old) (W.contents out.new) (pool_places_text servers.now pools.now server)) }
 {
     write!(out, " ")?;
     write_server(servers, pools, server, out)?;

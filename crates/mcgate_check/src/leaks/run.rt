@@ -11,7 +11,7 @@ ghost use Rattle.route_json.specs.declared.addresses.servers.TheConstants.{MAX_S
 ghost use Rattle.script_events.specs.Servers.{AreNewServers};
 ghost use Rattle.mcgate_check.specs.Tried.{IsFirstKeyTried};
 ghost use Rattle.mcgate_check.specs.Failing.{failures_of};
-ghost use Rattle.mcgate_check.specs.Refusals.{MayLack, IsShowing, IsRefusalRun, IsRealGap, IsAnswer};
+ghost use Rattle.mcgate_check.specs.Refusals.{MayLack, IsShowing, IsRefusalRun, IsRealGap, IsLeakAnswer};
 
 use crate::leaks::failures::{Failures, failures_at};
 use crate::leaks::keys::key_at;
@@ -123,7 +123,7 @@ fn run_over(
 ) -> Result<Option<Script>, AllocError>
     requires taking { IsTaking gap.now.op }
     requires first { IsFirstKeyTried config.now.tree gap.now.place key.now }
-    ensures { IfOk result (IsAnswer config.now gap.now) }
+    ensures { IfOk result (IsLeakAnswer config.now gap.now) }
 {
     let tree = config.tree();
     let _form = tree.form();
@@ -142,7 +142,7 @@ fn run_by(
 ) -> Result<Option<Script>, AllocError>
     requires table { IsTable (config.now.tree ∷ []) table.now }
     requires taking { IsTaking gap.now.op }
-    ensures { IfOk result (IsAnswer config.now gap.now) }
+    ensures { IfOk result (IsLeakAnswer config.now gap.now) }
 {
     match key_at(alloc, config.tree(), table, &gap.place)? {
         Some(key) => run_over(alloc, config, gap, &key),

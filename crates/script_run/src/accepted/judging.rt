@@ -1,7 +1,7 @@
 //! What the gate says to configurations that are loaded while a script runs.
 
 ghost use Rattle.std.specs.Prelude.{◌≡◌, IfOk, map};
-ghost use Rattle.script_run.specs.Reloads.{is_refused, loading_of};
+ghost use Rattle.script_run.specs.Reloads.{loading_is_refused, loading_of};
 
 use gate_check::ReloadFault;
 use std::alloc::{AllocError, Global};
@@ -26,7 +26,7 @@ pub struct Judged {
 
 // Whether the gate refused the configuration.
 fn is_refused(loading: &Loading) -> bool
-    ensures { result ≡ is_refused loading.now }
+    ensures { result ≡ loading_is_refused loading.now }
 {
     match loading {
         Loading::Loaded(_) => false,
@@ -36,7 +36,7 @@ fn is_refused(loading: &Loading) -> bool
 
 /// Which of the reloads the gate refused. The only error is running out of memory.
 pub fn refused_of(alloc: Global, loadings: &[Loading]) -> Result<Vec<bool>, AllocError>
-    ensures { IfOk result (λ refused. refused.items ≡ map is_refused loadings.now) }
+    ensures { IfOk result (λ refused. refused.items ≡ map loading_is_refused loadings.now) }
 {
     let mut refused = Vec::new(alloc);
     for loading in loadings {

@@ -35,13 +35,13 @@ fn stale_by(last: Option<u64>, shown: Option<u64>) -> u64
 }
 
 impl Counts {
-    ghost use Rattle.script_run.specs.Counting.{last_of, IsCounted};
+    ghost use Rattle.script_run.specs.Counting.{last_delete_of, IsCounted};
 
     /// No command ended.
     pub fn new(alloc: Global) -> Counts
         ensures commands { result.tally.commands ≡ 0 }
         ensures stale { result.tally.stale ≡ 0 }
-        ensures last { (key : List ℕ) → last_of result key ≡ None }
+        ensures last { (key : List ℕ) → last_delete_of result key ≡ None }
     {
         Counts {
             tally: Tally {
@@ -80,7 +80,7 @@ impl Counts {
 
     // The delete of this number and key was acknowledged.
     fn note(&mut self, key: &Key, number: u64) -> Result<(), AllocError>
-        ensures last { OnOk result ((k : List ℕ) → last_of self.new k ≡ (if bytes_eq key.now k then Some number else last_of self.old k)) }
+        ensures last { OnOk result ((k : List ℕ) → last_delete_of self.new k ≡ (if bytes_eq key.now k then Some number else last_delete_of self.old k)) }
         ensures rest { self.new ≡ record self.old { gone = self.new.gone } }
     {
         match self.gone.insert(*key, number) {

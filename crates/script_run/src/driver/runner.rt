@@ -9,7 +9,7 @@ ghost use Rattle.core_proxy.specs.Polls.{Polls};
 ghost use Rattle.core_commands.specs.declared.sharing.Sharing.TheVariants.{Alone};
 ghost use Rattle.script_events.specs.Servers.{count_of, turn_of, Answers};
 ghost use Rattle.script_run.specs.Laws.{stamp_shown, CountsPoll, CountsOne, IsBegin};
-ghost use Rattle.script_run.specs.Standing.{calls_at};
+ghost use Rattle.script_run.specs.Standing.{log_calls_at};
 ghost use Rattle.script_run.specs.Breaking.{fleet_fault_of, AreGivenAll};
 ghost use Rattle.script_run.specs.Finding.{found_of};
 ghost use Rattle.script_run.specs.Progressing.{both_gave};
@@ -135,8 +135,8 @@ fn lesser(one: Option<ServerId>, other: ServerId) -> ServerId
 }
 
 impl Runner {
-    ghost use Rattle.script_run.specs.Running.{kept_of, Moves, Stays, MovesByOne, MovesAt, MovesFed, MovesFedAtOnce, MovesGiven, IsLoadedBy, AreIdle, AreStalled, KeepStalled, IsAtRest, AreAskedYet};
-    ghost use Rattle.script_run.specs.Progressing.{TakesSo, LeavesSo, AreStill};
+    ghost use Rattle.script_run.specs.Running.{kept_of, Moves, Stays, MovesByOne, MovesAt, MovesFed, MovesFedAtOnce, MovesGiven, IsLoadedBy, AllAreIdle, AreStalled, KeepStalled, IsAtRest, AreAskedYet};
+    ghost use Rattle.script_run.specs.Progressing.{TakesSo, LeavesSo, LeavesAllStill};
     ghost use Rattle.script_run.specs.Breaking.{IsLastBegun, StopsAt, StopsFed, StopsGiving, StopsAfter};
     ghost use Rattle.script_run.specs.Turns.{TakesFirst, MovesInTurn};
 
@@ -301,7 +301,7 @@ impl Runner {
     fn poll_round(&mut self) -> Result<Progress, FleetFault>
         ensures moves { OnOk result ((servers : ScriptServers) → Moves self.old servers self.new servers) }
         ensures clients { OnOk result (self.new.clients ≡ self.old.clients) }
-        ensures still { IfOk result (λ progress. AreStill progress self.new) }
+        ensures still { IfOk result (λ progress. LeavesAllStill progress self.new) }
         ensures err { IfErr result (λ fault. StopsAt self.old fault) }
     {
         let mut progress = Progress::Idle;
@@ -318,7 +318,7 @@ impl Runner {
         ensures moves { OnOk result ((servers : ScriptServers) → Moves self.old servers self.new servers) }
         ensures clients { OnOk result (self.new.clients ≡ self.old.clients) }
         ensures stalled { OnOk result (AreStalled self.new) }
-        ensures idle { IfOk result (λ idle. IsTrue idle → AreIdle self.new) }
+        ensures idle { IfOk result (λ idle. IsTrue idle → AllAreIdle self.new) }
         ensures err { IfErr result (λ fault. StopsAt self.old fault) }
     {
         for _round in 0..u64::MAX {
@@ -366,7 +366,7 @@ impl Runner {
 
     // The first call that is out at the server is out no more.
     fn take_first(&mut self, server: ServerId) -> Option<Ticket>
-        ensures { MatchOption result ((self.new ≡ self.old) × (calls_at server self.old.out.items ≡ [])) (λ ticket. TakesFirst server ticket self.old self.new) }
+        ensures { MatchOption result ((self.new ≡ self.old) × (log_calls_at server self.old.out.items ≡ [])) (λ ticket. TakesFirst server ticket self.old self.new) }
     {
         match self.first_at(server) {
             None => None,

@@ -22,11 +22,11 @@ pub enum Exchange {
 }
 
 impl Exchange {
-    ghost use Rattle.watch_admin.specs.ControlExchanges.{Stands};
+    ghost use Rattle.watch_admin.specs.ControlExchanges.{ExchangeStands};
 
     /// Where one stands who has sent these bytes so far. The only error is that memory was refused.
     pub fn of(alloc: Global, came: Vec<u8>) -> Result<Exchange, AllocError>
-        ensures { IfOk result (λ exchange. Stands came.items exchange) }
+        ensures { IfOk result (λ exchange. ExchangeStands came.items exchange) }
     {
         match line(came.as_slice()) {
             Line::At { end, used: _ } => Ok(Exchange::Asked(came[..end].to_vec(alloc)?)),

@@ -1,6 +1,6 @@
 //! What a line asks for.
 
-ghost use Rattle.watch_admin.specs.ControlRequests.{Means};
+ghost use Rattle.watch_admin.specs.ControlRequests.{LineMeans};
 
 /// What is asked of a proxy that runs.
 #[derive(Clone, Copy, PartialEq, Eq)]
@@ -23,7 +23,7 @@ pub enum Request<'a> {
 
 // What a word without more asks for.
 fn by_word(line: &[u8]) -> Request<'_>
-    ensures { Means line.now result }
+    ensures { LineMeans line.now result }
 {
     if line == b"drain".as_slice() {
         Request::Drain
@@ -40,7 +40,7 @@ fn by_word(line: &[u8]) -> Request<'_>
 
 /// What a line, without its end, asks for.
 pub fn request_of(line: &[u8]) -> Request<'_>
-    ensures { Means line.now result }
+    ensures { LineMeans line.now result }
 {
     match line {
         [b'w', b'h', b'e', b'r', b'e', b' ', key @ ..] => Request::Where(key),

@@ -2,7 +2,7 @@
 
 ghost use Rattle.std.specs.Prelude.{◌≡◌, OnOk};
 ghost use Rattle.std.specs.Io.KnownBytes.{Appends};
-ghost use Rattle.watch_admin.specs.HttpReplies.{kind_of, words_of, field_of, status_line, kind_line, length_line, close_lines, front_text, body_text, answer_text, refusal_text, page_text};
+ghost use Rattle.watch_admin.specs.HttpReplies.{kind_of, refusal_words, field_of, status_line, kind_line, length_line, close_lines, front_text, body_text, answer_text, http_refusal_text, page_text};
 
 use crate::http::request::{Page, Refusal};
 use std::io;
@@ -21,7 +21,7 @@ fn kind_of(page: Page) -> &'static str
 
 // The status of a refusal.
 fn words_of(refusal: Refusal) -> &'static str
-    ensures { result.now ≡ words_of refusal }
+    ensures { result.now ≡ refusal_words refusal }
 {
     match refusal {
         Refusal::Bad => "400 Bad Request",
@@ -117,7 +117,7 @@ pub fn write_page<W: Write>(page: Page, body: &[u8], out: &mut W) -> io::Result<
 
 /// Writes the answer to a request that is answered by no page. Its body is its status.
 pub fn write_refusal<W: Write>(refusal: Refusal, out: &mut W) -> io::Result<()>
-    ensures { OnOk result (Appends (W.contents out.old) (W.contents out.new) (refusal_text refusal)) }
+    ensures { OnOk result (Appends (W.contents out.old) (W.contents out.new) (http_refusal_text refusal)) }
 {
     let words = words_of(refusal);
     write_answer(

@@ -2,7 +2,7 @@
 
 ghost use Rattle.std.specs.Prelude.{◌≡◌, ◌≤◌, ◌+◌, [], ◌++◌, IfOk, length};
 ghost use Rattle.watch_admin.specs.declared.http.request.AskedPage.TheVariants.{Unfinished, For, Refused};
-ghost use Rattle.watch_admin.specs.HttpRequests.{Asks};
+ghost use Rattle.watch_admin.specs.HttpRequests.{AsksPage};
 ghost use Rattle.watch_admin.specs.HttpReplies.{page_text, Answers};
 ghost use Rattle.watch_admin.specs.Sending.{GoesUpTo};
 
@@ -17,7 +17,7 @@ use std::io::Write;
 #[derive(Drop)]
 pub struct Asking {
     came: Vec<u8>,
-    ghost asks: { ∥ Asks came.items Unfinished ∥₁ },
+    ghost asks: { ∥ AsksPage came.items Unfinished ∥₁ },
 }
 
 /// A client that waits for a page.
@@ -25,7 +25,7 @@ pub struct Asking {
 pub struct Waiting {
     came: Vec<u8>,
     pub page: Page,
-    ghost asks: { ∥ Asks came.items (For page) ∥₁ },
+    ghost asks: { ∥ AsksPage came.items (For page) ∥₁ },
 }
 
 /// A client that is sent an answer.
@@ -51,7 +51,7 @@ impl Exchange {
 
     // Bytes that ask for no page are answered at once.
     fn refused(alloc: Global, came: Vec<u8>, refusal: Refusal) -> io::Result<Exchange>
-        requires { Asks came.items (Refused refusal) }
+        requires { AsksPage came.items (Refused refusal) }
         ensures { IfOk result (λ exchange. Holds exchange came.items) }
     {
         let mut answer = Vec::new(alloc);
@@ -62,7 +62,7 @@ impl Exchange {
 
     // Where a client stands whose bytes ask for this.
     fn of(alloc: Global, came: Vec<u8>, asked: AskedPage) -> io::Result<Exchange>
-        requires { Asks came.items asked }
+        requires { AsksPage came.items asked }
         ensures { IfOk result (λ exchange. Holds exchange came.items) }
     {
         match asked {

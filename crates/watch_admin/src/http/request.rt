@@ -2,7 +2,7 @@
 
 ghost use Rattle.std.specs.Prelude.{codes};
 ghost use Rattle.httparse.specs.Grammar.{HasNoRequest};
-ghost use Rattle.watch_admin.specs.HttpRequests.{Asks, AsksBy};
+ghost use Rattle.watch_admin.specs.HttpRequests.{AsksPage, AsksBy};
 
 use httparse::spans::{EMPTY_HEADER_SPAN, parse_request};
 use httparse::{Error, Status};
@@ -79,7 +79,7 @@ fn asked_by(method: &[u8], path: &[u8]) -> AskedPage
 // What bytes ask for that are no request so far.
 fn unfinished(bytes: &[u8]) -> AskedPage
     requires { HasNoRequest bytes.now }
-    ensures { Asks bytes.now result }
+    ensures { AsksPage bytes.now result }
 {
     if bytes.len() < MOST_BYTES {
         AskedPage::Unfinished
@@ -90,7 +90,7 @@ fn unfinished(bytes: &[u8]) -> AskedPage
 
 /// What the bytes that a client has sent so far ask for.
 pub fn what_is_asked(bytes: &[u8]) -> AskedPage
-    ensures { Asks bytes.now result }
+    ensures { AsksPage bytes.now result }
 {
     let mut headers = [EMPTY_HEADER_SPAN; MOST_FIELDS];
     match parse_request(bytes, &mut headers) {

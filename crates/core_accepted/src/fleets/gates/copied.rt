@@ -1,7 +1,7 @@
 //! For which keys a get copies by a tree.
 
 ghost use Rattle.std.specs.Prelude.{IfOk};
-ghost use Rattle.core_accepted.specs.Copying.{IsCopied, IsFirstOf};
+ghost use Rattle.core_accepted.specs.Copying.{CopiesSome, IsFirstOf};
 
 use gate_check::places::collecting::add_prefixes;
 use mc_types::Key;
@@ -36,7 +36,7 @@ fn first_of(tree: &Tree, texts: &[Key]) -> Option<Key>
 /// For which keys a get copies by the tree; where by several prefixes it does, by one of them. The only error is that memory was
 /// refused.
 pub fn copied_by(alloc: Global, tree: &Tree) -> Result<Copied, AllocError>
-    ensures { IfOk result (IsCopied tree.now) }
+    ensures { IfOk result (CopiesSome tree.now) }
 {
     let _form = tree.form();
     if copies(tree, &[]) {

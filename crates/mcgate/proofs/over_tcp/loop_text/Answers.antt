@@ -1,4 +1,4 @@
-use Rattle.mcgate_loopback.specs.Running.{Runs}
+use Rattle.mcgate_loopback.specs.Running.{RunsLoopback}
 use Rattle.mcgate_args.specs.Program.{NeverOverruns}
 use Rattle.mcgate.specs.OverTcp.{LoopMemoryRefused}
 use Rattle.mcgate_args.proofs.StopLemmas.{ran, never}
@@ -6,5 +6,5 @@ use Rattle.mcgate.proofs.over_tcp.loop_text.Goals as goal
 
 pub returns : goal.returns
 returns g c =
-    ran Runs LoopMemoryRefused NeverOverruns c.args.text.now _ _ c.run_loopback.result c.ended.result c.ended.ensures c.run_loopback.ensures.wrote c.run_loopback.ensures.refused
+    ran RunsLoopback LoopMemoryRefused NeverOverruns c.args.text.now _ _ c.run_loopback.result c.ended.result c.ended.ensures c.run_loopback.ensures.wrote c.run_loopback.ensures.refused
     (never c.run_loopback.result c.run_loopback.ensures.status)

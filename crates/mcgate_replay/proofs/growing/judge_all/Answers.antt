@@ -2,7 +2,7 @@ use Rattle.std.proofs.Common.{◌≡◌, ℕ, ◌+◌, [], List, length, take, i
 use Rattle.std.proofs.Math.Seq.{take-length}
 use Rattle.script_events.specs.declared.script.Reload.{Reload}
 use Rattle.script_run.specs.declared.accepted.judging.Loading.{Loading}
-use Rattle.mcgate_replay.specs.Growing.{JudgesAll, MayNotFollow, IsFew}
+use Rattle.mcgate_replay.specs.Growing.{JudgesAll, MayNotFollowKnown, IsFew}
 use Rattle.mcgate_replay.proofs.Grown.{one_more_judged, held_then}
 use Rattle.mcgate_replay.proofs.growing.judge_all.Goals as goal
 
@@ -14,11 +14,11 @@ judge_next-requires-clause-few c = c.loop-reload.invariant.2
 
 pub loop-reload-init : goal.loop-reload-init
 loop-reload-init c =
-    (subst (λ (ls : List Loading). JudgesAll (MayNotFollow c.args.most) c.args.generations.now [] ls c.args.generations.now) (sym c.new-loadings.ensures.items) refl, sym c.requires, inr refl)
+    (subst (λ (ls : List Loading). JudgesAll (MayNotFollowKnown c.args.most) c.args.generations.now [] ls c.args.generations.now) (sym c.new-loadings.ensures.items) refl, sym c.requires, inr refl)
 
 pub loop-reload-preserved : goal.loop-reload-preserved
 loop-reload-preserved c =
-    let Why = MayNotFollow c.args.most in
+    let Why = MayNotFollowKnown c.args.most in
     let xs = c.args.reloads.now in
     let i = c.loop-reload.reload-index in
     let r = c.reload-item.result in
@@ -36,7 +36,7 @@ pub returns-clause-judged : goal.returns-clause-judged
 returns-clause-judged c =
     let xs = c.args.reloads.now in
     let all : c.loop-reload.reload-index ≡ length xs = omega arith in
-    subst (λ (rs : List Reload). JudgesAll (MayNotFollow c.args.most) c.args.generations.now rs c.loop-reload.loadings.items c.loop-reload.generations) (ap (λ (n : ℕ). take n xs) all ∙ take-length xs) c.loop-reload.invariant.0
+    subst (λ (rs : List Reload). JudgesAll (MayNotFollowKnown c.args.most) c.args.generations.now rs c.loop-reload.loadings.items c.loop-reload.generations) (ap (λ (n : ℕ). take n xs) all ∙ take-length xs) c.loop-reload.invariant.0
 
 pub returns-clause-few : goal.returns-clause-few
 returns-clause-few c = subst (IsFew c.args.most) c.loop-reload.invariant.1 c.loop-reload.invariant.2

@@ -5,7 +5,7 @@ use Rattle.gate_check.specs.Sound.{trees_of}
 use Rattle.gate_check.proofs.Following.{length_trees}
 use Rattle.gate_growth.specs.Ledgers.{IsUnsoundFor}
 use Rattle.core_accepted.specs.Known.{Known, is_arbitrary, more}
-use Rattle.mcgate_replay.specs.Growing.{JudgesNext, MayNotFollow, IsFew, held_after}
+use Rattle.mcgate_replay.specs.Growing.{JudgesNext, MayNotFollowKnown, IsFew, held_after}
 use Rattle.mcgate_replay.proofs.Grown.{told_refused, few_told}
 use Rattle.mcgate_replay.proofs.growing.judge_next.Goals as goal
 
@@ -31,7 +31,7 @@ returns-in-Err-clause-judged c =
     let old = c.args.generations.now in
     let unsound = c.in-Err.unsound in
     let refused = c.in-Err.ensures.refused in
-    subst (λ x. IfOk x (λ l. JudgesNext (MayNotFollow c.args.most) old c.args.reload.now l c.follow.new.self)) (sym c.ok_or.ensures.value)
+    subst (λ x. IfOk x (λ l. JudgesNext (MayNotFollowKnown c.args.most) old c.args.reload.now l c.follow.new.self)) (sym c.ok_or.ensures.value)
     (told_refused c.args.most old c.follow.new.self c.args.reload.now unsound c.refusal.result _ (omega arith) c.refusal.ensures (refused.0, subst (λ (x : Configuration). IsUnsoundFor (is_arbitrary old) (trees_of old.configs) x.tree unsound) c.in_ok-config.ensures refused.1))
 
 pub returns-in-Err-clause-few : goal.returns-in-Err-clause-few

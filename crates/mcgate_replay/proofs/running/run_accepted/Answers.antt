@@ -1,7 +1,7 @@
 use Rattle.std.proofs.Common.{List, subst}
 use Rattle.script_events.specs.declared.script.Reload.{Reload}
 use Rattle.mcgate_replay.specs.Pairing.{ArePaired}
-use Rattle.mcgate_replay.specs.Replay.{events_of, reloads_of}
+use Rattle.mcgate_replay.specs.Replay.{replayed_events, reloads_of}
 use Rattle.mcgate_replay.proofs.Paired.{held_first, paired_followed}
 use Rattle.mcgate_replay.proofs.running.run_accepted.Goals as goal
 
@@ -16,5 +16,5 @@ run_judged-requires-clause-loadings g c =
 pub run_judged-requires-clause-followed : goal.run_judged-requires-clause-followed
 run_judged-requires-clause-followed g c =
     let s = c.args.script.now in
-    paired_followed c.args.most s.config (reloads_of s) c.in_ok-judged.judged.loadings.items (events_of s)
+    paired_followed c.args.most s.config (reloads_of s) c.in_ok-judged.judged.loadings.items (replayed_events s)
     (subst (λ (rs : List Reload). ArePaired c.args.most s.config rs c.in_ok-judged.judged.loadings.items) c.as_slice-reloads.ensures.value c.in_ok-judged.ensures.judged)

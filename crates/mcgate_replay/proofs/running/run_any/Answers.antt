@@ -1,6 +1,6 @@
 use Rattle.std.proofs.Common.{refl, [], arith}
 use Rattle.std.proofs.lemmas.Result.{IfOk-weaker, IfErr-weaker}
-use Rattle.mcgate_replay.specs.Replay.{events_of, reloads_of}
+use Rattle.mcgate_replay.specs.Replay.{replayed_events, reloads_of}
 use Rattle.mcgate_replay.proofs.Steps.{enough, in_order, new_servers, counted, ran_any, part_any}
 use Rattle.mcgate_replay.proofs.running.run_any.Goals as goal
 
@@ -21,7 +21,7 @@ returns-clause-ok g c =
     let s = c.args.script.now in
     let d = c.drive_stepped-driven in
     IfOk-weaker c.write_driven.result _ _
-    (λ status w. (w.0, ran_any s.config (reloads_of s) [] (events_of s) d.result d.new.transcript d.new.marks.items _ _ _ _ _ c.as_slice-reloads.ensures.value refl c.as_slice-marks.ensures.value refl d.ensures.ok d.ensures.marked d.ensures.marks w.1))
+    (λ status w. (w.0, ran_any s.config (reloads_of s) [] (replayed_events s) d.result d.new.transcript d.new.marks.items _ _ _ _ _ c.as_slice-reloads.ensures.value refl c.as_slice-marks.ensures.value refl d.ensures.ok d.ensures.marked d.ensures.marks w.1))
     c.write_driven.ensures.ok
 
 pub returns-clause-err : goal.returns-clause-err
@@ -29,5 +29,5 @@ returns-clause-err g c =
     let s = c.args.script.now in
     let d = c.drive_stepped-driven in
     IfErr-weaker c.write_driven.result _ _
-    (λ fault b. part_any s.config (reloads_of s) [] (events_of s) d.result d.new.transcript d.new.marks.items _ _ _ _ _ c.as_slice-reloads.ensures.value refl c.as_slice-marks.ensures.value c.in_ok-servers.servers d.new.servers refl d.ensures.fault d.ensures.marks fault b)
+    (λ fault b. part_any s.config (reloads_of s) [] (replayed_events s) d.result d.new.transcript d.new.marks.items _ _ _ _ _ c.as_slice-reloads.ensures.value refl c.as_slice-marks.ensures.value c.in_ok-servers.servers d.new.servers refl d.ensures.fault d.ensures.marks fault b)
     c.write_driven.ensures.err

@@ -2,14 +2,14 @@ use Rattle.std.proofs.Common.{List, sym, subst, arith}
 use Rattle.std.proofs.lemmas.Result.{IfOk-weaker, IfErr-weaker}
 use Rattle.script_events.specs.declared.script.Reload.{Reload}
 use Rattle.mcgate_replay.specs.Growing.{AreFollowed}
-use Rattle.mcgate_replay.specs.Replay.{events_of, reloads_of}
+use Rattle.mcgate_replay.specs.Replay.{replayed_events, reloads_of}
 use Rattle.mcgate_replay.proofs.Steps.{enough, in_order, new_servers, counted, ran_accepted, part_accepted}
 use Rattle.mcgate_replay.proofs.running.run_judged.Goals as goal
 
 pub drive_grown-driven-requires-clause-followed : goal.drive_grown-driven-requires-clause-followed
 drive_grown-driven-requires-clause-followed g c =
     let s = c.args.script.now in
-    subst (λ (rs : List Reload). AreFollowed s.config rs c.args.judged.now.loadings.items (events_of s)) (sym c.as_slice-reloads.ensures.value) c.requires.followed
+    subst (λ (rs : List Reload). AreFollowed s.config rs c.args.judged.now.loadings.items (replayed_events s)) (sym c.as_slice-reloads.ensures.value) c.requires.followed
 
 pub drive_grown-driven-requires-clause-servers : goal.drive_grown-driven-requires-clause-servers
 drive_grown-driven-requires-clause-servers g c = enough c.args.script.now c.server_count.result c.in_ok-servers.servers c.server_count.ensures c.in_ok-servers.ensures c.requires.reloads
@@ -28,7 +28,7 @@ returns-clause-ok g c =
     let s = c.args.script.now in
     let d = c.drive_grown-driven in
     IfOk-weaker c.write_driven.result _ _
-    (λ status w. (w.0, ran_accepted s.config (reloads_of s) c.args.judged.now.loadings.items (events_of s) d.result d.new.transcript d.new.marks.items _ _ _ _ _ c.as_slice-reloads.ensures.value c.as_slice-loadings.ensures.value c.as_slice-marks.ensures.value c.args.judging c.requires.asked c.requires.loadings d.ensures.ok d.ensures.marked d.ensures.marks w.1))
+    (λ status w. (w.0, ran_accepted s.config (reloads_of s) c.args.judged.now.loadings.items (replayed_events s) d.result d.new.transcript d.new.marks.items _ _ _ _ _ c.as_slice-reloads.ensures.value c.as_slice-loadings.ensures.value c.as_slice-marks.ensures.value c.args.judging c.requires.asked c.requires.loadings d.ensures.ok d.ensures.marked d.ensures.marks w.1))
     c.write_driven.ensures.ok
 
 pub returns-clause-err : goal.returns-clause-err
@@ -36,5 +36,5 @@ returns-clause-err g c =
     let s = c.args.script.now in
     let d = c.drive_grown-driven in
     IfErr-weaker c.write_driven.result _ _
-    (λ fault b. part_accepted s.config (reloads_of s) c.args.judged.now.loadings.items (events_of s) d.result d.new.transcript d.new.marks.items _ _ _ _ _ c.as_slice-reloads.ensures.value c.as_slice-loadings.ensures.value c.as_slice-marks.ensures.value c.args.judging c.requires.asked c.in_ok-servers.servers d.new.servers c.requires.loadings d.ensures.fault d.ensures.marks fault b)
+    (λ fault b. part_accepted s.config (reloads_of s) c.args.judged.now.loadings.items (replayed_events s) d.result d.new.transcript d.new.marks.items _ _ _ _ _ c.as_slice-reloads.ensures.value c.as_slice-loadings.ensures.value c.as_slice-marks.ensures.value c.args.judging c.requires.asked c.in_ok-servers.servers d.new.servers c.requires.loadings d.ensures.fault d.ensures.marks fault b)
     c.write_driven.ensures.err

@@ -6,7 +6,7 @@ use Rattle.fresh_runs.specs.Calls.{Call}
 use Rattle.route_tree.specs.At.{plain_for}
 use Rattle.route_tree.specs.Word.{Given, rank, Then, Word, plain_get, refill, AfterCold, AfterWarm}
 use Rattle.route_tree.proofs.Gets.{get_names_hit}
-use Rattle.route_job.specs.Given.{given_of}
+use Rattle.route_job.specs.Given.{given_when_done}
 use Rattle.route_job.specs.Parts.{SameAt}
 use Rattle.route_job.proofs.Children.{goes_warm}
 use Rattle.route_job.proofs.returning.back_cold.Goals as goal
@@ -15,7 +15,7 @@ pub returns-clause-same : goal.returns-clause-same
 returns-clause-same c = λ hash text origin b.
     let ask = c.args.ask.now in
     let sides = c.args.sides in
-    let first = given_of c.args.first in
+    let first = given_when_done c.args.first in
     let cold = Word (plain_for hash text sides.cold) ask origin in
     let warm = Word (plain_for hash text sides.warm) (plain_get ask) origin in
     let add : Answer → ℕ → ℕ → List Call → Given → Type 0 = λ hit w. Word (plain_for hash text sides.cold) (refill ask hit sides.exptime) (CopyOf w) in

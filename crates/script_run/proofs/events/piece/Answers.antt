@@ -1,7 +1,7 @@
 use Rattle.std.proofs.Common.{◌≡◌, ◌<◌, ◌≤◌, ◌++◌, ◌∷◌, ℕ, List, [], length, inl, inr, refl, sym, ap, ◌∙◌, subst, append_assoc, append-nil, arith}
 use Rattle.std.proofs.lemmas.List.{length-drop, length-take-le}
 use Rattle.std.proofs.lemmas.List.Elements.{All-nil, All-cons}
-use Rattle.script_run.specs.Driving.{joined}
+use Rattle.script_run.specs.Driving.{joined_cuts}
 use Rattle.script_run.proofs.DriverRunning.{on_ok, on_both}
 use Rattle.script_run.proofs.Steps.{cuts_none, cuts_more, cut_joins}
 use Rattle.script_run.proofs.Breaking.{passed, err_weaker}
@@ -30,7 +30,7 @@ loop-rest-preserved c =
     let long : 65536 < length rest = omega arith in
     record {
       cuts = cut ∷ v.cuts;
-      bytes_are = cut_joins c.args.bytes.now (joined v.cuts) rest cut more 65536 v.bytes_are front back;
+      bytes_are = cut_joins c.args.bytes.now (joined_cuts v.cuts) rest cut more 65536 v.bytes_are front back;
       full = All-cons (λ (cut : List ℕ). length cut ≡ 65536) cut v.cuts (ap length front ∙ length-take-le 65536 rest (omega (arith, long))) v.full;
       some = inr (let e = ap length back in let d = length-drop 65536 rest in omega (arith, long, e, d));
       fed = cuts_more c.args.client v.cuts cut c.args.runner.now c.loop-rest.runner c.serve.new.runner c.args.servers.now c.loop-rest.servers c.serve.new.servers v.fed c.in_ok-serve.ensures.ok c.in_ok-serve.ensures.clients c.in_ok-serve.ensures.rest;
@@ -65,13 +65,13 @@ returns-in_err-serve-clause-err c =
     let cut = c.split_at.result.0.now in
     let more = c.split_at.result.1.now in
     passed c.from_residual-in_err-serve.result _ _ c.from_residual-in_err-serve.ensures.1
-    (fed_in_part c.args.client c.args.bytes.now (joined v.cuts) cut more c.args.runner.now c.loop-rest.runner c.args.servers.now c.loop-rest.servers c.serve.new.servers _
-    (cut_joins c.args.bytes.now (joined v.cuts) c.loop-rest.rest.now cut more 65536 v.bytes_are c.split_at.ensures.front c.split_at.ensures.back ∙ append_assoc (joined v.cuts) cut more) v.fed.turn.fed c.in_err-serve.ensures.err)
+    (fed_in_part c.args.client c.args.bytes.now (joined_cuts v.cuts) cut more c.args.runner.now c.loop-rest.runner c.args.servers.now c.loop-rest.servers c.serve.new.servers _
+    (cut_joins c.args.bytes.now (joined_cuts v.cuts) c.loop-rest.rest.now cut more 65536 v.bytes_are c.split_at.ensures.front c.split_at.ensures.back ∙ append_assoc (joined_cuts v.cuts) cut more) v.fed.turn.fed c.in_err-serve.ensures.err)
 
 pub returns-clause-err : goal.returns-clause-err
 returns-clause-err c =
     let v = c.loop-rest.invariant in
     err_weaker c.serve-2.result _ _
-    (λ fault h. fed_in_part c.args.client c.args.bytes.now (joined v.cuts) c.loop-rest.rest.now [] c.args.runner.now c.loop-rest.runner c.args.servers.now c.loop-rest.servers c.serve-2.new.servers fault
-    (v.bytes_are ∙ ap (λ (l : List ℕ). joined v.cuts ++ l) (sym (append-nil c.loop-rest.rest.now))) v.fed.turn.fed h)
+    (λ fault h. fed_in_part c.args.client c.args.bytes.now (joined_cuts v.cuts) c.loop-rest.rest.now [] c.args.runner.now c.loop-rest.runner c.args.servers.now c.loop-rest.servers c.serve-2.new.servers fault
+    (v.bytes_are ∙ ap (λ (l : List ℕ). joined_cuts v.cuts ++ l) (sym (append-nil c.loop-rest.rest.now))) v.fed.turn.fed h)
     c.serve-2.ensures.err

@@ -2,7 +2,7 @@ use Rattle.std.proofs.Common.{◌≡◌, ◌<◌, ◌≤◌, ◌++◌, ℕ, List
 use Rattle.std.specs.Prelude.{◌⊎◌}
 use Rattle.std.specs.List.{All}
 use Rattle.script_events.specs.Servers.{count_of}
-use Rattle.script_run.specs.Driving.{joined}
+use Rattle.script_run.specs.Driving.{joined_cuts}
 use Rattle.script_run.specs.Stepping.{FedInCuts}
 use Rattle.script_run.proofs.events.piece.Given as goal
 
@@ -12,7 +12,7 @@ decreases-loop-rest l = length l.rest
 abbrev pub invariant-loop-rest : goal.invariant-loop-rest
 invariant-loop-rest l = record {
   cuts : List (List ℕ);
-  bytes_are : l.fn.bytes ≡ joined cuts ++ l.rest;
+  bytes_are : l.fn.bytes ≡ joined_cuts cuts ++ l.rest;
   full : All (λ (cut : List ℕ). length cut ≡ 65536) cuts;
   some : (cuts ≡ []) ⊎ (0 < length l.rest);
   fed : FedInCuts l.fn.client cuts l.fn.runner l.fn.servers l.runner l.servers;

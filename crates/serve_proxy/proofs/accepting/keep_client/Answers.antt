@@ -4,7 +4,7 @@ use Rattle.serve_wire.proofs.Steps.{equal, only_twice}
 use Rattle.serve_wire.proofs.Touching.{only_closed}
 use Rattle.serve_links.specs.Shut.{client_conn}
 use Rattle.serve_links.proofs.Shutting.{closed_shut}
-use Rattle.serve_proxy.specs.Ends.{lines_of}
+use Rattle.serve_proxy.specs.Ends.{link_lines}
 use Rattle.serve_proxy.proofs.Going.{and_then, stays, nothing, close_none}
 use Rattle.serve_proxy.proofs.Told.{IsDropped, dropped_tells, opened_go, begun_agrees, begun_stands, begun_conn, none_agrees, none_stands, only_may, unused_new, unused_may, unused_closed, gone_here, gone_others}
 use Rattle.serve_proxy.proofs.Staying.{stay_links}
@@ -39,7 +39,7 @@ returns-then-insert_client g c = record {
       (opened_go id conn c.args.core.now c.args.core.now new is dropped (only_may conn id h2 h' c.insert_client.ensures.may) (unused_may conn id h2 h' c.insert_client.ensures.may unused)
       (λ on. (begun_conn conn _ begins, ap (role conn) admitted ∙ ap (λ b. if b then Some (0, id) else role conn h2) (equal conn)))
       (λ j other. c.insert_client.ensures.others j other ∙ gone_others cs mid id c.drop_end.ensures.gone j other) (begun_agrees h2 h' id conn _ unused admitted begins) (begun_stands conn _ begins) nothing before does)
-      (stays c.args.core.now (stay_links _ _ _ _ (ap (λ l. lines_of l.all.items) (c.insert_client.ensures.links ∙ ap (λ s. s.links) c.drop_end.ensures.rest))));
+      (stays c.args.core.now (stay_links _ _ _ _ (ap (λ l. link_lines l.all.items) (c.insert_client.ensures.links ∙ ap (λ s. s.links) c.drop_end.ensures.rest))));
 }
 
 pub returns : goal.returns
@@ -64,5 +64,5 @@ returns g c = record {
       (λ on. absurd (false_true (sym (closed_shut conn h3 h' c.close.ensures) ∙ on)))
       (λ j other. gone_others last cs' id c.remove.ensures.gone j other ∙ c.insert_client.ensures.others j other ∙ gone_others cs mid id c.drop_end.ensures.gone j other) (none_agrees h' id _ nobody) (none_stands _ nobody) nothing before does)
       (close_none id c.close-2.result c.args.core.now c.close-2.new.self nobody c.close-2.ensures.ok c.close-2.ensures.err c.close-2.ensures.fresh))
-      (stays c.close-2.new.self (stay_links _ _ _ _ (ap (λ l. lines_of l.all.items) (c.insert_client.ensures.links ∙ ap (λ s. s.links) c.drop_end.ensures.rest))));
+      (stays c.close-2.new.self (stay_links _ _ _ _ (ap (λ l. link_lines l.all.items) (c.insert_client.ensures.links ∙ ap (λ s. s.links) c.drop_end.ensures.rest))));
 }

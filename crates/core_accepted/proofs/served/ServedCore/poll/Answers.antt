@@ -3,7 +3,7 @@ use Rattle.std.specs.Prelude.{IfOk, IfErr, OnErr}
 use Rattle.core_proxy.specs.declared.fault.CoreFault.{CoreFault}
 use Rattle.core_proxy.specs.declared.note.Poll.{Poll}
 use Rattle.core_proxy.specs.declared.proxy.Core.{Core}
-use Rattle.core_proxy.specs.Polls.{Polls, PollFault, Then, Perhaps, BeginsOne, IsPolled}
+use Rattle.core_proxy.specs.Polls.{Polls, PollFault, EntriesThen, Perhaps, BeginsOne, IsPolled}
 use Rattle.core_proxy.proofs.Polls.{polls_goes}
 use Rattle.core_accepted.specs.declared.served.ServedCore.{ServedCore}
 use Rattle.core_accepted.specs.declared.tally.CoreTally.{CoreTally}
@@ -14,7 +14,7 @@ use Rattle.core_accepted.proofs.Results.{poll_stops}
 use Rattle.core_accepted.proofs.served.ServedCore.poll.Goals as goal
 
 fresh : (old : ServedCore) (x : Core) (tally : CoreTally) (client : ℕ) (r : Result Poll CoreFault) → IfOk r (λ poll. Polls old.core client poll x) → IfOk r (λ poll. tally ≡ with_poll poll old.tally) → IfOk r (λ poll. PollGoes old client poll (record old { core = x; tally = tally }))
-fresh old x tally client (Ok poll) polled counted = let IsKind = Then (Perhaps (BeginsOne client)) (IsPolled client poll) in counting (with_poll poll) old x tally IsKind counted (goes old x IsKind (polls_goes old.core x client poll polled))
+fresh old x tally client (Ok poll) polled counted = let IsKind = EntriesThen (Perhaps (BeginsOne client)) (IsPolled client poll) in counting (with_poll poll) old x tally IsKind counted (goes old x IsKind (polls_goes old.core x client poll polled))
 fresh old x tally client (Err fault) polled counted = tt
 
 stops : (old : ServedCore) (x : Core) (tally : CoreTally) (client : ℕ) (r : Result Poll CoreFault) → IfErr r (λ fault. PollFault old.core client fault x) → OnErr r (tally ≡ old.tally) → IfErr r (λ fault. PollStops old client fault (record old { core = x; tally = tally }))

@@ -3,7 +3,7 @@ use Rattle.std.specs.Prelude.{slice_index_or}
 use Rattle.std.specs.HashMap.{WritesThrough}
 use Rattle.indexmap.specs.IndexMap.{get, with_value_at}
 use Rattle.route_job.proofs.Jobs.{on_err}
-use Rattle.route_job.specs.Jobs.{server_in, IsCalling}
+use Rattle.route_job.specs.Jobs.{server_of_pending, IsCalling}
 use Rattle.core_commands.specs.declared.command.Command.{Command}
 use Rattle.core_commands.specs.Counts.{SetsCountAt, AreCounted}
 use Rattle.core_commands.proofs.ByPlace.{through_place}
@@ -48,7 +48,7 @@ invariant_of-self-2 c = λ e.
     let counts = c.both.ensures on.1 in
     let same : a ≡ c.requires.command = some_command (found ∙ ap (λ m. get nat_eq m c.args.number) c.self.view_is ∙ c.requires.was) in
     let out = c.in_ok-ticket.ensures.out in
-    let server : c.number.result ≡ server_in a.job.pending = c.number.ensures ∙ c.in_ok-ticket.ensures.ticket.server_is in
+    let server : c.number.result ≡ server_of_pending a.job.pending = c.number.ensures ∙ c.in_ok-ticket.ensures.ticket.server_is in
     counted_sent table.by_number new table.clearing table.copying table.at_server table.waiting c.args.number a (c.self.invariant on.0) x (sym found) through.0
     c.count_one-is_out.new.self c.uncount_one-waited.new.self (ap (λ (b : Command). b.ask) out) (ap (λ (b : Command). b.claim) out) (ap (λ (b : Command). b.is_out) same ∙ c.requires.idle) (ap (λ (b : Command). b.is_out) out) (ap (λ (b : Command). b.job) out)
     (subst (λ (b : Command). IsCalling b.job) (sym same) c.requires.calling) (subst (λ s. SetsCountAt s (slice_index_or table.at_server s 0 + 1) table.at_server c.count_one-is_out.new.self) server (c.count_one-is_out.ensures counts.0))

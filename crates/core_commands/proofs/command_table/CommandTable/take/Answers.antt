@@ -1,7 +1,7 @@
 use Rattle.std.proofs.Common.{◌≡◌, ◌-◌, true, cond, nat_eq, Some, sym, ap, ◌∙◌, subst}
 use Rattle.std.specs.Prelude.{slice_index_or}
 use Rattle.indexmap.specs.IndexMap.{get, with_value_at}
-use Rattle.route_job.specs.Jobs.{server_in}
+use Rattle.route_job.specs.Jobs.{server_of_pending}
 use Rattle.core_commands.specs.declared.command.Command.{Command}
 use Rattle.core_commands.specs.Out.{has_call_out}
 use Rattle.core_commands.specs.Counts.{SetsCountAt}
@@ -22,7 +22,7 @@ invariant_of-self c = λ e.
     let on = c.both-self-inside.ensures e in
     let counts = c.both.ensures on.1 in
     let same : c.requires.out.0 ≡ a = some_command (sym (found ∙ ap (λ m. get nat_eq m c.args.number) c.self.view_is ∙ c.requires.out.1)) in
-    let server : c.number.result ≡ server_in a.job.pending = c.number.ensures ∙ c.server-server.ensures in
+    let server : c.number.result ≡ server_of_pending a.job.pending = c.number.ensures ∙ c.server-server.ensures in
     counted_taken table.by_number new table.clearing table.copying table.at_server table.waiting c.args.number a (c.self.invariant on.0) b (sym found) through.0
     c.uncount_one-was_out.new.self c.count_one-waits.new.self c.take-taken.ensures.ask c.take-taken.ensures.claim (subst (λ (d : Command). has_call_out d ≡ true) same c.requires.out.2) c.take-taken.ensures.idle
     (subst (λ s. SetsCountAt s (slice_index_or table.at_server s 0 - 1) table.at_server c.uncount_one-was_out.new.self) server (c.uncount_one-was_out.ensures counts.0)) (c.count_one-waits.ensures counts.1)

@@ -9,7 +9,7 @@ use Rattle.core_proxy.specs.Claims.{is_barred}
 use Rattle.core_client.specs.Clients.{has_own}
 use Rattle.core_commands.specs.Lines.{is_behind, others}
 use Rattle.core_client.specs.Nexts.{CanAskBelow, CanBegin}
-use Rattle.core_proxy.specs.Polls.{IsBelowDepth, ForClient, IsServed, IsNextAsk, claim_of, bars, stands_before, Acts, Polls, StopsAfter, SoEnded, ReadFault}
+use Rattle.core_proxy.specs.Polls.{IsBelowDepth, ForClient, ClientIsServed, IsNextAsk, claim_of, bars, stands_before, Acts, Polls, StopsAfter, SoEnded, ReadFault}
 use Rattle.core_proxy.proofs.Polls.{first_stops, begun_stops, begun_polls, nothing_polls, for_map, for_both, if_err, if_ok}
 use Rattle.core_proxy.proofs.proxy.Core.begin_ask.Goals as goal
 
@@ -23,7 +23,7 @@ is_next old client request ask key own value can is same e = (
 pub has_own-requires : goal.has_own-requires
 has_own-requires c =
     let old = c.args.self.now in
-    for_map old c.args.client (CanBegin c.args.request.now c.args.ask) IsServed (λ x can. can.served) c.requires.next
+    for_map old c.args.client (CanBegin c.args.request.now c.args.ask) ClientIsServed (λ x can. can.served) c.requires.next
 
 pub returns-then-has_own-clause-ok : goal.returns-then-has_own-clause-ok
 returns-then-has_own-clause-ok c =

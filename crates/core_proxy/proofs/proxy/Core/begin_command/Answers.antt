@@ -5,7 +5,7 @@ use Rattle.std.specs.Map.{lookup}
 use Rattle.core_proxy.specs.Steps.{Turns}
 use Rattle.core_client.specs.Fronts.{Stays}
 use Rattle.core_client.specs.Nexts.{CanBegin}
-use Rattle.core_proxy.specs.Polls.{IsServed}
+use Rattle.core_proxy.specs.Polls.{ClientIsServed}
 use Rattle.core_proxy.proofs.Clients.{written}
 use Rattle.core_proxy.proofs.Polls.{same_goes, still_goes, begun_goes, of_client, when_ok, when_err, still_served, for_map}
 use Rattle.core_proxy.proofs.proxy.Core.begin_command.Goals as goal
@@ -13,7 +13,7 @@ use Rattle.core_proxy.proofs.proxy.Core.begin_command.Goals as goal
 pub returns-then-is_err-clause-err : goal.returns-then-is_err-clause-err
 returns-then-is_err-clause-err c =
     let old = c.args.self.now in
-    (same_goes old _ (λ n. refl) (λ n. ap (lookup (nat_eq n)) c.make_room.ensures.entries) refl refl refl, for_map old c.args.client (CanBegin c.args.request.now c.args.ask) IsServed (λ x can. can.served) c.requires.key)
+    (same_goes old _ (λ n. refl) (λ n. ap (lookup (nat_eq n)) c.make_room.ensures.entries) refl refl refl, for_map old c.args.client (CanBegin c.args.request.now c.args.ask) ClientIsServed (λ x can. can.served) c.requires.key)
 
 pub returns-then-is_err-2-clause-err : goal.returns-then-is_err-2-clause-err
 returns-then-is_err-2-clause-err c =

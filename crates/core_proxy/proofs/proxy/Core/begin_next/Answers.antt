@@ -3,7 +3,7 @@ use Rattle.core_proxy.specs.declared.fault.CoreFault.{CoreFault}
 use Rattle.core_proxy.specs.declared.fault.CoreFault.TheVariants.{NoMemory}
 use Rattle.core_proxy.specs.declared.proxy.Core.{Core}
 use Rattle.core_client.specs.Nexts.{CanAsk, CanAskBelow, CanBegin}
-use Rattle.core_proxy.specs.Polls.{ForClient, IsServed, NoneGoesOn, Polls, ReadFault}
+use Rattle.core_proxy.specs.Polls.{ForClient, ClientIsServed, NoCommandGoesOn, Polls, ReadFault}
 use Rattle.core_proxy.proofs.Chains.{goes_nowhere}
 use Rattle.core_proxy.proofs.Polls.{first_stops, for_map}
 use Rattle.core_proxy.proofs.proxy.Core.begin_next.Goals as goal
@@ -20,7 +20,7 @@ pub begin_ask-requires-clause-next : goal.begin_ask-requires-clause-next
 begin_ask-requires-clause-next c = subst (λ (core : Core). ForClient core c.args.client (CanBegin c.args.request.now c.in-Ok.ask)) (sym c.in-Ok.ensures.same) c.in-Ok.ensures.begins
 
 pub begin_ask-requires-clause-held : goal.begin_ask-requires-clause-held
-begin_ask-requires-clause-held c = subst (λ (core : Core). NoneGoesOn core c.args.client) (sym c.in-Ok.ensures.same) c.requires.held
+begin_ask-requires-clause-held c = subst (λ (core : Core). NoCommandGoesOn core c.args.client) (sym c.in-Ok.ensures.same) c.requires.held
 
 pub returns-in-Ok-clause-ok : goal.returns-in-Ok-clause-ok
 returns-in-Ok-clause-ok c = subst (λ (core : Core). IfOk c.begin_ask.result (λ poll. Polls core c.args.client poll c.begin_ask.new.self)) c.in-Ok.ensures.same c.begin_ask.ensures.ok
@@ -32,4 +32,4 @@ pub returns-in-Err-clause-err : goal.returns-in-Err-clause-err
 returns-in-Err-clause-err c =
     let old = c.args.self.now in
     subst (λ (core : Core). ReadFault old c.args.client c.in-Err.fault core) (sym c.in-Err.ensures.same)
-    (subst (λ (f : CoreFault). ReadFault old c.args.client f old) (sym c.in-Err.ensures.err) (first_stops old old c.args.client NoMemory (goes_nowhere old, for_map old c.args.client (CanAskBelow old.limits.depth c.args.request.now) IsServed (λ x can. can.0.served) c.requires.asks) refl))
+    (subst (λ (f : CoreFault). ReadFault old c.args.client f old) (sym c.in-Err.ensures.err) (first_stops old old c.args.client NoMemory (goes_nowhere old, for_map old c.args.client (CanAskBelow old.limits.depth c.args.request.now) ClientIsServed (λ x can. can.0.served) c.requires.asks) refl))

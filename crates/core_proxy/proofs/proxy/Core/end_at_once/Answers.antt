@@ -7,7 +7,7 @@ use Rattle.core_commands.proofs.Commands.{some_command}
 use Rattle.core_commands.specs.declared.command.Command.{Command}
 use Rattle.core_proxy.specs.declared.proxy.Core.{Core}
 use Rattle.core_proxy.specs.CoreState.{client_at}
-use Rattle.core_proxy.specs.Polls.{IsServed}
+use Rattle.core_proxy.specs.Polls.{ClientIsServed}
 use Rattle.core_proxy.proofs.AtHead.{shown_at_once}
 use Rattle.core_proxy.proofs.Clients.{written}
 use Rattle.core_proxy.proofs.Polls.{of_client, ends_as, still_goes}
@@ -35,7 +35,7 @@ returns-clause-some c =
     let away = c.take_away-ask.ensures in
     let ask_is = away.ask_is ∙ ap (λ (a : Command). a.ask) (some_command (sym away.was ∙ can.idle.was)) in
     shown_at_once old c.take_away-ask.new.self client c.args.number x y can c.in_ok-told.told c.take_away-ask.result _ shows
-    was (ap (λ (k : Core). client_at k client) away.core_is ∙ t.is) (λ d differs. ap (λ (k : Core). client_at k d) away.core_is ∙ t.others d differs) (of_client old client IsServed x was c.requires.served)
+    was (ap (λ (k : Core). client_at k client) away.core_is ∙ t.is) (λ d differs. ap (λ (k : Core). client_at k d) away.core_is ∙ t.others d differs) (of_client old client ClientIsServed x was c.requires.served)
     ask_is (record {
       number_is = refl;
       asked = refl;

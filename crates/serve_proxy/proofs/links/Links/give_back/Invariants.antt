@@ -1,6 +1,6 @@
 use Rattle.std.proofs.Common.{◌≡◌}
-use Rattle.serve_proxy.specs.Ends.{lines_of}
+use Rattle.serve_proxy.specs.Ends.{link_lines}
 use Rattle.serve_proxy.proofs.links.Links.give_back.Given as goal
 
 abbrev pub invariant-loop-at : goal.invariant-loop-at
-invariant-loop-at l = lines_of l.self.all.items ≡ lines_of l.fn.self.all.items
+invariant-loop-at l = link_lines l.self.all.items ≡ link_lines l.fn.self.all.items

@@ -1,5 +1,5 @@
 use Rattle.std.proofs.Common.{ap}
-use Rattle.serve_proxy.specs.Ends.{lines_of}
+use Rattle.serve_proxy.specs.Ends.{link_lines}
 use Rattle.serve_proxy.proofs.Going.{and_then, stays}
 use Rattle.serve_proxy.proofs.Staying.{stay_links}
 use Rattle.serve_proxy.proofs.Told.{gone_go}
@@ -9,5 +9,5 @@ pub returns : goal.returns
 returns g c = record {
   ends = λ before core does sent.
       and_then (and_then (gone_go c.args.id c.drop_end.ensures.gone (record { some = c.drop_end.ensures.some; none = c.drop_end.ensures.none }) before core does sent)
-      (stays core (stay_links _ _ _ _ (ap (λ s. lines_of s.links.all.items) c.drop_end.ensures.rest)))) (stays core c.note_held.ensures.ends);
+      (stays core (stay_links _ _ _ _ (ap (λ s. link_lines s.links.all.items) c.drop_end.ensures.rest)))) (stays core c.note_held.ensures.ends);
 }

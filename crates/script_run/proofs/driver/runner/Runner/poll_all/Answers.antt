@@ -1,6 +1,6 @@
 use Rattle.std.proofs.Common.{refl, ◌∙◌, subst}
 use Rattle.script_events.specs.declared.servers.event.FleetFault.TheVariants.{NoMemory}
-use Rattle.script_run.specs.Progressing.{AreStill}
+use Rattle.script_run.specs.Progressing.{LeavesAllStill}
 use Rattle.script_run.specs.declared.driver.runner.Progress.{Progress}
 use Rattle.script_run.proofs.DriverRunning.{stays, then}
 use Rattle.script_run.proofs.Progressing.{idle_are_stalled}
@@ -23,13 +23,13 @@ pub returns-in-Idle-clause-clients : goal.returns-in-Idle-clause-clients
 returns-in-Idle-clause-clients c = c.in_ok-progress.ensures.clients ∙ c.loop-round.invariant.clients
 
 pub returns-in-Idle-clause-stalled : goal.returns-in-Idle-clause-stalled
-returns-in-Idle-clause-stalled c = idle_are_stalled c.poll_round.new.self (subst (λ (p : Progress). AreStill p c.poll_round.new.self) c.in-Idle.is c.in_ok-progress.ensures.still)
+returns-in-Idle-clause-stalled c = idle_are_stalled c.poll_round.new.self (subst (λ (p : Progress). LeavesAllStill p c.poll_round.new.self) c.in-Idle.is c.in_ok-progress.ensures.still)
 
 pub returns-in-Idle-clause-idle : goal.returns-in-Idle-clause-idle
-returns-in-Idle-clause-idle c = λ e. subst (λ (p : Progress). AreStill p c.poll_round.new.self) c.in-Idle.is c.in_ok-progress.ensures.still
+returns-in-Idle-clause-idle c = λ e. subst (λ (p : Progress). LeavesAllStill p c.poll_round.new.self) c.in-Idle.is c.in_ok-progress.ensures.still
 
 pub returns-in-Waits-clause-stalled : goal.returns-in-Waits-clause-stalled
-returns-in-Waits-clause-stalled c = subst (λ (p : Progress). AreStill p c.poll_round.new.self) c.in-Waits.is c.in_ok-progress.ensures.still
+returns-in-Waits-clause-stalled c = subst (λ (p : Progress). LeavesAllStill p c.poll_round.new.self) c.in-Waits.is c.in_ok-progress.ensures.still
 
 pub returns-in-Waits-clause-moves : goal.returns-in-Waits-clause-moves
 returns-in-Waits-clause-moves c = λ s. then c.args.self.now c.loop-round.self c.poll_round.new.self s s s (c.loop-round.invariant.moves s) (c.in_ok-progress.ensures.moves s)
