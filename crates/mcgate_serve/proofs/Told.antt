@@ -1,12 +1,12 @@
 -- What stands at the names of numbers is what the core counts.
-use Rattle.std.proofs.Common.{◌≡◌, ℕ, List, [], ◌∷◌, ◌++◌, codes, flat_map, sym, subst}
-use Rattle.mc_types.specs.Asks.{all_ops}
+use Rattle.std.proofs.Common.{ℕ, List, [], ◌∷◌, codes, subst, Result, Ok, Err}
+use Rattle.std.specs.Prelude.{IfOk}
 use Rattle.core_accepted.specs.declared.tally.CoreTally.{CoreTally}
 use Rattle.watch_admin.specs.declared.families.Amount.TheVariants.{Count}
 use Rattle.watch_admin.specs.declared.families.Family.{Family}
 use Rattle.watch_admin.specs.declared.numbers.Numbers.{Numbers}
 use Rattle.watch_admin.specs.Told.{Tells, IsAmong, one_labelled}
-use Rattle.mcgate_serve.specs.Told.{op_counts, FamiliesTell, IsInPrometheus, IsInJson, HasTally, TellsTally, TellsInPrometheus, TellsInJson}
+use Rattle.mcgate_serve.specs.Told.{FamiliesTell, IsInPrometheus, IsInJson, HasTally, TellsTally, TellsInPrometheus, TellsInJson}
 
 -- families that tell of numbers which have what a core counts
 pub tells_tally : (tally : CoreTally) (numbers : Numbers) (families : List Family) → HasTally tally numbers → FamiliesTell numbers families → TellsTally tally families
@@ -33,8 +33,19 @@ tells_tally tally numbers families has tell =
     }
 
 -- so do their texts
-pub in_prometheus : (tally : CoreTally) (numbers : Numbers) (text : List ℕ) → HasTally tally numbers → IsInPrometheus numbers text → TellsInPrometheus tally text
-in_prometheus tally numbers text has is = (is.0, tells_tally tally numbers is.0 has is.1.0, is.1.1)
+in_prometheus : (tally : CoreTally) (numbers : Numbers) (text : List ℕ) → HasTally tally numbers → IsInPrometheus numbers text → TellsInPrometheus tally text
+in_prometheus tally numbers text has is = (is.0, tells_tally tally numbers is.0 has is.1, is.2)
 
-pub in_json : (tally : CoreTally) (numbers : Numbers) (text : List ℕ) → HasTally tally numbers → IsInJson numbers text → TellsInJson tally text
-in_json tally numbers text has is = (is.0, tells_tally tally numbers is.0 has is.1.0, is.1.1)
+in_json : (tally : CoreTally) (numbers : Numbers) (text : List ℕ) → HasTally tally numbers → IsInJson numbers text → TellsInJson tally text
+in_json tally numbers text has is = (is.0, tells_tally tally numbers is.0 has is.1, is.2)
+
+-- where a text came
+if_ok : {A E : Type 0} (r : Result A E) (P Q : A → Type 0) → ((a : A) → P a → Q a) → IfOk r P → IfOk r Q
+if_ok (Ok a) P Q f is = f a is
+if_ok (Err e) P Q f is = tt
+
+pub told_in_prometheus : {A E : Type 0} (items : A → List ℕ) (tally : CoreTally) (numbers : Numbers) (r : Result A E) → HasTally tally numbers → IfOk r (λ text. IsInPrometheus numbers (items text)) → IfOk r (λ text. TellsInPrometheus tally (items text))
+told_in_prometheus items tally numbers r has = if_ok r _ _ (λ text. in_prometheus tally numbers (items text) has)
+
+pub told_in_json : {A E : Type 0} (items : A → List ℕ) (tally : CoreTally) (numbers : Numbers) (r : Result A E) → HasTally tally numbers → IfOk r (λ text. IsInJson numbers (items text)) → IfOk r (λ text. TellsInJson tally (items text))
+told_in_json items tally numbers r has = if_ok r _ _ (λ text. in_json tally numbers (items text) has)

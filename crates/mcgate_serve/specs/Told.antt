@@ -1,5 +1,5 @@
 -- What a proxy that runs tells of what its core counts. Source: mcgate's own.
-use Rattle.std.specs.Prelude.{◌≡◌, ℕ, List, [], ◌∷◌, ◌++◌, codes, flat_map}
+use Rattle.std.specs.Prelude.{◌≡◌, ℕ, List, [], ◌∷◌, codes, flat_map}
 use Rattle.mc_types.specs.declared.ask.Op.{Op}
 use Rattle.mc_types.specs.Asks.{all_ops}
 use Rattle.gate_gaps.specs.Names.{op_name}

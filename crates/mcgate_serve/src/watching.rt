@@ -286,7 +286,6 @@ fn numbers_of<R: Files + AllocGlobal, W: Wire>(
 }
 
 /// All of that as the text of a page: what the core counts stands at its names.
-#[tactic(auto, using(crate::proofs::Told::in_json))]
 pub fn stats_of<R: Files + AllocGlobal, W: Wire>(
     rt: &R,
     end: &ProxyEnd<W>,
@@ -461,7 +460,6 @@ impl Watching {
     }
 
     // The text of a page, by what there is to tell: what the core counts stands at its names.
-    #[tactic(auto, using(crate::proofs::Told::in_prometheus, crate::proofs::Told::in_json))]
     fn page<R: Files + Clock + AllocGlobal, W: Wire>(
         &self,
         rt: &R,
