@@ -8,7 +8,7 @@ use Rattle.std.specs.Prelude.{filter, Result, Ok, Err, IfOk, OnOk, OnErr}
 use Rattle.mc_types.specs.Asks.{IsAsk, OptionIs, classic_shape, meta_shape, HasShapeOf, shape_of}
 use Rattle.mc_types.specs.Items.{Item, after_call}
 use Rattle.mc_types.specs.Fits.{Fits, FitsIn, IsAnswer}
-use Rattle.mc_types.specs.Agree.{Agrees}
+use Rattle.mc_types.specs.Agree.{AnswerAgrees}
 use Rattle.mc_types.specs.declared.ask.Ask.{Ask}
 use Rattle.mc_types.specs.declared.ask.Op.{Op}
 use Rattle.mc_types.specs.declared.ask.Op.TheVariants.{Delete, Incr, Decr}
@@ -20,10 +20,10 @@ use Rattle.cache_server.specs.declared.decision.Verdict.TheVariants as verdicts
 use Rattle.cache_server.specs.declared.decision.Change.{Change}
 use Rattle.cache_server.specs.declared.decision.Change.TheVariants as changes
 use Rattle.cache_server.specs.declared.decision.Decision.{Decision}
-use Rattle.cache_server.specs.Contents.{Contents, Key, same_key, held, is_expired, live, at_moment, losing, storing, opening, last_number}
+use Rattle.cache_server.specs.Contents.{Contents, Key, same_key, entry_held, is_expired, live, at_moment, losing, storing_item, opening, last_number}
 use Rattle.cache_server.specs.Sound.{IsEntry, IsChange, AreEntries}
 use Rattle.cache_server.specs.Table.{decided, settled, decided_in, finds, needs_number, Serves, answer_in}
-use Rattle.cache_server.specs.Held.{without, item_of, holds, expired_keys, pushed_by_new, pushed_out, lost_by, IsCall, IsHold, IsLoss}
+use Rattle.cache_server.specs.Held.{without, item_of, holds, expired_keys, pushed_by_new, pushed_out, keys_lost_by, IsServerCall, IsHold, IsLoss}
 use Rattle.cache_server.proofs.SoundLemmas.{Contains-live}
 use Rattle.cache_server.proofs.TableLemmas.{lookup_entry_is, decided_sound}
 use Rattle.cache_server.proofs.PartLemmas.{parts_live, held_in_parts, distinct_live, without_append, without_equal}
@@ -38,7 +38,7 @@ none_at ask op at e h = subst (λ (o : Op). OptionIs (classic_shape o).cas ask.c
 pub record IsServed (dialect : Dialect) (ask : Ask) (stamp : ℕ) (change : Change) (answer : Answer) (before : Option Item) : Type 0 where
   pub ranges : IsAnswer answer
   pub listed : FitsIn dialect ask answer
-  pub agrees : Agrees ask answer before
+  pub agrees : AnswerAgrees ask answer before
   pub left_is : left change before ≡ after_call ask stamp answer 0 before
 
 module _ (now stamp counter : ℕ) (ask : Ask) where
@@ -74,35 +74,35 @@ stamp_of (Some entry) = refl
 
 pub call_is : (now stamp : ℕ) (ask : Ask) (old : Contents) (answer : Answer) (found : Option ℕ) (new : Contents)
     → now < 2 ^ 63 → IsAsk ask → AreEntries old.entries → IsDistinct same_key (keys_of old.entries) → Serves now stamp ask (at_moment now old) answer found new
-    → IsCall stamp ask (holds old) (lost_by now stamp ask old) answer found (holds new)
+    → IsServerCall stamp ask (holds old) (keys_lost_by now stamp ask old) answer found (holds new)
 call_is now stamp ask old answer found new lt is are distinct serves =
     let c : Contents = at_moment now old in
     let d : Decision = decided_in now stamp ask c in
     let differ : IsDistinct same_key (keys_of c.entries) = distinct_live now old.entries distinct in
     let are_then : AreEntries c.entries = λ e at. are e (Contains-live now old.entries e at) in
-    let entry_is : IfSome (held c ask.key) IsEntry = lookup_entry_is ask.key c.entries are_then in
-    let row : Answered now stamp c.counter ask ask.dialect (held c ask.key) d =
-    row_settled now stamp c.counter ask ask.dialect (held c ask.key) (decided now stamp ask (held c ask.key))
-    (row_of now stamp c.counter ask ask.dialect (held c ask.key) is.shape entry_is (decided_sound now stamp ask lt is (held c ask.key) entry_is)) in
+    let entry_is : IfSome (entry_held c ask.key) IsEntry = lookup_entry_is ask.key c.entries are_then in
+    let row : Answered now stamp c.counter ask ask.dialect (entry_held c ask.key) d =
+    row_settled now stamp c.counter ask ask.dialect (entry_held c ask.key) (decided now stamp ask (entry_held c ask.key))
+    (row_of now stamp c.counter ask ask.dialect (entry_held c ask.key) is.shape entry_is (decided_sound now stamp ask lt is (entry_held c ask.key) entry_is)) in
     let gone : (q : Key) → holds c q ≡ without (expired_keys now old.entries) (holds old) q =
     λ q. held_in_parts old.entries (live now old.entries) (filter (is_expired now) old.entries) q distinct (parts_live now old.entries) in
-    let lost : (q : Key) → without (lost_by now stamp ask old) (holds old) q ≡ without (pushed_out c ask.key d.change) (holds c) q =
+    let lost : (q : Key) → without (keys_lost_by now stamp ask old) (holds old) q ≡ without (pushed_out c ask.key d.change) (holds c) q =
     λ q. without_append (pushed_out c ask.key d.change) (expired_keys now old.entries) (holds old) q
     ∙ sym (without_equal (pushed_out c ask.key d.change) (holds c) (λ k. without (expired_keys now old.entries) (holds old) k) q (gone q)) in
-    let own : without (lost_by now stamp ask old) (holds old) ask.key ≡ holds c ask.key = lost ask.key ∙ pushed_own c ask.key d.change in
+    let own : without (keys_lost_by now stamp ask old) (holds old) ask.key ≡ holds c ask.key = lost ask.key ∙ pushed_own c ask.key d.change in
     let before : Option Item = holds c ask.key in
     let after : holds new ask.key ≡ after_call ask stamp answer 0 (holds c ask.key) =
     ap (λ (n : Contents). holds n ask.key) serves.contents ∙ changed_own c ask.key d.change differ ∙ row.left_is
     ∙ ap (λ (a : Answer). after_call ask stamp a 0 (holds c ask.key)) (sym serves.answer_is) in
     record {
       fits = subst (Fits ask) (sym serves.answer_is) (record { ranges = row.ranges; listed = row.listed });
-      agrees = subst (λ (o : Option Item). Agrees ask answer o) (sym own) (subst (λ (a : Answer). Agrees ask a (holds c ask.key)) (sym serves.answer_is) row.agrees);
-      found_is = serves.found_is ∙ stamp_of (held c ask.key) ∙ ap (option_map (λ (item : Item). item.stamp)) (sym own);
+      agrees = subst (λ (o : Option Item). AnswerAgrees ask answer o) (sym own) (subst (λ (a : Answer). AnswerAgrees ask a (holds c ask.key)) (sym serves.answer_is) row.agrees);
+      found_is = serves.found_is ∙ stamp_of (entry_held c ask.key) ∙ ap (option_map (λ (item : Item). item.stamp)) (sym own);
       after = λ q. (elim (same_key ask.key q) as (λ t. same_key ask.key q ≡ t
-          → holds new q ≡ cond t (after_call ask stamp answer 0 (without (lost_by now stamp ask old) (holds old) q)) (without (lost_by now stamp ask old) (holds old) q)) [
+          → holds new q ≡ cond t (after_call ask stamp answer 0 (without (keys_lost_by now stamp ask old) (holds old) q)) (without (keys_lost_by now stamp ask old) (holds old) q)) [
             | true ↦ λ t.
                 let equal : ask.key ≡ q = (bytes_eq-Decides ask.key q).0 t in
-                subst (λ (k : Key). holds new k ≡ after_call ask stamp answer 0 (without (lost_by now stamp ask old) (holds old) k)) equal
+                subst (λ (k : Key). holds new k ≡ after_call ask stamp answer 0 (without (keys_lost_by now stamp ask old) (holds old) k)) equal
                 (after ∙ ap (after_call ask stamp answer 0) (sym own))
             | false ↦ λ t. ap (λ (n : Contents). holds n q) serves.contents ∙ changed_other c ask.key q d.change t differ ∙ sym (lost q)
           ]) refl;
@@ -118,12 +118,12 @@ loss_is c key distinct = λ q. (elim (same_key key q) as (λ t. same_key key q �
 ]) refl
 
 -- after data that are held from the start
-pub hold_is : (c : Contents) (key : Key) (body : List ℕ) → IsDistinct same_key (keys_of c.entries) → IsHold key body c (storing c key (opening body))
+pub hold_is : (c : Contents) (key : Key) (body : List ℕ) → IsDistinct same_key (keys_of c.entries) → IsHold key body c (storing_item c key (opening body))
 hold_is c key body distinct = λ q. (elim (same_key key q) as (λ t. same_key key q ≡ t
-    → holds (storing c key (opening body)) q ≡ cond t (Some (item_of (opening body))) (without (pushed_by_new c (held c key)) (holds c) q)) [
+    → holds (storing_item c key (opening body)) q ≡ cond t (Some (item_of (opening body))) (without (pushed_by_new c (entry_held c key)) (holds c) q)) [
       | true ↦ λ t.
           let equal : key ≡ q = (bytes_eq-Decides key q).0 t in
-          subst (λ (k : Key). holds (storing c key (opening body)) k ≡ Some (item_of (opening body))) equal (changed_own c key (changes.Stores (opening body)) distinct)
+          subst (λ (k : Key). holds (storing_item c key (opening body)) k ≡ Some (item_of (opening body))) equal (changed_own c key (changes.Stores (opening body)) distinct)
       | false ↦ λ t. changed_other c key q (changes.Stores (opening body)) t distinct
     ]) refl
 

@@ -11,8 +11,8 @@ use Rattle.mc_types.specs.Items.{Item}
 use Rattle.cache_server.specs.declared.item.Entry.{Entry}
 use Rattle.cache_server.specs.declared.decision.Change.{Change}
 use Rattle.cache_server.specs.declared.decision.Change.TheVariants.{Leaves, Removes, Renews, Stores}
-use Rattle.cache_server.specs.Contents.{Contents, Key, Entries, same_key, held, next_number}
-use Rattle.cache_server.specs.Table.{changed}
+use Rattle.cache_server.specs.Contents.{Contents, Key, Entries, same_key, entry_held, next_number}
+use Rattle.cache_server.specs.Table.{entry_changed}
 use Rattle.cache_server.specs.Held.{without, item_of, holds, pushed_by_new, pushed_out}
 use Rattle.cache_server.proofs.PartLemmas.{item_in, parts_take, held_in_parts, without_none, none_of, same_as}
 
@@ -59,7 +59,7 @@ promoted_other k q es ne = go (lookup_entry (same_key k) es) refl
     go (Some e) h = let found = Contains-lookup_entry (same_key k) es e h in rw (told k q e.0 ne found.1) (remove_other k q es ne)
 
 put_other : (k q : Key) (entry : Entry) (c : Contents) → same_key k q ≡ false → IsDistinct same_key (keys_of c.entries)
-    → item_in (put_entries same_key (lru_cache c.entries c.cap) k entry) q ≡ without (pushed_by_new c (held c k)) (holds c) q
+    → item_in (put_entries same_key (lru_cache c.entries c.cap) k entry) q ≡ without (pushed_by_new c (entry_held c k)) (holds c) q
 put_other k q entry c ne d = subst (λ (o : Option Entry). item_in (put_entries same_key (lru_cache c.entries c.cap) k entry) q ≡ without (pushed_by_new c o) (holds c) q)
     (sym (value_in k c.entries)) (go (lookup_entry (same_key k) c.entries) refl)
   where
@@ -78,23 +78,23 @@ left Removes before = None
 left (Renews entry) before = Some (item_of entry.item)
 left (Stores item) before = Some (item_of item)
 
-pub changed_own : (c : Contents) (key : Key) (change : Change) → IsDistinct same_key (keys_of c.entries) → holds (changed c key change) key ≡ left change (holds c key)
+pub changed_own : (c : Contents) (key : Key) (change : Change) → IsDistinct same_key (keys_of c.entries) → holds (entry_changed c key change) key ≡ left change (holds c key)
 changed_own c key Leaves d = ap shown (promoted_own key c.entries)
 changed_own c key Removes d = ap shown (remove_own key c.entries d)
 changed_own c key (Renews entry) d = ap shown (lookup-put_entries same_key (lru_cache c.entries c.cap) key entry nat_list_eq_equiv)
 changed_own c key (Stores item) d = ap shown (lookup-put_entries same_key (lru_cache c.entries c.cap) key (record { item = item; cas = next_number c.counter }) nat_list_eq_equiv)
 
 pub changed_other : (c : Contents) (key q : Key) (change : Change) → same_key key q ≡ false → IsDistinct same_key (keys_of c.entries)
-    → holds (changed c key change) q ≡ without (pushed_out c key change) (holds c) q
+    → holds (entry_changed c key change) q ≡ without (pushed_out c key change) (holds c) q
 changed_other c key q Leaves ne d = ap shown (promoted_other key q c.entries ne)
 changed_other c key q Removes ne d = ap shown (remove_other key q c.entries ne)
 changed_other c key q (Renews entry) ne d = put_other key q entry c ne d
 changed_other c key q (Stores item) ne d = put_other key q (record { item = item; cas = next_number c.counter }) c ne d
 
-pushed_new_own : (c : Contents) (key : Key) → without (pushed_by_new c (held c key)) (holds c) key ≡ holds c key
-pushed_new_own c key = go (held c key) refl
+pushed_new_own : (c : Contents) (key : Key) → without (pushed_by_new c (entry_held c key)) (holds c) key ≡ holds c key
+pushed_new_own c key = go (entry_held c key) refl
   where
-    go : (o : Option Entry) → held c key ≡ o → without (pushed_by_new c o) (holds c) key ≡ holds c key
+    go : (o : Option Entry) → entry_held c key ≡ o → without (pushed_by_new c o) (holds c) key ≡ holds c key
     go None h = let none : holds c key ≡ None = ap shown h in without_none (keys_of (drop (c.cap - 1) c.entries)) (holds c) key none ∙ sym none
     go (Some entry) h = refl
 

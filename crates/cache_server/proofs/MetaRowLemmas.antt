@@ -8,7 +8,7 @@ use Rattle.text_words.proofs.NumberLemmas.{number_below-decimal}
 use Rattle.mc_types.specs.Asks.{data_limit, HasShapeOf, meta_shape, of_store}
 use Rattle.mc_types.specs.Tokens.{LetterC, LetterF, LetterS, LetterT, LetterV, wants, are_served}
 use Rattle.mc_types.specs.declared.error_text.OwnText.TheVariants as texts
-use Rattle.mc_types.specs.Items.{Item, counted, recounted, is_done}
+use Rattle.mc_types.specs.Items.{Item, number_made, recounted, is_done}
 use Rattle.mc_types.specs.Fits.{IsAnswer, IsTtl, AreFieldsInRange, FitsMeta, FitsMetaCount, StandAs, AreBare, IsSizeOf, IsNumberText}
 use Rattle.mc_types.specs.Agree.{AgreesAs, AgreesCount, MatchesFields}
 use Rattle.mc_types.specs.declared.ask.Ask.{Ask}
@@ -30,7 +30,7 @@ use Rattle.cache_server.specs.declared.decision.Verdict.TheVariants.{OutOfMemory
 use Rattle.cache_server.specs.Expiry.{ttl_of, expiry_after}
 use Rattle.cache_server.specs.Contents.{next_number}
 use Rattle.cache_server.specs.Sound.{IsItem, IsEntry, IsChange}
-use Rattle.cache_server.specs.Table.{meta_answer, done_answer, fields_of, left_by, finds, begun, renewed, joins, counts_to, is_other, where_absent, where_held}
+use Rattle.cache_server.specs.Table.{meta_answer, done_answer, entry_fields, left_by, finds, begun, renewed, joins, counts_to, is_other, where_absent, where_held}
 use Rattle.cache_server.specs.Held.{item_of}
 use Rattle.cache_server.proofs.TableLemmas.{counted_below}
 use Rattle.cache_server.proofs.ChangeLemmas.{left, shown}
@@ -80,7 +80,7 @@ ttl_is now None h = (omega (arith, ints), omega (arith, ints))
 ttl_is now (Some expiry) h = (omega (arith, ints), omega (arith, ints))
 
 module _ (now : ℕ) (ts : List Token) (entry : Entry) where
-  fields_range : IsEntry entry → AreFieldsInRange (fields_of now ts entry)
+  fields_range : IsEntry entry → AreFieldsInRange (entry_fields now ts entry)
   fields_range h = record {
     body = if_stands (wants ts LetterV) entry.item.body (λ body. length body ≤ data_limit) h.item.body;
     cas = if_stands (wants ts LetterC) entry.cas (λ cas. cas < 2 ^ 64) h.cas;
@@ -89,7 +89,7 @@ module _ (now : ℕ) (ts : List Token) (entry : Entry) where
     ttl = if_stands (wants ts LetterT) (ttl_of now entry.item.expiry) IsTtl (ttl_is now entry.item.expiry h.item.expiry);
   }
 
-  stand_as : (b : Bool) → wants ts LetterV ≡ b → StandAs ts b (fields_of now ts entry)
+  stand_as : (b : Bool) → wants ts LetterV ≡ b → StandAs ts b (entry_fields now ts entry)
   stand_as b e = record {
     body_is = stands (wants ts LetterV) entry.item.body ∙ e;
     cas = stands (wants ts LetterC) entry.cas;
@@ -98,7 +98,7 @@ module _ (now : ℕ) (ts : List Token) (entry : Entry) where
     ttl = stands (wants ts LetterT) (ttl_of now entry.item.expiry);
   }
 
-  matches : MatchesFields (fields_of now ts entry) (item_of entry.item)
+  matches : MatchesFields (entry_fields now ts entry) (item_of entry.item)
   matches = (
     if_stands (wants ts LetterV) entry.item.body (λ body. body ≡ entry.item.body) refl,
     if_stands (wants ts LetterF) entry.item.flags (λ flags. flags ≡ entry.item.flags) refl,
@@ -106,9 +106,9 @@ module _ (now : ℕ) (ts : List Token) (entry : Entry) where
   )
 
   -- with the data or without
-  by_value : (P : Answer → Type 0) → (wants ts LetterV ≡ true → P (answers.Meta codes.Va (fields_of now ts entry))) → (wants ts LetterV ≡ false → P (answers.Meta codes.Hd (fields_of now ts entry)))
+  by_value : (P : Answer → Type 0) → (wants ts LetterV ≡ true → P (answers.Meta codes.Va (entry_fields now ts entry))) → (wants ts LetterV ≡ false → P (answers.Meta codes.Hd (entry_fields now ts entry)))
       → P (done_answer now ts (Some entry))
-  by_value P with_data without = (elim (wants ts LetterV) as (λ b. wants ts LetterV ≡ b → P (answers.Meta (cond b codes.Va codes.Hd) (fields_of now ts entry))) [
+  by_value P with_data without = (elim (wants ts LetterV) as (λ b. wants ts LetterV ≡ b → P (answers.Meta (cond b codes.Va codes.Hd) (entry_fields now ts entry))) [
     | true ↦ λ e. with_data e
     | false ↦ λ e. without e
   ]) refl
@@ -176,9 +176,9 @@ module _ (ask : Ask) (stamp now counter : ℕ) where
       (λ e. absurd (let f : false ≡ true = sym none ∙ e in cc))
       (λ e. record {
         ranges = fields_range now ask.tokens entry (numbered item h);
-        listed = fits (fields_of now ask.tokens entry) (stand_as now ask.tokens entry false e);
-        agrees = agrees (fields_of now ask.tokens entry);
-        left_is = left (fields_of now ask.tokens entry);
+        listed = fits (entry_fields now ask.tokens entry) (stand_as now ask.tokens entry false e);
+        agrees = agrees (entry_fields now ask.tokens entry);
+        left_is = left (entry_fields now ask.tokens entry);
       })
 
   pub meta_absent : (op : Op) → HasShapeOf ask (meta_shape op) → IsChange (where_absent now stamp ask op).change
@@ -217,10 +217,10 @@ module _ (ask : Ask) (stamp now counter : ℕ) where
   abbrev pub counted_item : CacheItem → ℕ → CacheItem
   counted_item item n = record item { body = decimal n; expiry = expiry_after now ask.exptime item.expiry }
 
-  count_row : (op : Op) (entry : Entry) (n : ℕ) → counted ask entry.item.body ≡ Some n → n < 2 ^ 64 → IsItem (counted_item entry.item n)
+  count_row : (op : Op) (entry : Entry) (n : ℕ) → number_made ask entry.item.body ≡ Some n → n < 2 ^ 64 → IsItem (counted_item entry.item n)
       → ((code : Code) (fields : Fields) → FitsMetaCount ask.tokens code fields → FitsMeta op ask.tokens (answers.Meta code fields))
       → ((code : Code) (fields : Fields) → AgreesCount ask (answers.Meta code fields) (Some (item_of entry.item)) → AgreesAs op ask (answers.Meta code fields) (Some (item_of entry.item)))
-      → ((answer : Answer) → is_done answer ≡ true → after_as op ask stamp answer (Some (item_of entry.item)) ≡ Some (recounted 0 (item_of entry.item) (counted ask entry.item.body)))
+      → ((answer : Answer) → is_done answer ≡ true → after_as op ask stamp answer (Some (item_of entry.item)) ≡ Some (recounted 0 (item_of entry.item) (number_made ask entry.item.body)))
       → Row op (counts_to now ask entry.item (Some n)) entry
   count_row op entry n e lt h fits agrees after =
       let item = counted_item entry.item n in
@@ -229,26 +229,26 @@ module _ (ask : Ask) (stamp now counter : ℕ) where
       let held : Item = item_of entry.item in
       let texts : Some (item_of item) ≡ Some (recounted 0 held (Some n)) =
       ap (λ (bytes : List ℕ). let it : Item = record { content = bytes; flags = entry.item.flags; stamp = entry.item.stamp } in Some it) (sym (append-nil (decimal n))) in
-      let left : Some (item_of item) ≡ Some (recounted 0 held (counted ask entry.item.body)) = texts ∙ ap (λ (o : Option ℕ). Some (recounted 0 held o)) (sym e) in
+      let left : Some (item_of item) ≡ Some (recounted 0 held (number_made ask entry.item.body)) = texts ∙ ap (λ (o : Option ℕ). Some (recounted 0 held o)) (sym e) in
       by_value now ask.tokens next (λ a. IsMetaRow ask stamp op (Stores item) a (Some held))
       (λ v. record {
         ranges = ranges;
-        listed = fits codes.Va (fields_of now ask.tokens next) (v, stand_as now ask.tokens next true v, number_shown (wants ask.tokens LetterV) n v lt);
-        agrees = agrees codes.Va (fields_of now ask.tokens next) (n, (held, refl, e), if_stands (wants ask.tokens LetterV) (decimal n) (λ body. body ≡ decimal n) refl);
-        left_is = left ∙ sym (after (answers.Meta codes.Va (fields_of now ask.tokens next)) refl);
+        listed = fits codes.Va (entry_fields now ask.tokens next) (v, stand_as now ask.tokens next true v, number_shown (wants ask.tokens LetterV) n v lt);
+        agrees = agrees codes.Va (entry_fields now ask.tokens next) (n, (held, refl, e), if_stands (wants ask.tokens LetterV) (decimal n) (λ body. body ≡ decimal n) refl);
+        left_is = left ∙ sym (after (answers.Meta codes.Va (entry_fields now ask.tokens next)) refl);
       })
       (λ v. record {
         ranges = ranges;
-        listed = fits codes.Hd (fields_of now ask.tokens next) (v, stand_as now ask.tokens next false v);
-        agrees = agrees codes.Hd (fields_of now ask.tokens next) (n, (held, refl, e));
-        left_is = left ∙ sym (after (answers.Meta codes.Hd (fields_of now ask.tokens next)) refl);
+        listed = fits codes.Hd (entry_fields now ask.tokens next) (v, stand_as now ask.tokens next false v);
+        agrees = agrees codes.Hd (entry_fields now ask.tokens next) (n, (held, refl, e));
+        left_is = left ∙ sym (after (answers.Meta codes.Hd (entry_fields now ask.tokens next)) refl);
       })
 
-  incr_to : (entry : Entry) (o : Option ℕ) → counted ask entry.item.body ≡ o → IfSome o (λ n. n < 2 ^ 64) → IsChange (counts_to now ask entry.item o).change → Row Incr (counts_to now ask entry.item o) entry
+  incr_to : (entry : Entry) (o : Option ℕ) → number_made ask entry.item.body ≡ o → IfSome o (λ n. n < 2 ^ 64) → IsChange (counts_to now ask entry.item o).change → Row Incr (counts_to now ask entry.item o) entry
   incr_to entry None e lt h = record { ranges = short_text texts.NotNumeric; listed = refl; agrees = tt; left_is = refl }
   incr_to entry (Some n) e lt h = count_row Incr entry n e lt h (λ code fields is. is) (λ code fields is. is) (λ answer done. rw done refl)
 
-  decr_to : (entry : Entry) (o : Option ℕ) → counted ask entry.item.body ≡ o → IfSome o (λ n. n < 2 ^ 64) → IsChange (counts_to now ask entry.item o).change → Row Decr (counts_to now ask entry.item o) entry
+  decr_to : (entry : Entry) (o : Option ℕ) → number_made ask entry.item.body ≡ o → IfSome o (λ n. n < 2 ^ 64) → IsChange (counts_to now ask entry.item o).change → Row Decr (counts_to now ask entry.item o) entry
   decr_to entry None e lt h = record { ranges = short_text texts.NotNumeric; listed = refl; agrees = tt; left_is = refl }
   decr_to entry (Some n) e lt h = count_row Decr entry n e lt h (λ code fields is. is) (λ code fields is. is) (λ answer done. rw done refl)
 
@@ -267,13 +267,13 @@ module _ (ask : Ask) (stamp now counter : ℕ) where
   incr_row : (entry : Entry) → IsChange (where_held now stamp ask entry Incr).change → Row Incr (where_held now stamp ask entry Incr) entry
   incr_row entry = (elim (is_other ask.cas entry.cas) as (λ t. is_other ask.cas entry.cas ≡ t → IsChange (where_held now stamp ask entry Incr).change → Row Incr (where_held now stamp ask entry Incr) entry) [
     | true ↦ λ t. rw t (λ h. record { ranges = bare_range; listed = are_bare; agrees = refl; left_is = refl })
-    | false ↦ λ t. rw t (λ h. incr_to entry (counted ask entry.item.body) refl (counted_below ask entry.item.body) h)
+    | false ↦ λ t. rw t (λ h. incr_to entry (number_made ask entry.item.body) refl (counted_below ask entry.item.body) h)
   ]) refl
 
   decr_row : (entry : Entry) → IsChange (where_held now stamp ask entry Decr).change → Row Decr (where_held now stamp ask entry Decr) entry
   decr_row entry = (elim (is_other ask.cas entry.cas) as (λ t. is_other ask.cas entry.cas ≡ t → IsChange (where_held now stamp ask entry Decr).change → Row Decr (where_held now stamp ask entry Decr) entry) [
     | true ↦ λ t. rw t (λ h. record { ranges = bare_range; listed = are_bare; agrees = refl; left_is = refl })
-    | false ↦ λ t. rw t (λ h. decr_to entry (counted ask entry.item.body) refl (counted_below ask entry.item.body) h)
+    | false ↦ λ t. rw t (λ h. decr_to entry (number_made ask entry.item.body) refl (counted_below ask entry.item.body) h)
   ]) refl
 
   pub meta_held : (entry : Entry) (op : Op) → HasShapeOf ask (meta_shape op) → IsEntry entry → IsChange (where_held now stamp ask entry op).change → Row op (where_held now stamp ask entry op) entry

@@ -5,7 +5,7 @@ use Rattle.mc_types.specs.Asks.{data_limit}
 use Rattle.mc_types.specs.ErrorTexts.{own_text}
 use Rattle.mc_types.specs.declared.error_text.OwnText.{OwnText}
 use Rattle.mc_types.specs.declared.error_text.OwnText.TheVariants as texts
-use Rattle.mc_types.specs.Items.{Item, counted, removes, is_done, after_done}
+use Rattle.mc_types.specs.Items.{Item, number_made, removes, is_done, after_done}
 use Rattle.mc_types.specs.Fits.{IsErrorText, IsAnswer, FitsClassic}
 use Rattle.mc_types.specs.Agree.{AgreesAs}
 use Rattle.mc_types.specs.declared.ask.Ask.{Ask}
@@ -88,7 +88,7 @@ module _ (ask : Ask) (stamp : ℕ) where
       | false ↦ λ t. rw t (record { ranges = tt; listed = tt; agrees = refl; left_is = refl })
     ]) refl
 
-    incr_to : (entry : Entry) (o : Option ℕ) → counted ask entry.item.body ≡ o → IfSome o (λ n. n < 2 ^ 64) → IsRow ask stamp Incr (counts_to now ask entry.item o) (shown entry)
+    incr_to : (entry : Entry) (o : Option ℕ) → number_made ask entry.item.body ≡ o → IfSome o (λ n. n < 2 ^ 64) → IsRow ask stamp Incr (counts_to now ask entry.item o) (shown entry)
     incr_to entry None e lt = record { ranges = short_text texts.NotNumeric; listed = refl; agrees = tt; left_is = refl }
     incr_to entry (Some n) e lt = record {
       ranges = lt;
@@ -97,7 +97,7 @@ module _ (ask : Ask) (stamp : ℕ) where
       left_is = rw e (ap (λ (bytes : List ℕ). let it : Item = record { content = bytes; flags = entry.item.flags; stamp = entry.item.stamp } in Some it) (sym (append-nil (decimal n))));
     }
 
-    decr_to : (entry : Entry) (o : Option ℕ) → counted ask entry.item.body ≡ o → IfSome o (λ n. n < 2 ^ 64) → IsRow ask stamp Decr (counts_to now ask entry.item o) (shown entry)
+    decr_to : (entry : Entry) (o : Option ℕ) → number_made ask entry.item.body ≡ o → IfSome o (λ n. n < 2 ^ 64) → IsRow ask stamp Decr (counts_to now ask entry.item o) (shown entry)
     decr_to entry None e lt = record { ranges = short_text texts.NotNumeric; listed = refl; agrees = tt; left_is = refl }
     decr_to entry (Some n) e lt = record {
       ranges = lt;
@@ -126,6 +126,6 @@ module _ (ask : Ask) (stamp : ℕ) where
     held_row entry Prepend h _ _ _ = prepend_row entry
     held_row entry Cas h _ _ _ = cas_row entry
     held_row entry Delete h d _ _ = let same : is_other ask.cas entry.cas ≡ false = ap (λ (o : Option ℕ). is_other o entry.cas) (d refl) in rw same (record { ranges = tt; listed = tt; agrees = refl; left_is = refl })
-    held_row entry Incr h _ i _ = let same : is_other ask.cas entry.cas ≡ false = ap (λ (o : Option ℕ). is_other o entry.cas) (i refl) in rw same (incr_to entry (counted ask entry.item.body) refl (counted_below ask entry.item.body))
-    held_row entry Decr h _ _ i = let same : is_other ask.cas entry.cas ≡ false = ap (λ (o : Option ℕ). is_other o entry.cas) (i refl) in rw same (decr_to entry (counted ask entry.item.body) refl (counted_below ask entry.item.body))
+    held_row entry Incr h _ i _ = let same : is_other ask.cas entry.cas ≡ false = ap (λ (o : Option ℕ). is_other o entry.cas) (i refl) in rw same (incr_to entry (number_made ask entry.item.body) refl (counted_below ask entry.item.body))
+    held_row entry Decr h _ _ i = let same : is_other ask.cas entry.cas ≡ false = ap (λ (o : Option ℕ). is_other o entry.cas) (i refl) in rw same (decr_to entry (number_made ask entry.item.body) refl (counted_below ask entry.item.body))
     held_row entry Touch h _ _ _ = record { ranges = tt; listed = tt; agrees = refl; left_is = refl }

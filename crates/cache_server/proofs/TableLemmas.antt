@@ -10,7 +10,7 @@ use Rattle.text_words.specs.Number.{number_below, is_number}
 use Rattle.text_words.specs.Arithmetic.{number_held, changed, without_spaces}
 use Rattle.std.specs.Str.Parse.{digits_value}
 use Rattle.mc_types.specs.Asks.{IsAsk, IsExptime, data_limit}
-use Rattle.mc_types.specs.Items.{counted, is_up}
+use Rattle.mc_types.specs.Items.{number_made, is_up}
 use Rattle.mc_types.specs.declared.ask.Ask.{Ask}
 use Rattle.mc_types.specs.declared.ask.Op.{Op}
 use Rattle.mc_types.specs.declared.ask.Op.TheVariants.{Get, Gat, Set, Add, Replace, Append, Prepend, Cas, Delete, Incr, Decr, Touch}
@@ -42,7 +42,7 @@ counted_of up delta None h = tt
 counted_of up delta (Some n) h = changed_below up delta n h
 
 -- a number that was counted has 64 bits
-pub counted_below : (ask : Ask) (content : List ℕ) → IfSome (counted ask content) (λ n. n < 2 ^ 64)
+pub counted_below : (ask : Ask) (content : List ℕ) → IfSome (number_made ask content) (λ n. n < 2 ^ 64)
 counted_below ask content = counted_of (is_up ask.op) ask.delta (number_held content) (below_limit (2 ^ 64) (without_spaces content))
 
 short : (n : ℕ) → n < 2 ^ 64 → length (decimal n) ≤ data_limit
@@ -94,7 +94,7 @@ module _ (now stamp : ℕ) (ask : Ask) (lt : now < 2 ^ 63) (is : IsAsk ask) wher
   counts_sound : (entry : Entry) → IsEntry entry → IsChange (counts now ask entry).change
   counts_sound entry h = (elim (is_other ask.cas entry.cas) as (λ t. is_other ask.cas entry.cas ≡ t → IsChange (counts now ask entry).change) [
     | true ↦ λ t. rw t tt
-    | false ↦ λ t. rw t (counts_to_sound entry.item (counted ask entry.item.body) h.item (counted_below ask entry.item.body))
+    | false ↦ λ t. rw t (counts_to_sound entry.item (number_made ask entry.item.body) h.item (counted_below ask entry.item.body))
   ]) refl
 
   held_sound : (entry : Entry) (op : Op) → IsEntry entry → IsChange (where_held now stamp ask entry op).change

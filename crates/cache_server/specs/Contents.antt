@@ -22,8 +22,8 @@ abbrev pub same_key : Key → Key → Bool
 same_key = bytes_eq
 
 -- what is held of a key
-abbrev pub held : Contents → Key → Option Entry
-held c key = lookup (same_key key) c.entries
+abbrev pub entry_held : Contents → Key → Option Entry
+entry_held c key = lookup (same_key key) c.entries
 
 abbrev pub is_expired : ℕ → Key × Entry → Bool
 is_expired now e = has_come now e.1.item.expiry
@@ -57,8 +57,8 @@ abbrev pub next_number : ℕ → ℕ
 next_number counter = min (counter + 1) last_number
 
 -- the item under the next cas number
-abbrev pub storing : Contents → Key → CacheItem → Contents
-storing c key item =
+abbrev pub storing_item : Contents → Key → CacheItem → Contents
+storing_item c key item =
     record {
       entries = put_entries same_key (lru_cache c.entries c.cap) key (record { item = item; cas = next_number c.counter });
       cap = c.cap;

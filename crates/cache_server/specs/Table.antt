@@ -2,7 +2,7 @@
 use Rattle.std.specs.Prelude.{◌≡◌, ℕ, ◌++◌, ℤ, nat_abs, Bool, true, false, not, ◌&&◌, List, Option, Some, None, option_map, decimal, length, nat_lt, ◌==◌, if◌then◌else◌}
 use Rattle.std.specs.Bool.{then_some}
 use Rattle.mc_types.specs.Asks.{data_limit}
-use Rattle.mc_types.specs.Items.{counted}
+use Rattle.mc_types.specs.Items.{number_made}
 use Rattle.mc_types.specs.ErrorTexts.{own_text}
 use Rattle.mc_types.specs.declared.error_text.OwnText.TheVariants as texts
 use Rattle.mc_types.specs.declared.ask.Ask.{Ask}
@@ -25,7 +25,7 @@ use Rattle.cache_server.specs.declared.decision.Change.{Change}
 use Rattle.cache_server.specs.declared.decision.Change.TheVariants.{Leaves, Removes, Renews, Stores}
 use Rattle.cache_server.specs.declared.decision.Decision.{Decision}
 use Rattle.cache_server.specs.Expiry.{expiry_after, ttl_of}
-use Rattle.cache_server.specs.Contents.{Contents, Key, held, at_moment, using, losing, putting, storing, last_number, next_number}
+use Rattle.cache_server.specs.Contents.{Contents, Key, entry_held, at_moment, using, losing, putting, storing_item, last_number, next_number}
 
 -- nothing changes but that the key was used
 abbrev pub finds : Verdict → Decision
@@ -61,7 +61,7 @@ counts_to now ask item (Some n) =
 
 abbrev pub counts : ℕ → Ask → Entry → Decision
 counts now ask entry =
-    if is_other ask.cas entry.cas then finds Exists else counts_to now ask entry.item (counted ask entry.item.body)
+    if is_other ask.cas entry.cas then finds Exists else counts_to now ask entry.item (number_made ask entry.item.body)
 
 -- nothing is held of the key
 abbrev pub where_absent : ℕ → ℕ → Ask → Op → Decision
@@ -109,11 +109,11 @@ settled counter decision =
     if needs_number decision.change && (counter == last_number) then finds OutOfMemory else decision
 
 -- what a cache holds after a change of a key
-abbrev pub changed : Contents → Key → Change → Contents
-changed c key Leaves = using c key
-changed c key Removes = losing c key
-changed c key (Renews entry) = putting c key entry
-changed c key (Stores item) = storing c key item
+abbrev pub entry_changed : Contents → Key → Change → Contents
+entry_changed c key Leaves = using c key
+entry_changed c key Removes = losing c key
+entry_changed c key (Renews entry) = putting c key entry
+entry_changed c key (Stores item) = storing_item c key item
 
 abbrev pub shown_cas : Bool → ℕ → Option ℕ
 shown_cas true cas = Some cas
@@ -142,8 +142,8 @@ left_by counter before (Renews entry) = Some entry
 left_by counter before (Stores item) = Some (record { item = item; cas = next_number counter })
 
 -- what the return flags show of an entry
-abbrev pub fields_of : ℕ → List Token → Entry → Fields
-fields_of now tokens entry = record {
+abbrev pub entry_fields : ℕ → List Token → Entry → Fields
+entry_fields now tokens entry = record {
   body = then_some (wants tokens LetterV) entry.item.body;
   cas = then_some (wants tokens LetterC) entry.cas;
   flags = then_some (wants tokens LetterF) entry.item.flags;
@@ -152,22 +152,22 @@ fields_of now tokens entry = record {
 }
 
 -- a code with nothing beside it
-abbrev pub bare : Code → Answer
-bare code = answers.Meta code (record { body = None; cas = None; flags = None; size = None; ttl = None })
+abbrev pub bare_decision : Code → Answer
+bare_decision code = answers.Meta code (record { body = None; cas = None; flags = None; size = None; ttl = None })
 
 -- a call that was done shows the entry that it leaves: VA where its data were asked for, else HD
 abbrev pub done_answer : ℕ → List Token → Option Entry → Answer
-done_answer now tokens None = bare codes.Hd
-done_answer now tokens (Some entry) = answers.Meta (if wants tokens LetterV then codes.Va else codes.Hd) (fields_of now tokens entry)
+done_answer now tokens None = bare_decision codes.Hd
+done_answer now tokens (Some entry) = answers.Meta (if wants tokens LetterV then codes.Va else codes.Hd) (entry_fields now tokens entry)
 
 -- the meta answer, where the call leaves this entry of its key
 abbrev pub meta_answer : ℕ → List Token → Option Entry → Verdict → Answer
 meta_answer now tokens left (Hit entry) = done_answer now tokens left
-meta_answer now tokens left Miss = bare codes.En
+meta_answer now tokens left Miss = bare_decision codes.En
 meta_answer now tokens left Stored = done_answer now tokens left
-meta_answer now tokens left NotStored = bare codes.Ns
-meta_answer now tokens left Exists = bare codes.Ex
-meta_answer now tokens left NotFound = bare codes.Nf
+meta_answer now tokens left NotStored = bare_decision codes.Ns
+meta_answer now tokens left Exists = bare_decision codes.Ex
+meta_answer now tokens left NotFound = bare_decision codes.Nf
 meta_answer now tokens left Deleted = done_answer now tokens left
 meta_answer now tokens left Touched = done_answer now tokens left
 meta_answer now tokens left (Counted n) = done_answer now tokens left
@@ -182,13 +182,13 @@ answer_in Meta now ask counter before decision = meta_answer now ask.tokens (lef
 
 -- what the table decides for a cache from which the expired items are gone
 abbrev pub decided_in : ℕ → ℕ → Ask → Contents → Decision
-decided_in now stamp ask c = settled c.counter (decided now stamp ask (held c ask.key))
+decided_in now stamp ask c = settled c.counter (decided now stamp ask (entry_held c ask.key))
 
 -- A call answers so, with the stamp of the item that it found, and leaves this; the expired items are gone before.
 pub record Serves (now stamp : ℕ) (ask : Ask) (old : Contents) (answer : Answer) (found : Option ℕ) (new : Contents) : Type 0 where
-  pub answer_is : answer ≡ answer_in ask.dialect now ask old.counter (held old ask.key) (decided_in now stamp ask old)
-  pub found_is : found ≡ option_map (λ entry. entry.item.stamp) (held old ask.key)
-  pub contents : new ≡ changed old ask.key (decided_in now stamp ask old).change
+  pub answer_is : answer ≡ answer_in ask.dialect now ask old.counter (entry_held old ask.key) (decided_in now stamp ask old)
+  pub found_is : found ≡ option_map (λ entry. entry.item.stamp) (entry_held old ask.key)
+  pub contents : new ≡ entry_changed old ask.key (decided_in now stamp ask old).change
 
 -- a call at a moment answers so, with the stamp of the item that it found, and leaves this; the expired items are dropped first
 abbrev pub Applies : ℤ → ℕ → Ask → Contents → Answer → Option ℕ → Contents → Type 0

@@ -82,10 +82,10 @@ impl Model for Cache {
 }
 
 impl Cache {
-    ghost use Rattle.cache_server.specs.Contents.{empty, at_moment, putting, storing, losing, opening, restarted};
-    ghost use Rattle.cache_server.specs.Held.{holds, IsCall, IsHold, IsLoss, lost_by, expired_keys};
+    ghost use Rattle.cache_server.specs.Contents.{empty, at_moment, putting, storing_item, losing, opening, restarted};
+    ghost use Rattle.cache_server.specs.Held.{holds, IsServerCall, IsHold, IsLoss, keys_lost_by, expired_keys};
     ghost use Rattle.cache_server.specs.Sound.{IsItem};
-    ghost use Rattle.cache_server.specs.Table.{Applies, Serves, changed};
+    ghost use Rattle.cache_server.specs.Table.{Applies, Serves, entry_changed};
 
     /// A server that holds nothing yet, and then at most `capacity` items. The only error is running out of memory.
     pub fn new(alloc: Global, capacity: usize) -> Result<Cache, AllocError>
@@ -123,7 +123,7 @@ impl Cache {
 
     fn store(&mut self, key: Key, item: CacheItem) -> Result<(), AllocError>
         requires { IsItem item }
-        ensures ok { OnOk result (self.new ≡ storing self.old key item) }
+        ensures ok { OnOk result (self.new ≡ storing_item self.old key item) }
         ensures err { OnErr result (self.new ≡ self.old) }
     {
         let cas = self.counter.saturating_add(1);
@@ -134,7 +134,7 @@ impl Cache {
 
     fn carry_out(&mut self, key: &Key, change: Change) -> Result<(), AllocError>
         requires { IsChange change }
-        ensures ok { OnOk result (self.new ≡ changed self.old key.now change) }
+        ensures ok { OnOk result (self.new ≡ entry_changed self.old key.now change) }
         ensures err { OnErr result (self.new ≡ self.old) }
     {
         match change {
@@ -191,7 +191,7 @@ impl Cache {
         requires moment { pos 0 ≤ℤ moment }
         requires ask { IsAsk ask.now }
         ensures ok { IfOk result (λ r. Applies moment stamp ask.now self.old r.0 r.1 self.new) }
-        ensures call { IfOk result (λ r. IsCall stamp ask.now (holds self.old) (lost_by (nat_abs moment) stamp ask.now self.old) r.0 r.1 (holds self.new)) }
+        ensures call { IfOk result (λ r. IsServerCall stamp ask.now (holds self.old) (keys_lost_by (nat_abs moment) stamp ask.now self.old) r.0 r.1 (holds self.new)) }
         ensures err { OnErr result (self.new ≡ at_moment (nat_abs moment) self.old) }
         ensures lost { OnErr result (IsLoss (expired_keys (nat_abs moment) self.old.entries) self.old self.new) }
     {
@@ -206,7 +206,7 @@ impl Cache {
     /// nothing.
     pub fn hold(&mut self, key: &Key, body: &[u8]) -> Result<(), AllocError>
         requires { length body.now ≤ data_limit }
-        ensures ok { OnOk result (self.new ≡ storing self.old key.now (opening body.now)) }
+        ensures ok { OnOk result (self.new ≡ storing_item self.old key.now (opening body.now)) }
         ensures held { OnOk result (IsHold key.now body.now self.old self.new) }
         ensures err { OnErr result (self.new ≡ self.old) }
     {

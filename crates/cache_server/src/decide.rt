@@ -1,7 +1,7 @@
 //! What an ask does to the item of its key, as the protocol tells it.
 
 ghost use Rattle.std.specs.Prelude.{◌≡◌, ◌<◌, ◌++◌, ◌^◌, IfOk, decimal, option_copied};
-ghost use Rattle.mc_types.specs.Items.{counted};
+ghost use Rattle.mc_types.specs.Items.{number_made};
 ghost use Rattle.cache_server.specs.Table.{begun, stores, joins, renewed, counts_to, counts, where_absent, where_held, decided, is_other};
 
 use crate::decision::{Change, Decision, Verdict};

@@ -2,7 +2,7 @@
 
 ghost use Rattle.std.specs.Prelude.{◌≡◌, Some, IfOk, IfSome, option_copied};
 ghost use Rattle.cache_server.specs.Sound.{IsItem, IsEntry, IsChange};
-ghost use Rattle.cache_server.specs.Table.{bare, done_answer, left_by, meta_answer};
+ghost use Rattle.cache_server.specs.Table.{bare_decision, done_answer, left_by, meta_answer};
 
 use crate::decision::{Change, Verdict};
 use crate::expiry::seconds_left;
@@ -11,7 +11,7 @@ use mc_types::{Answer, Code, ErrorText, Fields, OwnText, Tokens, Wanted};
 use std::alloc::AllocError;
 
 fn bare(code: Code) -> Answer
-    ensures { result ≡ bare code }
+    ensures { result ≡ bare_decision code }
 {
     Answer::Meta(code, Fields::none())
 }

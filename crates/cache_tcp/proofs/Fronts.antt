@@ -5,19 +5,19 @@ use Rattle.std.proofs.lemmas.List.{take-append-drop, drop-append-le, length-drop
 use Rattle.std.proofs.Math.Seq.{drop-append-add}
 use Rattle.serve_wire.specs.declared.conn.conn.Sent.{Sent}
 use Rattle.serve_wire.specs.declared.conn.conn.Sent.TheVariants.{Bytes, Nothing, Failed}
-use Rattle.serve_wire.specs.Events.{Event}
+use Rattle.serve_wire.specs.Events.{WireEvent}
 use Rattle.serve_wire.specs.Ends.{Sends}
 use Rattle.mc_types.specs.declared.ask.Ask.{Ask}
 use Rattle.wire_parts.specs.Stream.{Place}
 use Rattle.wire_stream.specs.TextProtocol.{Said, LongLine, ReadsNext, asks_in, passed_text}
 use Rattle.wire_stream.specs.declared.connection.front.Passed.{Passed}
 use Rattle.wire_stream.specs.Fronts.{PassesMessage}
-use Rattle.wire_stream.specs.Held.{held_at}
+use Rattle.wire_stream.specs.Held.{bytes_at}
 use Rattle.wire_stream.proofs.ReaderLaws.{reader_is}
 use Rattle.wire_stream.proofs.Shorter.{next_len}
 use Rattle.wire_stream.specs.Version.{default_version}
 use Rattle.cache_server.specs.Contents.{Contents}
-use Rattle.cache_tcp.specs.Steps.{Spot, spot_at, place_by, count_by, IsOnWay, ServedStep, Runs, text_of, RunsOn, StopsNext, Stops, IsOneText, IsWithin, ServesNext, PassesOn}
+use Rattle.cache_tcp.specs.Steps.{Spot, spot_at, place_by, count_by, IsOnWay, ServedStep, Runs, text_of_steps, RunsOn, StopsNext, StopsForMemory, IsOneText, IsWithin, ServesNext, PassesOn}
 use Rattle.cache_tcp.proofs.Runs.{runs_after, text_after}
 
 -- no step was made
@@ -30,7 +30,7 @@ runs_join moment a b c x y z u v w p q =
     record {
       stages = p.stages ++ q.stages;
       runs = runs_after moment a b c x y z p.stages q.stages p.runs q.runs;
-      unsent_is = q.unsent_is ∙ ap (λ (l : List ℕ). l ++ text_of q.stages) p.unsent_is ∙ append_assoc u (text_of p.stages) (text_of q.stages) ∙ ap (λ (l : List ℕ). u ++ l) (sym (text_after p.stages q.stages));
+      unsent_is = q.unsent_is ∙ ap (λ (l : List ℕ). l ++ text_of_steps q.stages) p.unsent_is ∙ append_assoc u (text_of_steps p.stages) (text_of_steps q.stages) ∙ ap (λ (l : List ℕ). u ++ l) (sym (text_after p.stages q.stages));
     }
 
 one_next : (moment : ℤ) (place place' : Place) (i : ℕ) (c d : Contents) (u v : List ℕ) (ended : Bool) → ServesNext moment place i c u ended place' d v → RunsOn moment (spot_at place i) c u (spot_at place' (count_by ended i)) d v
@@ -78,11 +78,11 @@ runs_pass moment a place place' n x y u v w p q zero =
     })
 
 -- memory was refused at the next step
-pub stops_next : (moment : ℤ) (a : Spot) (place : Place) (i : ℕ) (x y z : Contents) (u v : List ℕ) → RunsOn moment a x u (spot_at place i) y v → StopsNext moment place i y z → Stops moment a x z
+pub stops_next : (moment : ℤ) (a : Spot) (place : Place) (i : ℕ) (x y z : Contents) (u v : List ℕ) → RunsOn moment a x u (spot_at place i) y v → StopsNext moment place i y z → StopsForMemory moment a x z
 stops_next moment a place i x y z u v p q = record { stages = p.stages; spot = spot_at place i; left = y; runs = p.runs; stops = q }
 
 -- or after more steps
-pub stops_join : (moment : ℤ) (a b : Spot) (x y z : Contents) (u v : List ℕ) → RunsOn moment a x u b y v → Stops moment b y z → Stops moment a x z
+pub stops_join : (moment : ℤ) (a b : Spot) (x y z : Contents) (u v : List ℕ) → RunsOn moment a x u b y v → StopsForMemory moment b y z → StopsForMemory moment a x z
 stops_join moment a b x y z u v p q =
     record { stages = p.stages ++ q.stages; spot = q.spot; left = q.left; runs = runs_after moment a b q.spot x y q.left p.stages q.stages p.runs q.runs; stops = q.stops }
 
@@ -91,12 +91,12 @@ ended_at true place next e = refl
 ended_at false place next e = absurd (cc)
 
 -- fewer bytes are held after a message that was done
-pub next_shorter : (moment : ℤ) (place place' : Place) (i : ℕ) (c d : Contents) (u v : List ℕ) (ended : Bool) → ServesNext moment place i c u ended place' d v → ended ≡ true → length (held_at place') < length (held_at place)
+pub next_shorter : (moment : ℤ) (place place' : Place) (i : ℕ) (c d : Contents) (u v : List ℕ) (ended : Bool) → ServesNext moment place i c u ended place' d v → ended ≡ true → length (bytes_at place') < length (bytes_at place)
 next_shorter moment place place' i c d u v ended s e =
-    subst (λ (p : Place). length (held_at p) < length (held_at place)) (sym (s.answers.place_is ∙ ended_at ended place s.answers.next e)) (next_len place s.answers.said s.answers.next s.answers.reads)
+    subst (λ (p : Place). length (bytes_at p) < length (bytes_at place)) (sym (s.answers.place_is ∙ ended_at ended place s.answers.next e)) (next_len place s.answers.said s.answers.next s.answers.reads)
 
 -- or that asks no server
-pub pass_shorter : (place place' : Place) (u v : List ℕ) → PassesOn place u place' v → length (held_at place') < length (held_at place)
+pub pass_shorter : (place place' : Place) (u v : List ℕ) → PassesOn place u place' v → length (bytes_at place') < length (bytes_at place)
 pass_shorter place place' u v p = next_len place p.passes.said place' p.passes.reads
 
 -- a message that asks no server was answered in the text after all pieces
@@ -163,7 +163,7 @@ pub above_len : (n len most max : ℕ) → len ≡ min n max → most ≤ len �
 above_len n len most max is le = grind (arith, is, le)
 
 -- or where one write took some
-pub within_sent : (most conn : ℕ) (u v : List ℕ) (h h' : List Event) (sent : Sent) → Sends conn u sent v h h' → IsWithin most u → IsWithin most v
+pub within_sent : (most conn : ℕ) (u v : List ℕ) (h h' : List WireEvent) (sent : Sent) → Sends conn u sent v h h' → IsWithin most u → IsWithin most v
 within_sent most conn u v h h' Bytes s w = subst (λ (l : List ℕ). IsWithin most l) (sym s.unsent_is) (within_drop most s.count u w)
 within_sent most conn u v h h' Nothing s w = subst (λ (l : List ℕ). IsWithin most l) (sym s.0) w
 within_sent most conn u v h h' Failed s w = subst (λ (l : List ℕ). IsWithin most l) (sym s.0) w

@@ -4,23 +4,23 @@ use Rattle.std.proofs.lemmas.List.{take-append-drop}
 use Rattle.wire_parts.specs.Stream.{Place, extended}
 use Rattle.wire_stream.proofs.ReaderLaws.{reader_is}
 use Rattle.cache_server.specs.Contents.{Contents}
-use Rattle.cache_tcp.specs.Steps.{Spot, spot_at, came, place_by, Step, ServedStep, Runs, text_of, RunsOn, Stops}
+use Rattle.cache_tcp.specs.Steps.{Spot, spot_at, came, place_by, SpotStep, ServedStep, Runs, text_of_steps, RunsOn, StopsForMemory}
 use Rattle.cache_tcp.specs.Serving.{FeedsStream, ServesHeld, StopsIn}
 
 pub runs_after : (moment : ℤ) (a b c : Spot) (x y z : Contents) (s t : List ServedStep) → Runs moment a x s b y → Runs moment b y t c z → Runs moment a x (s ++ t) c z
 runs_after moment a b c x y z [] t r q = subst (λ (p : Spot). Runs moment p x t c z) (sym r.0) (subst (λ (d : Contents). Runs moment b d t c z) (sym r.1) q)
 runs_after moment a b c x y z (g ∷ s) t r q = (r.0, runs_after moment g.spot b c g.contents y z s t r.1 q)
 
-pub text_after : (s t : List ServedStep) → text_of (s ++ t) ≡ text_of s ++ text_of t
+pub text_after : (s t : List ServedStep) → text_of_steps (s ++ t) ≡ text_of_steps s ++ text_of_steps t
 text_after [] t = refl
-text_after (g ∷ s) t = ap (λ (l : List ℕ). g.text ++ l) (text_after s t) ∙ sym (append_assoc g.text (text_of s) (text_of t))
+text_after (g ∷ s) t = ap (λ (l : List ℕ). g.text ++ l) (text_after s t) ∙ sym (append_assoc g.text (text_of_steps s) (text_of_steps t))
 
 by_extended : (ended : Bool) (p q : Place) (more : List ℕ) → extended (place_by ended p q) more ≡ place_by ended (extended p more) (extended q more)
 by_extended true p q more = refl
 by_extended false p q more = refl
 
 -- a step is the same where more came
-step_still : (moment : ℤ) (from to : Spot) (c d : Contents) (text more : List ℕ) → Step moment from c text to d → Step moment (came from more) c text (came to more) d
+step_still : (moment : ℤ) (from to : Spot) (c d : Contents) (text more : List ℕ) → SpotStep moment from c text to d → SpotStep moment (came from more) c text (came to more) d
 step_still moment from to c d text [] s = s
 step_still moment from to c d text (b ∷ bs) (inl s) =
     let a = s.1 in
@@ -49,7 +49,7 @@ later : List ℕ → List ServedStep → List ServedStep
 later more [] = []
 later more (g ∷ s) = record { text = g.text; spot = came g.spot more; contents = g.contents } ∷ later more s
 
-text_later : (more : List ℕ) (s : List ServedStep) → text_of (later more s) ≡ text_of s
+text_later : (more : List ℕ) (s : List ServedStep) → text_of_steps (later more s) ≡ text_of_steps s
 unfolding later
 text_later more [] = refl
 text_later more (g ∷ s) = ap (λ (l : List ℕ). g.text ++ l) (text_later more s)
@@ -77,7 +77,7 @@ serves_on moment h u p c h1 u1 q d u2 r e a b =
       stages = a.stages ++ b.stages;
       held_is = a.held_is;
       runs = runs_after moment (came p a.fed) q r c d e a.stages b.stages a.runs b.runs;
-      unsent_is = b.unsent_is ∙ ap (λ (l : List ℕ). l ++ text_of b.stages) a.unsent_is ∙ append_assoc u (text_of a.stages) (text_of b.stages) ∙ ap (λ (l : List ℕ). u ++ l) (sym (text_after a.stages b.stages));
+      unsent_is = b.unsent_is ∙ ap (λ (l : List ℕ). l ++ text_of_steps b.stages) a.unsent_is ∙ append_assoc u (text_of_steps a.stages) (text_of_steps b.stages) ∙ ap (λ (l : List ℕ). u ++ l) (sym (text_after a.stages b.stages));
     }
 
 -- more came
@@ -95,7 +95,7 @@ comes_on moment h u p c h1 u1 q d h2 r a b =
 
 -- memory was refused at a step after those
 pub stops_in : (moment : ℤ) (h u : List ℕ) (p : Spot) (c : Contents) (h1 u1 : List ℕ) (q : Spot) (d e : Contents)
-    → ServesHeld moment h u p c h1 u1 q d → Stops moment q d e → StopsIn moment h p c e
+    → ServesHeld moment h u p c h1 u1 q d → StopsForMemory moment q d e → StopsIn moment h p c e
 stops_in moment h u p c h1 u1 q d e a b =
     record {
       fed = a.fed;

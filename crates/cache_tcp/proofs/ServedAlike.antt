@@ -8,8 +8,8 @@ use Rattle.mc_types.specs.declared.ask.Dialect.TheVariants.{Classic, Meta}
 use Rattle.wire_stream.specs.Replies.{shows_values}
 use Rattle.cache_server.specs.declared.item.Entry.{Entry}
 use Rattle.cache_server.specs.declared.decision.Decision.{Decision}
-use Rattle.cache_server.specs.Contents.{held}
-use Rattle.cache_server.specs.Table.{where_absent, where_held, decided, settled, decided_in, changed, left_by, meta_answer, classic_answer, answer_in}
+use Rattle.cache_server.specs.Contents.{entry_held}
+use Rattle.cache_server.specs.Table.{where_absent, where_held, decided, settled, decided_in, entry_changed, left_by, meta_answer, classic_answer, answer_in}
 use Rattle.wire_stream.specs.Form.{is_retrieval, wanted, meta_form}
 use Rattle.wire_stream.specs.Reading.{SaysSame}
 use Rattle.cache_tcp.specs.Alike.{MetaGetsAreServedAlike}
@@ -96,7 +96,7 @@ classic_is Meta now ask counter entry decision e = absurd cc
 
 pub served_alike : MetaGetsAreServedAlike
 served_alike now stamp ask old new told found e serves =
-    let entry = held old ask.key in
+    let entry = entry_held old ask.key in
     let same : decided_in now stamp (meta_form ask) old ≡ decided_in now stamp ask old = ap (settled old.counter) (decided_alike now stamp ask entry e) in
     let answer = classic_answer ask.with_cas (decided_in now stamp ask old).verdict in
     let said = told_alike now stamp old.counter ask entry e in
@@ -106,7 +106,7 @@ served_alike now stamp ask old new told found e serves =
       record {
         answer_is = sym (classic_is ask.dialect now ask old.counter entry (decided_in now stamp ask old) e);
         found_is = serves.found_is;
-        contents = serves.contents ∙ ap (λ (d : Decision). changed old ask.key d.change) same;
+        contents = serves.contents ∙ ap (λ (d : Decision). entry_changed old ask.key d.change) same;
       },
       subst (λ x. SaysSame x answer) (sym told_is) said,
     )

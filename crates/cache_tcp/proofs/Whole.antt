@@ -10,7 +10,7 @@ use Rattle.wire_stream.specs.Version.{default_version}
 use Rattle.cache_server.specs.Contents.{Contents}
 use Rattle.cache_tcp.specs.ConnectionServing.{AnswersAsk, AnswersEach, ServesTo}
 use Rattle.cache_tcp.specs.Laws.{StepsAreMessages, GoesOnAsAtOnce}
-use Rattle.cache_tcp.specs.Steps.{Spot, at_front, count_by, AnswersNext, PassesNext, Step, ServedStep, Runs, text_of}
+use Rattle.cache_tcp.specs.Steps.{Spot, at_front, count_by, AnswersNext, PassesNext, SpotStep, ServedStep, Runs, text_of_steps}
 use Rattle.cache_tcp.proofs.ConnectionJoined.{serves_one, serves_after, serves_nothing}
 use Rattle.cache_tcp.proofs.Runs.{runs_after, text_after}
 
@@ -130,13 +130,13 @@ asks_more moment from to first c d text more true b a e = inr (begun_last moment
 asks_more moment from to first c d text more false b a e =
     inl (subst (λ n. Begun moment to.place first n d (text ++ more)) (sym e) (begun_more moment from.place to.place first c d from.count text more b a), a.place_is)
 
-step_more : (moment : ℤ) (from to : Spot) (first c d : Contents) (text more : List ℕ) → Begun moment from.place first from.count c text → Step moment from c more to d → Further moment from first d (text ++ more) to
+step_more : (moment : ℤ) (from to : Spot) (first c d : Contents) (text more : List ℕ) → Begun moment from.place first from.count c text → SpotStep moment from c more to d → Further moment from first d (text ++ more) to
 unfolding Further
 step_more moment from to first c d text more b (inl s) = asks_more moment from to first c d text more s.0 b s.1 s.2
 step_more moment from to first c d text more b (inr s) =
     inr (subst (λ (x : Contents). ServesTo moment from.place first (text ++ more) to.place x) s.2 (passed moment from.place to.place first c from.count text more b s.0 s.3), s.1)
 
-whole_from : (moment : ℤ) (stages : List ServedStep) (from to : Spot) (first c d : Contents) (text : List ℕ) → to.count ≡ 0 → Begun moment from.place first from.count c text → Runs moment from c stages to d → ServesTo moment from.place first (text ++ text_of stages) to.place d
+whole_from : (moment : ℤ) (stages : List ServedStep) (from to : Spot) (first c d : Contents) (text : List ℕ) → to.count ≡ 0 → Begun moment from.place first from.count c text → Runs moment from c stages to d → ServesTo moment from.place first (text ++ text_of_steps stages) to.place d
 unfolding Further
 whole_from moment [] from to first c d text zero b r =
     let none = b.none (ap (λ (s : Spot). s.count) r.0 ∙ zero) in
@@ -144,11 +144,11 @@ whole_from moment [] from to first c d text zero b r =
     (subst (λ (s : Spot). ServesTo moment from.place first [] s.place d) r.0
     (subst (λ (x : Contents). ServesTo moment from.place first [] from.place x) (none.1 ∙ r.1) (serves_nothing moment from.place first)))
 whole_from moment (g ∷ s) from to first c d text zero b r =
-    subst (λ (l : List ℕ). ServesTo moment from.place first l to.place d) (append_assoc text g.text (text_of s))
+    subst (λ (l : List ℕ). ServesTo moment from.place first l to.place d) (append_assoc text g.text (text_of_steps s))
     (elim (step_more moment from g.spot first c g.contents text g.text b r.0) [
-      | inl on ↦ subst (λ (p : Place). ServesTo moment p first (text ++ g.text ++ text_of s) to.place d) on.1 (whole_from moment s g.spot to first g.contents d (text ++ g.text) zero on.0 r.1)
+      | inl on ↦ subst (λ (p : Place). ServesTo moment p first (text ++ g.text ++ text_of_steps s) to.place d) on.1 (whole_from moment s g.spot to first g.contents d (text ++ g.text) zero on.0 r.1)
       | inr done ↦
-          serves_after moment from.place g.spot.place to.place first g.contents d (text ++ g.text) (text_of s) done.0
+          serves_after moment from.place g.spot.place to.place first g.contents d (text ++ g.text) (text_of_steps s) done.0
           (whole_from moment s g.spot to g.contents g.contents d [] zero (subst (λ n. Begun moment g.spot.place g.contents n g.contents []) (sym done.1) (begun_none moment g.spot.place g.contents)) r.1)
     ])
 

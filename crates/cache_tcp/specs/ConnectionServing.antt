@@ -70,6 +70,6 @@ pub record ServesTo (moment : ℤ) (place : Place) (old : Contents) (text : List
   pub text_is : text ≡ written_all memcached_text default_version done
 
 -- A piece came: all messages that are complete then are served.
-pub record Feeds (moment : ℤ) (place : Place) (bytes : List ℕ) (old : Contents) (text : List ℕ) (next : Place) (new : Contents) : Type 0 where
+pub record ServesPiece (moment : ℤ) (place : Place) (bytes : List ℕ) (old : Contents) (text : List ℕ) (next : Place) (new : Contents) : Type 0 where
   pub serves : ServesTo moment (extended place bytes) old text next new
   pub stuck : IsStuck memcached_text next

@@ -4,7 +4,7 @@ use Rattle.fresh_runs.specs.Protocol.{IsStuck}
 use Rattle.wire_parts.specs.Stream.{Place, Closed}
 use Rattle.wire_stream.specs.TextProtocol.{memcached_text}
 use Rattle.cache_server.specs.Contents.{Contents}
-use Rattle.cache_tcp.specs.Steps.{Spot, ServedStep, came, Runs, text_of, StopsNext}
+use Rattle.cache_tcp.specs.Steps.{Spot, ServedStep, came, Runs, text_of_steps, StopsNext}
 
 -- the first bytes of those that are held came to the stream, steps were made, and their text stands after what is to be sent
 pub record ServesHeld (moment : ℤ) (held unsent : List ℕ) (from : Spot) (old : Contents) (held' unsent' : List ℕ) (to : Spot) (new : Contents) : Type 0 where
@@ -12,7 +12,7 @@ pub record ServesHeld (moment : ℤ) (held unsent : List ℕ) (from : Spot) (old
   pub stages : List ServedStep
   pub held_is : held ≡ fed ++ held'
   pub runs : Runs moment (came from fed) old stages to new
-  pub unsent_is : unsent' ≡ unsent ++ text_of stages
+  pub unsent_is : unsent' ≡ unsent ++ text_of_steps stages
 
 -- the first bytes of those that are held came to the stream
 pub record FeedsStream (held : List ℕ) (from : Spot) (held' : List ℕ) (to : Spot) : Type 0 where

@@ -6,11 +6,11 @@ use Rattle.fresh_runs.specs.Protocol.{IsStuck}
 use Rattle.wire_parts.specs.declared.skip.Skip.TheVariants.{Nothing}
 use Rattle.wire_parts.specs.Stream.{Place, Stands, extended}
 use Rattle.wire_stream.specs.declared.requests.request.Request.{Request}
-use Rattle.wire_stream.specs.Message.{Message, message_in, used_of}
+use Rattle.wire_stream.specs.Message.{AnyMessage, message_in, used_of}
 use Rattle.wire_stream.specs.Asks.{asks_of}
-use Rattle.wire_stream.specs.Held.{held_at}
+use Rattle.wire_stream.specs.Held.{bytes_at}
 use Rattle.wire_stream.specs.TextProtocol.{Said, Whole, memcached_text, ReadsNext, asks_in, passed_text, shown_of, ends_at}
-use Rattle.wire_stream.specs.Fronts.{IsFront}
+use Rattle.wire_stream.specs.Fronts.{RequestIsFront}
 use Rattle.wire_stream.specs.Version.{default_version}
 use Rattle.cache_server.specs.Contents.{Contents, at_moment}
 use Rattle.cache_tcp.specs.ConnectionServing.{AnswersAsk}
@@ -72,11 +72,11 @@ Asks moment from old text to new =
     (ended : Bool) × AnswersNext moment from.place from.count old text ended to.place new × (to.count ≡ count_by ended from.count)
 
 -- a step answers a message that asks no server
-abbrev pub Passes : Spot → Contents → List ℕ → Spot → Contents → Type 0
-Passes from old text to new = (from.count ≡ 0) × (to.count ≡ 0) × (old ≡ new) × PassesNext from.place text to.place
+abbrev pub StepPasses : Spot → Contents → List ℕ → Spot → Contents → Type 0
+StepPasses from old text to new = (from.count ≡ 0) × (to.count ≡ 0) × (old ≡ new) × PassesNext from.place text to.place
 
-abbrev pub Step : ℤ → Spot → Contents → List ℕ → Spot → Contents → Type 0
-Step moment from old text to new = Asks moment from old text to new ⊎ Passes from old text to new
+abbrev pub SpotStep : ℤ → Spot → Contents → List ℕ → Spot → Contents → Type 0
+SpotStep moment from old text to new = Asks moment from old text to new ⊎ StepPasses from old text to new
 
 -- what a step gave, and where it led
 pub record ServedStep : Type 0 where
@@ -88,18 +88,18 @@ pub record ServedStep : Type 0 where
 abbrev pub Runs : ℤ → Spot → Contents → List ServedStep → Spot → Contents → Type 0
 Runs moment from old [] to new = (from ≡ to) × (old ≡ new)
 Runs moment from old (stage ∷ stages) to new =
-    Step moment from old stage.text stage.spot stage.contents × Runs moment stage.spot stage.contents stages to new
+    SpotStep moment from old stage.text stage.spot stage.contents × Runs moment stage.spot stage.contents stages to new
 
 -- what steps gave
-abbrev pub text_of : List ServedStep → List ℕ
-text_of [] = []
-text_of (stage ∷ stages) = stage.text ++ text_of stages
+abbrev pub text_of_steps : List ServedStep → List ℕ
+text_of_steps [] = []
+text_of_steps (stage ∷ stages) = stage.text ++ text_of_steps stages
 
 -- steps were made, and their text stands after what is to be sent
 pub record RunsOn (moment : ℤ) (from : Spot) (old : Contents) (unsent : List ℕ) (to : Spot) (new : Contents) (unsent' : List ℕ) : Type 0 where
   pub stages : List ServedStep
   pub runs : Runs moment from old stages to new
-  pub unsent_is : unsent' ≡ unsent ++ text_of stages
+  pub unsent_is : unsent' ≡ unsent ++ text_of_steps stages
 
 -- running out of memory at an ask: what has expired is gone, or else it was answered, and the reply not shown
 abbrev pub StopsAtAsk : ℤ → Ask → Contents → Contents → Type 0
@@ -111,7 +111,7 @@ StopsNext moment place count old new =
     (new ≡ old) ⊎ ((said : Said) × (next : Place) × ReadsNext place said next × ((ask : Ask) × (slice_get (asks_in said) count ≡ Some ask) × StopsAtAsk moment ask old new))
 
 -- steps were made, and memory was refused at the next one
-pub record Stops (moment : ℤ) (from : Spot) (old new : Contents) : Type 0 where
+pub record StopsForMemory (moment : ℤ) (from : Spot) (old new : Contents) : Type 0 where
   pub stages : List ServedStep
   pub spot : Spot
   pub left : Contents
@@ -132,8 +132,8 @@ pub record IsWithin (most : ℕ) (unsent : List ℕ) : Type 0 where
   pub one : IsOneText (gone ++ last)
 
 -- so much is to be sent that it is a backlog, or no whole message is there
-abbrev pub IsAnswered : ℕ → Place → List ℕ → Type 0
-IsAnswered most place unsent = (most ≤ length unsent) ⊎ IsStuck memcached_text place
+abbrev pub IsAnsweredSoFar : ℕ → Place → List ℕ → Type 0
+IsAnsweredSoFar most place unsent = (most ≤ length unsent) ⊎ IsStuck memcached_text place
 
 -- the next ask was answered, and its text stands after what is to be sent
 pub record ServesNext (moment : ℤ) (place : Place) (count : ℕ) (old : Contents) (unsent : List ℕ) (ended : Bool) (place' : Place) (new : Contents) (unsent' : List ℕ) : Type 0 where
@@ -148,32 +148,32 @@ pub record PassesOn (place : Place) (unsent : List ℕ) (place' : Place) (unsent
   pub unsent_is : unsent' ≡ unsent ++ text
 
 -- the message that a request is
-abbrev pub message_at : Place → Request → Message
-message_at place request = message_in (held_at place) request
+abbrev pub message_at : Place → Request → AnyMessage
+message_at place request = message_in (bytes_at place) request
 
 -- the i-th ask of the request at the front
 pub record IsAskOf (place : Place) (request : Request) (i : ℕ) (ask : Ask) : Type 0 where
-  pub front : IsFront place request
+  pub front : RequestIsFront place request
   pub at : slice_get (asks_of (message_at place request)) i ≡ Some ask
   pub there : i < length (asks_of (message_at place request))
 
 -- the request stands at the front, and its i-th ask is next
 pub record IsKeyOf (place : Place) (request : Request) (i : ℕ) : Type 0 where
-  pub front : IsFront place request
+  pub front : RequestIsFront place request
   pub there : i < length (asks_of (message_at place request))
 
 -- where the asks of a request that were answered end: all were, or this one is next
-abbrev pub count_of : Option ℕ → ℕ
-count_of None = 0
-count_of (Some i) = i
+abbrev pub asks_ended : Option ℕ → ℕ
+asks_ended None = 0
+asks_ended (Some i) = i
 
 -- the request was done, or it stands where it stood, and so much is to be sent that it is a backlog
 abbrev pub HasStopped : ℕ → Option ℕ → Place → Place → List ℕ → Type 0
-HasStopped most None old new unsent = length (held_at new) < length (held_at old)
+HasStopped most None old new unsent = length (bytes_at new) < length (bytes_at old)
 HasStopped most (Some i) old new unsent = (most ≤ length unsent) × IsOnWay (spot_at new i)
 
 -- the reply to the i-th ask of the request at the front was shown: whether the request is done with it
-pub record ShowsNext (place : Place) (request : Request) (i : ℕ) (ask : Ask) (reply : Answer) (unsent : List ℕ) (ended : Bool) (place' : Place) (unsent' : List ℕ) : Type 0 where
+pub record ShowsNextReply (place : Place) (request : Request) (i : ℕ) (ask : Ask) (reply : Answer) (unsent : List ℕ) (ended : Bool) (place' : Place) (unsent' : List ℕ) : Type 0 where
   pub ended_is : ended ≡ ends_at (Whole (message_at place request)) i reply
-  pub place_is : place' ≡ place_by ended place (Stands Nothing (drop (used_of request) (held_at place)))
+  pub place_is : place' ≡ place_by ended place (Stands Nothing (drop (used_of request) (bytes_at place)))
   pub unsent_is : unsent' ≡ unsent ++ shown_of (Whole (message_at place request)) i reply

@@ -5,7 +5,7 @@ ghost use Rattle.serve_wire.specs.Agreement.{TouchesOnly};
 ghost use Rattle.wire_parts.specs.declared.skip.Skip.TheVariants.{Nothing};
 ghost use Rattle.wire_parts.specs.Sending.{bytes_of};
 ghost use Rattle.wire_parts.specs.Stream.{Stands, Closed};
-ghost use Rattle.cache_tcp.specs.Steps.{RunsOn, Stops, IsAnswered, IsWithin, at_front};
+ghost use Rattle.cache_tcp.specs.Steps.{RunsOn, StopsForMemory, IsAnsweredSoFar, IsWithin, at_front};
 ghost use Rattle.cache_tcp.specs.Serving.{FeedsStream, ServesHeld, StopsIn, IsServed, Waits};
 ghost use Rattle.cache_tcp.specs.Flushing.{flush_line, PassesIf, TakesIf};
 
@@ -82,8 +82,8 @@ fn serve_at(
     most: usize,
 ) -> Result<(), AllocError>
     ensures ok { OnOk result (RunsOn moment.seconds served.old cache.old (bytes_of out.old) served.new cache.new (bytes_of out.new)) }
-    ensures all { OnOk result (IsAnswered most served.new.place (bytes_of out.new)) }
-    ensures stops { OnErr result (Stops moment.seconds served.old cache.old cache.new) }
+    ensures all { OnOk result (IsAnsweredSoFar most served.new.place (bytes_of out.new)) }
+    ensures stops { OnErr result (StopsForMemory moment.seconds served.old cache.old cache.new) }
     ensures within { IsWithin most (bytes_of out.old) → IsWithin most (bytes_of out.new) }
 {
     served.serve(cache, moment.seconds, uses, out, most)
@@ -116,8 +116,8 @@ impl CacheClient {
     // What is complete of the stream is served, up to a backlog.
     fn serve_stream(&mut self, cache: &mut Cache, moment: Moment) -> Result<(), AllocError>
         ensures ok { OnOk result (RunsOn moment.seconds self.old.served cache.old (bytes_of self.old.conn.unsent) self.new.served cache.new (bytes_of self.new.conn.unsent)) }
-        ensures all { OnOk result (IsAnswered self.old.conn.limits.unsent self.new.served.place (bytes_of self.new.conn.unsent)) }
-        ensures err { OnErr result (Stops moment.seconds self.old.served cache.old cache.new) }
+        ensures all { OnOk result (IsAnsweredSoFar self.old.conn.limits.unsent self.new.served.place (bytes_of self.new.conn.unsent)) }
+        ensures err { OnErr result (StopsForMemory moment.seconds self.old.served cache.old cache.new) }
         ensures within { IsWithin self.old.conn.limits.unsent (bytes_of self.old.conn.unsent) → IsWithin self.old.conn.limits.unsent (bytes_of self.new.conn.unsent) }
         ensures held { self.new.conn.held ≡ self.old.conn.held }
         ensures limits { self.new.conn.limits ≡ self.old.conn.limits }
@@ -137,7 +137,7 @@ impl CacheClient {
     // Whether what is held is to come to the stream, which has no whole message.
     fn may_feed(&self) -> bool
         ensures left { result ≡ true → 0 < length self.now.conn.held.items }
-        ensures done { result ≡ false → IsAnswered self.now.conn.limits.unsent self.now.served.place (bytes_of self.now.conn.unsent) → IsServed self.now.conn.limits.unsent self.now.conn.held.items (bytes_of self.now.conn.unsent) self.now.served }
+        ensures done { result ≡ false → IsAnsweredSoFar self.now.conn.limits.unsent self.now.served.place (bytes_of self.now.conn.unsent) → IsServed self.now.conn.limits.unsent self.now.conn.held.items (bytes_of self.now.conn.unsent) self.now.served }
     {
         !self.conn.held.is_empty() && !self.conn.has_backlog() && !self.served.is_closed()
     }

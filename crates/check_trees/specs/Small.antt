@@ -8,7 +8,7 @@ pub record IsSmall (d n : ℕ) (p : Plan) : Type 0 where
   pub few : count p ≤ n
 
 -- a route over the two
-pub record IsOver (first second p : Plan) : Type 0 where
+pub record IsOverTwo (first second p : Plan) : Type 0 where
   pub good : IsGood p
   pub low : depth p ≤ max (depth first) (depth second) + 1
   pub few : count p ≤ 3 * count first + 3 * count second + 1

@@ -16,7 +16,7 @@ use Rattle.route_tree.proofs.Places.{alike, tests, no_front, prefixes_are_keys}
 use Rattle.gate_check.specs.Places.{IsClassOf}
 use Rattle.gate_check.proofs.Placing.{longest_of}
 use Rattle.gate_check.proofs.PlacesValidity.{each_in}
-use Rattle.core_accepted.specs.Copying.{CopiesNothing, CopiesKeys, CopiesText, LeavesText, IsFirstOf}
+use Rattle.core_accepted.specs.Copying.{CopiesNothing, CopiesKeys, CopiesText, LeavesText, IsFirstCopied}
 
 same_rest : (hash : ℕ) (ns : List ℕ) → Each (λ n. hash % n ≡ hash % n) ns
 same_rest hash [] = tt
@@ -54,7 +54,7 @@ copies_nothing r is none each Incr key = others_copy_nothing Incr (tree_at r key
 copies_nothing r is none each Decr key = others_copy_nothing Decr (tree_at r key) refl
 copies_nothing r is none each Touch key = others_copy_nothing Touch (tree_at r key) refl
 
-pub first_after : (r : Route) (text : List ℕ) (texts : List (List ℕ)) (o : Option (List ℕ)) → LeavesText r text → IsFirstOf r texts o → IsFirstOf r (text ∷ texts) o
+pub first_after : (r : Route) (text : List ℕ) (texts : List (List ℕ)) (o : Option (List ℕ)) → LeavesText r text → IsFirstCopied r texts o → IsFirstCopied r (text ∷ texts) o
 first_after r text texts None leaves h = (leaves, h)
 first_after r text texts (Some other) leaves h = (inr h.0, h.1)
 
@@ -83,8 +83,8 @@ own_longest r is (Some q) h = (h, begins_itself q, each_of (λ p. begins p q ≡
 
 -- ---- of the tree's prefixes, as they were collected
 
-pub some_key : (r : Route) → IsTree r → (texts : List (List ℕ)) → texts ≡ prefixes r → (text : List ℕ) → IsFirstOf r texts (Some text) → CopiesKeys r (Some text)
+pub some_key : (r : Route) → IsTree r → (texts : List (List ℕ)) → texts ≡ prefixes r → (text : List ℕ) → IsFirstCopied r texts (Some text) → CopiesKeys r (Some text)
 some_key r is texts e text h = copies_keys r is (Some text) (subst (IsIn text) e h.0) h.1
 
-pub no_key : (r : Route) → IsTree r → (texts : List (List ℕ)) → texts ≡ prefixes r → LeavesText r [] → IsFirstOf r texts None → CopiesNothing r
+pub no_key : (r : Route) → IsTree r → (texts : List (List ℕ)) → texts ≡ prefixes r → LeavesText r [] → IsFirstCopied r texts None → CopiesNothing r
 no_key r is texts e none h = copies_nothing r is none (subst (Each (LeavesText r)) e h)

@@ -21,7 +21,7 @@ use Rattle.fresh_runs.proofs.Runs.{way_below}
 use Rattle.fresh_runs.proofs.Example.{a_delete, a_get, a_get_is, hit_fits}
 use Rattle.fresh_runs.proofs.Example as races
 use Rattle.core_accepted.specs.Late.{Does, Lands, told}
-use Rattle.core_accepted.specs.Pipes.{PipeStep, Sends, Moves, Steps, moments_of}
+use Rattle.core_accepted.specs.Pipes.{PipeStep, Sends, Moves, PipeSteps, moments_of}
 use Rattle.core_accepted.specs.Examples.{two_lines, GivenUpIsStale, bars_within, FleetCopiesRace}
 
 apart_all : (past : List Event) (number : ℕ) (ask : Ask) → IsApart nobody_bars past number ask
@@ -109,43 +109,43 @@ s12 = Moves (Does (Calls 3 0 a_get Client (Read 3 its_hit 0))) ∷ s11
 abbrev s13 : List PipeStep
 s13 = Moves (Does (Replies 3 key its_hit (Some 0))) ∷ s12
 
-t1 : Steps two_lines words nobody_bars empty s1
+t1 : PipeSteps two_lines words nobody_bars empty s1
 t1 = (((omega arith, apart_all [] 1 a_set), tt), tt)
 
-t2 : Steps two_lines words nobody_bars empty s2
+t2 : PipeSteps two_lines words nobody_bars empty s2
 t2 = ((a_set, refl, refl), t1)
 
-t3 : Steps two_lines words nobody_bars empty s3
+t3 : PipeSteps two_lines words nobody_bars empty s3
 t3 = (((a_set, refl, refl, ([], failed, None, (a_set_is, Failed, tt, refl, refl, refl)), tt), tt), t2)
 
-t4 : Steps two_lines words nobody_bars empty s4
+t4 : PipeSteps two_lines words nobody_bars empty s4
 t4 = (((a_set, refl, refl, (a_set_is, Failed, tt, refl, refl, refl)), tt), t3)
 
-t5 : Steps two_lines words nobody_bars empty s5
+t5 : PipeSteps two_lines words nobody_bars empty s5
 t5 = ((((omega arith, (omega arith, (omega arith, omega arith))), apart_all (told empty (moments_of s4)) 2 a_delete), tt), t4)
 
-t6 : Steps two_lines words nobody_bars empty s6
+t6 : PipeSteps two_lines words nobody_bars empty s6
 t6 = ((a_delete, refl, refl), t5)
 
-t7 : Steps two_lines words nobody_bars empty s7
+t7 : PipeSteps two_lines words nobody_bars empty s7
 t7 = (((a_delete, refl, refl, ([], NotFound, None, (a_delete_is, Answered NotFound, gone_fits, refl, refl, refl)), (refl, refl)), ([], refl)), t6)
 
-t8 : Steps two_lines words nobody_bars empty s8
+t8 : PipeSteps two_lines words nobody_bars empty s8
 t8 = (((a_delete, refl, refl, (a_delete_is, Answered NotFound, gone_fits, refl, refl, refl)), tt), t7)
 
-t9 : Steps two_lines words nobody_bars empty s9
+t9 : PipeSteps two_lines words nobody_bars empty s9
 t9 = ((((0, refl), tt, tt, refl), ([], refl)), t8)
 
-t10 : Steps two_lines words nobody_bars empty s10
+t10 : PipeSteps two_lines words nobody_bars empty s10
 t10 = ((((omega arith, (omega arith, (omega arith, (omega arith, (omega arith, (omega arith, omega arith)))))), apart_all (told empty (moments_of s9)) 3 a_get), tt), t9)
 
-t11 : Steps two_lines words nobody_bars empty s11
+t11 : PipeSteps two_lines words nobody_bars empty s11
 t11 = ((a_get, refl, refl), t10)
 
-t12 : Steps two_lines words nobody_bars empty s12
+t12 : PipeSteps two_lines words nobody_bars empty s12
 t12 = (((a_get, refl, refl, ([], its_hit, Some 0, (a_get_is, Answered its_hit, hit_fits, refl, refl, refl)), ((set_item, refl, refl, refl), refl)), ([], refl)), t11)
 
-t13 : Steps two_lines words nobody_bars empty s13
+t13 : PipeSteps two_lines words nobody_bars empty s13
 t13 = (((a_get, refl, refl, (a_get_is, Answered its_hit, hit_fits, refl, refl, refl)), tt), t12)
 
 pub given_up : GivenUpIsStale

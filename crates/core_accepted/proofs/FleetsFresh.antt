@@ -10,7 +10,7 @@ use Rattle.fresh_runs.specs.Calls.{Call}
 use Rattle.fresh_runs.specs.Run.{Event, Begins, Calls, Replies, Breaks, Turns, Restarts, calls_so_far, CopiesBar}
 use Rattle.fresh_runs.proofs.Stamps.{get_left}
 use Rattle.fresh_runs.proofs.Fresh as sharing
-use Rattle.core_accepted.specs.Late.{Moment, Does, Lands, told, HasFailed, Run, WasOver, LandsInTime, LandsEver}
+use Rattle.core_accepted.specs.Late.{Moment, Does, Lands, told, HasFailed, LateRun, WasOver, LandsInTime, LandsEver}
 use Rattle.core_accepted.specs.Pipes.{CopiesStay, WasOverOn}
 use Rattle.core_accepted.specs.FleetLaws.{NothingCopies, FleetIsFresh, OneProxyIsFresh, StickyIsFresh, PatientIsFresh, LandsHarmless, SharedFleetIsFresh, SettledIsFresh, WasSettled}
 use Rattle.core_accepted.proofs.Late.{made, as_run}
@@ -42,7 +42,7 @@ module _ (words : ℕ → Ask → List Call → Answer → Option ℕ → Type 0
       fresh words Bars WasOver cover bars (λ past n s e. e) opening _ (stuck_timely line words Bars opening at steps h sticky)
 
   -- what may land by one rule may by another
-  run_more : (opening : ℕ → List ℕ → Option Item) (One Other : List Event → ℕ → ℕ → Ask → Origin → Type 0) → ((past : List Moment) → Run words Bars opening One past → (number server : ℕ) (ask : Ask) (origin : Origin) → HasFailed (told opening past) number server ask origin → One (told opening past) number server ask origin → Other (told opening past) number server ask origin) → (moments : List Moment) → Run words Bars opening One moments → Run words Bars opening Other moments
+  run_more : (opening : ℕ → List ℕ → Option Item) (One Other : List Event → ℕ → ℕ → Ask → Origin → Type 0) → ((past : List Moment) → LateRun words Bars opening One past → (number server : ℕ) (ask : Ask) (origin : Origin) → HasFailed (told opening past) number server ask origin → One (told opening past) number server ask origin → Other (told opening past) number server ask origin) → (moments : List Moment) → LateRun words Bars opening One moments → LateRun words Bars opening Other moments
   run_more opening One Other more [] run = tt
   run_more opening One Other more (Does (Begins x ask) ∷ past) run = (run.0, run_more opening One Other more past run.1)
   run_more opening One Other more (Does (Calls x server ask origin end) ∷ past) run = (run.0, run_more opening One Other more past run.1)
@@ -62,7 +62,7 @@ module _ (words : ℕ → Ask → List Call → Answer → Option ℕ → Type 0
       fresh words Bars WasOver cover bars (λ past n s e. e) opening moments
       (run_more opening (LandsHarmless words Bars) (LandsInTime WasOver) (λ past r number server ask origin failed may. harmless (told opening past) number server ask origin may) moments run)
 
-  settled_lands : NothingCopies words → (opening : ℕ → List ℕ → Option Item) (past : List Moment) → Run words Bars opening LandsEver past → (number server : ℕ) (ask : Ask) (origin : Origin) → HasFailed (told opening past) number server ask origin → LandsInTime (WasSettled words Bars) (told opening past) number server ask origin
+  settled_lands : NothingCopies words → (opening : ℕ → List ℕ → Option Item) (past : List Moment) → LateRun words Bars opening LandsEver past → (number server : ℕ) (ask : Ask) (origin : Origin) → HasFailed (told opening past) number server ask origin → LandsInTime (WasSettled words Bars) (told opening past) number server ask origin
   settled_lands none opening past run number server ask Client failed = λ store n delete begins op same ended clears.
       let call : Call = record { server = server; ask = ask; origin = Client; outcome = Failed } in
       ended.1 failed.0 call (failed_then (λ n s. 0) words Bars opening past run number n failed.0 call failed.1 ended.0) store refl

@@ -31,7 +31,7 @@ use Rattle.core_commands.specs.declared.sharing.Sharing.TheVariants as sharings
 use Rattle.core_proxy.specs.Claims.{is_delete, clears_by, copies_by, bars_by}
 use Rattle.core_proxy.specs.Faults.{CanOpen, OpenFault}
 use Rattle.core_proxy.specs.CoreState as core_state
-use Rattle.core_proxy.specs.CoreState.{dialect, bars_of, nothing_beside, state_of, FeedsOpen, GoesBy, version_by}
+use Rattle.core_proxy.specs.CoreState.{dialect, bars_of, nothing_beside, state_of, FeedsOpen, GoesByEntries, version_by}
 use Rattle.core_accepted.specs.declared.beginnings.Beginnings.{Beginnings}
 use Rattle.core_accepted.specs.declared.served.ServedCore.{ServedCore}
 use Rattle.core_accepted.specs.declared.tally.CoreTally.{CoreTally}
@@ -59,7 +59,7 @@ led_there old x opening at plans log now same limits leads =
 
 -- the empty log led to a new core by its tree
 led_by_none :
-    (word : Option Known) (tree : Route) (limits : CoreLimits) (x : Core) → MayBeLoaded word (λ _. tree) → core_state.IsFresh tree limits x
+    (word : Option Known) (tree : Route) (limits : CoreLimits) (x : Core) → MayBeLoaded word (λ _. tree) → core_state.IsNewCore tree limits x
     → (opening : ℕ → List ℕ → Option Item) → MayHaveLed opening [] (record { core = x; accepted = word; tally = nothing_done })
 led_by_none word tree limits x loaded new opening =
     let plans : ℕ → List ℕ → Plan = λ n key. tree_at tree key in
@@ -73,17 +73,17 @@ led_by_none word tree limits x loaded new opening =
     }
 
 pub new_is_led :
-    (xs : List Configuration) (c : Configuration) (begun : Beginnings) (limits : CoreLimits) (x : Core) (known : Known) → IsLast xs c → known ≡ first_of c begun → core_state.IsFresh c.tree limits x
+    (xs : List Configuration) (c : Configuration) (begun : Beginnings) (limits : CoreLimits) (x : Core) (known : Known) → IsLast xs c → known ≡ first_of c begun → core_state.IsNewCore c.tree limits x
     → IsNewFrom xs begun limits (record { core = x; accepted = Some known; tally = nothing_done })
 new_is_led xs c begun limits x known at is new =
     subst (λ (k : Known). IsNewFrom xs begun limits (record { core = x; accepted = Some k; tally = nothing_done })) (sym is)
     (record { config = c; last = at; word = refl; tally = refl; core_is = new; led = led_by_none (Some (first_of c begun)) c.tree limits x (all_by_last (c ∷ []) c refl) new })
 
-pub unchecked_is_led : (tree : Route) (limits : CoreLimits) (x : Core) → core_state.IsFresh tree limits x → IsUnchecked tree limits (record { core = x; accepted = None; tally = nothing_done })
+pub unchecked_is_led : (tree : Route) (limits : CoreLimits) (x : Core) → core_state.IsNewCore tree limits x → IsUnchecked tree limits (record { core = x; accepted = None; tally = nothing_done })
 unchecked_is_led tree limits x new = record { word = refl; tally = refl; core_is = new; led = led_by_none None tree limits x tt new }
 
 -- a step of the core
-pub goes : (old : ServedCore) (x : Core) (IsKind : List (Entry dialect) → Type 0) → GoesBy old.core IsKind x → LogsGoBy old IsKind (record old { core = x })
+pub goes : (old : ServedCore) (x : Core) (IsKind : List (Entry dialect) → Type 0) → GoesByEntries old.core IsKind x → LogsGoBy old IsKind (record old { core = x })
 goes old x IsKind step = record {
   word = refl;
   tally = refl;

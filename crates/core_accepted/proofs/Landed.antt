@@ -4,10 +4,10 @@ use Rattle.mc_types.specs.declared.ask.Op.{Op}
 use Rattle.mc_types.specs.declared.ask.Op.TheVariants.{Get, Gat, Set, Add, Replace, Append, Prepend, Cas, Delete, Incr, Decr, Touch}
 use Rattle.mc_types.specs.declared.ask.Ask.{Ask}
 use Rattle.mc_types.specs.declared.answer.Answer.{Answer}
-use Rattle.mc_types.specs.Items.{Item, after_call, after_done, recounted, counted, is_done, removes}
+use Rattle.mc_types.specs.Items.{Item, after_call, after_done, recounted, number_made, is_done, removes}
 use Rattle.fresh_runs.proofs.Stamps.{by_test}
 use Rattle.fresh_runs.proofs.Seen.{Has}
-use Rattle.core_accepted.specs.Late.{is_store}
+use Rattle.core_accepted.specs.Late.{begins_stamp}
 
 has_map : (Q : ℕ → Type 0) (o : Option Item) (f : Item → Item) → ((item : Item) → (f item).stamp ≡ item.stamp) → Has Q o → Has Q (option_map f o)
 has_map Q None f keeps h = tt
@@ -17,24 +17,24 @@ recounted_stamp : (spaces : ℕ) (item : Item) (number : Option ℕ) → (recoun
 recounted_stamp spaces item None = refl
 recounted_stamp spaces item (Some n) = refl
 
-landed_done : (Q : ℕ → Type 0) (op : Op) (ask : Ask) (stamp spaces : ℕ) (before : Option Item) → (is_store op ≡ true → Q stamp) → Has Q before → Has Q (after_done op ask stamp spaces before)
+landed_done : (Q : ℕ → Type 0) (op : Op) (ask : Ask) (stamp spaces : ℕ) (before : Option Item) → (begins_stamp op ≡ true → Q stamp) → Has Q before → Has Q (after_done op ask stamp spaces before)
 landed_done Q Set ask stamp spaces before q h = q refl
 landed_done Q Add ask stamp spaces before q h = q refl
 landed_done Q Replace ask stamp spaces before q h = q refl
 landed_done Q Cas ask stamp spaces before q h = q refl
 landed_done Q Append ask stamp spaces before q h = has_map Q before _ (λ item. refl) h
 landed_done Q Prepend ask stamp spaces before q h = has_map Q before _ (λ item. refl) h
-landed_done Q Incr ask stamp spaces before q h = has_map Q before _ (λ item. recounted_stamp spaces item (counted ask item.content)) h
-landed_done Q Decr ask stamp spaces before q h = has_map Q before _ (λ item. recounted_stamp spaces item (counted ask item.content)) h
+landed_done Q Incr ask stamp spaces before q h = has_map Q before _ (λ item. recounted_stamp spaces item (number_made ask item.content)) h
+landed_done Q Decr ask stamp spaces before q h = has_map Q before _ (λ item. recounted_stamp spaces item (number_made ask item.content)) h
 landed_done Q Get ask stamp spaces before q h = h
 landed_done Q Gat ask stamp spaces before q h = h
 landed_done Q Touch ask stamp spaces before q h = h
 landed_done Q Delete ask stamp spaces before q h = h
 
-pub landed : (Q : ℕ → Type 0) (ask : Ask) (stamp : ℕ) (answer : Answer) (spaces : ℕ) (before : Option Item) → (is_store ask.op ≡ true → Q stamp) → Has Q before → Has Q (after_call ask stamp answer spaces before)
+pub landed : (Q : ℕ → Type 0) (ask : Ask) (stamp : ℕ) (answer : Answer) (spaces : ℕ) (before : Option Item) → (begins_stamp ask.op ≡ true → Q stamp) → Has Q before → Has Q (after_call ask stamp answer spaces before)
 landed Q ask stamp answer spaces before q h =
     by_test (Has Q) (removes ask.op answer) None _ (λ _. tt) (λ _. by_test (Has Q) (is_done answer) (after_done ask.op ask stamp spaces before) before (λ _. landed_done Q ask.op ask stamp spaces before q h) (λ _. h))
 
 -- a delete stores nothing
-pub no_store : (op : Op) → op ≡ Delete → is_store op ≡ true → ⊥
-no_store op e is = (let f = sym (ap is_store e) ∙ is in cc)
+pub no_store : (op : Op) → op ≡ Delete → begins_stamp op ≡ true → ⊥
+no_store op e is = (let f = sym (ap begins_stamp e) ∙ is in cc)

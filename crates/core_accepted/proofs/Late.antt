@@ -9,25 +9,25 @@ use Rattle.fresh_runs.specs.Calls.{Call, outcome_of}
 use Rattle.fresh_runs.specs.Run.{Event, Begins, Calls, Replies, Breaks, Turns, Restarts, under_way, calls_so_far, before, HasEnded, IsNewNumber, IsFront, IsAcknowledged, Run}
 use Rattle.fresh_runs.proofs.Lists.{get_last}
 use Rattle.fresh_runs.proofs.Runs.{some_ask, no_ask, differs, second, acked_below, new_calls}
-use Rattle.core_accepted.specs.Late.{Moment, Does, Lands, seen, told, begun}
+use Rattle.core_accepted.specs.Late.{Moment, Does, Lands, seen, told, begun_late}
 use Rattle.core_accepted.specs.Late as late
 
 -- what is under way has begun
-pub way_begun : (past : List Event) (n : ℕ) (ask : Ask) → under_way past n ≡ Some ask → begun past n ≡ Some ask
+pub way_begun : (past : List Event) (n : ℕ) (ask : Ask) → under_way past n ≡ Some ask → begun_late past n ≡ Some ask
 way_begun [] n ask e = no_ask ask e
 way_begun (Begins m client ∷ past) n ask e =
-    (elim (nat_eq m n) as (λ b. cond b (Some client) (under_way past n) ≡ Some ask → cond b (Some client) (begun past n) ≡ Some ask) [
+    (elim (nat_eq m n) as (λ b. cond b (Some client) (under_way past n) ≡ Some ask → cond b (Some client) (begun_late past n) ≡ Some ask) [
       | true ↦ λ is. is
       | false ↦ λ is. way_begun past n ask is
     ]) e
 way_begun (Calls m s a o end ∷ past) n ask e = way_begun past n ask e
 way_begun (Replies m key r f ∷ past) n ask e =
-    (elim (nat_eq m n) as (λ b. cond b None (under_way past n) ≡ Some ask → begun past n ≡ Some ask) [
+    (elim (nat_eq m n) as (λ b. cond b None (under_way past n) ≡ Some ask → begun_late past n ≡ Some ask) [
       | true ↦ λ is. no_ask ask is
       | false ↦ λ is. way_begun past n ask is
     ]) e
 way_begun (Breaks m ∷ past) n ask e =
-    (elim (nat_eq m n) as (λ b. cond b None (under_way past n) ≡ Some ask → begun past n ≡ Some ask) [
+    (elim (nat_eq m n) as (λ b. cond b None (under_way past n) ≡ Some ask → begun_late past n ≡ Some ask) [
       | true ↦ λ is. no_ask ask is
       | false ↦ λ is. way_begun past n ask is
     ]) e
@@ -38,10 +38,10 @@ no_call : (j : ℕ) (call : Call) → slice_get [] j ≡ Some call → ⊥
 no_call j call e = cc
 
 -- what has begun and isn't over is under way
-pub begun_way : (past : List Event) (n : ℕ) (ask : Ask) → begun past n ≡ Some ask → (HasEnded past n → ⊥) → under_way past n ≡ Some ask
+pub begun_way : (past : List Event) (n : ℕ) (ask : Ask) → begun_late past n ≡ Some ask → (HasEnded past n → ⊥) → under_way past n ≡ Some ask
 begun_way [] n ask e on = no_ask ask e
 begun_way (Begins m client ∷ past) n ask e on =
-    (elim (nat_eq m n) as (λ b. cond b (Some client) (begun past n) ≡ Some ask → cond b (Some client) (under_way past n) ≡ Some ask) [
+    (elim (nat_eq m n) as (λ b. cond b (Some client) (begun_late past n) ≡ Some ask → cond b (Some client) (under_way past n) ≡ Some ask) [
       | true ↦ λ is. is
       | false ↦ λ is. begun_way past n ask is on
     ]) e
@@ -61,18 +61,18 @@ begun_way (Restarts s ∷ past) n ask e on = begun_way past n ask e on
 
 module _ (words : ℕ → Ask → List Call → Answer → Option ℕ → Type 0) (Bars : ℕ → Ask → ℕ → Ask → Type 0) (opening : ℕ → List ℕ → Option Item) where
   -- a command that has begun, and that bars a delete of its key, wasn't under way with it: it was over when the delete began
-  pub not_apart : (past : List Event) → Run words Bars opening past → (m n : ℕ) (client delete : Ask) → begun past m ≡ Some client → under_way past n ≡ Some delete → (m ≡ n → ⊥) → client.key ≡ delete.key → Bars m client n delete → (HasEnded (before past n) m → ⊥) → ⊥
+  pub not_apart : (past : List Event) → Run words Bars opening past → (m n : ℕ) (client delete : Ask) → begun_late past m ≡ Some client → under_way past n ≡ Some delete → (m ≡ n → ⊥) → client.key ≡ delete.key → Bars m client n delete → (HasEnded (before past n) m → ⊥) → ⊥
   not_apart [] run m n client delete eb en unlike same bars on = no_ask client eb
   not_apart (Begins x ask ∷ past) run m n client delete eb en unlike same bars on =
       (elim (nat_eq x n) as (λ b. nat_eq x n ≡ b → cond b (Some ask) (under_way past n) ≡ Some delete → (HasEnded (cond b past (before past n)) m → ⊥) → ⊥) [
         | true ↦ λ is e alive.
             let xn : x ≡ n = eqb-true x n is in
             let here : ask ≡ delete = some_ask ask delete e in
-            let early : begun past m ≡ Some client = sym (second (nat_eq x m) (Some ask) (begun past m) (differs x m (λ xm. unlike (sym xm ∙ xn)))) ∙ eb in
+            let early : begun_late past m ≡ Some client = sym (second (nat_eq x m) (Some ask) (begun_late past m) (differs x m (λ xm. unlike (sym xm ∙ xn)))) ∙ eb in
             let way = begun_way past m client early alive in
             (run.0.1 m client way (same ∙ ap (λ (a : Ask). a.key) (sym here))).1 (subst (λ k. Bars m client k ask) (sym xn) (subst (λ c. Bars m client n c) (sym here) bars))
         | false ↦ λ _ e alive.
-            (elim (nat_eq x m) as (λ b. nat_eq x m ≡ b → cond b (Some ask) (begun past m) ≡ Some client → ⊥) [
+            (elim (nat_eq x m) as (λ b. nat_eq x m ≡ b → cond b (Some ask) (begun_late past m) ≡ Some client → ⊥) [
               | true ↦ λ is f.
                   let xm : x ≡ m = eqb-true x m is in
                   let here : ask ≡ client = some_ask ask client f in
@@ -95,12 +95,12 @@ module _ (words : ℕ → Ask → List Call → Answer → Option ℕ → Type 0
   not_apart (Restarts s ∷ past) run m n client delete eb en unlike same bars on = not_apart past run.1 m n client delete eb en unlike same bars on
 
   -- what bars a delete that was acknowledged, and wasn't over when that began, began after it was acknowledged
-  pub began_after : (past : List Event) → Run words Bars opening past → (n m : ℕ) (delete client : Ask) → IsAcknowledged past n delete → begun past m ≡ Some client → (m ≡ n → ⊥) → client.key ≡ delete.key → Bars m client n delete → (HasEnded (before past n) m → ⊥) → IsAcknowledged (before past m) n delete
+  pub began_after : (past : List Event) → Run words Bars opening past → (n m : ℕ) (delete client : Ask) → IsAcknowledged past n delete → begun_late past m ≡ Some client → (m ≡ n → ⊥) → client.key ≡ delete.key → Bars m client n delete → (HasEnded (before past n) m → ⊥) → IsAcknowledged (before past m) n delete
   began_after [] run n m delete client h e unlike same bars on = absurd h
   began_after (Begins x ask ∷ past) run n m delete client (inl h) e unlike same bars on = absurd h
   began_after (Begins x ask ∷ past) run n m delete client (inr h) e unlike same bars on =
       let alive : HasEnded (before past n) m → ⊥ = subst (λ l. HasEnded l m → ⊥) (second (nat_eq x n) past (before past n) (differs x n (λ is. (let lt = acked_below x past n delete run.0.0 h in omega (arith, lt, is))))) on in
-      (elim (nat_eq x m) as (λ p. cond p (Some ask) (begun past m) ≡ Some client → IsAcknowledged (cond p past (before past m)) n delete) [
+      (elim (nat_eq x m) as (λ p. cond p (Some ask) (begun_late past m) ≡ Some client → IsAcknowledged (cond p past (before past m)) n delete) [
         | true ↦ λ _. h
         | false ↦ λ is. began_after past run.1 n m delete client h is unlike same bars alive
       ]) e
@@ -117,11 +117,11 @@ module _ (words : ℕ → Ask → List Call → Answer → Option ℕ → Type 0
   began_after (Restarts s ∷ past) run n m delete client (inr h) e unlike same bars on = began_after past run.1 n m delete client h e unlike same bars on
 
   -- a delete that was acknowledged has begun
-  pub acked_begun : (past : List Event) → Run words Bars opening past → (n : ℕ) (delete : Ask) → IsAcknowledged past n delete → begun past n ≡ Some delete
+  pub acked_begun : (past : List Event) → Run words Bars opening past → (n : ℕ) (delete : Ask) → IsAcknowledged past n delete → begun_late past n ≡ Some delete
   acked_begun [] run n delete h = absurd h
   acked_begun (Begins x ask ∷ past) run n delete (inl h) = absurd h
   acked_begun (Begins x ask ∷ past) run n delete (inr h) =
-      second (nat_eq x n) (Some ask) (begun past n) (differs x n (λ is. (let lt = acked_below x past n delete run.0.0 h in omega (arith, lt, is)))) ∙ acked_begun past run.1 n delete h
+      second (nat_eq x n) (Some ask) (begun_late past n) (differs x n (λ is. (let lt = acked_below x past n delete run.0.0 h in omega (arith, lt, is)))) ∙ acked_begun past run.1 n delete h
   acked_begun (Calls x s a o end ∷ past) run n delete (inl h) = absurd h
   acked_begun (Calls x s a o end ∷ past) run n delete (inr h) = acked_begun past run.1 n delete h
   acked_begun (Replies x key r f ∷ past) run n delete (inl h) = way_begun past n delete (subst (λ k. under_way past k ≡ Some delete) h.0 h.1)
@@ -135,7 +135,7 @@ module _ (words : ℕ → Ask → List Call → Answer → Option ℕ → Type 0
 
   -- of a call: what its command asks, that it is on that key, and that the command's calls are the first of a word
   abbrev pub IsMade : List Event → ℕ → Call → Type 0
-  IsMade past m call = (client : Ask) × (begun past m ≡ Some client) × IsFront words m client (calls_so_far past m) × (call.ask.key ≡ client.key)
+  IsMade past m call = (client : Ask) × (begun_late past m ≡ Some client) × IsFront words m client (calls_so_far past m) × (call.ask.key ≡ client.key)
 
   pub made : (past : List Event) → Run words Bars opening past → (m j : ℕ) (call : Call) → slice_get (calls_so_far past m) j ≡ Some call → IsMade past m call
   made [] run m j call e = absurd (cc)
@@ -144,15 +144,15 @@ module _ (words : ℕ → Ask → List Call → Answer → Option ℕ → Type 0
         | true ↦ λ is. absurd (no_call j call (subst (λ l. slice_get l j ≡ Some call) (new_calls m past (subst (λ k. IsNewNumber k past) (eqb-true x m is) run.0.0)) e))
         | false ↦ λ unlike.
             let r = made past run.1 m j call e in
-            (r.0, second (nat_eq x m) (Some ask) (begun past m) unlike ∙ r.1, r.2, r.3)
+            (r.0, second (nat_eq x m) (Some ask) (begun_late past m) unlike ∙ r.1, r.2, r.3)
       ]) refl
   made (Calls x s a o end ∷ past) run m j call e =
       let calls = calls_so_far past m in
       let new : Call = record { server = s; ask = a; origin = o; outcome = outcome_of end } in
-      (elim (nat_eq x m) as (λ b. nat_eq x m ≡ b → slice_get (cond b (calls ++ new ∷ []) calls) j ≡ Some call → (client : Ask) × (begun past m ≡ Some client) × IsFront words m client (cond b (calls ++ new ∷ []) calls) × (call.ask.key ≡ client.key)) [
+      (elim (nat_eq x m) as (λ b. nat_eq x m ≡ b → slice_get (cond b (calls ++ new ∷ []) calls) j ≡ Some call → (client : Ask) × (begun_late past m ≡ Some client) × IsFront words m client (cond b (calls ++ new ∷ []) calls) × (call.ask.key ≡ client.key)) [
         | true ↦ λ is g.
             let xm : x ≡ m = eqb-true x m is in
-            let begins : begun past m ≡ Some run.0.0 = way_begun past m run.0.0 (subst (λ k. under_way past k ≡ Some run.0.0) xm run.0.1) in (
+            let begins : begun_late past m ≡ Some run.0.0 = way_begun past m run.0.0 (subst (λ k. under_way past k ≡ Some run.0.0) xm run.0.1) in (
               run.0.0,
               begins,
               subst (λ k. IsFront words k run.0.0 (calls_so_far past k ++ new ∷ [])) xm run.0.3,
@@ -170,7 +170,7 @@ module _ (words : ℕ → Ask → List Call → Answer → Option ℕ → Type 0
 
 module _ (words : ℕ → Ask → List Call → Answer → Option ℕ → Type 0) (Bars : ℕ → Ask → ℕ → Ask → Type 0) (opening : ℕ → List ℕ → Option Item) (MayLand : List Event → ℕ → ℕ → Ask → Origin → Type 0) where
   -- it is a run in which others write
-  pub as_run : (past : List Moment) → late.Run words Bars opening MayLand past → Run words Bars opening (told opening past)
+  pub as_run : (past : List Moment) → late.LateRun words Bars opening MayLand past → Run words Bars opening (told opening past)
   as_run [] run = tt
   as_run (Does (Begins m client) ∷ past) run = (run.0, as_run past run.1)
   as_run (Does (Calls m s a o end) ∷ past) run = (run.0, as_run past run.1)

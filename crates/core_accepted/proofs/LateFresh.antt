@@ -17,7 +17,7 @@ use Rattle.fresh_runs.specs.Run as sharing
 use Rattle.fresh_runs.proofs.Stamps.{by_test, clear_marks, get_left, get_seam, clears_split}
 use Rattle.fresh_runs.proofs.Seen.{Has, Gives, has_from_gone, has_marks, delete_marks}
 use Rattle.fresh_runs.proofs.Runs.{some_ask, no_ask, differs, differ, second, acked_below, new_calls, ended_since, acked_since, acked_over, acked_delete, over, above, shown_below, new_item_at}
-use Rattle.core_accepted.specs.Late.{Moment, Does, Lands, told, begun, HasFailed, MayCome, Run, IsFreshBy, is_store, LandsInTime}
+use Rattle.core_accepted.specs.Late.{Moment, Does, Lands, told, begun_late, HasFailed, MayComeLate, LateRun, IsFreshBy, begins_stamp, LandsInTime}
 use Rattle.core_accepted.specs.LateLaws.{IsPart}
 use Rattle.core_accepted.proofs.Late.{way_begun, not_apart, began_after, acked_begun, made, as_run}
 use Rattle.core_accepted.proofs.Landed.{landed, no_store}
@@ -27,7 +27,7 @@ no_item item e = cc
 
 module _ (words : ℕ → Ask → List Call → Answer → Option ℕ → Type 0) (Bars : ℕ → Ask → ℕ → Ask → Type 0) (Over : List Event → ℕ → ℕ → Type 0) (cover : IsCovered words) (copies : CopiesBar words Bars) (part : IsPart Over) (opening : ℕ → List ℕ → Option Item) (n : ℕ) (delete : Ask) (op : delete.op ≡ Delete) (began : List Event) where
   abbrev Fine : List Moment → Type 0
-  Fine past = Run words Bars opening (LandsInTime Over) past
+  Fine past = LateRun words Bars opening (LandsInTime Over) past
 
   abbrev T : List Moment → List Event
   T = told opening
@@ -52,15 +52,15 @@ module _ (words : ℕ → Ask → List Call → Answer → Option ℕ → Type 0
   record Guarded (past : List Moment) : Type 0 where
     cleared : (s : ℕ) → IsCleared words n delete s → ClearsIn (calls_so_far (T past) n) s
     holds : (s : ℕ) → IsCleared words n delete s → Has Q (held opening (T past) s delete.key)
-    read : (m : ℕ) (client : Ask) → begun (T past) m ≡ Some client → client.key ≡ delete.key → IsAcknowledged (before (T past) m) n delete → (i : ℕ) (item : Item) → item_at opening (T past) m i ≡ Some item → (call : Call) × (slice_get (calls_so_far (T past) m) i ≡ Some call) × (IsCleared words n delete call.server → Q item.stamp)
+    read : (m : ℕ) (client : Ask) → begun_late (T past) m ≡ Some client → client.key ≡ delete.key → IsAcknowledged (before (T past) m) n delete → (i : ℕ) (item : Item) → item_at opening (T past) m i ≡ Some item → (call : Call) × (slice_get (calls_so_far (T past) m) i ≡ Some call) × (IsCleared words n delete call.server → Q item.stamp)
 
   -- while the delete is under way there are no copies but of commands that were over
-  copy_early : (past : List Moment) → Fine past → under_way (T past) n ≡ Some delete → (number : ℕ) (client : Ask) (calls : List Call) (j : ℕ) (call : Call) (i : ℕ) → begun (T past) number ≡ Some client → (number ≡ n → ⊥) → client.key ≡ delete.key → IsFront words number client calls → slice_get calls j ≡ Some call → call.origin ≡ CopyOf i → (HasEnded (before (T past) n) number → ⊥) → ⊥
+  copy_early : (past : List Moment) → Fine past → under_way (T past) n ≡ Some delete → (number : ℕ) (client : Ask) (calls : List Call) (j : ℕ) (call : Call) (i : ℕ) → begun_late (T past) number ≡ Some client → (number ≡ n → ⊥) → client.key ≡ delete.key → IsFront words number client calls → slice_get calls j ≡ Some call → call.origin ≡ CopyOf i → (HasEnded (before (T past) n) number → ⊥) → ⊥
   copy_early past run way number client calls j call i begins other same front got o alive =
       not_apart words Bars opening (T past) (runs past run) number n client delete begins way other same (copy_bars number client calls j call i same front got o) alive
 
   -- since it was acknowledged a copy of a command that wasn't over is of what may be seen
-  copy_late : (past : List Moment) → Fine past → IsAcknowledged (T past) n delete → Guarded past → (number : ℕ) (client : Ask) (calls : List Call) (j : ℕ) (call : Call) (i : ℕ) (stamp : ℕ) → begun (T past) number ≡ Some client → (number ≡ n → ⊥) → client.key ≡ delete.key → IsFront words number client calls → slice_get calls j ≡ Some call → call.origin ≡ CopyOf i → ((r : ℕ) (found : Call) → slice_get (calls_so_far (T past) number) r ≡ Some found → slice_get calls r ≡ Some found) → (HasEnded (before (T past) n) number → ⊥) → GivesStamp opening (T past) number (CopyOf i) stamp → Q stamp
+  copy_late : (past : List Moment) → Fine past → IsAcknowledged (T past) n delete → Guarded past → (number : ℕ) (client : Ask) (calls : List Call) (j : ℕ) (call : Call) (i : ℕ) (stamp : ℕ) → begun_late (T past) number ≡ Some client → (number ≡ n → ⊥) → client.key ≡ delete.key → IsFront words number client calls → slice_get calls j ≡ Some call → call.origin ≡ CopyOf i → ((r : ℕ) (found : Call) → slice_get (calls_so_far (T past) number) r ≡ Some found → slice_get calls r ≡ Some found) → (HasEnded (before (T past) n) number → ⊥) → GivesStamp opening (T past) number (CopyOf i) stamp → Q stamp
   copy_late past run ack g number client calls j call i stamp begins other same front got o first alive gives =
       let later = began_after words Bars opening (T past) (runs past run) n number delete client ack begins other same (copy_bars number client calls j call i same front got o) alive in
       let r = g.read number client begins same later i gives.0 gives.1 in
@@ -70,18 +70,18 @@ module _ (words : ℕ → Ask → List Call → Answer → Option ℕ → Type 0
       subst Q (sym gives.2) (r.2 clears)
 
   -- what lands is no call of a delete that stores
-  other_lands : (past : List Moment) → Fine past → under_way (T past) n ≡ Some delete ⊎ IsAcknowledged (T past) n delete → (number server : ℕ) (ask : Ask) (origin : Origin) → HasFailed (T past) number server ask origin → is_store ask.op ≡ true → number ≡ n → ⊥
+  other_lands : (past : List Moment) → Fine past → under_way (T past) n ≡ Some delete ⊎ IsAcknowledged (T past) n delete → (number server : ℕ) (ask : Ask) (origin : Origin) → HasFailed (T past) number server ask origin → begins_stamp ask.op ≡ true → number ≡ n → ⊥
   other_lands past run phase number server ask origin failed store is =
       let call : Call = record { server = server; ask = ask; origin = origin; outcome = Failed } in
       let got : slice_get (calls_so_far (T past) n) failed.0 ≡ Some call = subst (λ k. slice_get (calls_so_far (T past) k) failed.0 ≡ Some call) is failed.1 in
       let m = made words Bars opening (T past) (runs past run) n failed.0 call got in
-      let begins : begun (T past) n ≡ Some delete = ⊎_elim (λ way. way_begun (T past) n delete way) (λ ack. acked_begun words Bars opening (T past) (runs past run) n delete ack) phase in
+      let begins : begun_late (T past) n ≡ Some delete = ⊎_elim (λ way. way_begun (T past) n delete way) (λ ack. acked_begun words Bars opening (T past) (runs past run) n delete ack) phase in
       let asked : m.0 ≡ delete = some_ask m.0 delete (sym m.1 ∙ begins) in
       let front : IsFront words n delete (calls_so_far (T past) n) = subst (λ a. IsFront words n a (calls_so_far (T past) n)) asked m.2 in
       no_store ask.op (cover.deletes n delete op _ _ _ front.3 failed.0 call (get_left (calls_so_far (T past) n) front.0 failed.0 call got)) store
 
   -- the stamp of a store that lands at a server which the delete has cleared
-  lands_early : (past : List Moment) → Fine past → before (T past) n ≡ began → under_way (T past) n ≡ Some delete → (number server : ℕ) (ask : Ask) (origin : Origin) (stamp : ℕ) → HasFailed (T past) number server ask origin → LandsInTime Over (T past) number server ask origin → GivesStamp opening (T past) number origin stamp → ask.key ≡ delete.key → ClearsIn (calls_so_far (T past) n) server → is_store ask.op ≡ true → Q stamp
+  lands_early : (past : List Moment) → Fine past → before (T past) n ≡ began → under_way (T past) n ≡ Some delete → (number server : ℕ) (ask : Ask) (origin : Origin) (stamp : ℕ) → HasFailed (T past) number server ask origin → LandsInTime Over (T past) number server ask origin → GivesStamp opening (T past) number origin stamp → ask.key ≡ delete.key → ClearsIn (calls_so_far (T past) n) server → begins_stamp ask.op ≡ true → Q stamp
   lands_early past run at way number server ask Client stamp failed timely gives same clears store =
       subst Q (sym gives) (λ ended. timely store n delete (way_begun (T past) n delete way) op (sym same) (subst (λ l. Over l n number) (sym at) ended) clears)
   lands_early past run at way number server ask (CopyOf i) stamp failed timely gives same clears store =
@@ -91,7 +91,7 @@ module _ (words : ℕ → Ask → List Call → Answer → Option ℕ → Type 0
       (other_lands past run (inl way) number server ask (CopyOf i) failed store) (sym m.3 ∙ same) m.2 failed.1 refl
       (λ ended. timely store n delete (way_begun (T past) n delete way) op (sym same) ended clears))
 
-  lands_late : (past : List Moment) → Fine past → before (T past) n ≡ began → IsAcknowledged (T past) n delete → Guarded past → (number server : ℕ) (ask : Ask) (origin : Origin) (stamp : ℕ) → HasFailed (T past) number server ask origin → LandsInTime Over (T past) number server ask origin → GivesStamp opening (T past) number origin stamp → ask.key ≡ delete.key → ClearsIn (calls_so_far (T past) n) server → is_store ask.op ≡ true → Q stamp
+  lands_late : (past : List Moment) → Fine past → before (T past) n ≡ began → IsAcknowledged (T past) n delete → Guarded past → (number server : ℕ) (ask : Ask) (origin : Origin) (stamp : ℕ) → HasFailed (T past) number server ask origin → LandsInTime Over (T past) number server ask origin → GivesStamp opening (T past) number origin stamp → ask.key ≡ delete.key → ClearsIn (calls_so_far (T past) n) server → begins_stamp ask.op ≡ true → Q stamp
   lands_late past run at ack g number server ask Client stamp failed timely gives same clears store =
       subst Q (sym gives) (λ ended. timely store n delete (acked_begun words Bars opening (T past) (runs past run) n delete ack) op (sym same) (subst (λ l. Over l n number) (sym at) ended) clears)
   lands_late past run at ack g number server ask (CopyOf i) stamp failed timely gives same clears store =
@@ -109,7 +109,7 @@ module _ (words : ℕ → Ask → List Call → Answer → Option ℕ → Type 0
       absurd (copy_early past run way number client (calls ++ call ∷ []) (length calls) call i (way_begun (T past) number client there) other same front (get_seam calls call []) o
       (λ ended. over words Bars opening (T past) number client (runs past run) (ended_since (T past) n number ended) there))
 
-  early : (past : List Moment) (number server : ℕ) (ask : Ask) (origin : Origin) (end : End) → Fine past → before (T past) n ≡ began → under_way (T past) n ≡ Some delete → (number ≡ n → ⊥) → MayCome words Bars opening (LandsInTime Over) past (Does (Calls number server ask origin end)) → ask.key ≡ delete.key → Gives Q end
+  early : (past : List Moment) (number server : ℕ) (ask : Ask) (origin : Origin) (end : End) → Fine past → before (T past) n ≡ began → under_way (T past) n ≡ Some delete → (number ≡ n → ⊥) → MayComeLate words Bars opening (LandsInTime Over) past (Does (Calls number server ask origin end)) → ask.key ≡ delete.key → Gives Q end
   early past number server ask origin (Read stamp answer spaces) run at way other may same =
       stamp_early past run at way number may.0 (record { server = server; ask = ask; origin = origin; outcome = Answered answer }) origin stamp other (sym may.2 ∙ same) refl may.1 may.3 may.4.1
   early past number server ask origin (Unread stamp answer spaces) run at way other may same =
@@ -117,7 +117,7 @@ module _ (words : ℕ → Ask → List Call → Answer → Option ℕ → Type 0
   early past number server ask origin Never run at way other may same = tt
 
   -- what lands leaves nothing of the key, or what may be seen, if it stores that
-  lands_holds : (past : List Moment) (server s : ℕ) (ask : Ask) (stamp : ℕ) (answer : Answer) (spaces : ℕ) → Has Q (held opening (T past) s delete.key) → (server ≡ s → ask.key ≡ delete.key → is_store ask.op ≡ true → Q stamp)
+  lands_holds : (past : List Moment) (server s : ℕ) (ask : Ask) (stamp : ℕ) (answer : Answer) (spaces : ℕ) → Has Q (held opening (T past) s delete.key) → (server ≡ s → ask.key ≡ delete.key → begins_stamp ask.op ≡ true → Q stamp)
       → Has Q (held opening (Turns server ask.key (after_call ask stamp answer spaces (held opening (T past) server ask.key)) ∷ T past) s delete.key)
   lands_holds past server s ask stamp answer spaces rest stores =
       let key = delete.key in
@@ -207,7 +207,7 @@ module _ (words : ℕ → Ask → List Call → Answer → Option ℕ → Type 0
       (λ r found e. get_left calls (call ∷ []) r found e)
       (λ ended. over words Bars opening (T past) number client (runs past run) (ended_since (T past) n number ended) there) gives
 
-  late : (past : List Moment) (number server : ℕ) (ask : Ask) (origin : Origin) (end : End) → Fine past → before (T past) n ≡ began → IsAcknowledged (T past) n delete → Guarded past → MayCome words Bars opening (LandsInTime Over) past (Does (Calls number server ask origin end)) → ask.key ≡ delete.key → Gives Q end
+  late : (past : List Moment) (number server : ℕ) (ask : Ask) (origin : Origin) (end : End) → Fine past → before (T past) n ≡ began → IsAcknowledged (T past) n delete → Guarded past → MayComeLate words Bars opening (LandsInTime Over) past (Does (Calls number server ask origin end)) → ask.key ≡ delete.key → Gives Q end
   late past number server ask origin (Read stamp answer spaces) run at ack g may same =
       stamp_late past run at ack g number may.0 (record { server = server; ask = ask; origin = origin; outcome = Answered answer }) origin stamp (λ is. over words Bars opening (T past) n may.0 (runs past run) (acked_over (T past) n delete ack) (ap (under_way (T past)) (sym is) ∙ may.1)) (sym may.2 ∙ same) refl may.1 may.3 may.4.1
   late past number server ask origin (Unread stamp answer spaces) run at ack g may same =
@@ -220,7 +220,7 @@ module _ (words : ℕ → Ask → List Call → Answer → Option ℕ → Type 0
         cleared = g.cleared;
         holds = g.holds;
         read = λ m client begins same later i item is.
-            (elim (nat_eq number m) as (λ b. nat_eq number m ≡ b → cond b (Some ask) (begun (T past) m) ≡ Some client → IsAcknowledged (cond b (T past) (before (T past) m)) n delete → (call : Call) × (slice_get (calls_so_far (T past) m) i ≡ Some call) × (IsCleared words n delete call.server → Q item.stamp)) [
+            (elim (nat_eq number m) as (λ b. nat_eq number m ≡ b → cond b (Some ask) (begun_late (T past) m) ≡ Some client → IsAcknowledged (cond b (T past) (before (T past) m)) n delete → (call : Call) × (slice_get (calls_so_far (T past) m) i ≡ Some call) × (IsCleared words n delete call.server → Q item.stamp)) [
               | true ↦ λ here _ _. absurd (no_item item (sym (new_item_at opening m (T past) i (subst (λ k. IsNewNumber k (T past)) (eqb-true number m here) run.0.0)) ∙ is))
               | false ↦ λ _ e l. g.read m client e same l i item is
             ]) refl begins later;
@@ -242,7 +242,7 @@ module _ (words : ℕ → Ask → List Call → Answer → Option ℕ → Type 0
                     call,
                     subst (λ j. slice_get (calls ++ call ∷ []) j ≡ Some call) (eqb-true (length calls) i here) (get_seam calls call []),
                     λ clears.
-                        let asked : run.0.0 ≡ client = some_ask run.0.0 client (sym (way_begun (T past) number run.0.0 run.0.1) ∙ ap (begun (T past)) (eqb-true number m mine) ∙ begins) in
+                        let asked : run.0.0 ≡ client = some_ask run.0.0 client (sym (way_begun (T past) number run.0.0 run.0.1) ∙ ap (begun_late (T past)) (eqb-true number m mine) ∙ begins) in
                         let on : ask.key ≡ key = run.0.2 ∙ ap (λ (a : Ask). a.key) asked ∙ same in
                         subst (Has Q) (sym (ap (held opening (T past) server) on) ∙ e) (g.holds server clears),
                   ))
@@ -317,7 +317,7 @@ module _ (words : ℕ → Ask → List Call → Answer → Option ℕ → Type 0
       r.2 (cover.covered n a delete run.0.0 (above words Bars opening (T past) (runs past run.1) n a delete later) op same _ _ _ run.0.3 r.0.server (shown.2, (r.0, r.1, refl), inl shown.3))
 
 -- a run is fresh, whose deletes clear what later commands take, in which what copies has its key alone, and what had failed is applied in time or never
-pub fresh : (words : ℕ → Ask → List Call → Answer → Option ℕ → Type 0) (Bars : ℕ → Ask → ℕ → Ask → Type 0) (Over : List Event → ℕ → ℕ → Type 0) → IsCovered words → CopiesBar words Bars → IsPart Over → (opening : ℕ → List ℕ → Option Item) (moments : List Moment) → Run words Bars opening (LandsInTime Over) moments → IsFreshBy opening Over moments
+pub fresh : (words : ℕ → Ask → List Call → Answer → Option ℕ → Type 0) (Bars : ℕ → Ask → ℕ → Ask → Type 0) (Over : List Event → ℕ → ℕ → Type 0) → IsCovered words → CopiesBar words Bars → IsPart Over → (opening : ℕ → List ℕ → Option Item) (moments : List Moment) → LateRun words Bars opening (LandsInTime Over) moments → IsFreshBy opening Over moments
 fresh words Bars Over cover copies part opening moments run n m delete item ack shown =
     let op = acked_delete (told opening moments) n delete (acked_since (told opening moments) m n delete ack) in
     shows_young words Bars Over cover copies part opening n delete op (before (told opening moments) n) moments run refl m item ack shown

@@ -7,14 +7,14 @@ use Rattle.mc_types.specs.declared.answer.Answer.{Answer}
 use Rattle.mc_types.specs.declared.call.Origin.{Origin}
 use Rattle.mc_types.specs.declared.call.Origin.TheVariants.{Client, CopyOf}
 use Rattle.mc_types.specs.Items.{Item}
-use Rattle.mc_types.specs.Agree.{Agrees}
+use Rattle.mc_types.specs.Agree.{AnswerAgrees}
 use Rattle.fresh_runs.specs.Life.{Turned, held_in}
 use Rattle.fresh_runs.specs.Calls.{Call, End, Read, Unread, Never, outcome_of}
 use Rattle.fresh_runs.specs.Run.{Event, Begins, Calls, Replies, Breaks, Turns, Restarts, under_way, calls_so_far, IsNewNumber, IsFront}
 use Rattle.fresh_runs.specs.Run as sharing
 use Rattle.fresh_runs.proofs.Runs.{differs, differ, second}
 use Rattle.core_accepted.specs.Late.{told, LandsEver}
-use Rattle.core_accepted.specs.Parts.{part, IsChange, MovesBack, EndsAs, LeavesKey, LeavesRestart, AreChanges, Same, More}
+use Rattle.core_accepted.specs.Parts.{part, IsSwap, MovesBack, EndsAs, LeavesKey, LeavesRestart, AreChanges, Same, More}
 use Rattle.core_accepted.specs.Mirror.{mirror, FleetIsMirrored}
 use Rattle.core_accepted.proofs.Late.{as_run}
 
@@ -29,7 +29,7 @@ no_way : (ask : Ask) → ◌≡◌ {A = Option Ask} None (Some ask) → ⊥
 no_way ask e = cc
 
 -- changes of what came before
-one_behind : (event : Event) (one two : List Event) → IsChange one two → IsChange (event ∷ one) (event ∷ two)
+one_behind : (event : Event) (one two : List Event) → IsSwap one two → IsSwap (event ∷ one) (event ∷ two)
 one_behind e one two (MovesBack later past event number server ask origin end other) = MovesBack (e ∷ later) past event number server ask origin end other
 one_behind e one two (EndsAs later past number server ask origin end other is) = EndsAs (e ∷ later) past number server ask origin end other is
 one_behind e one two (LeavesKey later past server key turned) = LeavesKey (e ∷ later) past server key turned
@@ -39,7 +39,7 @@ behind : (event : Event) (one two : List Event) → AreChanges one two → AreCh
 behind e one two (Same all) = Same (e ∷ all)
 behind e one two (More events others last change more) = More (e ∷ events) (e ∷ others) (e ∷ last) (one_behind e events others change) (behind e others last more)
 
-then_one : (one two three : List Event) → AreChanges one two → IsChange two three → AreChanges one three
+then_one : (one two three : List Event) → AreChanges one two → IsSwap two three → AreChanges one three
 then_one one two three (Same all) change = More all three three change (Same three)
 then_one one two three (More events others last first_change more) change = More events others three first_change (then_one others last three more change)
 
@@ -180,9 +180,9 @@ module _ (proxy : ℕ → ℕ) (words : ℕ → Ask → List Call → Answer →
 
   ends : (past : List Event) (number server : ℕ) (ask : Ask) (origin : Origin) (end : End) → proxy number ≡ p → sharing.EndsWell opening past number server ask origin end → sharing.EndsWell opening (Turns server ask.key (sharing.held opening past server ask.key) ∷ mirror proxy opening p past) number server ask origin end
   ends past number server ask origin (Read stamp answer spaces) own e =
-      (subst (Agrees ask answer) (sym (turned_is (mirror proxy opening p past) server ask.key (sharing.held opening past server ask.key))) e.0, gives past (Turns server ask.key (sharing.held opening past server ask.key)) number origin stamp own refl e.1)
+      (subst (AnswerAgrees ask answer) (sym (turned_is (mirror proxy opening p past) server ask.key (sharing.held opening past server ask.key))) e.0, gives past (Turns server ask.key (sharing.held opening past server ask.key)) number origin stamp own refl e.1)
   ends past number server ask origin (Unread stamp answer spaces) own e =
-      (subst (Agrees ask answer) (sym (turned_is (mirror proxy opening p past) server ask.key (sharing.held opening past server ask.key))) e.0, gives past (Turns server ask.key (sharing.held opening past server ask.key)) number origin stamp own refl e.1)
+      (subst (AnswerAgrees ask answer) (sym (turned_is (mirror proxy opening p past) server ask.key (sharing.held opening past server ask.key))) e.0, gives past (Turns server ask.key (sharing.held opening past server ask.key)) number origin stamp own refl e.1)
   ends past number server ask origin Never own e = tt
 
   runs : (events : List Event) → sharing.Run words Bars opening events → sharing.Run words Bars opening (mirror proxy opening p events)

@@ -16,25 +16,25 @@ use Rattle.route_tree.specs.Word.{Word, tree_words}
 use Rattle.core_proxy.specs.CoreState.{dialect, bars_of, version_by}
 use Rattle.core_accepted.specs.declared.served.ServedCore.{ServedCore}
 use Rattle.core_accepted.specs.Logs.{MayHaveLed}
-use Rattle.core_accepted.specs.Late.{begun}
+use Rattle.core_accepted.specs.Late.{begun_late}
 use Rattle.core_accepted.specs.Parts.{Own}
 use Rattle.core_accepted.specs.Rollout.{words_by}
 use Rattle.core_accepted.proofs.Late.{way_begun}
 
 -- what has begun in the past has begun
-begun_still : (P : ℕ → Type 0) (x : ℕ) (ask : Ask) (past : List Event) → ((n : ℕ) (a : Ask) → begun (Begins x ask ∷ past) n ≡ Some a → P n) → (n : ℕ) (a : Ask) → begun past n ≡ Some a → P n
+begun_still : (P : ℕ → Type 0) (x : ℕ) (ask : Ask) (past : List Event) → ((n : ℕ) (a : Ask) → begun_late (Begins x ask ∷ past) n ≡ Some a → P n) → (n : ℕ) (a : Ask) → begun_late past n ≡ Some a → P n
 begun_still P x ask past all n a e =
     (elim (nat_eq x n) as (λ b. nat_eq x n ≡ b → P n) [
-      | true ↦ λ is. all n ask (ap (λ t. cond t (Some ask) (begun past n)) is)
-      | false ↦ λ is. all n a (ap (λ t. cond t (Some ask) (begun past n)) is ∙ e)
+      | true ↦ λ is. all n ask (ap (λ t. cond t (Some ask) (begun_late past n)) is)
+      | false ↦ λ is. all n a (ap (λ t. cond t (Some ask) (begun_late past n)) is ∙ e)
     ]) refl
 
 -- what a run does is what a proxy does by words that say no less of the commands that have begun, and by bars that bar no more of them
 module _ (one other : ℕ → Ask → List Call → Answer → Option ℕ → Type 0) (OneBars OtherBars : ℕ → Ask → ℕ → Ask → Type 0) (P : ℕ → Type 0) (more : (n : ℕ) (ask : Ask) (calls : List Call) (reply : Answer) (from : Option ℕ) → P n → one n ask calls reply from → other n ask calls reply from) (fewer : (n m : ℕ) (ask client : Ask) → P n → P m → OtherBars n ask m client → OneBars n ask m client) (opening : ℕ → List ℕ → Option Item) where
-  own_from : (events : List Event) → ((n : ℕ) (ask : Ask) → begun events n ≡ Some ask → P n) → Run one OneBars opening events → Own other OtherBars events
+  own_from : (events : List Event) → ((n : ℕ) (ask : Ask) → begun_late events n ≡ Some ask → P n) → Run one OneBars opening events → Own other OtherBars events
   own_from [] all run = tt
   own_from (Begins x ask ∷ past) all run =
-      let mine : P x = all x ask (ap (λ t. cond t (Some ask) (begun past x)) (eq-eqb x x refl)) in
+      let mine : P x = all x ask (ap (λ t. cond t (Some ask) (begun_late past x)) (eq-eqb x x refl)) in
       let still = begun_still P x ask past all in (
         (
           run.0.0,
@@ -60,7 +60,7 @@ module _ (one other : ℕ → Ask → List Call → Answer → Option ℕ → Ty
 pub led_owns :
     (served : ServedCore) (believes : ℕ → List ℕ → Option Item) (log : List (Entry dialect)) (led : MayHaveLed believes log served) (name : ℕ → ℕ) (tree : ℕ → Route) (Bars : ℕ → Ask → ℕ → Ask → Type 0) (P : ℕ → Type 0)
     → ((n : ℕ) → P n → tree (name n) ≡ led.tree n) → ((n m : ℕ) (ask client : Ask) → P n → P m → Bars (name n) ask (name m) client → bars_of served.core led.beside n ask m client)
-    → ((n : ℕ) (ask : Ask) → begun (run_of log) n ≡ Some ask → P n) → Own (λ n. words_by tree (name n)) (λ n ask m client. Bars (name n) ask (name m) client) (run_of log)
+    → ((n : ℕ) (ask : Ask) → begun_late (run_of log) n ≡ Some ask → P n) → Own (λ n. words_by tree (name n)) (λ n ask m client. Bars (name n) ask (name m) client) (run_of log)
 led_owns served believes log led name tree Bars P by fewer all =
     own_from (tree_words led.beside.at) (λ n. words_by tree (name n)) (bars_of served.core led.beside) (λ n ask m client. Bars (name n) ask (name m) client) P
     (λ n ask calls reply from mine word.

@@ -8,9 +8,9 @@ use Rattle.mc_types.specs.Items.{Item}
 use Rattle.fresh_runs.specs.Calls.{Call, End, outcome_of}
 use Rattle.fresh_runs.specs.Run.{Event, Begins, Calls, Replies, Breaks, Turns, Restarts, under_way, calls_so_far, IsNewNumber, IsFront}
 use Rattle.fresh_runs.proofs.Runs.{no_ask, differs, differ, second, way_below}
-use Rattle.core_accepted.specs.Late.{Moment, Does, Lands, told, Run, LandsEver}
-use Rattle.core_accepted.specs.Pipes.{PipeStep, Sends, Moves, Closes, moments_of, Steps}
-use Rattle.core_accepted.specs.Parts.{MayDo, Own, RunIsOwn, IsOther, IsChange, MovesBack, EndsAs, LeavesKey, LeavesRestart, AreChanges, Same, More, OwnIsChanged, renamed, OwnIsRenamed, part, BarsWithin, NumbersRise, MayServe, Serves, AreInOrder, ArePartsOf, IsFleet, PartsAreRun, FleetHasSteps, FleetOfPartsIsFresh, NoStoreLands, PartsAreFresh, AreRunsOf, RunsAreParts, PartLaws}
+use Rattle.core_accepted.specs.Late.{Moment, Does, Lands, told, LateRun, LandsEver}
+use Rattle.core_accepted.specs.Pipes.{PipeStep, Sends, Moves, Closes, moments_of, PipeSteps}
+use Rattle.core_accepted.specs.Parts.{MayDo, Own, RunIsOwn, IsOther, IsSwap, MovesBack, EndsAs, LeavesKey, LeavesRestart, AreChanges, Same, More, OwnIsChanged, renamed, OwnIsRenamed, part, BarsWithin, NumbersRise, MayServe, ServesPipes, PipesInOrder, ArePartsOf, IsFleet, PartsAreRun, FleetHasSteps, FleetOfPartsIsFresh, NoStoreLands, PartsAreFresh, AreRunsOf, RunsAreParts, PartLaws}
 use Rattle.core_accepted.specs.FleetLaws.{LandsHarmless}
 use Rattle.core_accepted.proofs.FleetsFresh.{nothing_bars, fleet_fresh, patient_fresh}
 
@@ -130,7 +130,7 @@ module _ (words : ℕ → Ask → List Call → Answer → Option ℕ → Type 0
   ends_alike past number server ask origin end other e =
       record { way = λ n. refl; calls = λ n. ap (λ o. cond (nat_eq number n) (calls_so_far past n ++ record { server = server; ask = ask; origin = origin; outcome = o } ∷ []) (calls_so_far past n)) e; new = λ n h. h }
 
-  one_change : (events others : List Event) → IsChange events others → Own words Bars events → Own words Bars others
+  one_change : (events others : List Event) → IsSwap events others → Own words Bars events → Own words Bars others
   one_change events others (MovesBack later past event number server ask origin end other) own =
       own_after later (Calls number server ask origin end ∷ event ∷ past) (event ∷ Calls number server ask origin end ∷ past) (back_alike past event number server ask origin end other) (moves_back past event number server ask origin end other) own
   one_change events others (EndsAs later past number server ask origin end other e) own =
@@ -305,7 +305,7 @@ module _ (words : ℕ → Ask → List Call → Answer → Option ℕ → Type 0
     head_of p event mine own = (subst (Own words Bars) (first (nat_eq p p) (event ∷ mine) mine (same p)) own).0
 
     module _ (within : BarsWithin proxy Bars) (opening : ℕ → List ℕ → Option Item) where
-      go : (moments : List Moment) → ((p : ℕ) → Own words Bars (part proxy p (told opening moments))) → NumbersRise (told opening moments) → Serves opening moments → Run words Bars opening LandsEver moments
+      go : (moments : List Moment) → ((p : ℕ) → Own words Bars (part proxy p (told opening moments))) → NumbersRise (told opening moments) → ServesPipes opening moments → LateRun words Bars opening LandsEver moments
       go [] own rise serves = tt
       go (Does (Begins x ask) ∷ past) own rise serves =
           let events = told opening past in
@@ -342,7 +342,7 @@ module _ (words : ℕ → Ask → List Call → Answer → Option ℕ → Type 0
           ((serves.0.0, tt, serves.0.1, serves.0.2), go past own rise serves.1)
 
   -- with connections in order
-  with_order : (line : ℕ → ℕ → ℕ) (opening : ℕ → List ℕ → Option Item) (steps : List PipeStep) → Run words Bars opening LandsEver (moments_of steps) → AreInOrder line steps → Steps line words Bars opening steps
+  with_order : (line : ℕ → ℕ → ℕ) (opening : ℕ → List ℕ → Option Item) (steps : List PipeStep) → LateRun words Bars opening LandsEver (moments_of steps) → PipesInOrder line steps → PipeSteps line words Bars opening steps
   with_order line opening [] run order = tt
   with_order line opening (Sends x s a o ∷ past) run order = (order.0, with_order line opening past run order.1)
   with_order line opening (Moves moment ∷ past) run order = ((run.0, order.0), with_order line opening past run.1 order.1)
@@ -357,7 +357,7 @@ module _ (words : ℕ → Ask → List Call → Answer → Option ℕ → Type 0
   late_fresh : FleetOfPartsIsFresh words Bars
   late_fresh cover none proxy within line opening steps fleet = fleet_fresh words Bars cover none line opening steps (has_steps proxy within line opening steps fleet)
 
-  harmless : (opening : ℕ → List ℕ → Option Item) (moments : List Moment) → Run words Bars opening LandsEver moments → NoStoreLands moments → Run words Bars opening (LandsHarmless words Bars) moments
+  harmless : (opening : ℕ → List ℕ → Option Item) (moments : List Moment) → LateRun words Bars opening LandsEver moments → NoStoreLands moments → LateRun words Bars opening (LandsHarmless words Bars) moments
   harmless opening [] run none = tt
   harmless opening (Does (Begins x ask) ∷ past) run none = (run.0, harmless opening past run.1 none)
   harmless opening (Does (Calls x s a o end) ∷ past) run none = (run.0, harmless opening past run.1 none)

@@ -13,9 +13,9 @@ use Rattle.fresh_runs.specs.Run.{Event, Begins, Calls, Replies, Breaks, Turns, R
 use Rattle.fresh_runs.specs.Overlap.{Ticket}
 use Rattle.fresh_runs.proofs.Stamps.{by_test, get_left, clears_split}
 use Rattle.fresh_runs.proofs.Runs.{some_ask, no_ask, differs, differ, second, new_calls, ended_since, over}
-use Rattle.core_accepted.specs.Late.{Moment, Does, Lands, told, begun, Run, WasOver, IsTimely, LandsInTime, LandsEver}
+use Rattle.core_accepted.specs.Late.{Moment, Does, Lands, told, begun_late, LateRun, WasOver, IsTimely, LandsInTime, LandsEver}
 use Rattle.core_accepted.specs.FleetLaws.{IsSticky}
-use Rattle.core_accepted.specs.Pipes.{PipeStep, Sends, Moves, Closes, moments_of, is_pipe, behind_first, IsFirstIn, pipe_of, Steps, WasOverOn, CopiesStay}
+use Rattle.core_accepted.specs.Pipes.{PipeStep, Sends, Moves, Closes, moments_of, is_pipe, behind_first, IsFirstIn, pipe_of, PipeSteps, WasOverOn, CopiesStay}
 use Rattle.core_accepted.proofs.Late.{way_begun, made, as_run, way_told}
 
 is_pipe_true : (q t p s : ℕ) → is_pipe q t p s ≡ true → (q ≡ p) × (t ≡ s)
@@ -33,10 +33,10 @@ is_pipe_false q t p s e here there =
     ]) refl e
 
 -- a number that has begun is below a new one
-begun_below : (x : ℕ) (past : List Event) (n : ℕ) (ask : Ask) → IsNewNumber x past → begun past n ≡ Some ask → n < x
+begun_below : (x : ℕ) (past : List Event) (n : ℕ) (ask : Ask) → IsNewNumber x past → begun_late past n ≡ Some ask → n < x
 begun_below x [] n ask new e = no_ask ask e
 begun_below x (Begins m client ∷ past) n ask new e =
-    (elim (nat_eq m n) as (λ b. nat_eq m n ≡ b → cond b (Some client) (begun past n) ≡ Some ask → n < x) [
+    (elim (nat_eq m n) as (λ b. nat_eq m n ≡ b → cond b (Some client) (begun_late past n) ≡ Some ask → n < x) [
       | true ↦ λ is _. subst (λ k. k < x) (eqb-true m n is) new.0
       | false ↦ λ _ is. begun_below x past n ask new.1 is
     ]) refl e
@@ -84,7 +84,7 @@ begun_since who to same (t ∷ ts) b = ((b.0.0, same t.number b.0.0 b.0.1 ∙ b.
 module _ (line : ℕ → ℕ → ℕ) where
   -- what stands in a connection: commands that have begun; none was over when one before it began, nor when a command of the connection began that has an answer there
   record Piped (past : List Event) (p s : ℕ) (pipe : List Ticket) : Type 0 where
-    begins : AreBegun (λ n. begun past n) pipe
+    begins : AreBegun (λ n. begun_late past n) pipe
     ordered : IsOrdered (λ n. before past n) pipe
     behind : (n : ℕ) → line n s ≡ p → ClearsIn (calls_so_far past n) s → NoneOver (before past n) pipe
 
@@ -96,7 +96,7 @@ module _ (line : ℕ → ℕ → ℕ) where
       subst (λ l. Piped past p s (behind_first l)) (sym first_is) (record { begins = whole.begins.1; ordered = whole.ordered.1; behind = λ n home clears. (whole.behind n home clears).1 })
 
   module _ (words : ℕ → Ask → List Call → Answer → Option ℕ → Type 0) (Bars : ℕ → Ask → ℕ → Ask → Type 0) (opening : ℕ → List ℕ → Option Item) where
-    pub run_of : (steps : List PipeStep) → Steps line words Bars opening steps → Run words Bars opening LandsEver (moments_of steps)
+    pub run_of : (steps : List PipeStep) → PipeSteps line words Bars opening steps → LateRun words Bars opening LandsEver (moments_of steps)
     run_of [] h = tt
     run_of (Sends number server ask origin ∷ past) h = run_of past h.1
     run_of (Moves moment ∷ past) h = (h.0.0, run_of past h.1)
@@ -152,10 +152,10 @@ module _ (line : ℕ → ℕ → ℕ) where
 
     piped_begins : (past : List Event) (p s : ℕ) (pipe : List Ticket) (x : ℕ) (ask : Ask) → IsNewNumber x past → Piped past p s pipe → Piped (Begins x ask ∷ past) p s pipe
     piped_begins past p s pipe x ask new h =
-        let other : (n : ℕ) (a : Ask) → begun past n ≡ Some a → nat_eq x n ≡ false = λ n a e. differs x n (λ is. (let lt = begun_below x past n a new e in omega (arith, lt, is))) in
+        let other : (n : ℕ) (a : Ask) → begun_late past n ≡ Some a → nat_eq x n ≡ false = λ n a e. differs x n (λ is. (let lt = begun_below x past n a new e in omega (arith, lt, is))) in
         record {
-          begins = begun_since (λ n. begun past n) (λ n. begun (Begins x ask ∷ past) n) (λ n a e. second (nat_eq x n) (Some ask) (begun past n) (other n a e)) pipe h.begins;
-          ordered = ordered_since (λ n. begun past n) (λ n. before past n) (λ n. before (Begins x ask ∷ past) n) (λ n a e. sym (second (nat_eq x n) past (before past n) (other n a e))) pipe h.begins h.ordered;
+          begins = begun_since (λ n. begun_late past n) (λ n. begun_late (Begins x ask ∷ past) n) (λ n a e. second (nat_eq x n) (Some ask) (begun_late past n) (other n a e)) pipe h.begins;
+          ordered = ordered_since (λ n. begun_late past n) (λ n. before past n) (λ n. before (Begins x ask ∷ past) n) (λ n a e. sym (second (nat_eq x n) past (before past n) (other n a e))) pipe h.begins h.ordered;
           behind = λ n home clears.
               (elim (nat_eq x n) as (λ b. nat_eq x n ≡ b → NoneOver (cond b past (before past n)) pipe) [
                 | true ↦ λ is. absurd (subst (λ l. ClearsIn l s) (new_calls n past (subst (λ k. IsNewNumber k past) (eqb-true x n is) new)) clears)
@@ -169,7 +169,7 @@ module _ (line : ℕ → ℕ → ℕ) where
         let e = is_pipe_true (line number server) server p s here in
         subst (λ q. IsFirstIn (pipe_of line past q s) number ask origin) e.0 (subst (λ t. IsFirstIn (pipe_of line past (line number server) t) number ask origin) e.1 first)
 
-    piped : (steps : List PipeStep) → Steps line words Bars opening steps → (p s : ℕ) → Piped (told opening (moments_of steps)) p s (pipe_of line steps p s)
+    piped : (steps : List PipeStep) → PipeSteps line words Bars opening steps → (p s : ℕ) → Piped (told opening (moments_of steps)) p s (pipe_of line steps p s)
     piped [] h p s = record { begins = tt; ordered = tt; behind = λ n home clears. tt }
     piped (Sends x server ask origin ∷ past) h p s =
         let events = told opening (moments_of past) in
@@ -179,7 +179,7 @@ module _ (line : ℕ → ℕ → ℕ) where
         let on : (n : ℕ) → HasEnded (before events n) x → ⊥ = λ n ended. over words Bars opening events x h.0.0 (as_run words Bars opening LandsEver (moments_of past) (run_of past h.1)) (ended_since events n x ended) way in
         by_test (Piped events p s) (is_pipe (line x server) server p s) (pipe_of line past p s ++ t ∷ []) (pipe_of line past p s)
         (λ _. record {
-          begins = begun_more (λ n. begun events n) (pipe_of line past p s) t h.0.0 old.begins (way_begun events x h.0.0 way);
+          begins = begun_more (λ n. begun_late events n) (pipe_of line past p s) t h.0.0 old.begins (way_begun events x h.0.0 way);
           ordered = ordered_more (λ n. before events n) (pipe_of line past p s) t old.ordered on;
           behind = λ n home clears. none_more (before events n) (pipe_of line past p s) t (old.behind n home clears) (on n);
         })
@@ -210,12 +210,12 @@ module _ (line : ℕ → ℕ → ℕ) where
         (λ _. piped past h.1 p s)
 
     -- what lands in its turn wasn't over when a delete of its proxy began that has an answer there
-    in_turn : (past : List PipeStep) → Steps line words Bars opening past → (number server : ℕ) (ask : Ask) (origin : Origin) → IsFirstIn (pipe_of line past (line number server) server) number ask origin → (n : ℕ) → line n server ≡ line number server → ClearsIn (calls_so_far (told opening (moments_of past)) n) server → HasEnded (before (told opening (moments_of past)) n) number → ⊥
+    in_turn : (past : List PipeStep) → PipeSteps line words Bars opening past → (number server : ℕ) (ask : Ask) (origin : Origin) → IsFirstIn (pipe_of line past (line number server) server) number ask origin → (n : ℕ) → line n server ≡ line number server → ClearsIn (calls_so_far (told opening (moments_of past)) n) server → HasEnded (before (told opening (moments_of past)) n) number → ⊥
     in_turn past h number server ask origin first n home clears ended =
         (subst (NoneOver (before (told opening (moments_of past)) n)) first.1 ((piped past h (line number server) server).behind n home clears)).0 ended
 
     -- once a command is over it makes no calls
-    calls_stay : (past : List Moment) → Run words Bars opening LandsEver past → (n s : ℕ) → HasEnded (before (told opening past) n) s → calls_so_far (before (told opening past) n) s ≡ calls_so_far (told opening past) s
+    calls_stay : (past : List Moment) → LateRun words Bars opening LandsEver past → (n s : ℕ) → HasEnded (before (told opening past) n) s → calls_so_far (before (told opening past) n) s ≡ calls_so_far (told opening past) s
     calls_stay [] run n s h = refl
     calls_stay (Does (Begins x ask) ∷ past) run n s h =
         (elim (nat_eq x n) as (λ b. HasEnded (cond b (told opening past) (before (told opening past) n)) s → calls_so_far (cond b (told opening past) (before (told opening past) n)) s ≡ calls_so_far (told opening past) s) [
@@ -231,10 +231,10 @@ module _ (line : ℕ → ℕ → ℕ) where
     calls_stay (Lands x server ask origin stamp answer spaces ∷ past) run n s h = calls_stay past run.1 n s h
 
     -- so what had failed of it had failed then
-    pub failed_then : (past : List Moment) → Run words Bars opening LandsEver past → (number n j : ℕ) (call : Call) → slice_get (calls_so_far (told opening past) number) j ≡ Some call → HasEnded (before (told opening past) n) number → slice_get (calls_so_far (before (told opening past) n) number) j ≡ Some call
+    pub failed_then : (past : List Moment) → LateRun words Bars opening LandsEver past → (number n j : ℕ) (call : Call) → slice_get (calls_so_far (told opening past) number) j ≡ Some call → HasEnded (before (told opening past) n) number → slice_get (calls_so_far (before (told opening past) n) number) j ≡ Some call
     failed_then past run number n j call got ended = subst (λ l. slice_get l j ≡ Some call) (sym (calls_stay past run n number ended)) got
 
-    lands_in_time : CopiesStay line words → (past : List PipeStep) → Steps line words Bars opening past → (number server : ℕ) (ask : Ask) (origin : Origin) → (j : ℕ) → slice_get (calls_so_far (told opening (moments_of past)) number) j ≡ Some (record { server = server; ask = ask; origin = origin; outcome = Failed }) → IsFirstIn (pipe_of line past (line number server) server) number ask origin → LandsInTime (WasOverOn line) (told opening (moments_of past)) number server ask origin
+    lands_in_time : CopiesStay line words → (past : List PipeStep) → PipeSteps line words Bars opening past → (number server : ℕ) (ask : Ask) (origin : Origin) → (j : ℕ) → slice_get (calls_so_far (told opening (moments_of past)) number) j ≡ Some (record { server = server; ask = ask; origin = origin; outcome = Failed }) → IsFirstIn (pipe_of line past (line number server) server) number ask origin → LandsInTime (WasOverOn line) (told opening (moments_of past)) number server ask origin
     lands_in_time stay past h number server ask Client j got first = λ store n delete begins op same ended clears.
         let call : Call = record { server = server; ask = ask; origin = Client; outcome = Failed } in
         in_turn past h number server ask Client first n (ended.1 j call (failed_then (moments_of past) (run_of past h) number n j call got ended.0) store refl) clears ended.0
@@ -243,7 +243,7 @@ module _ (line : ℕ → ℕ → ℕ) where
         let home = stay number m.0 _ m.2.1 m.2.2 m.2.3 j (record { server = server; ask = ask; origin = CopyOf i; outcome = Failed }) i (get_left (calls_so_far (told opening (moments_of past)) number) m.2.0 j _ got) refl n server in
         in_turn past h number server ask (CopyOf i) first n home clears ended
 
-    pub timely : CopiesStay line words → (steps : List PipeStep) → Steps line words Bars opening steps → Run words Bars opening (LandsInTime (WasOverOn line)) (moments_of steps)
+    pub timely : CopiesStay line words → (steps : List PipeStep) → PipeSteps line words Bars opening steps → LateRun words Bars opening (LandsInTime (WasOverOn line)) (moments_of steps)
     timely stay [] h = tt
     timely stay (Sends number server ask origin ∷ past) h = timely stay past h.1
     timely stay (Closes q server ∷ past) h = timely stay past h.1
@@ -258,10 +258,10 @@ module _ (line : ℕ → ℕ → ℕ) where
 
     -- where all commands on a key send over the same connections
     module _ (at : List ℕ → ℕ → ℕ) where
-      stuck : (past : List Event) → IsSticky words Bars line at past → (n : ℕ) (ask : Ask) → begun past n ≡ Some ask → (s : ℕ) → line n s ≡ at ask.key s
+      stuck : (past : List Event) → IsSticky words Bars line at past → (n : ℕ) (ask : Ask) → begun_late past n ≡ Some ask → (s : ℕ) → line n s ≡ at ask.key s
       stuck [] h n ask e s = no_ask ask e
       stuck (Begins x a ∷ past) h n ask e s =
-          (elim (nat_eq x n) as (λ b. nat_eq x n ≡ b → cond b (Some a) (begun past n) ≡ Some ask → line n s ≡ at ask.key s) [
+          (elim (nat_eq x n) as (λ b. nat_eq x n ≡ b → cond b (Some a) (begun_late past n) ≡ Some ask → line n s ≡ at ask.key s) [
             | true ↦ λ is f. subst (λ k. line k s ≡ at ask.key s) (eqb-true x n is) (subst (λ (c : Ask). line x s ≡ at c.key s) (some_ask a ask f) (h.0 s))
             | false ↦ λ _ f. stuck past h.1 n ask f s
           ]) refl e
@@ -271,7 +271,7 @@ module _ (line : ℕ → ℕ → ℕ) where
       stuck (Turns server key turned ∷ past) h n ask e s = stuck past h n ask e s
       stuck (Restarts server ∷ past) h n ask e s = stuck past h n ask e s
 
-      stuck_in_time : (past : List PipeStep) → Steps line words Bars opening past → IsSticky words Bars line at (told opening (moments_of past)) → (number server : ℕ) (ask : Ask) (origin : Origin) → (j : ℕ) → slice_get (calls_so_far (told opening (moments_of past)) number) j ≡ Some (record { server = server; ask = ask; origin = origin; outcome = Failed }) → IsFirstIn (pipe_of line past (line number server) server) number ask origin → IsTimely WasOver (told opening (moments_of past)) number server ask.key
+      stuck_in_time : (past : List PipeStep) → PipeSteps line words Bars opening past → IsSticky words Bars line at (told opening (moments_of past)) → (number server : ℕ) (ask : Ask) (origin : Origin) → (j : ℕ) → slice_get (calls_so_far (told opening (moments_of past)) number) j ≡ Some (record { server = server; ask = ask; origin = origin; outcome = Failed }) → IsFirstIn (pipe_of line past (line number server) server) number ask origin → IsTimely WasOver (told opening (moments_of past)) number server ask.key
       stuck_in_time past h sticky number server ask origin j got first n delete begins op same ended clears =
           let events = told opening (moments_of past) in
           let m = made words Bars opening (told opening (moments_of past)) (as_run words Bars opening LandsEver (moments_of past) (run_of past h)) number j (record { server = server; ask = ask; origin = origin; outcome = Failed }) got in
@@ -282,7 +282,7 @@ module _ (line : ℕ → ℕ → ℕ) where
       by_origin past number server ask Client timely = λ store. timely
       by_origin past number server ask (CopyOf i) timely = λ store. timely
 
-      pub stuck_timely : (steps : List PipeStep) → Steps line words Bars opening steps → IsSticky words Bars line at (told opening (moments_of steps)) → Run words Bars opening (LandsInTime WasOver) (moments_of steps)
+      pub stuck_timely : (steps : List PipeStep) → PipeSteps line words Bars opening steps → IsSticky words Bars line at (told opening (moments_of steps)) → LateRun words Bars opening (LandsInTime WasOver) (moments_of steps)
       stuck_timely [] h sticky = tt
       stuck_timely (Sends number server ask origin ∷ past) h sticky = stuck_timely past h.1 sticky
       stuck_timely (Closes q server ∷ past) h sticky = stuck_timely past h.1 sticky

@@ -20,7 +20,7 @@ use Rattle.fresh_runs.proofs.Lists.{only_one}
 use Rattle.fresh_runs.proofs.Stamps.{get_left}
 use Rattle.fresh_runs.proofs.Runs.{differs, second, acked_below, new_calls}
 use Rattle.fresh_runs.proofs.Example.{a_get}
-use Rattle.core_accepted.specs.Late.{Moment, Does, Lands, told, HasFailed, Run, LandsEver}
+use Rattle.core_accepted.specs.Late.{Moment, Does, Lands, told, HasFailed, LateRun, LandsEver}
 use Rattle.core_accepted.specs.Weakest.{UntimelyIsStale}
 use Rattle.core_accepted.proofs.Late.{made, as_run}
 
@@ -70,7 +70,7 @@ apart_all : (past : List Event) (number : ℕ) (ask : Ask) → IsApart nobody_ba
 apart_all past number ask other client e alike = ((λ x. x), (λ x. x))
 
 -- what failed is an ask that a client can write
-is_ask : (opening : ℕ → List ℕ → Option Item) (past : List Moment) → Run words nobody_bars opening LandsEver past → (number : ℕ) (set : Ask) → HasFailed (told opening past) number 0 set Client → IsAsk set
+is_ask : (opening : ℕ → List ℕ → Option Item) (past : List Moment) → LateRun words nobody_bars opening LandsEver past → (number : ℕ) (set : Ask) → HasFailed (told opening past) number 0 set Client → IsAsk set
 is_ask opening past run number set failed =
     let call : Call = record { server = 0; ask = set; origin = Client; outcome = Failed } in
     let m = made words nobody_bars opening (told opening past) (as_run words nobody_bars opening LandsEver past run) number failed.0 call failed.1 in
@@ -107,9 +107,9 @@ untimely opening past run number n set delete op failed ack on ended =
     let after : after_call set number Stored 0 before_it ≡ Some item = ap (λ o. cond (removes o Stored) None (after_done o set number 0 before_it)) op in
     let held_is : held opening (told opening begun) 0 key ≡ Some item = first (bytes_eq key key) (after_call set number Stored 0 before_it) before_it ((bytes_eq-Decides key key).1 refl) ∙ after in
     let way : cond (nat_eq m m) (Some get) (under_way events m) ≡ Some get = first (nat_eq m m) (Some get) (under_way events m) (same m) in
-    let r1 : Run words nobody_bars opening LandsEver landed = ((failed, tt, subst (λ o. AgreesAs o set Stored before_it) (sym op) tt, refl), run) in
-    let r2 : Run words nobody_bars opening LandsEver begun = ((new, apart_all events m get), r1) in
-    let r3 : Run words nobody_bars opening LandsEver called = (
+    let r1 : LateRun words nobody_bars opening LandsEver landed = ((failed, tt, subst (λ o. AgreesAs o set Stored before_it) (sym op) tt, refl), run) in
+    let r2 : LateRun words nobody_bars opening LandsEver begun = ((new, apart_all events m get), r1) in
+    let r3 : LateRun words nobody_bars opening LandsEver called = (
       (
         get,
         way,
@@ -120,7 +120,7 @@ untimely opening past run number n set delete op failed ack on ended =
       r2,
     ) in
     let made_calls : cond (nat_eq m m) (calls_so_far events m ++ call ∷ []) (calls_so_far events m) ≡ call ∷ [] = first (nat_eq m m) (calls_so_far events m ++ call ∷ []) (calls_so_far events m) (same m) ∙ ap (λ l. l ++ call ∷ []) none in
-    let r4 : Run words nobody_bars opening LandsEver shown =
+    let r4 : LateRun words nobody_bars opening LandsEver shown =
     ((get, way, refl, subst (λ l. words m get l hit (Some 0)) (sym made_calls) (get_is, Answered hit, fits, refl, refl, refl)), r3) in
     let found : item_at opening (told opening called) m 0 ≡ Some item =
     first (nat_eq m m) (cond (nat_eq (length (calls_so_far events m)) 0) (held opening (told opening begun) 0 key) (item_at opening (told opening past) m 0)) (item_at opening (told opening past) m 0) (same m)

@@ -33,6 +33,6 @@ abbrev pub LeavesText : Route → List ℕ → Type 0
 LeavesText tree text = (hash : ℕ) → may_copy Get (plain_for hash text tree) ≡ false
 
 -- one of the texts for which a get copies, or it does for none
-abbrev pub IsFirstOf : Route → List (List ℕ) → Option (List ℕ) → Type 0
-IsFirstOf tree texts None = Each (LeavesText tree) texts
-IsFirstOf tree texts (Some text) = IsIn text texts × CopiesText tree text
+abbrev pub IsFirstCopied : Route → List (List ℕ) → Option (List ℕ) → Type 0
+IsFirstCopied tree texts None = Each (LeavesText tree) texts
+IsFirstCopied tree texts (Some text) = IsIn text texts × CopiesText tree text

@@ -8,10 +8,10 @@ use Rattle.route_tree.specs.Route.{Route}
 use Rattle.core_proxy.specs.CoreState.{dialect}
 use Rattle.core_accepted.specs.declared.served.ServedCore.{ServedCore}
 use Rattle.core_accepted.specs.Logs.{MayHaveLed}
-use Rattle.core_accepted.specs.Late.{Moment, told, begun, IsFreshBy, WasOver}
+use Rattle.core_accepted.specs.Late.{Moment, told, begun_late, IsFreshBy, WasOver}
 use Rattle.core_accepted.specs.Pipes.{PipeStep, moments_of, WasOverOn}
 use Rattle.core_accepted.specs.FleetLaws.{IsSticky}
-use Rattle.core_accepted.specs.Parts.{AreChanges, renamed, part, NumbersRise, Serves, AreInOrder, NoStoreLands}
+use Rattle.core_accepted.specs.Parts.{AreChanges, renamed, part, NumbersRise, ServesPipes, PipesInOrder, NoStoreLands}
 use Rattle.core_accepted.specs.Rollout.{AreOfFleet, AreLoadedWithin, words_by}
 
 -- logs that may have led to each proxy's core, and how they stand in what a fleet does: each core's log is its part of that, by the order in which servers applied its calls; numbers are given as commands begin, at whatever proxy; and servers do as memcached does
@@ -26,11 +26,11 @@ pub record AreCoresOf (lag : ℕ) (trees : List Route) (fresh : ℕ → ServedCo
   pub led : (p : ℕ) → MayHaveLed (believes p) (logs p) (fresh p)
   -- the tree of a command, which is that which its proxy had loaded when it began
   pub tree : ℕ → Route
-  pub runs_by : (p n : ℕ) (ask : Ask) → begun (run_of (logs p)) n ≡ Some ask → tree (name p n) ≡ (led p).tree n
+  pub runs_by : (p n : ℕ) (ask : Ask) → begun_late (run_of (logs p)) n ≡ Some ask → tree (name p n) ≡ (led p).tree n
   pub loaded : AreLoadedWithin lag trees tree
   pub parts : (p : ℕ) → AreChanges (renamed (name p) (run_of (logs p))) (part proxy p (told opening moments))
   pub rise : NumbersRise (told opening moments)
-  pub serves : Serves opening moments
+  pub serves : ServesPipes opening moments
 
 -- A command that begins at any proxy after a delete of its key was acknowledged by any proxy shows no item of a store that was over when the delete began ..
 
@@ -46,11 +46,11 @@ abbrev pub LateFleetOfCoresIsFresh : Type 0
 LateFleetOfCoresIsFresh =
     (lag : ℕ) (trees : List Route) → AreOfFleet lag trees
     → (fresh : ℕ → ServedCore) (line : ℕ → ℕ → ℕ) (opening : ℕ → List ℕ → Option Item) (steps : List PipeStep) → AreCoresOf lag trees fresh opening (moments_of steps)
-    → AreInOrder line steps → IsFreshBy opening (WasOverOn line) (moments_of steps)
+    → PipesInOrder line steps → IsFreshBy opening (WasOverOn line) (moments_of steps)
 
 -- .. where in addition each key has its connections
 abbrev pub StickyFleetOfCoresIsFresh : Type 0
 StickyFleetOfCoresIsFresh =
     (lag : ℕ) (trees : List Route) → AreOfFleet lag trees
     → (fresh : ℕ → ServedCore) (line : ℕ → ℕ → ℕ) (at : List ℕ → ℕ → ℕ) (opening : ℕ → List ℕ → Option Item) (steps : List PipeStep) → (cores : AreCoresOf lag trees fresh opening (moments_of steps))
-    → AreInOrder line steps → IsSticky (words_by cores.tree) nobody_bars line at (told opening (moments_of steps)) → IsFreshBy opening WasOver (moments_of steps)
+    → PipesInOrder line steps → IsSticky (words_by cores.tree) nobody_bars line at (told opening (moments_of steps)) → IsFreshBy opening WasOver (moments_of steps)

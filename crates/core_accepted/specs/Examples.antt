@@ -12,14 +12,14 @@ use Rattle.fresh_runs.specs.Cover.{IsCovered}
 use Rattle.fresh_runs.specs.Single.{server_words}
 use Rattle.fresh_runs.specs.Freshness.{StaleRun, nobody_bars, answered_call, refill_words}
 use Rattle.core_accepted.specs.Late.{IsFreshBy, WasOver}
-use Rattle.core_accepted.specs.Pipes.{PipeStep, moments_of, Steps}
+use Rattle.core_accepted.specs.Pipes.{PipeStep, moments_of, PipeSteps}
 
 -- steps that aren't fresh with regard to all stores whose commands were over
 pub record StaleSteps (line : ℕ → ℕ → ℕ) (words : ℕ → Ask → List Call → Answer → Option ℕ → Type 0) (Bars : ℕ → Ask → ℕ → Ask → Type 0) : Type 0 where
   pub opening : ℕ → List ℕ → Option Item
   pub steps : List PipeStep
   pub opens : OpensAtZero opening
-  pub run : Steps line words Bars opening steps
+  pub run : PipeSteps line words Bars opening steps
   pub stale : IsFreshBy opening WasOver (moments_of steps) → ⊥
 
 -- command 1 over one connection, all others over another: those of another proxy, or of the same one where it gave the first connection up

@@ -12,7 +12,7 @@ use Rattle.core_proxy.specs.CoreState.{dialect}
 use Rattle.core_accepted.specs.declared.served.ServedCore.{ServedCore}
 use Rattle.core_accepted.specs.Known.{Known, is_arbitrary}
 use Rattle.core_accepted.specs.Logs.{MayHaveLed}
-use Rattle.core_accepted.specs.Late.{begun}
+use Rattle.core_accepted.specs.Late.{begun_late}
 use Rattle.core_accepted.specs.Parts.{AreChanges, renamed, part, NumbersRise}
 
 -- no command begins while one of another run of the program is under way: what a run leaves under way when it ends is broken off, and its calls were applied before the next run begins, or never are
@@ -48,7 +48,7 @@ pub record AreRunsInTurn (trees : List Route) (served : ℕ → ServedCore) (ope
   pub led : (p : ℕ) → MayHaveLed (believes p) (logs p) (served p)
   -- the tree of a command, which is that which its run had loaded when it began
   pub tree : ℕ → Route
-  pub runs_by : (p n : ℕ) (ask : Ask) → begun (run_of (logs p)) n ≡ Some ask → (run (name p n) ≡ p) × (tree (name p n) ≡ (led p).tree n)
+  pub runs_by : (p n : ℕ) (ask : Ask) → begun_late (run_of (logs p)) n ≡ Some ask → (run (name p n) ≡ p) × (tree (name p n) ≡ (led p).tree n)
   -- a run begins with the last tree of the history that the one before wrote, or with one that follows it
   pub loaded : AreLoaded trees tree
   pub parts : (p : ℕ) → AreChanges (renamed (name p) (run_of (logs p))) (part run p events)

@@ -8,7 +8,7 @@ use Rattle.mc_types.specs.declared.call.Origin.{Origin}
 use Rattle.mc_types.specs.declared.call.Origin.TheVariants.{Client, CopyOf}
 use Rattle.mc_types.specs.declared.call.Outcome.TheVariants.{Failed}
 use Rattle.mc_types.specs.Items.{Item, after_call}
-use Rattle.mc_types.specs.Agree.{Agrees}
+use Rattle.mc_types.specs.Agree.{AnswerAgrees}
 use Rattle.fresh_runs.specs.Calls.{Call}
 use Rattle.fresh_runs.specs.Cover.{ClearsIn}
 use Rattle.fresh_runs.specs.Run as sharing
@@ -28,14 +28,14 @@ seen (Does event ∷ past) = event ∷ seen past
 seen (Lands number server ask origin stamp answer spaces ∷ past) = seen past
 
 -- what the command of this number asks, where it has begun, also where it is over
-abbrev pub begun : List Event → ℕ → Option Ask
-begun [] n = None
-begun (Begins number ask ∷ past) n = if nat_eq number n then Some ask else begun past n
-begun (Calls number server ask origin end ∷ past) n = begun past n
-begun (Replies number key reply from ∷ past) n = begun past n
-begun (Breaks number ∷ past) n = begun past n
-begun (Turns server key turned ∷ past) n = begun past n
-begun (Restarts server ∷ past) n = begun past n
+abbrev pub begun_late : List Event → ℕ → Option Ask
+begun_late [] n = None
+begun_late (Begins number ask ∷ past) n = if nat_eq number n then Some ask else begun_late past n
+begun_late (Calls number server ask origin end ∷ past) n = begun_late past n
+begun_late (Replies number key reply from ∷ past) n = begun_late past n
+begun_late (Breaks number ∷ past) n = begun_late past n
+begun_late (Turns server key turned ∷ past) n = begun_late past n
+begun_late (Restarts server ∷ past) n = begun_late past n
 
 -- a call of the command has failed
 abbrev pub HasFailed : List Event → ℕ → ℕ → Ask → Origin → Type 0
@@ -57,44 +57,44 @@ module _ (opening : ℕ → List ℕ → Option Item) where
 module _ (words : ℕ → Ask → List Call → Answer → Option ℕ → Type 0) (Bars : ℕ → Ask → ℕ → Ask → Type 0) (opening : ℕ → List ℕ → Option Item) (MayLand : List Event → ℕ → ℕ → Ask → Origin → Type 0) where
   -- `MayLand past number server ask origin`: a failed call of this command may still be applied.
   -- the moment may come after the past
-  abbrev pub MayCome : List Moment → Moment → Type 0
+  abbrev pub MayComeLate : List Moment → Moment → Type 0
   -- anything may be lost at any moment; and nobody writes the servers but these commands
-  MayCome past (Does (Turns server key turned)) = turned ≡ None
+  MayComeLate past (Does (Turns server key turned)) = turned ≡ None
   -- else an event comes as in any run
-  MayCome past (Does event) = sharing.MayCome words Bars opening (told opening past) event
+  MayComeLate past (Does event) = sharing.MayCome words Bars opening (told opening past) event
   -- a call that had failed is applied, as long as it may: it agrees with what its server holds just before, and gives the stamp of its origin
-  MayCome past (Lands number server ask origin stamp answer spaces) =
+  MayComeLate past (Lands number server ask origin stamp answer spaces) =
       HasFailed (told opening past) number server ask origin
       × MayLand (told opening past) number server ask origin
-      × Agrees ask answer (held opening (told opening past) server ask.key)
+      × AnswerAgrees ask answer (held opening (told opening past) server ask.key)
       × GivesStamp opening (told opening past) number origin stamp
 
   -- one moment after another
-  abbrev pub Run : List Moment → Type 0
-  Run [] = Unit {0}
-  Run (moment ∷ past) = MayCome past moment × Run past
+  abbrev pub LateRun : List Moment → Type 0
+  LateRun [] = Unit {0}
+  LateRun (moment ∷ past) = MayComeLate past moment × LateRun past
 
 -- the command of the store was over
 abbrev pub WasOver : List Event → ℕ → ℕ → Type 0
 WasOver past n s = HasEnded past s
 
 -- what begins an item with a stamp of its own
-abbrev pub is_store : Op → Bool
-is_store Set = true
-is_store Add = true
-is_store Replace = true
-is_store Cas = true
-is_store _ = false
+abbrev pub begins_stamp : Op → Bool
+begins_stamp Set = true
+begins_stamp Add = true
+begins_stamp Replace = true
+begins_stamp Cas = true
+begins_stamp _ = false
 
 -- no delete of the key that begins when the store counts as made before it has yet an answer of the server that the key is gone
 abbrev pub IsTimely : (List Event → ℕ → ℕ → Type 0) → List Event → ℕ → ℕ → List ℕ → Type 0
 IsTimely Over past number server key =
-    (n : ℕ) (delete : Ask) → begun past n ≡ Some delete → delete.op ≡ Delete → delete.key ≡ key → Over (before past n) n number → ClearsIn (calls_so_far past n) server → ⊥
+    (n : ℕ) (delete : Ask) → begun_late past n ≡ Some delete → delete.op ≡ Delete → delete.key ≡ key → Over (before past n) n number → ClearsIn (calls_so_far past n) server → ⊥
 
 -- in time: a store, before each such answer; a copy, before each such answer of a delete that began when its command was over
 abbrev pub LandsInTime : (List Event → ℕ → ℕ → Type 0) → List Event → ℕ → ℕ → Ask → Origin → Type 0
-LandsInTime Over past number server ask Client = is_store ask.op ≡ true → IsTimely Over past number server ask.key
-LandsInTime Over past number server ask (CopyOf i) = is_store ask.op ≡ true → IsTimely WasOver past number server ask.key
+LandsInTime Over past number server ask Client = begins_stamp ask.op ≡ true → IsTimely Over past number server ask.key
+LandsInTime Over past number server ask (CopyOf i) = begins_stamp ask.op ≡ true → IsTimely WasOver past number server ask.key
 
 -- at any time
 abbrev pub LandsEver : List Event → ℕ → ℕ → Ask → Origin → Type 0

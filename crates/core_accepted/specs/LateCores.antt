@@ -9,7 +9,7 @@ use Rattle.core_accepted.specs.declared.served.ServedCore.{ServedCore}
 use Rattle.core_accepted.specs.Logs.{MayHaveLed}
 use Rattle.core_accepted.specs.Late.{Moment, seen, IsFreshBy, WasOver}
 use Rattle.core_accepted.specs.Pipes.{PipeStep, moments_of}
-use Rattle.core_accepted.specs.Parts.{AreChanges, Own, part, NumbersRise, Serves, AreInOrder}
+use Rattle.core_accepted.specs.Parts.{AreChanges, Own, part, NumbersRise, ServesPipes, PipesInOrder}
 use Rattle.core_accepted.specs.Rollout.{words_by}
 
 -- all commands are of one proxy, which has one connection to each server
@@ -27,12 +27,12 @@ pub record IsCoreOf (served : ServedCore) (opening : ℕ → List ℕ → Option
   pub led : MayHaveLed believes log served
   pub changes : AreChanges (run_of log) (part only_proxy 0 (seen moments))
   pub rise : NumbersRise (seen moments)
-  pub serves : Serves opening moments
+  pub serves : ServesPipes opening moments
 
 -- where what is sent over a connection is applied in order, however late: a command that begins after a delete of its key was acknowledged shows no item of a store that was over when the delete began
 abbrev pub EveryLateLogIsFresh : ServedCore → Type 0
 EveryLateLogIsFresh served =
-    (opening : ℕ → List ℕ → Option Item) (steps : List PipeStep) → IsCoreOf served opening (moments_of steps) → AreInOrder only_line steps → IsFreshBy opening WasOver (moments_of steps)
+    (opening : ℕ → List ℕ → Option Item) (steps : List PipeStep) → IsCoreOf served opening (moments_of steps) → PipesInOrder only_line steps → IsFreshBy opening WasOver (moments_of steps)
 
 -- a log that may have led to the core, and what its commands do by what happened: as the trees by which they run allow by the log, and the rule of sharing, also with calls whose results the log doesn't have yet; and servers do as memcached does, and nobody else writes them
 pub record DoesAsCore (served : ServedCore) (opening : ℕ → List ℕ → Option Item) (moments : List Moment) : Type 0 where
@@ -41,9 +41,9 @@ pub record DoesAsCore (served : ServedCore) (opening : ℕ → List ℕ → Opti
   pub log : List (Entry dialect)
   pub led : MayHaveLed believes log served
   pub own : Own (words_by led.tree) (bars_by served.core.limits.sharing (λ n key. tree_at (led.tree n) key)) (part only_proxy 0 (seen moments))
-  pub serves : Serves opening moments
+  pub serves : ServesPipes opening moments
 
 -- the same of all that happened so
 abbrev pub EveryLateRunIsFresh : ServedCore → Type 0
 EveryLateRunIsFresh served =
-    (opening : ℕ → List ℕ → Option Item) (steps : List PipeStep) → DoesAsCore served opening (moments_of steps) → AreInOrder only_line steps → IsFreshBy opening WasOver (moments_of steps)
+    (opening : ℕ → List ℕ → Option Item) (steps : List PipeStep) → DoesAsCore served opening (moments_of steps) → PipesInOrder only_line steps → IsFreshBy opening WasOver (moments_of steps)

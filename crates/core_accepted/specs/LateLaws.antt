@@ -6,7 +6,7 @@ use Rattle.mc_types.specs.Items.{Item}
 use Rattle.fresh_runs.specs.Calls.{Call}
 use Rattle.fresh_runs.specs.Cover.{IsCovered}
 use Rattle.fresh_runs.specs.Run.{Event, CopiesBar}
-use Rattle.core_accepted.specs.Late.{Moment, Run, IsFreshBy, WasOver, LandsInTime}
+use Rattle.core_accepted.specs.Late.{Moment, LateRun, IsFreshBy, WasOver, LandsInTime}
 
 -- a store that counts as made before a delete is one whose command was over when the delete began
 abbrev pub IsPart : (List Event → ℕ → ℕ → Type 0) → Type 0
@@ -16,4 +16,4 @@ IsPart Over = (past : List Event) (n s : ℕ) → Over past n s → WasOver past
 abbrev pub LateIsFresh : (ℕ → Ask → List Call → Answer → Option ℕ → Type 0) → (ℕ → Ask → ℕ → Ask → Type 0) → (List Event → ℕ → ℕ → Type 0) → Type 0
 LateIsFresh words Bars Over =
     IsCovered words → CopiesBar words Bars → IsPart Over
-    → (opening : ℕ → List ℕ → Option Item) (moments : List Moment) → Run words Bars opening (LandsInTime Over) moments → IsFreshBy opening Over moments
+    → (opening : ℕ → List ℕ → Option Item) (moments : List Moment) → LateRun words Bars opening (LandsInTime Over) moments → IsFreshBy opening Over moments

@@ -50,11 +50,11 @@ pub record IsLoaded (old : ServedCore) (config : Configuration) (number : ℕ) (
   pub goes : (opening : ℕ → List ℕ → Option Item) (past : List (Entry dialect)) (led : MayHaveLed opening past old) → TakesOver opening past config.tree old new led
 
 -- the fault of a configuration that would be of this generation
-abbrev pub fault_of : Unsound → ℕ → ReloadFault
-fault_of reasons.TooManyGenerations number = gate.TooManyGenerations
-fault_of reasons.TooManyPlaces number = gate.TooManyPlaces number
-fault_of (reasons.Left generation gap) number = gate.Uncovered generation gap
-fault_of reasons.NoMemory number = gate.NoMemory
+abbrev pub loading_fault : Unsound → ℕ → ReloadFault
+loading_fault reasons.TooManyGenerations number = gate.TooManyGenerations
+loading_fault reasons.TooManyPlaces number = gate.TooManyPlaces number
+loading_fault (reasons.Left generation gap) number = gate.Uncovered generation gap
+loading_fault reasons.NoMemory number = gate.NoMemory
 
 -- why the gate doesn't let the tree follow: with it there would be more generations than have a number; all trees together have too many places, which is told of the new one; or its first gap, by which they aren't sound
 abbrev pub IsLoadRefusal : Core → Known → Route → ReloadFault → Type 0

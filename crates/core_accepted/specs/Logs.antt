@@ -57,7 +57,7 @@ pub record IsNewFrom (accepted : List Configuration) (begun : Beginnings) (limit
   pub last : IsLast accepted config
   pub word : served.accepted ≡ Some (first_of config begun)
   pub tally : served.tally ≡ nothing_done
-  pub core_is : core_state.IsFresh config.tree limits served.core
+  pub core_is : core_state.IsNewCore config.tree limits served.core
   pub led : (opening : ℕ → List ℕ → Option Item) → MayHaveLed opening [] served
 
 -- the same where servers may have held anything
@@ -68,7 +68,7 @@ IsNew accepted limits served = IsNewFrom accepted any_begun limits served
 pub record IsUnchecked (tree : Route) (limits : CoreLimits) (served : ServedCore) : Type 0 where
   pub word : served.accepted ≡ None
   pub tally : served.tally ≡ nothing_done
-  pub core_is : core_state.IsFresh tree limits served.core
+  pub core_is : core_state.IsNewCore tree limits served.core
   pub led : (opening : ℕ → List ℕ → Option Item) → MayHaveLed opening [] served
 
 -- the entry of a piece; a client for whom nothing is done any more takes none

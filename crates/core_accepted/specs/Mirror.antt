@@ -6,7 +6,7 @@ use Rattle.mc_types.specs.Items.{Item}
 use Rattle.fresh_runs.specs.Calls.{Call}
 use Rattle.fresh_runs.specs.Run.{Event, Begins, Calls, Replies, Breaks, Turns, Restarts, held}
 use Rattle.fresh_runs.specs.Run as sharing
-use Rattle.core_accepted.specs.Late.{Moment, told, Run, LandsEver}
+use Rattle.core_accepted.specs.Late.{Moment, told, LateRun, LandsEver}
 use Rattle.core_accepted.specs.Parts.{part, AreChanges}
 
 module _ (proxy : ℕ → ℕ) (opening : ℕ → List ℕ → Option Item) (p : ℕ) where
@@ -29,4 +29,4 @@ pub record IsMirrored (proxy : ℕ → ℕ) (words : ℕ → Ask → List Call �
 -- so it is with each fleet, over any connections
 abbrev pub FleetIsMirrored : (ℕ → Ask → List Call → Answer → Option ℕ → Type 0) → (ℕ → Ask → ℕ → Ask → Type 0) → Type 0
 FleetIsMirrored words Bars =
-    (proxy : ℕ → ℕ) (opening : ℕ → List ℕ → Option Item) (p : ℕ) (moments : List Moment) → Run words Bars opening LandsEver moments → IsMirrored proxy words Bars opening p (told opening moments)
+    (proxy : ℕ → ℕ) (opening : ℕ → List ℕ → Option Item) (p : ℕ) (moments : List Moment) → LateRun words Bars opening LandsEver moments → IsMirrored proxy words Bars opening p (told opening moments)

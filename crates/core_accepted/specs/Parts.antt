@@ -4,13 +4,13 @@ use Rattle.mc_types.specs.declared.ask.Ask.{Ask}
 use Rattle.mc_types.specs.declared.answer.Answer.{Answer}
 use Rattle.mc_types.specs.declared.call.Origin.{Origin}
 use Rattle.mc_types.specs.Items.{Item}
-use Rattle.mc_types.specs.Agree.{Agrees}
+use Rattle.mc_types.specs.Agree.{AnswerAgrees}
 use Rattle.fresh_runs.specs.Calls.{Call, End, outcome_of}
 use Rattle.fresh_runs.specs.Cover.{IsCovered}
 use Rattle.fresh_runs.specs.Run.{Event, Begins, Calls, Replies, Breaks, Turns, Restarts, under_way, calls_so_far, IsNewNumber, IsApart, IsFront, held, GivesStamp, EndsWell}
 use Rattle.fresh_runs.specs.Run as sharing
-use Rattle.core_accepted.specs.Late.{Moment, Does, Lands, seen, told, HasFailed, Run, IsFreshBy, WasOver, LandsEver, is_store}
-use Rattle.core_accepted.specs.Pipes.{PipeStep, Sends, Moves, Closes, moments_of, Obeys, Steps, WasOverOn}
+use Rattle.core_accepted.specs.Late.{Moment, Does, Lands, seen, told, HasFailed, LateRun, IsFreshBy, WasOver, LandsEver, begins_stamp}
+use Rattle.core_accepted.specs.Pipes.{PipeStep, Sends, Moves, Closes, moments_of, Obeys, PipeSteps, WasOverOn}
 use Rattle.core_accepted.specs.FleetLaws.{NothingCopies}
 
 module _ (words : ℕ → Ask → List Call → Answer → Option ℕ → Type 0) (Bars : ℕ → Ask → ℕ → Ask → Type 0) where
@@ -47,20 +47,20 @@ IsOther n (Turns server key turned) = Unit {0}
 IsOther n (Restarts server) = Unit {0}
 
 -- the same events, but that a call stands before one of another command, which stood before it; that a call ended otherwise for its server, and as before for its proxy; or that what servers lost, and others wrote there, is left out
-pub data IsChange : List Event → List Event → Type 0 where
+pub data IsSwap : List Event → List Event → Type 0 where
   MovesBack :
       (later past : List Event) (event : Event) (number server : ℕ) (ask : Ask) (origin : Origin) (end : End) → IsOther number event
-      → IsChange (later ++ Calls number server ask origin end ∷ event ∷ past) (later ++ event ∷ Calls number server ask origin end ∷ past)
+      → IsSwap (later ++ Calls number server ask origin end ∷ event ∷ past) (later ++ event ∷ Calls number server ask origin end ∷ past)
   EndsAs :
       (later past : List Event) (number server : ℕ) (ask : Ask) (origin : Origin) (end other : End) → outcome_of end ≡ outcome_of other
-      → IsChange (later ++ Calls number server ask origin end ∷ past) (later ++ Calls number server ask origin other ∷ past)
-  LeavesKey : (later past : List Event) (server : ℕ) (key : List ℕ) (turned : Option Item) → IsChange (later ++ Turns server key turned ∷ past) (later ++ past)
-  LeavesRestart : (later past : List Event) (server : ℕ) → IsChange (later ++ Restarts server ∷ past) (later ++ past)
+      → IsSwap (later ++ Calls number server ask origin end ∷ past) (later ++ Calls number server ask origin other ∷ past)
+  LeavesKey : (later past : List Event) (server : ℕ) (key : List ℕ) (turned : Option Item) → IsSwap (later ++ Turns server key turned ∷ past) (later ++ past)
+  LeavesRestart : (later past : List Event) (server : ℕ) → IsSwap (later ++ Restarts server ∷ past) (later ++ past)
 
 -- such changes, one after another
 pub data AreChanges : List Event → List Event → Type 0 where
   Same : (events : List Event) → AreChanges events events
-  More : (events others last : List Event) → IsChange events others → AreChanges others last → AreChanges events last
+  More : (events others last : List Event) → IsSwap events others → AreChanges others last → AreChanges events last
 
 -- what a proxy does by the results that it takes, in their order, it does also by the order in which servers applied its calls, and whatever became of those that failed
 abbrev pub OwnIsChanged : (ℕ → Ask → List Call → Answer → Option ℕ → Type 0) → (ℕ → Ask → ℕ → Ask → Type 0) → Type 0
@@ -113,7 +113,7 @@ module _ (opening : ℕ → List ℕ → Option Item) where
   abbrev pub MayServe : List Moment → Moment → Type 0
   MayServe past (Does (Calls number server ask origin end)) = EndsWell opening (told opening past) number server ask origin end
   MayServe past (Lands number server ask origin stamp answer spaces) =
-      HasFailed (told opening past) number server ask origin × Agrees ask answer (held opening (told opening past) server ask.key) × GivesStamp opening (told opening past) number origin stamp
+      HasFailed (told opening past) number server ask origin × AnswerAgrees ask answer (held opening (told opening past) server ask.key) × GivesStamp opening (told opening past) number origin stamp
   MayServe past (Does (Begins number ask)) = Unit {0}
   MayServe past (Does (Replies number key reply from)) = Unit {0}
   MayServe past (Does (Breaks number)) = Unit {0}
@@ -121,39 +121,39 @@ module _ (opening : ℕ → List ℕ → Option Item) where
   MayServe past (Does (Restarts server)) = Unit {0}
 
   -- one moment after another
-  abbrev pub Serves : List Moment → Type 0
-  Serves [] = Unit {0}
-  Serves (moment ∷ past) = MayServe past moment × Serves past
+  abbrev pub ServesPipes : List Moment → Type 0
+  ServesPipes [] = Unit {0}
+  ServesPipes (moment ∷ past) = MayServe past moment × ServesPipes past
 
 -- what is sent is of a command under way, on its key; and what is applied is the first of its connection
-abbrev pub AreInOrder : (ℕ → ℕ → ℕ) → List PipeStep → Type 0
-AreInOrder line [] = Unit {0}
-AreInOrder line (Sends number server ask origin ∷ past) = ((client : Ask) × (under_way (seen (moments_of past)) number ≡ Some client) × (ask.key ≡ client.key)) × AreInOrder line past
-AreInOrder line (Moves moment ∷ past) = Obeys line past moment × AreInOrder line past
-AreInOrder line (Closes q server ∷ past) = AreInOrder line past
+abbrev pub PipesInOrder : (ℕ → ℕ → ℕ) → List PipeStep → Type 0
+PipesInOrder line [] = Unit {0}
+PipesInOrder line (Sends number server ask origin ∷ past) = ((client : Ask) × (under_way (seen (moments_of past)) number ≡ Some client) × (ask.key ≡ client.key)) × PipesInOrder line past
+PipesInOrder line (Moves moment ∷ past) = Obeys line past moment × PipesInOrder line past
+PipesInOrder line (Closes q server ∷ past) = PipesInOrder line past
 
 -- proxies and servers, each by its own law
 pub record ArePartsOf (proxy : ℕ → ℕ) (words : ℕ → Ask → List Call → Answer → Option ℕ → Type 0) (Bars : ℕ → Ask → ℕ → Ask → Type 0) (opening : ℕ → List ℕ → Option Item) (moments : List Moment) : Type 0 where
   pub own : (p : ℕ) → Own words Bars (part proxy p (told opening moments))
   pub rise : NumbersRise (told opening moments)
-  pub serves : Serves opening moments
+  pub serves : ServesPipes opening moments
 
 -- and connections by theirs
 pub record IsFleet (proxy : ℕ → ℕ) (line : ℕ → ℕ → ℕ) (words : ℕ → Ask → List Call → Answer → Option ℕ → Type 0) (Bars : ℕ → Ask → ℕ → Ask → Type 0) (opening : ℕ → List ℕ → Option Item) (steps : List PipeStep) : Type 0 where
   pub parts : ArePartsOf proxy words Bars opening (moments_of steps)
-  pub order : AreInOrder line steps
+  pub order : PipesInOrder line steps
 
 -- what parts do is a run
 abbrev pub PartsAreRun : (ℕ → Ask → List Call → Answer → Option ℕ → Type 0) → (ℕ → Ask → ℕ → Ask → Type 0) → Type 0
 PartsAreRun words Bars =
     (proxy : ℕ → ℕ) → BarsWithin proxy Bars
-    → (opening : ℕ → List ℕ → Option Item) (moments : List Moment) → ArePartsOf proxy words Bars opening moments → Run words Bars opening LandsEver moments
+    → (opening : ℕ → List ℕ → Option Item) (moments : List Moment) → ArePartsOf proxy words Bars opening moments → LateRun words Bars opening LandsEver moments
 
 -- a fleet's steps are one
 abbrev pub FleetHasSteps : (ℕ → Ask → List Call → Answer → Option ℕ → Type 0) → (ℕ → Ask → ℕ → Ask → Type 0) → Type 0
 FleetHasSteps words Bars =
     (proxy : ℕ → ℕ) → BarsWithin proxy Bars
-    → (line : ℕ → ℕ → ℕ) (opening : ℕ → List ℕ → Option Item) (steps : List PipeStep) → IsFleet proxy line words Bars opening steps → Steps line words Bars opening steps
+    → (line : ℕ → ℕ → ℕ) (opening : ℕ → List ℕ → Option Item) (steps : List PipeStep) → IsFleet proxy line words Bars opening steps → PipeSteps line words Bars opening steps
 
 -- so it is fresh, where deletes clear what later commands take, at whatever proxy, and nothing copies
 abbrev pub FleetOfPartsIsFresh : (ℕ → Ask → List Call → Answer → Option ℕ → Type 0) → (ℕ → Ask → ℕ → Ask → Type 0) → Type 0
@@ -166,7 +166,7 @@ FleetOfPartsIsFresh words Bars =
 abbrev pub NoStoreLands : List Moment → Type 0
 NoStoreLands [] = Unit {0}
 NoStoreLands (Does event ∷ past) = NoStoreLands past
-NoStoreLands (Lands number server ask origin stamp answer spaces ∷ past) = (is_store ask.op ≡ true → ⊥) × NoStoreLands past
+NoStoreLands (Lands number server ask origin stamp answer spaces ∷ past) = (begins_stamp ask.op ≡ true → ⊥) × NoStoreLands past
 
 -- then it is fresh over any connections, with regard to all stores
 abbrev pub PartsAreFresh : (ℕ → Ask → List Call → Answer → Option ℕ → Type 0) → (ℕ → Ask → ℕ → Ask → Type 0) → Type 0
@@ -185,7 +185,7 @@ pub record AreRunsOf (proxy : ℕ → ℕ) (words : ℕ → Ask → List Call �
   pub runs : (p : ℕ) → sharing.Run (λ n. words (name p n)) (λ n ask m client. Bars (name p n) ask (name p m) client) (believes p) (events p)
   pub parts : (p : ℕ) → AreChanges (renamed (name p) (events p)) (part proxy p (told opening moments))
   pub rise : NumbersRise (told opening moments)
-  pub serves : Serves opening moments
+  pub serves : ServesPipes opening moments
 
 -- from runs of proxies come parts
 abbrev pub RunsAreParts : (ℕ → Ask → List Call → Answer → Option ℕ → Type 0) → (ℕ → Ask → ℕ → Ask → Type 0) → Type 0

@@ -9,7 +9,7 @@ use Rattle.mc_types.specs.Items.{Item}
 use Rattle.fresh_runs.specs.Calls.{Call, End, Read, Unread, Never}
 use Rattle.fresh_runs.specs.Run.{Event, Begins, Calls, Replies, Breaks, Turns, Restarts, under_way, calls_so_far, HasEnded}
 use Rattle.fresh_runs.specs.Overlap.{Ticket}
-use Rattle.core_accepted.specs.Late.{Moment, Does, Lands, seen, MayCome, LandsEver, is_store}
+use Rattle.core_accepted.specs.Late.{Moment, Does, Lands, seen, MayComeLate, LandsEver, begins_stamp}
 
 -- the next call of a command goes into its connection to the server; something happens; or what stands in a connection is gone, since the server's end of it has closed. A proxy that takes a new connection in place of one whose other end has closed may be seen as one that goes on with it
 pub data PipeStep : Type 0 where
@@ -85,18 +85,18 @@ module _ (line : ℕ → ℕ → ℕ) where
     -- a call is sent for a command under way, on its key
     PipeMayStep past (Sends number server ask origin) = (client : Ask) × (under_way (seen (moments_of past)) number ≡ Some client) × (ask.key ≡ client.key)
     -- a call that had failed may land at any time, but in its turn
-    PipeMayStep past (Moves moment) = MayCome words Bars opening LandsEver (moments_of past) moment × Obeys past moment
+    PipeMayStep past (Moves moment) = MayComeLate words Bars opening LandsEver (moments_of past) moment × Obeys past moment
     PipeMayStep past (Closes q server) = Unit {0}
 
     -- one step after another
-    abbrev pub Steps : List PipeStep → Type 0
-    Steps [] = Unit {0}
-    Steps (step ∷ past) = PipeMayStep past step × Steps past
+    abbrev pub PipeSteps : List PipeStep → Type 0
+    PipeSteps [] = Unit {0}
+    PipeSteps (step ∷ past) = PipeMayStep past step × PipeSteps past
 
   -- its command was over; and each store of it that had failed was sent over the connection over which the delete sends its calls to that server
   abbrev pub WasOverOn : List Event → ℕ → ℕ → Type 0
   WasOverOn past n s =
-      HasEnded past s × ((j : ℕ) (call : Call) → slice_get (calls_so_far past s) j ≡ Some call → is_store call.ask.op ≡ true → call.outcome ≡ Failed → line n call.server ≡ line s call.server)
+      HasEnded past s × ((j : ℕ) (call : Call) → slice_get (calls_so_far past s) j ≡ Some call → begins_stamp call.ask.op ≡ true → call.outcome ≡ Failed → line n call.server ≡ line s call.server)
 
   -- where a command's calls may hold a copy, all commands send over its connections
   abbrev pub CopiesStay : (ℕ → Ask → List Call → Answer → Option ℕ → Type 0) → Type 0

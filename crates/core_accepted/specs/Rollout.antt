@@ -14,7 +14,7 @@ use Rattle.route_tree.specs.Word.{tree_words}
 use Rattle.route_tree.specs.Copies.{may_copy}
 use Rattle.gate_check.specs.Places.{CoversAt}
 use Rattle.core_accepted.specs.Late.{IsFreshBy}
-use Rattle.core_accepted.specs.Pipes.{PipeStep, moments_of, Steps, WasOverOn}
+use Rattle.core_accepted.specs.Pipes.{PipeStep, moments_of, PipeSteps, WasOverOn}
 use Rattle.core_accepted.specs.FleetLaws.{NothingCopies}
 
 -- the trees of a fleet, in the order in which they were rolled out: each clears what it and the later ones take, and what those take that were rolled out at most `lag` before it. With 0 each covers itself and the later ones; with 1 two that follow each other cover each other, so that proxies may run by either
@@ -45,7 +45,7 @@ words_by tree = tree_words (λ n key. tree_at (tree n) key)
 pub record FleetRunsAreFresh (tree : ℕ → Route) : Type 0 where
   pub covered : IsCovered (words_by tree)
   pub copies : NothingCopies (words_by tree)
-  pub late : (line : ℕ → ℕ → ℕ) (opening : ℕ → List ℕ → Option Item) (steps : List PipeStep) → Steps line (words_by tree) nobody_bars opening steps → IsFreshBy opening (WasOverOn line) (moments_of steps)
+  pub late : (line : ℕ → ℕ → ℕ) (opening : ℕ → List ℕ → Option Item) (steps : List PipeStep) → PipeSteps line (words_by tree) nobody_bars opening steps → IsFreshBy opening (WasOverOn line) (moments_of steps)
   pub shared : (opening : ℕ → List ℕ → Option Item) (events : List Event) → sharing.LosesOnly events → sharing.Run (words_by tree) nobody_bars opening events → sharing.IsFresh opening events
 
 -- so it is whichever of the trees commands run by, as long as they are near enough to each other

@@ -27,8 +27,8 @@ kind_by false false (Some call) = ShowsItem
 kind_by false false None = TellsOther
 
 -- the reply of a command that ended so
-abbrev pub kind_of : Note → ReplyKind
-kind_of note = kind_by note.is_error note.acknowledged note.from
+abbrev pub reply_kind : Note → ReplyKind
+reply_kind note = kind_by note.is_error note.acknowledged note.from
 
 -- one more, as far as it is counted
 abbrev pub one_more : ℕ → ℕ
@@ -46,7 +46,7 @@ with_reply Acknowledges op tally = record tally { ended = one_more tally.ended; 
 with_reply TellsOther op tally = record tally { ended = one_more tally.ended; others = more_at (op_number op) tally.others }
 
 abbrev pub with_note : Note → CoreTally → CoreTally
-with_note note tally = with_reply (kind_of note) note.ask.op tally
+with_note note tally = with_reply (reply_kind note) note.ask.op tally
 
 -- one more call was given out
 abbrev pub with_call : CoreTally → CoreTally

@@ -5,7 +5,7 @@ ghost use Rattle.gate_check.specs.Sound.{trees_of};
 ghost use Rattle.gate_growth.specs.Grown.{AreSoundSince};
 ghost use Rattle.core_proxy.specs.CoreState.{Reloads};
 ghost use Rattle.core_accepted.specs.Known.{is_arbitrary, more};
-ghost use Rattle.core_accepted.specs.Loading.{fault_of, RefusesNext, RefusesAny};
+ghost use Rattle.core_accepted.specs.Loading.{loading_fault, RefusesNext, RefusesAny};
 
 use crate::generations::Generations;
 use core_proxy::Core;
@@ -45,7 +45,7 @@ fn take_tree(core: &mut Core, tree: Tree)
 
 // The fault of a configuration that would be of this generation.
 fn fault_of(unsound: Unsound, number: u32) -> ReloadFault
-    ensures { result ≡ fault_of unsound number }
+    ensures { result ≡ loading_fault unsound number }
 {
     match unsound {
         Unsound::TooManyGenerations => ReloadFault::TooManyGenerations,

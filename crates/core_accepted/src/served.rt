@@ -5,7 +5,7 @@ ghost use Rattle.wire_parts.specs.Sending.{bytes_of};
 ghost use Rattle.mc_types.specs.Asks.{IsAsk};
 ghost use Rattle.fresh_runs.specs.Overlap as log;
 ghost use Rattle.core_proxy.specs.Faults.{IsClosed, CanOpen, CanFeed, CanClose, OpenFault, FeedFault, OutputFault, CloseFault};
-ghost use Rattle.core_proxy.specs.CoreState.{IsOut, Opens, Feeds, Gives, ClosesClient, LeavesLine, client_at, dropped_by, held_by, output_by};
+ghost use Rattle.core_proxy.specs.CoreState.{IsOut, Opens, Feeds, GivesAll, ClosesClient, LeavesLine, client_at, dropped_by, held_by, output_by};
 ghost use Rattle.core_commands.specs.Lines.{is_standing};
 ghost use Rattle.core_proxy.specs.Polls.{Polls, PollFault};
 ghost use Rattle.core_proxy.specs.Settles.{FitsCall, asked, SettleFault};
@@ -114,7 +114,7 @@ impl ServedCore {
     /// As `Core::move_output`.
     pub fn move_output(&mut self, client: usize, out: &mut SendBuffer) -> Result<(), CoreFault>
         ensures bytes { OnOk result (bytes_of out.new ≡ bytes_of out.old ++ output_by (client_at self.old.core client)) }
-        ensures ok { OnOk result (Gives self.old.core client (output_by (client_at self.old.core client)) self.new.core) }
+        ensures ok { OnOk result (GivesAll self.old.core client (output_by (client_at self.old.core client)) self.new.core) }
         ensures err { IfErr result (λ fault. OutputFault self.old.core client fault × (self.new ≡ self.old)) }
         ensures out { OnErr result (bytes_of out.new ≡ bytes_of out.old) }
         ensures fresh { OnOk result (LogsGoBy self.old (λ entries. entries ≡ log.Gives client (output_by (client_at self.old.core client)) ∷ []) self.new) }
@@ -124,7 +124,7 @@ impl ServedCore {
 
     /// As `Core::take_output`.
     pub fn take_output(&mut self, client: usize) -> Result<Vec<u8>, CoreFault>
-        ensures ok { IfOk result (λ bytes. Gives self.old.core client bytes.items self.new.core) }
+        ensures ok { IfOk result (λ bytes. GivesAll self.old.core client bytes.items self.new.core) }
         ensures err { IfErr result (λ fault. OutputFault self.old.core client fault × (self.new ≡ self.old)) }
         ensures fresh { IfOk result (λ bytes. LogsGoBy self.old (λ entries. entries ≡ log.Gives client bytes.items ∷ []) self.new) }
     {

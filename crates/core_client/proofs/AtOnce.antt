@@ -6,7 +6,7 @@ use Rattle.wire_stream.specs.Replies.{shown_text}
 use Rattle.core_client.specs.declared.client.Client.{Client}
 use Rattle.core_client.specs.declared.client.Pending.{Pending}
 use Rattle.core_client.specs.declared.replying.ReplyPlace.{ReplyPlace}
-use Rattle.core_client.specs.Replying.{AnswersAt, GoesOn, IsOnward, IsPlace, is_numbered, replied}
+use Rattle.core_client.specs.Replying.{AnswersAt, GoesOnAfter, IsOnward, IsPlace, is_numbered, replied}
 use Rattle.core_client.specs.Heads.{AnswersHead, is_next_of}
 use Rattle.core_client.proofs.Places.{some_pending}
 use Rattle.std.proofs.lemmas.Bool.{lt-ltb}
@@ -56,7 +56,7 @@ module _ (x y : Client) (number : ℕ) (reply : Answer) (pending : Pending) (res
   came : AnswersAt x 0 pending.last reply between
   came = record {
     queue = λ p is. ap (λ (q : Pending). replied reply q ∷ rest) (some_pending (sym (ap (λ l. slice_get l 0) head) ∙ is)) ∙ sym (ap (λ l. slice_set l 0 (replied reply p)) head);
-    front = subst (λ (l : Bool). GoesOn l x reply between) (sym is_last) refl;
+    front = subst (λ (l : Bool). GoesOnAfter l x reply between) (sym is_last) refl;
     output = refl;
     dropped = refl;
   }

@@ -8,10 +8,10 @@ use Rattle.fresh_runs.specs.Overlap.{Front}
 use Rattle.wire_parts.specs.declared.skip.Skip.TheVariants.{Nothing}
 use Rattle.wire_parts.specs.Stream.{Place, Stands}
 use Rattle.wire_stream.specs.declared.requests.request.Request.{Request}
-use Rattle.wire_stream.specs.Message.{Message, message_in, used_of}
+use Rattle.wire_stream.specs.Message.{AnyMessage, message_in, used_of}
 use Rattle.wire_stream.specs.Asks.{asks_of, quiet_of}
-use Rattle.wire_stream.specs.Stream.{after_message}
-use Rattle.wire_stream.specs.Held.{held_at}
+use Rattle.wire_stream.specs.Stream.{after_any}
+use Rattle.wire_stream.specs.Held.{bytes_at}
 use Rattle.wire_stream.specs.TextProtocol.{passed_text, Whole}
 use Rattle.wire_stream.specs.declared.connection.front.Passed.{Passed}
 use Rattle.wire_stream.specs.Fronts.{PassesMessage}
@@ -45,20 +45,20 @@ passes_front version x y passed served none p pieces index waits queue dropped =
 
 -- the next key of the message at the front began, and the client moved on
 pub begins_key : (x z y : Client) (request : Request) (ask : Ask) (number count used : ℕ) (quiet : Bool) → IsAskAt x request ask → x.waits ≡ false
-    → count ≡ length (asks_of (message_in (held_at x.stream) request)) → used ≡ used_of request → quiet ≡ quiet_of (message_in (held_at x.stream) request)
+    → count ≡ length (asks_of (message_in (bytes_at x.stream) request)) → used ≡ used_of request → quiet ≡ quiet_of (message_in (bytes_at x.stream) request)
     → z.stream ≡ x.stream → z.index ≡ x.index → bytes_of z.output ≡ bytes_of x.output → z.dropped ≡ x.dropped
     → z.queue.items ≡ x.queue.items ++ record { ask = ask; reply = None; number = number; quiet = quiet; last = nat_eq (x.index + 1) count } ∷ []
     → ((held : List ℕ) → z.stream ≡ Stands Nothing held → MovesOn (nat_eq (x.index + 1) count) z (drop used held) y)
     → BeginsKey x ask number y
 begins_key x z y request ask number count used quiet at ready count_is used_is quiet_is stream index output dropped queue moves =
-    let held = held_at x.stream in
-    let m : Message = message_in held request in
+    let held = bytes_at x.stream in
+    let m : AnyMessage = message_in held request in
     let rest : List ℕ = drop (used_of request) held in
     let last : Bool = nat_eq (x.index + 1) (length (asks_of m)) in
     let last_is : nat_eq (x.index + 1) count ≡ last = ap (λ n. nat_eq (x.index + 1) n) count_is in
     let goes : MovesOn last z rest y = subst (λ b. MovesOn b z rest y) last_is (subst (λ n. MovesOn (nat_eq (x.index + 1) count) z (drop n held) y) used_is (moves held (stream ∙ at.place))) in
-    let after_is : Stands Nothing rest ≡ after_message m rest = sym (request_after held request rest x.index ask at.at) in
-    let part : Part dialect = record { message = Whole m; next = after_message m rest; index = x.index; ask = ask } in
+    let after_is : Stands Nothing rest ≡ after_any m rest = sym (request_after held request rest x.index ask at.at) in
+    let part : Part dialect = record { message = Whole m; next = after_any m rest; index = x.index; ask = ask } in
     record {
       part = part;
       pending = record { ask = ask; reply = None; number = number; quiet = quiet; last = nat_eq (x.index + 1) count };
@@ -70,7 +70,7 @@ begins_key x z y request ask number count used quiet at ready count_is used_is q
         asks = at.at;
         ready = ready;
       };
-      front = goes.front ∙ moved last (Stands Nothing rest) (after_message m rest) z.stream x.stream z.index x.index after_is stream index;
+      front = goes.front ∙ moved last (Stands Nothing rest) (after_any m rest) z.stream x.stream z.index x.index after_is stream index;
       queue = goes.queue ∙ queue;
       output = goes.output ∙ output;
       dropped = goes.dropped ∙ dropped;

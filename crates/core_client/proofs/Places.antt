@@ -11,17 +11,17 @@ use Rattle.fresh_runs.specs.Overlap.{Front}
 use Rattle.wire_parts.specs.declared.skip.Skip.TheVariants.{Nothing}
 use Rattle.wire_parts.specs.Stream.{Stands}
 use Rattle.wire_stream.specs.declared.requests.request.Request.{Request}
-use Rattle.wire_stream.specs.Message.{Message, message_in, used_of}
+use Rattle.wire_stream.specs.Message.{AnyMessage, message_in, used_of}
 use Rattle.wire_stream.specs.Asks.{asks_of}
-use Rattle.wire_stream.specs.Stream.{after_message}
-use Rattle.wire_stream.specs.Held.{held_at}
+use Rattle.wire_stream.specs.Stream.{after_any}
+use Rattle.wire_stream.specs.Held.{bytes_at}
 use Rattle.wire_stream.specs.Replies.{is_failure}
 use Rattle.wire_stream.specs.TextProtocol.{Whole}
 use Rattle.wire_stream.proofs.ConnectionRequests.{request_after}
 use Rattle.core_client.specs.declared.client.Client.{Client}
 use Rattle.core_client.specs.ClientState.{dialect, front_by}
 use Rattle.core_client.specs.declared.client.Pending.{Pending}
-use Rattle.core_client.specs.Replying.{GoesOn, pending_in, replied_in, IsAnswered, is_numbered, replied}
+use Rattle.core_client.specs.Replying.{GoesOnAfter, pending_in, replied_in, IsAnswered, is_numbered, replied}
 use Rattle.wire_stream.proofs.Fronts.{reads_front}
 
 some_ask : (asks : List Ask) (i : ℕ) → i < length asks → (ask : Ask) × (slice_get asks i ≡ Some ask)
@@ -32,16 +32,16 @@ some_ask asks i lt = by (slice_get_cases asks i).1
     by (inr b) = absurd (let l = b.0 in omega (arith, lt, l))
 
 -- the starting went on
-pub went_on : (x y : Client) (request : Request) (reply : Answer) (b : Bool) → IsAnswered x request → (is_failure reply || nat_eq (x.index + 1) (length (asks_of (message_in (held_at x.stream) request)))) ≡ b
-    → ◌≡◌ {A = Front dialect} (front_by (Some y)) (if b then record { place = Stands Nothing (drop (used_of request) (held_at x.stream)); index = 0; waits = false } else record { place = x.stream; index = x.index + 1; waits = false }) → GoesOn false x reply y
+pub went_on : (x y : Client) (request : Request) (reply : Answer) (b : Bool) → IsAnswered x request → (is_failure reply || nat_eq (x.index + 1) (length (asks_of (message_in (bytes_at x.stream) request)))) ≡ b
+    → ◌≡◌ {A = Front dialect} (front_by (Some y)) (if b then record { place = Stands Nothing (drop (used_of request) (bytes_at x.stream)); index = 0; waits = false } else record { place = x.stream; index = x.index + 1; waits = false }) → GoesOnAfter false x reply y
 went_on x y request reply b a ends front =
-    let held = held_at x.stream in
-    let m : Message = message_in held request in
+    let held = bytes_at x.stream in
+    let m : AnyMessage = message_in held request in
     let rest : List ℕ = drop (used_of request) held in
     let key = some_ask (asks_of m) x.index a.there in
-    let after_is : Stands Nothing rest ≡ after_message m rest = sym (request_after held request rest x.index key.0 key.1) in (
+    let after_is : Stands Nothing rest ≡ after_any m rest = sym (request_after held request rest x.index key.0 key.1) in (
       Whole m,
-      after_message m rest,
+      after_any m rest,
       reads_front x.stream request (record { stands = a.stands; read = a.read }),
       front ∙ (λ i. if sym ends i then record { place = after_is i; index = 0; waits = false } else record { place = x.stream; index = x.index + 1; waits = false }),
     )

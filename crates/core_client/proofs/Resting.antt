@@ -12,8 +12,8 @@ use Rattle.wire_stream.specs.declared.requests.reader.Read.TheVariants as reads
 use Rattle.wire_stream.specs.declared.requests.request.Request.{Request}
 use Rattle.wire_stream.specs.Message.{message_in}
 use Rattle.wire_stream.specs.Asks.{asks_of}
-use Rattle.wire_stream.specs.Stream.{after_message}
-use Rattle.wire_stream.specs.Held.{held_at, IsReadAt}
+use Rattle.wire_stream.specs.Stream.{after_any}
+use Rattle.wire_stream.specs.Held.{bytes_at, IsReadAt}
 use Rattle.wire_stream.specs.TextProtocol.{Said, Whole, LongLine, OtherProtocol, ReadsNext, asks_in}
 use Rattle.wire_stream.proofs.ReaderLaws.{reader_is}
 use Rattle.wire_stream.specs.Fronts.{AsksNone}
@@ -29,7 +29,7 @@ IsRead place reads.More message = ⊥
 IsRead place reads.TooLong message = message ≡ LongLine
 IsRead place reads.OtherProtocol message = message ≡ OtherProtocol
 IsRead place (reads.Refused why used skip) message = message ≡ Whole (Refusal why skip)
-IsRead place (reads.Request request) message = message ≡ Whole (message_in (held_at place) request)
+IsRead place (reads.Request request) message = message ≡ Whole (message_in (bytes_at place) request)
 
 -- the message that was read is the one at the front
 pub is_read : (place : Place) (read : Read) → IsReadAt place read → (message : Said) (next : Place) → ReadsNext place message next → IsRead place read message
@@ -42,9 +42,9 @@ is_read place reads.OtherProtocol is message next here =
     (reader_is.one_message place message OtherProtocol next Closed here (subst (λ (p : Place). ReadsNext p OtherProtocol Closed) (sym f.1) (f.2, refl))).0
 is_read place (reads.Refused why used skip) is message next here =
     let f = read_front place (reads.Refused why used skip) is (refused_is_some why used skip) in
-    let after : Place = after_message (Refusal why skip) (drop used f.0) in
+    let after : Place = after_any (Refusal why skip) (drop used f.0) in
     (reader_is.one_message place message (Whole (Refusal why skip)) next after here (subst (λ (p : Place). ReadsNext p (Whole (Refusal why skip)) after) (sym f.1) (used, f.2.0, refl, f.2.1))).0
-is_read place (reads.Request request) is message next here = (reader_is.one_message place message (Whole (message_in (held_at place) request)) next _ here (reads_front place request (front_is place request is))).0
+is_read place (reads.Request request) is message next here = (reader_is.one_message place message (Whole (message_in (bytes_at place) request)) next _ here (reads_front place request (front_is place request is))).0
 
 no_ask : {A : Type 0} (asks : List Ask) (i : ℕ) (ask : Ask) → asks ≡ [] → slice_get asks i ≡ Some ask → A
 no_ask asks i ask none at = absurd (let lt = slice_get_within asks i ask at in let e = ap length none in omega (arith, lt, e))
@@ -65,11 +65,11 @@ pub no_key : (x : Client) (read : Read) {A : Type 0} → IsReadAt x.stream read 
 no_key x read is none i message next ask here at = no_ask (asks_in message) i ask (none_asked x.stream read is none message next here) at
 
 -- no key is at the front where the request there has no more keys than were asked
-pub no_more_keys : (x : Client) (request : Request) {A : Type 0} → IsReadAt x.stream (reads.Request request) → length (asks_of (message_in (held_at x.stream) request)) ≤ x.index
+pub no_more_keys : (x : Client) (request : Request) {A : Type 0} → IsReadAt x.stream (reads.Request request) → length (asks_of (message_in (bytes_at x.stream) request)) ≤ x.index
     → (message : Said) (next : Place) (ask : Ask) → ReadsNext x.stream message next → slice_get (asks_in message) x.index ≡ Some ask → A
 no_more_keys x request is few message next ask here at =
     absurd (let e = ap asks_in (is_read x.stream (reads.Request request) is message next here) in
-    let lt = slice_get_within (asks_of (message_in (held_at x.stream) request)) x.index ask (ap (λ l. slice_get l x.index) (sym e) ∙ at) in omega (arith, lt, few))
+    let lt = slice_get_within (asks_of (message_in (bytes_at x.stream) request)) x.index ask (ap (λ l. slice_get l x.index) (sym e) ∙ at) in omega (arith, lt, few))
 
 -- nothing stands at the front
 pub later_none : (x : Client) → IsReadAt x.stream reads.More → (depth : ℕ) → IsLater depth x
@@ -80,15 +80,15 @@ pub later_other : (x : Client) (read : Read) → IsReadAt x.stream read → Asks
 later_other x read is none some depth = record { key = λ part n. no_key x read is none part.index part.message part.next part.ask n.reads n.asks; other = λ message next here none. some }
 
 -- a request with keys, of which none can begin
-pub later_key : (x : Client) (request : Request) (depth : ℕ) → IsReadAt x.stream (reads.Request request) → (asks_of (message_in (held_at x.stream) request) ≡ [] → ⊥)
-    → (x.waits ≡ true) ⊎ ((depth ≤ length x.queue.items) ⊎ (length (asks_of (message_in (held_at x.stream) request)) ≤ x.index)) → IsLater depth x
+pub later_key : (x : Client) (request : Request) (depth : ℕ) → IsReadAt x.stream (reads.Request request) → (asks_of (message_in (bytes_at x.stream) request) ≡ [] → ⊥)
+    → (x.waits ≡ true) ⊎ ((depth ≤ length x.queue.items) ⊎ (length (asks_of (message_in (bytes_at x.stream) request)) ≤ x.index)) → IsLater depth x
 later_key x request depth is some why =
     record {
       key = λ part n. by part n why;
       other = λ message next here none. absurd (some (sym (ap asks_in (is_read x.stream (reads.Request request) is message next here)) ∙ none));
     }
   where
-    by : (part : Part dialect) → IsNext (front_by (Some x)) part → (x.waits ≡ true) ⊎ ((depth ≤ length x.queue.items) ⊎ (length (asks_of (message_in (held_at x.stream) request)) ≤ x.index)) → depth ≤ length x.queue.items
+    by : (part : Part dialect) → IsNext (front_by (Some x)) part → (x.waits ≡ true) ⊎ ((depth ≤ length x.queue.items) ⊎ (length (asks_of (message_in (bytes_at x.stream) request)) ≤ x.index)) → depth ≤ length x.queue.items
     by part n (inl waits) = absurd (let e = n.ready in cc)
     by part n (inr (inl full)) = full
     by part n (inr (inr few)) = no_more_keys x request is few part.message part.next part.ask n.reads (ap (λ i. slice_get (asks_in part.message) i) (sym n.index) ∙ n.asks)

@@ -4,7 +4,7 @@ use Rattle.wire_parts.specs.Sending.{bytes_of}
 use Rattle.fresh_runs.specs.Protocol.{Protocol}
 use Rattle.fresh_runs.specs.Overlap.{Front, Slot, is_last_slot, start_front}
 use Rattle.wire_stream.specs.Asks.{quiet_of}
-use Rattle.wire_stream.specs.Held.{held_at}
+use Rattle.wire_stream.specs.Held.{bytes_at}
 use Rattle.wire_stream.specs.TextProtocol.{memcached_text, Said, Whole, LongLine, OtherProtocol}
 use Rattle.core_client.specs.declared.client.Pending.{Pending}
 use Rattle.core_client.specs.declared.client.Client.{Client}
@@ -13,10 +13,10 @@ use Rattle.core_client.specs.declared.client.Client.{Client}
 abbrev pub dialect : Protocol
 dialect = memcached_text
 
-abbrev pub Message : Type 0
-Message = Said
+abbrev pub ClientMessage : Type 0
+ClientMessage = Said
 
-abbrev pub quiet_in : Message → Bool
+abbrev pub quiet_in : ClientMessage → Bool
 quiet_in (Whole message) = quiet_of message
 quiet_in LongLine = false
 quiet_in OtherProtocol = false
@@ -29,7 +29,7 @@ front_by (Some x) = record { place = x.stream; index = x.index; waits = x.waits 
 -- what a client sent that isn't done
 abbrev pub held_by : Option Client → List ℕ
 held_by None = []
-held_by (Some x) = held_at x.stream
+held_by (Some x) = bytes_at x.stream
 
 abbrev pub output_by : Option Client → List ℕ
 output_by None = []

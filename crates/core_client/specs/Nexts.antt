@@ -11,12 +11,12 @@ use Rattle.wire_stream.specs.declared.requests.reader.Read.TheVariants as reads
 use Rattle.wire_stream.specs.declared.requests.request.Request.{Request}
 use Rattle.wire_stream.specs.Message.{IsReadFrom, message_in}
 use Rattle.wire_stream.specs.Asks.{asks_of}
-use Rattle.wire_stream.specs.Held.{IsReadAt, held_at}
+use Rattle.wire_stream.specs.Held.{IsReadAt, bytes_at}
 use Rattle.wire_stream.specs.Fronts.{AsksNone}
 use Rattle.core_client.specs.declared.client.Client.{Client}
 use Rattle.core_client.specs.declared.nexts.Next.{Next}
 use Rattle.core_client.specs.declared.nexts.Next.TheVariants as nexts
-use Rattle.core_client.specs.ClientState.{dialect, Message, front_by}
+use Rattle.core_client.specs.ClientState.{dialect, ClientMessage, front_by}
 use Rattle.core_client.specs.Fronts.{IsAskAt}
 
 -- nothing is under way for the client, which is served, and this was read at its front: a message that asks no server
@@ -34,9 +34,9 @@ pub record CanBegin (request : Request) (ask : Ask) (x : Client) : Type 0 where
 
 -- the request stands at the front of the client, which is served, and a key of it is next
 pub record CanAsk (request : Request) (x : Client) : Type 0 where
-  pub stands : x.stream ≡ Stands Nothing (held_at x.stream)
-  pub is_read : IsReadFrom (held_at x.stream) request
-  pub there : x.index < length (asks_of (message_in (held_at x.stream) request))
+  pub stands : x.stream ≡ Stands Nothing (bytes_at x.stream)
+  pub is_read : IsReadFrom (bytes_at x.stream) request
+  pub there : x.index < length (asks_of (message_in (bytes_at x.stream) request))
   pub ready : x.waits ≡ false
   pub served : x.dropped ≡ false
 
@@ -51,7 +51,7 @@ HasCommand x = 0 < length x.queue.items
 -- nothing at the client's front can be done: if it waits for no reply before its next key, it has as many commands as it may have; and what asks no server stands after a command
 pub record IsLater (depth : ℕ) (x : Client) : Type 0 where
   pub key : (part : Part dialect) → IsNext (front_by (Some x)) part → depth ≤ length x.queue.items
-  pub other : (message : Message) (next : Place) → dialect.Reads x.stream message next → dialect.asks_of message ≡ [] → HasCommand x
+  pub other : (message : ClientMessage) (next : Place) → dialect.Reads x.stream message next → dialect.asks_of message ≡ [] → HasCommand x
 
 -- the next key of the request that was read can begin, below the depth
 abbrev pub HasKey : ℕ → Client → Read → Type 0

@@ -9,11 +9,11 @@ use Rattle.wire_parts.specs.Stream.{Place, Stands}
 use Rattle.wire_stream.specs.declared.requests.request.Request.{Request}
 use Rattle.wire_stream.specs.Message.{IsReadFrom, message_in}
 use Rattle.wire_stream.specs.Asks.{asks_of}
-use Rattle.wire_stream.specs.Held.{held_at}
+use Rattle.wire_stream.specs.Held.{bytes_at}
 use Rattle.core_client.specs.declared.client.Client.{Client}
 use Rattle.core_client.specs.declared.client.Pending.{Pending}
 use Rattle.core_client.specs.declared.replying.ReplyPlace.{ReplyPlace}
-use Rattle.core_client.specs.ClientState.{dialect, Message, front_by}
+use Rattle.core_client.specs.ClientState.{dialect, ClientMessage, front_by}
 
 -- the first command of this number in a client's queue
 abbrev pub pending_in : ℕ → List Pending → Option Pending
@@ -26,10 +26,10 @@ replied_in n reply [] = []
 replied_in n reply (pending ∷ rest) = if nat_eq pending.number n then record pending { reply = Some reply } ∷ rest else pending ∷ replied_in n reply rest
 
 -- where the starting of a client's commands goes on when this reply has come: of a last key it had gone on before; of any other it stands after the message, where the reply ends it, or before its next key
-abbrev pub GoesOn : Bool → Client → Answer → Client → Type 0
-GoesOn true x reply y = front_by (Some y) ≡ front_by (Some x)
-GoesOn false x reply y =
-    (message : Message) × (next : Place) × dialect.Reads x.stream message next
+abbrev pub GoesOnAfter : Bool → Client → Answer → Client → Type 0
+GoesOnAfter true x reply y = front_by (Some y) ≡ front_by (Some x)
+GoesOnAfter false x reply y =
+    (message : ClientMessage) × (next : Place) × dialect.Reads x.stream message next
     × (◌≡◌ {A = Front dialect} (front_by (Some y)) (if dialect.ends message x.index reply then record { place = next; index = 0; waits = false } else record { place = x.stream; index = x.index + 1; waits = false }))
 
 abbrev pub is_numbered : ℕ → Pending → Bool
@@ -40,9 +40,9 @@ replied reply pending = record pending { reply = Some reply }
 
 -- the request whose key is answered stands at the client's front
 pub record IsAnswered (x : Client) (request : Request) : Type 0 where
-  pub stands : x.stream ≡ Stands Nothing (held_at x.stream)
-  pub read : IsReadFrom (held_at x.stream) request
-  pub there : x.index < length (asks_of (message_in (held_at x.stream) request))
+  pub stands : x.stream ≡ Stands Nothing (bytes_at x.stream)
+  pub read : IsReadFrom (bytes_at x.stream) request
+  pub there : x.index < length (asks_of (message_in (bytes_at x.stream) request))
 
 -- where the starting goes on after the reply: of a last key it has gone on before
 abbrev pub IsOnward : Client → Bool → Option Request → Type 0
@@ -71,7 +71,7 @@ pub record IsPlace (x : Client) (number : ℕ) (place : ReplyPlace) : Type 0 whe
 
 -- the message at the front has a key at the client's index
 abbrev pub HasKeyAtFront : Client → Type 0
-HasKeyAtFront x = (message : Message) × (next : Place) × (ask : Ask) × dialect.Reads x.stream message next × (slice_get (dialect.asks_of message) x.index ≡ Some ask)
+HasKeyAtFront x = (message : ClientMessage) × (next : Place) × (ask : Ask) × dialect.Reads x.stream message next × (slice_get (dialect.asks_of message) x.index ≡ Some ask)
 
 -- the reply of this command can come: where its key isn't the last of its message, that stands at the front
 pub record HasPlace (x : Client) (number : ℕ) (pending : Pending) : Type 0 where
@@ -85,6 +85,6 @@ HasNoPlace x number = (pending : Pending) → HasPlace x number pending → ⊥
 -- the reply came to the command at this place
 pub record AnswersAt (x : Client) (at : ℕ) (last : Bool) (reply : Answer) (y : Client) : Type 0 where
   pub queue : (pending : Pending) → slice_get x.queue.items at ≡ Some pending → y.queue.items ≡ slice_set x.queue.items at (replied reply pending)
-  pub front : GoesOn last x reply y
+  pub front : GoesOnAfter last x reply y
   pub output : bytes_of y.output ≡ bytes_of x.output
   pub dropped : y.dropped ≡ x.dropped

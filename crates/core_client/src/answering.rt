@@ -3,7 +3,7 @@
 ghost use Rattle.std.specs.Prelude.{◌≡◌, [], false, OnErr, IfOk};
 ghost use Rattle.wire_stream.specs.Held.{IsReadAt};
 ghost use Rattle.wire_stream.specs.Fronts.{AsksNone};
-ghost use Rattle.core_client.specs.Fronts.{Stays, PassesFront};
+ghost use Rattle.core_client.specs.Fronts.{ClientStays, PassesFront};
 
 use crate::client::Client;
 use std::alloc::AllocError;
@@ -19,7 +19,7 @@ impl Client {
         requires served { self.old.dropped ≡ false }
         requires none { self.old.queue.items ≡ [] }
         ensures ok { IfOk result (λ passed. PassesFront version.now self.old passed self.new) }
-        ensures err { OnErr result (Stays self.old self.new) }
+        ensures err { OnErr result (ClientStays self.old self.new) }
     {
         let passed = pass(read, version, &mut self.stream, &mut self.output.text)?;
         self.index = 0;

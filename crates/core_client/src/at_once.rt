@@ -1,7 +1,7 @@
 //! A reply is shown as it comes.
 
 ghost use Rattle.std.specs.Prelude.{◌≡◌, false, IfOk, OnErr};
-ghost use Rattle.core_client.specs.Fronts.{Stays};
+ghost use Rattle.core_client.specs.Fronts.{ClientStays};
 ghost use Rattle.core_client.specs.Heads.{is_next_of, is_next_reply, ShowsAtOnce};
 
 use crate::client::{Client, Pending};
@@ -25,7 +25,7 @@ impl Client {
         requires { self.old.dropped ≡ false }
         ensures exact { IfOk result (λ shown. shown ≡ is_next_reply number self.old.queue.items) }
         ensures ok { IfOk result (λ shown. ShowsAtOnce self.old number reply.now shown self.new) }
-        ensures err { OnErr result (Stays self.old self.new) }
+        ensures err { OnErr result (ClientStays self.old self.new) }
     {
         let Some(pending) = self.queue.front() else {
             return Ok(false);

@@ -2,7 +2,7 @@
 
 ghost use Rattle.std.specs.Prelude.{◌≡◌, ◌++◌, [], false, ◌↔◌, IsTrue, OnOk, OnErr, IfOk};
 ghost use Rattle.wire_parts.specs.Sending.{bytes_of};
-ghost use Rattle.wire_stream.specs.Held.{held_at};
+ghost use Rattle.wire_stream.specs.Held.{bytes_at};
 ghost use Rattle.core_client.specs.Clients.{has_own, IsNewClient, IsEnded, TakesPiece, LosesOutput};
 
 use crate::marked_ask::{MarkedAsk, MarkedKey};
@@ -88,7 +88,7 @@ impl Client {
 
     /// Where nothing is held of the client that isn't done, the room for that goes back: whether nothing is.
     pub fn give_back(&mut self, alloc: Global) -> bool
-        ensures none { IsTrue result ↔ (held_at self.old.stream ≡ []) }
+        ensures none { IsTrue result ↔ (bytes_at self.old.stream ≡ []) }
         ensures same { self.new ≡ self.old }
     {
         self.stream.give_back(alloc)

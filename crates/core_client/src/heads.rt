@@ -2,7 +2,7 @@
 
 ghost use Rattle.std.specs.Prelude.{◌≡◌, MatchBool, false, IfOk, OnErr, drop};
 ghost use Rattle.wire_parts.specs.Sending.{bytes_of};
-ghost use Rattle.core_client.specs.Fronts.{Stays};
+ghost use Rattle.core_client.specs.Fronts.{ClientStays};
 ghost use Rattle.core_client.specs.Heads.{WritesReply, ShowsOne};
 
 use crate::client::{Client, Pending};
@@ -45,7 +45,7 @@ impl Client {
     pub fn show_head(&mut self) -> Result<bool, AllocError>
         requires { self.old.dropped ≡ false }
         ensures ok { IfOk result (λ shown. ShowsOne self.old shown self.new) }
-        ensures err { OnErr result (Stays self.old self.new) }
+        ensures err { OnErr result (ClientStays self.old self.new) }
     {
         let Some(pending) = self.queue.front() else {
             return Ok(false);

@@ -2,7 +2,7 @@
 
 ghost use Rattle.std.specs.Prelude.{◌≡◌, ◌↔◌, ℕ, [], false, IsTrue, IfOk};
 ghost use Rattle.mc_types.specs.Asks.{IsAsk};
-ghost use Rattle.wire_stream.specs.Held.{IsReadAt, held_at};
+ghost use Rattle.wire_stream.specs.Held.{IsReadAt, bytes_at};
 ghost use Rattle.wire_stream.specs.Message.{message_in};
 ghost use Rattle.wire_stream.specs.Asks.{asks_of};
 ghost use Rattle.wire_stream.specs.declared.requests.reader.Read.TheVariants.{More, Request as Requests};
@@ -65,7 +65,7 @@ impl Client {
     // What is next where a request with keys stands at the front.
     fn key_of(&self, depth: usize, request: &Request) -> Next
         requires at { IsReadAt self.now.stream (Requests request.now) }
-        requires some { asks_of (message_in (held_at self.now.stream) request.now) ≡ [] → ⊥ }
+        requires some { asks_of (message_in (bytes_at self.now.stream) request.now) ≡ [] → ⊥ }
         requires served { self.now.dropped ≡ false }
         ensures { IsNextOf depth self.now (Requests request.now) result }
     {

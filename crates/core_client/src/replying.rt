@@ -2,7 +2,7 @@
 
 ghost use Rattle.std.specs.Prelude.{◌≡◌, ◌<◌, ℕ, Bool, false, length, position, slice_set, slice_index_or, IfSome, IfNone};
 ghost use Rattle.core_client.specs.declared.client.Pending.{Pending as PendingOf};
-ghost use Rattle.core_client.specs.Replying.{GoesOn, is_numbered, IsAnswered, HasKeyAtFront, HasPlace, HasNoPlace, KeepsRest, IsPlace, IsOnward, IsOnwardOfSome, replied, AnswersAt};
+ghost use Rattle.core_client.specs.Replying.{GoesOnAfter, is_numbered, IsAnswered, HasKeyAtFront, HasPlace, HasNoPlace, KeepsRest, IsPlace, IsOnward, IsOnwardOfSome, replied, AnswersAt};
 ghost use Rattle.core_client.specs.declared.replying.ReplyPlace.{ReplyPlace as PlaceOf};
 
 use crate::client::{Client, Pending};
@@ -39,7 +39,7 @@ impl Client {
     // key.
     fn go_on(&mut self, request: &Request, reply: &Answer)
         requires { IsAnswered self.old request.now }
-        ensures front { GoesOn false self.old reply.now self.new }
+        ensures front { GoesOnAfter false self.old reply.now self.new }
         ensures rest { KeepsRest self.old self.new }
     {
         let count = request.asks();
@@ -56,7 +56,7 @@ impl Client {
 
     fn go_on_by(&mut self, onward: &Option<Request>, reply: &Answer)
         requires { IsOnwardOfSome self.old onward.now }
-        ensures front { (last : Bool) → IsOnward self.old last onward.now → GoesOn last self.old reply.now self.new }
+        ensures front { (last : Bool) → IsOnward self.old last onward.now → GoesOnAfter last self.old reply.now self.new }
         ensures rest { KeepsRest self.old self.new }
     {
         match onward {

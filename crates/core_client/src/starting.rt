@@ -3,8 +3,8 @@
 ghost use Rattle.std.specs.Prelude.{◌≡◌, ◌≤◌, ◌++◌, ◌∷◌, ℕ, List, [], None, false, drop, length, OnOk, OnErr};
 ghost use Rattle.wire_parts.specs.declared.skip.Skip.TheVariants.{Nothing};
 ghost use Rattle.wire_parts.specs.Stream.{Stands};
-ghost use Rattle.wire_stream.specs.Held.{held_at};
-ghost use Rattle.core_client.specs.Fronts.{Stays, IsAskAt, MovesOn, BeginsKey};
+ghost use Rattle.wire_stream.specs.Held.{bytes_at};
+ghost use Rattle.core_client.specs.Fronts.{ClientStays, IsAskAt, MovesOn, BeginsKey};
 
 use crate::client::{Client, Pending};
 use crate::marked_ask::MarkedAsk;
@@ -25,7 +25,7 @@ fn put_last(queue: &mut VecDeque<Pending>, pending: Pending) -> Result<(), Alloc
 impl Client {
     // After the start of a key: after its message where it is the last, else its reply is waited for.
     fn move_on(&mut self, last: bool, used: usize)
-        requires { used ≤ length (held_at self.old.stream) }
+        requires { used ≤ length (bytes_at self.old.stream) }
         ensures { (held : List ℕ) → self.old.stream ≡ Stands Nothing held → MovesOn last self.old (drop used held) self.new }
     {
         if last {
@@ -48,7 +48,7 @@ impl Client {
         requires at { IsAskAt self.old request.now ask }
         requires ready { self.old.waits ≡ false }
         ensures ok { OnOk result (BeginsKey self.old ask number self.new) }
-        ensures err { OnErr result (Stays self.old self.new) }
+        ensures err { OnErr result (ClientStays self.old self.new) }
     {
         let count = request.asks();
         let last = self.index + 1 == count;

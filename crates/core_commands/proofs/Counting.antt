@@ -20,7 +20,7 @@ use Rattle.route_job.specs.Jobs.{server_of_pending, IsCalling}
 use Rattle.core_commands.specs.declared.command.Command.{Command}
 use Rattle.core_commands.specs.Out.{is_call, has_call_out}
 use Rattle.core_commands.specs.Claims.{clears_key, copies_key}
-use Rattle.core_commands.specs.Counts.{SetsCountAt, SetsCountWhere, is_called, is_without_call, HasAllCallsOut, AreCounted}
+use Rattle.core_commands.specs.Counts.{SetsCountAt, SetsCountWhere, is_called, is_without_call, HasAllCallsOut, CountsCommands}
 use Rattle.core_commands.proofs.Commands.{is_call_true}
 
 abbrev weight : Bool → ℕ
@@ -208,7 +208,7 @@ clears command = command.claim.clears
 abbrev copies : Command → Bool
 copies command = command.claim.copies
 
-module _ {S T : Type 0} (old new : indexmap.IndexMap ℕ Command S) (clearing copying : indexmap.IndexMap (List ℕ) ℕ T) (calls waiting : List ℕ) (number : ℕ) (a : Command) (counted : AreCounted old clearing copying calls waiting) where
+module _ {S T : Type 0} (old new : indexmap.IndexMap ℕ Command S) (clearing copying : indexmap.IndexMap (List ℕ) ℕ T) (calls waiting : List ℕ) (number : ℕ) (a : Command) (counted : CountsCommands old clearing copying calls waiting) where
   abbrev at_place : List ℕ → ℕ → ℕ
   at_place counts q = slice_index_or counts q 0
 
@@ -217,7 +217,7 @@ module _ {S T : Type 0} (old new : indexmap.IndexMap ℕ Command S) (clearing co
       (clearing' copying' : indexmap.IndexMap (List ℕ) ℕ T) (waiting' : List ℕ) → a.is_out ≡ false → new.entries ≡ old.entries ++ (number, a) ∷ []
       → SetsCountWhere a.claim.clears (pointwise nat_eq) a.ask.key (count_at (indexmap.get (pointwise nat_eq) clearing) a.ask.key + 1) clearing clearing'
       → SetsCountWhere a.claim.copies (pointwise nat_eq) a.ask.key (count_at (indexmap.get (pointwise nat_eq) copying) a.ask.key + 1) copying copying' → SetsCountAt a.client (slice_index_or waiting a.client 0 + 1) waiting waiting'
-      → AreCounted new clearing' copying' calls waiting'
+      → CountsCommands new clearing' copying' calls waiting'
   counted_put clearing' copying' waiting' idle entries clears_one copies_one waits =
       let grows : (p : Command → Bool) → count_by p (indexmap.values new) ≡ count_by p (indexmap.values old) + weight (p a) = λ p. ap (λ es. count_by p (values_of es)) entries ∙ count_last p old.entries number a in
       let none = unsent a idle in
@@ -235,7 +235,7 @@ module _ {S T : Type 0} (old new : indexmap.IndexMap ℕ Command S) (clearing co
       (clearing' copying' : indexmap.IndexMap (List ℕ) ℕ T) (waiting' : List ℕ) → lookup (nat_eq number) old.entries ≡ Some a → has_call_out a ≡ false → new.entries ≡ swap_remove_entry (nat_eq number) old.entries
       → SetsCountWhere a.claim.clears (pointwise nat_eq) a.ask.key (count_at (indexmap.get (pointwise nat_eq) clearing) a.ask.key - 1) clearing clearing'
       → SetsCountWhere a.claim.copies (pointwise nat_eq) a.ask.key (count_at (indexmap.get (pointwise nat_eq) copying) a.ask.key - 1) copying copying' → SetsCountAt a.client (slice_index_or waiting a.client 0 - 1) waiting waiting'
-      → AreCounted new clearing' copying' calls waiting'
+      → CountsCommands new clearing' copying' calls waiting'
   counted_gone clearing' copying' waiting' was idle entries clears_one copies_one waited =
       let falls : (p : Command → Bool) → count_by p (indexmap.values new) + weight (p a) ≡ count_by p (indexmap.values old) = λ p. ap (λ es. count_by p (values_of es) + weight (p a)) entries ∙ count_gone p (nat_eq number) old.entries a was in
       record {
@@ -274,7 +274,7 @@ module _ {S T : Type 0} (old new : indexmap.IndexMap ℕ Command S) (clearing co
     -- all is counted after a command's call went out
     pub counted_sent :
         (calls' waiting' : List ℕ) → b.ask ≡ a.ask → b.claim ≡ a.claim → a.is_out ≡ false → b.is_out ≡ true → b.job ≡ a.job → IsCalling a.job → SetsCountAt (server_of_pending a.job.pending) (slice_index_or calls (server_of_pending a.job.pending) 0 + 1) calls calls'
-        → SetsCountAt a.client (slice_index_or waiting a.client 0 - 1) waiting waiting' → AreCounted new clearing copying calls' waiting'
+        → SetsCountAt a.client (slice_index_or waiting a.client 0 - 1) waiting waiting' → CountsCommands new clearing copying calls' waiting'
     counted_sent calls' waiting' ask claim idle out job calling sets waited =
         let s = server_of_pending a.job.pending in
         let none = unsent a idle in
@@ -293,7 +293,7 @@ module _ {S T : Type 0} (old new : indexmap.IndexMap ℕ Command S) (clearing co
     -- all is counted after a command's call had its outcome
     pub counted_taken :
         (calls' waiting' : List ℕ) → b.ask ≡ a.ask → b.claim ≡ a.claim → has_call_out a ≡ true → b.is_out ≡ false → SetsCountAt (server_of_pending a.job.pending) (slice_index_or calls (server_of_pending a.job.pending) 0 - 1) calls calls'
-        → SetsCountAt b.client (slice_index_or waiting b.client 0 + 1) waiting waiting' → AreCounted new clearing copying calls' waiting'
+        → SetsCountAt b.client (slice_index_or waiting b.client 0 + 1) waiting waiting' → CountsCommands new clearing copying calls' waiting'
     counted_taken calls' waiting' ask claim out idle sets waits =
         let s = server_of_pending a.job.pending in
         let none = unsent b idle in

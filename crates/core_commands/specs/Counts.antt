@@ -40,7 +40,7 @@ abbrev pub HasAllCallsOut : ℕ → {S : Type 0} → map.IndexMap ℕ Command S 
 HasAllCallsOut client commands = (n : ℕ) (command : Command) → map.get nat_eq commands n ≡ Some command → command.client ≡ client → has_call_out command ≡ true
 
 -- the counts are those of the commands: at each place of `calls` as many as are out at that server, at each of `waiting` as many as that client has without a call
-pub record AreCounted {S T : Type 0} (commands : map.IndexMap ℕ Command S) (clearing copying : map.IndexMap (List ℕ) ℕ T) (calls waiting : List ℕ) : Type 0 where
+pub record CountsCommands {S T : Type 0} (commands : map.IndexMap ℕ Command S) (clearing copying : map.IndexMap (List ℕ) ℕ T) (calls waiting : List ℕ) : Type 0 where
   pub clears : (key : List ℕ) → count_at (map.get (pointwise nat_eq) clearing) key ≡ count_by (clears_key key) (map.values commands)
   pub copies : (key : List ℕ) → count_at (map.get (pointwise nat_eq) copying) key ≡ count_by (copies_key key) (map.values commands)
   pub at : (server : ℕ) → slice_index_or calls server 0 ≡ count_by (is_called server) (map.values commands)

@@ -50,7 +50,7 @@ pub struct CommandTable {
 
 impl Model for CommandTable {
     ghost use Rattle.std.specs.Prelude.{◌≡◌, true};
-    ghost use Rattle.core_commands.specs.Counts.{ByNumber, AreCounted};
+    ghost use Rattle.core_commands.specs.Counts.{ByNumber, CountsCommands};
 
     ghost Value = { ByNumber };
 
@@ -62,7 +62,7 @@ impl Model for CommandTable {
 
     ghost view = { λ t. t.by_number };
 
-    ghost invariant = { λ t. t.is_counted ≡ true → AreCounted t.by_number t.clearing t.copying t.at_server t.waiting };
+    ghost invariant = { λ t. t.is_counted ≡ true → CountsCommands t.by_number t.clearing t.copying t.at_server t.waiting };
 }
 
 // Whether no command had the number. One that had is let go.

@@ -7,7 +7,7 @@ ghost use Rattle.fresh_runs.specs.Single.{FitsOutcome};
 ghost use Rattle.route_tree.specs.At.{tree_at};
 ghost use Rattle.route_tree.specs.Word.{Given, Word};
 ghost use Rattle.route_job.specs.Given.{given_when_done};
-ghost use Rattle.route_job.specs.Jobs.{Comes, call_of, server_of_pending, IsBroken, IsNext, IsCalling, IsDone};
+ghost use Rattle.route_job.specs.Jobs.{Comes, call_of, server_of_pending, IsBroken, JobShows, IsCalling, IsDone};
 
 use mc_types::{Outcome, ServerId, SharedAsk};
 use route_job::{Done, Job, JobStep};
@@ -66,7 +66,7 @@ impl HeldJob {
 
     /// As `Job::next`.
     pub fn next(&self) -> JobStep<'_>
-        ensures { IsNext self.now result }
+        ensures { JobShows self.now result }
     {
         self.job.as_ref().next()
     }

@@ -6,7 +6,7 @@ use Rattle.core_client.specs.declared.client.Client.{Client}
 use Rattle.core_proxy.specs.declared.finishing.EndedCommand.{EndedCommand}
 use Rattle.core_proxy.specs.declared.note.Note.{Note}
 use Rattle.core_proxy.specs.declared.proxy.Core.{Core}
-use Rattle.core_proxy.specs.CoreState.{client_at, command_at, GoesBy}
+use Rattle.core_proxy.specs.CoreState.{client_at, command_at, GoesByEntries}
 use Rattle.core_proxy.specs.Finishing.{CanEnd, IsNote, ShowsDone}
 use Rattle.core_proxy.specs.Polls.{CommandIsEnded, AreShown, EntriesThen}
 use Rattle.core_proxy.proofs.Chains.{goes_then}
@@ -19,7 +19,7 @@ pub shown_at_once :
     → client_at old client ≡ Some x → client_at new client ≡ Some y → ((c : ℕ) → nat_eq client c ≡ false → client_at new c ≡ client_at old c) → x.dropped ≡ false
     → ask ≡ can.command.ask → IsNote number ask shows.given note shows.given.reply
     → ((n : ℕ) → command_at new n ≡ cond (nat_eq number n) None (command_at old n)) → new.tree ≡ old.tree → new.limits ≡ old.limits → new.number ≡ old.number
-    → GoesBy old (EntriesThen (CommandIsEnded client note) (AreShown client)) new
+    → GoesByEntries old (EntriesThen (CommandIsEnded client note) (AreShown client)) new
 shown_at_once old new client number x y can told ask note shows was here others served ask_is is_note commands tree limits number_is =
     let s = shows.shown in
     let mid : Core = record old { clients = slab.with_value old.clients client s.between; commands = new.commands } in

@@ -9,7 +9,7 @@ use Rattle.mc_types.specs.declared.call.Origin.TheVariants.{Client as OfClient}
 use Rattle.fresh_runs.specs.Calls.{Call}
 use Rattle.fresh_runs.specs.Log.{Part}
 use Rattle.wire_parts.specs.Stream.{Place}
-use Rattle.fresh_runs.specs.Overlap.{Front, Slot, Owner, Starts, is_last, is_last_slot, after_start, slot_of, slot_in, IsNext, ticket_in}
+use Rattle.fresh_runs.specs.Overlap.{Front, Slot, Owner, Starts, is_last, is_last_slot, after_start, part_slot, slot_in, IsNext, ticket_in}
 use Rattle.fresh_runs.specs.OverlapState.{Either, IsApartNow}
 use Rattle.fresh_runs.proofs.OverlapSteps.{walks_lead}
 use Rattle.route_tree.specs.At.{tree_at}
@@ -22,7 +22,7 @@ use Rattle.core_client.specs.declared.client.Pending.{Pending}
 use Rattle.core_client.specs.declared.client.Client.{Client}
 use Rattle.core_commands.specs.declared.command.Command.{Command}
 use Rattle.core_proxy.specs.declared.proxy.Core.{Core}
-use Rattle.core_proxy.specs.Steps.{Begins}
+use Rattle.core_proxy.specs.Steps.{BeginsCommand}
 use Rattle.core_commands.specs.declared.claim.Claim.{Claim}
 use Rattle.core_proxy.specs.Claims.{claim_by, clears_key, copies_key}
 use Rattle.core_client.specs.Clients.{has_own}
@@ -47,9 +47,9 @@ last_front y [] slot h = h
 last_front y (a ∷ []) slot h = h
 last_front y (a ∷ b ∷ slots) slot h = last_front y (b ∷ slots) slot h
 
-module _ (old new : Core) (client : ℕ) (x y : Client) (part : Part dialect) (pending : Pending) (command : Command) (r : Begins old new client x y part pending command) where
+module _ (old new : Core) (client : ℕ) (x y : Client) (part : Part dialect) (pending : Pending) (command : Command) (r : BeginsCommand old new client x y part pending command) where
   abbrev slot : Slot dialect
-  slot = slot_of (old.number + 1) part
+  slot = part_slot (old.number + 1) part
 
   abbrev longer : (ℕ → List (Slot dialect)) → ℕ → List (Slot dialect)
   longer queue c = cond (nat_eq client c) (queue c ++ slot ∷ []) (queue c)

@@ -14,7 +14,7 @@ use Rattle.core_client.specs.declared.client.Client.{Client}
 use Rattle.core_commands.specs.declared.command.Command.{Command}
 use Rattle.core_proxy.specs.declared.proxy.Core.{Core}
 use Rattle.core_client.specs.ClientState.{dialect, front_by, output_by, dropped_by}
-use Rattle.core_proxy.specs.CoreState.{bars_of, client_at, command_at, Beside, owner_by, MayComeOf, state_of, ArePendingSlots, IsWaitedFor, IsQueue, IsHeld, IsOnItsWay, ticket_by, FitsBeside, GoesBy, version_by}
+use Rattle.core_proxy.specs.CoreState.{bars_of, client_at, command_at, Beside, owner_by, MayComeOf, state_of, ArePendingSlots, IsWaitedFor, IsQueue, IsHeld, IsOnItsWay, ticket_by, FitsBeside, GoesByEntries, version_by}
 use Rattle.core_proxy.specs.Steps.{event_of_call, settled_beside, Resolves}
 use Rattle.core_proxy.specs.Ending.{Drops}
 use Rattle.core_proxy.specs.OutSince.{out_since}
@@ -41,7 +41,7 @@ stands_alone old new number a b outcome r = λ beside fits. (settled_beside (eve
 
 -- and then more comes that tells of no call
 pub stands_then :
-    (old mid new : Core) (number : ℕ) (a : Command) (IsMore : List (Entry dialect) → Type 0) → StandsWithout old number a mid → GoesBy mid IsMore new
+    (old mid new : Core) (number : ℕ) (a : Command) (IsMore : List (Entry dialect) → Type 0) → StandsWithout old number a mid → GoesByEntries mid IsMore new
     → ((entries : List (Entry dialect)) → IsMore entries → (out : ℕ → List Ticket) (s : ℕ) → out_since entries out s ≡ out s) → StandsWithout old number a new
 stands_then old mid new number a IsMore w g none = λ beside fits.
     let x = w beside fits in
@@ -54,7 +54,7 @@ none_freed [] out s = refl
 none_freed (n ∷ numbers) out s = none_freed numbers out s
 
 -- a call is settled, and then more comes
-pub settles_then : (old mid new : Core) (number : ℕ) (a : Command) (outcome : Outcome) (IsFirst IsSecond : List (Entry dialect) → Type 0) → SettlesBy old number a outcome IsFirst mid → GoesBy mid IsSecond new → SettlesBy old number a outcome (Then IsFirst IsSecond) new
+pub settles_then : (old mid new : Core) (number : ℕ) (a : Command) (outcome : Outcome) (IsFirst IsSecond : List (Entry dialect) → Type 0) → SettlesBy old number a outcome IsFirst mid → GoesByEntries mid IsSecond new → SettlesBy old number a outcome (Then IsFirst IsSecond) new
 settles_then old mid new number a outcome IsFirst IsSecond s g = λ beside end fits is ends.
     let x = s beside end fits is ends in
     let y = g x.0 x.2 in

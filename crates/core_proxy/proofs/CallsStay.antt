@@ -5,7 +5,7 @@ use Rattle.mc_types.specs.declared.ask.Ask.{Ask}
 use Rattle.mc_types.specs.declared.answer.Answer.{Answer}
 use Rattle.mc_types.specs.declared.call.Outcome.{Outcome}
 use Rattle.mc_types.specs.declared.call.Origin.TheVariants.{Client as OfClient}
-use Rattle.fresh_runs.specs.Overlap.{Slot, Ticket, Entry, Feeds, Starts, Ends, Shows, Passes, Gives, Drops, Resets, ticket_in, without}
+use Rattle.fresh_runs.specs.Overlap.{Slot, Ticket, Entry, Feeds, Starts, Ends, Shows, Passes, Gives, Drops, Resets, ticket_in, without_ticket}
 use Rattle.route_tree.specs.At.{tree_at}
 use Rattle.route_tree.specs.Plan.{Plan}
 use Rattle.route_tree.specs.Route.{Route}
@@ -23,7 +23,7 @@ use Rattle.core_proxy.specs.declared.note.Poll.{Poll}
 use Rattle.core_proxy.specs.declared.note.Poll.TheVariants as polls
 use Rattle.core_proxy.specs.declared.proxy.Core.{Core}
 use Rattle.core_proxy.specs.CoreState as core_state
-use Rattle.core_proxy.specs.CoreState.{client_at, command_at, has_call_out, ticket_by, Beside, FitsBeside, FeedsOpen, Reloads, IsTakenOver, GoesBy}
+use Rattle.core_proxy.specs.CoreState.{client_at, command_at, has_call_out, ticket_by, Beside, FitsBeside, FeedsOpen, Reloads, IsTakenOver, GoesByEntries}
 use Rattle.core_proxy.specs.OutSince.{out_since}
 use Rattle.core_proxy.specs.Faults.{OpenFault}
 use Rattle.core_proxy.specs.Polls.{IsPassed, NothingHappened, HasBegun, IsTicketOf, IsSent, CommandIsEnded, AreShown, EntriesThen, Perhaps, BeginsOne, BeginsBelow, EndsOne, SoEnded, SoFar, Polls, PollFault}
@@ -157,7 +157,7 @@ quiet_so_far client =
 
 -- ---- by them each call stays
 
-keeps : (old new : Core) (IsKind : List (Entry dialect) → Type 0) → Quiet IsKind → CanStand old → GoesBy old IsKind new → KeepsCalls old new
+keeps : (old new : Core) (IsKind : List (Entry dialect) → Type 0) → Quiet IsKind → CanStand old → GoesByEntries old IsKind new → KeepsCalls old new
 keeps old new IsKind quiet can goes =
     let x = goes can.0 can.1 in
     record {
@@ -219,12 +219,12 @@ last_one l given n own None e front =
 last_one l given n own (Some u) e front = some_none u (sym (more l given n ∙ ap (λ o. or_else o (cond (nat_eq given.number n) (Some given) None)) e) ∙ front)
 
 second_if :
-    (x : Ticket) (l : List Ticket) (t given : Ticket) (n : ℕ) (b : Bool) → nat_eq given.number n ≡ true → (ticket_in l n ≡ Some t → ticket_in (without n (l ++ given ∷ [])) n ≡ None → ⊥)
-    → nat_eq x.number n ≡ b → cond b (Some x) (ticket_in l n) ≡ Some t → ticket_in (cond b (l ++ given ∷ []) (x ∷ without n (l ++ given ∷ []))) n ≡ None → ⊥
+    (x : Ticket) (l : List Ticket) (t given : Ticket) (n : ℕ) (b : Bool) → nat_eq given.number n ≡ true → (ticket_in l n ≡ Some t → ticket_in (without_ticket n (l ++ given ∷ [])) n ≡ None → ⊥)
+    → nat_eq x.number n ≡ b → cond b (Some x) (ticket_in l n) ≡ Some t → ticket_in (cond b (l ++ given ∷ []) (x ∷ without_ticket n (l ++ given ∷ []))) n ≡ None → ⊥
 second_if x l t given n true own rest e was none = last_one l given n own (ticket_in l n) refl none
-second_if x l t given n false own rest e was none = rest was (sym (ap (λ b. cond b (Some x) (ticket_in (without n (l ++ given ∷ [])) n)) e) ∙ none)
+second_if x l t given n false own rest e was none = rest was (sym (ap (λ b. cond b (Some x) (ticket_in (without_ticket n (l ++ given ∷ [])) n)) e) ∙ none)
 
-second : (l : List Ticket) (t given : Ticket) (n : ℕ) → nat_eq given.number n ≡ true → ticket_in l n ≡ Some t → ticket_in (without n (l ++ given ∷ [])) n ≡ None → ⊥
+second : (l : List Ticket) (t given : Ticket) (n : ℕ) → nat_eq given.number n ≡ true → ticket_in l n ≡ Some t → ticket_in (without_ticket n (l ++ given ∷ [])) n ≡ None → ⊥
 second [] t given n own was none = some_none t (sym was)
 second (x ∷ l) t given n own was none = second_if x l t given n (nat_eq x.number n) own (second l t given n own) refl was none
 
@@ -255,7 +255,7 @@ module _
           at : (b : Bool) → nat_eq ticket.server e.0.0 ≡ b → ⊥
           at true same =
               second (beside.out e.0.0) t.0 (given_of ticket) ticket.number (eq-eqb ticket.number ticket.number refl) there
-              (ap (λ l. ticket_in (without ticket.number l) ticket.number) (sym (out e.0.0 ∙ ap (λ b. cond b (beside.out e.0.0 ++ given_of ticket ∷ []) (beside.out e.0.0)) same)) ∙ now.single e.0.0 ticket.number)
+              (ap (λ l. ticket_in (without_ticket ticket.number l) ticket.number) (sym (out e.0.0 ∙ ap (λ b. cond b (beside.out e.0.0 ++ given_of ticket ∷ []) (beside.out e.0.0)) same)) ∙ now.single e.0.0 ticket.number)
           at false other =
               let still = sym (now.tickets e.0.0 ticket.number) ∙ ap (λ l. ticket_in l ticket.number) (out e.0.0 ∙ ap (λ b. cond b (beside.out e.0.0 ++ given_of ticket ∷ []) (beside.out e.0.0)) other) ∙ there in
               let two = same_pair (sym (is_called new ticket is) ∙ ticket_of (command_at new ticket.number) ticket.number e.0.0 t.0 still) in
@@ -278,7 +278,7 @@ module _
           there s true = more_other (beside.out s) (given_of ticket) n other
           there s false = refl
 
-called_keeps : (old new : Core) (client : ℕ) (ticket : OutTicket) → CanStand old → GoesBy old (EntriesThen (Perhaps (BeginsBelow old client)) (IsSent ticket)) new → IsTicketOf new ticket → GivesCall old ticket new
+called_keeps : (old new : Core) (client : ℕ) (ticket : OutTicket) → CanStand old → GoesByEntries old (EntriesThen (Perhaps (BeginsBelow old client)) (IsSent ticket)) new → IsTicketOf new ticket → GivesCall old ticket new
 called_keeps old new client ticket can goes is =
     let x = goes can.0 can.1 in
     let quiet = quiet_perhaps (BeginsBelow old client) (quiet_below old client) x.4.0 x.4.2 can.0.out in
@@ -307,7 +307,7 @@ out_pair a out = ap (λ z. cond z (Some (server_of_pending a.job.pending, ask_un
 
 module _
     (old new : Core) (number : ℕ) (a : Command) (beside beside' : Beside) (there : command_at old number ≡ Some a) (is_out : has_call_out a ≡ true) (was : FitsBeside old beside) (now : FitsBeside new beside')
-    (out : (s : ℕ) → beside'.out s ≡ cond (nat_eq (server_of_pending a.job.pending) s) (without number (beside.out s)) (beside.out s)) where
+    (out : (s : ℕ) → beside'.out s ≡ cond (nat_eq (server_of_pending a.job.pending) s) (without_ticket number (beside.out s)) (beside.out s)) where
   none_after : called new number ≡ None
   none_after = by (some_pair (called new number))
     where
@@ -318,13 +318,13 @@ module _
           t : (t : Ticket) × (ticket_by (command_at new number) number e.0.0 ≡ Some t) × (t.ask ≡ e.0.1)
           t = call_of (command_at new number) number e.0 e.1
 
-          in_out : ticket_in (cond (nat_eq (server_of_pending a.job.pending) e.0.0) (without number (beside.out e.0.0)) (beside.out e.0.0)) number ≡ Some t.0
+          in_out : ticket_in (cond (nat_eq (server_of_pending a.job.pending) e.0.0) (without_ticket number (beside.out e.0.0)) (beside.out e.0.0)) number ≡ Some t.0
           in_out = ap (λ l. ticket_in l number) (sym (out e.0.0)) ∙ now.tickets e.0.0 number ∙ t.1
 
           at : (b : Bool) → nat_eq (server_of_pending a.job.pending) e.0.0 ≡ b → ⊥
-          at true same = some_none t.0 (sym in_out ∙ ap (λ b. ticket_in (cond b (without number (beside.out e.0.0)) (beside.out e.0.0)) number) same ∙ was.single e.0.0 number)
+          at true same = some_none t.0 (sym in_out ∙ ap (λ b. ticket_in (cond b (without_ticket number (beside.out e.0.0)) (beside.out e.0.0)) number) same ∙ was.single e.0.0 number)
           at false other =
-              let before = sym (was.tickets e.0.0 number) ∙ sym (ap (λ b. ticket_in (cond b (without number (beside.out e.0.0)) (beside.out e.0.0)) number) other) ∙ in_out in
+              let before = sym (was.tickets e.0.0 number) ∙ sym (ap (λ b. ticket_in (cond b (without_ticket number (beside.out e.0.0)) (beside.out e.0.0)) number) other) ∙ in_out in
               let two = same_pair (sym (ap called_by there ∙ out_pair a is_out) ∙ ticket_of (command_at old number) number e.0.0 t.0 before) in
               contrary (nat_eq (server_of_pending a.job.pending) e.0.0) (eq-eqb (server_of_pending a.job.pending) e.0.0 (ap (λ (q : ℕ × Ask). q.0) two)) other
 
@@ -337,7 +337,7 @@ module _
           same_called (command_at new n) (command_at old n) n (λ s. sym (now.tickets s n) ∙ ap (λ l. ticket_in l n) (out s) ∙ left s (nat_eq (server_of_pending a.job.pending) s) ∙ was.tickets s n)
           ∙ sym (ap (λ b. cond b None (called old n)) other)
         where
-          left : (s : ℕ) (b : Bool) → ticket_in (cond b (without number (beside.out s)) (beside.out s)) n ≡ ticket_in (beside.out s) n
+          left : (s : ℕ) (b : Bool) → ticket_in (cond b (without_ticket number (beside.out s)) (beside.out s)) n ≡ ticket_in (beside.out s) n
           left s true = less_other (beside.out s) number n other
           left s false = refl
 

@@ -9,7 +9,7 @@ use Rattle.fresh_runs.specs.Calls.{End, outcome_of}
 use Rattle.fresh_runs.specs.Fleet.{EndsIn}
 use Rattle.fresh_runs.specs.Single.{FitsOutcome}
 use Rattle.fresh_runs.specs.Run.{Event, Calls, after_event}
-use Rattle.fresh_runs.specs.Overlap.{ticket_in, without, out_after}
+use Rattle.fresh_runs.specs.Overlap.{ticket_in, without_ticket, out_after}
 use Rattle.fresh_runs.specs.OverlapState.{HasResult, found_after}
 use Rattle.route_job.specs.Rest.{ask_under, origin_under}
 use Rattle.route_job.specs.Jobs.{server_of_pending, call_of, IsCalling}
@@ -58,7 +58,7 @@ module _ (old : Core) (number : ℕ) (a : Command) (outcome : Outcome) (r : Came
   pub none_then : (beside : Beside) → FitsBeside old beside → (end : End) → (s : ℕ) → ticket_in (out_after (event end) s (beside.out s)) number ≡ None
   none_then beside fits end s = own (nat_eq server s) refl
     where
-      own : (z : Bool) → nat_eq server s ≡ z → ticket_in (cond z (without number (beside.out s)) (beside.out s)) number ≡ None
+      own : (z : Bool) → nat_eq server s ≡ z → ticket_in (cond z (without_ticket number (beside.out s)) (beside.out s)) number ≡ None
       own true e = fits.single s number
       own false e = ticket_was beside fits s ∙ ap (λ z. cond z (Some (record { number = number; ask = ask; origin = origin })) None) e
 
@@ -66,18 +66,18 @@ module _ (old : Core) (number : ℕ) (a : Command) (outcome : Outcome) (r : Came
   pub other_then : (beside : Beside) → (end : End) → (s n : ℕ) → nat_eq number n ≡ false → ticket_in (out_after (event end) s (beside.out s)) n ≡ ticket_in (beside.out s) n
   other_then beside end s n differs = other (nat_eq server s)
     where
-      other : (z : Bool) → ticket_in (cond z (without number (beside.out s)) (beside.out s)) n ≡ ticket_in (beside.out s) n
+      other : (z : Bool) → ticket_in (cond z (without_ticket number (beside.out s)) (beside.out s)) n ≡ ticket_in (beside.out s) n
       other true = less_other (beside.out s) number n differs
       other false = refl
 
-  pub single_then : (beside : Beside) → FitsBeside old beside → (end : End) → (s n : ℕ) → ticket_in (without n (out_after (event end) s (beside.out s))) n ≡ None
+  pub single_then : (beside : Beside) → FitsBeside old beside → (end : End) → (s n : ℕ) → ticket_in (without_ticket n (out_after (event end) s (beside.out s))) n ≡ None
   single_then beside fits end s n = by (nat_eq server s)
     where
-      by : (z : Bool) → ticket_in (without n (cond z (without number (beside.out s)) (beside.out s))) n ≡ None
+      by : (z : Bool) → ticket_in (without_ticket n (cond z (without_ticket number (beside.out s)) (beside.out s))) n ≡ None
       by false = fits.single s n
       by true =
-          (elim (nat_eq number n) as (λ z. nat_eq number n ≡ z → ticket_in (without n (without number (beside.out s))) n ≡ None) [
-            | true ↦ λ same. subst (λ m. ticket_in (without m (without number (beside.out s))) m ≡ None) (eqb-true number n same) (none_without (without number (beside.out s)) number (fits.single s number))
+          (elim (nat_eq number n) as (λ z. nat_eq number n ≡ z → ticket_in (without_ticket n (without_ticket number (beside.out s))) n ≡ None) [
+            | true ↦ λ same. subst (λ m. ticket_in (without_ticket m (without_ticket number (beside.out s))) m ≡ None) (eqb-true number n same) (none_without (without_ticket number (beside.out s)) number (fits.single s number))
             | false ↦ λ differs. less_single (beside.out s) number n differs ∙ fits.single s n
           ]) refl
 

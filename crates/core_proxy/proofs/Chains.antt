@@ -9,7 +9,7 @@ use Rattle.core_proxy.specs.declared.proxy.Core.{Core}
 use Rattle.core_proxy.specs.Claims.{bars_by}
 use Rattle.core_client.specs.ClientState.{dialect}
 use Rattle.core_proxy.specs.OutSince.{out_since}
-use Rattle.core_proxy.specs.CoreState.{bars_of, Beside, state_of, IsBeside, GoesBy}
+use Rattle.core_proxy.specs.CoreState.{bars_of, Beside, state_of, IsBeside, GoesByEntries}
 
 pub beside_on : (old mid new : Beside) → IsBeside old mid → IsBeside mid new → IsBeside old new
 beside_on old mid new a b = record { at = b.at ∙ a.at; holds = b.holds ∙ a.holds; found = b.found ∙ a.found; turn = b.turn ∙ a.turn }
@@ -42,7 +42,7 @@ out_on (Drops client ∷ later) first out mid e s = out_on later first out mid e
 out_on (Frees number ∷ later) first out mid e s = out_on later first out mid e s
 out_on (Resets client ∷ later) first out mid e s = out_on later first out mid e s
 
-pub goes_then : (old mid new : Core) (IsFirst IsSecond : List (Entry dialect) → Type 0) → GoesBy old IsFirst mid → GoesBy mid IsSecond new → GoesBy old (Then IsFirst IsSecond) new
+pub goes_then : (old mid new : Core) (IsFirst IsSecond : List (Entry dialect) → Type 0) → GoesByEntries old IsFirst mid → GoesByEntries mid IsSecond new → GoesByEntries old (Then IsFirst IsSecond) new
 goes_then old mid new IsFirst IsSecond a b = λ beside fits.
     let x = a beside fits in
     let y = b x.0 x.2 in
@@ -51,11 +51,11 @@ goes_then old mid new IsFirst IsSecond a b = λ beside fits.
     (y.0, y.1 ++ x.1, y.2, beside_on beside x.0 y.0 x.3 y.3, (x.1, y.1, x.4, y.4, refl), leads_on words (bars_of old beside) (state_of old beside) (state_of mid x.0) (state_of new y.0) x.1 y.1 x.5 second, y.6 ∙ x.6, λ s. y.7 s ∙ out_on y.1 x.1 beside.out x.0.out x.7 s)
 
 -- entries of a kind are of a wider one
-pub goes_as : (old new : Core) (IsOne IsOther : List (Entry dialect) → Type 0) → ((entries : List (Entry dialect)) → IsOne entries → IsOther entries) → GoesBy old IsOne new → GoesBy old IsOther new
+pub goes_as : (old new : Core) (IsOne IsOther : List (Entry dialect) → Type 0) → ((entries : List (Entry dialect)) → IsOne entries → IsOther entries) → GoesByEntries old IsOne new → GoesByEntries old IsOther new
 goes_as old new IsOne IsOther f a = λ beside fits.
     let x = a beside fits in
     (x.0, x.1, x.2, x.3, f x.1 x.4, x.5, x.6, x.7)
 
 -- nothing happens where nothing changed
-pub goes_nowhere : (core : Core) → GoesBy core (λ entries. entries ≡ []) core
+pub goes_nowhere : (core : Core) → GoesByEntries core (λ entries. entries ≡ []) core
 goes_nowhere core = λ beside fits. (beside, [], fits, record { at = refl; holds = refl; found = refl; turn = refl }, refl, (λ opening log h. h), refl, λ s. refl)

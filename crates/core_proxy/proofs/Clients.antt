@@ -18,7 +18,7 @@ use Rattle.core_client.specs.declared.client.Client.{Client}
 use Rattle.core_commands.specs.declared.command.Command.{Command}
 use Rattle.core_proxy.specs.declared.proxy.Core.{Core}
 use Rattle.core_client.specs.Clients.{IsNewClient, TakesPiece, LosesOutput}
-use Rattle.core_proxy.specs.Feeding.{Takes}
+use Rattle.core_proxy.specs.Feeding.{TakesInPiece}
 use Rattle.route_tree.specs.Plan.{Plan}
 use Rattle.core_proxy.specs.declared.limits.CoreLimits.{CoreLimits}
 use Rattle.core_proxy.specs.Faults.{has_commands}
@@ -27,7 +27,7 @@ use Rattle.core_proxy.specs.Steps.{Turns}
 use Rattle.core_proxy.proofs.Slots.{held_then, same_held}
 use Rattle.core_proxy.proofs.Tickets.{contrary}
 use Rattle.core_client.specs.ClientState.{dialect, front_by, output_by, dropped_by}
-use Rattle.core_proxy.specs.CoreState.{bars_of, client_at, command_at, Beside, owner_by, MayComeOf, state_of, ArePendingSlots, IsAtFront, IsWaitedFor, IsQueue, IsHeld, IsOnItsWay, ticket_by, FitsBeside, GoesByOne, Opens, Feeds, FeedsOpen, Gives, ClosesClient, version_by}
+use Rattle.core_proxy.specs.CoreState.{bars_of, client_at, command_at, Beside, owner_by, MayComeOf, state_of, ArePendingSlots, IsAtFront, IsWaitedFor, IsQueue, IsHeld, IsOnItsWay, ticket_by, FitsBeside, GoesByOne, Opens, Feeds, FeedsOpen, GivesAll, ClosesClient, version_by}
 
 -- what is left of a command stays so where the limits stay
 pub on_its_way_kept : (old new : Core) (plan : Plan) (command : Command) → new.limits ≡ old.limits → IsOnItsWay old.limits.sharing plan command → IsOnItsWay new.limits.sharing plan command
@@ -123,7 +123,7 @@ same_at_front x y (slot ∷ []) t h = λ waits. let a = h (sym t.waits ∙ waits
 same_at_front x y (slot ∷ next ∷ slots) t h = same_at_front x y (next ∷ slots) t h
 
 -- a client's output was taken
-pub gives : (old new : Core) (client : ℕ) (x y : Client) (bytes : List ℕ) → Turns old new client (Some x) (Some y) → bytes ≡ bytes_of x.output → LosesOutput x y → Gives old client bytes new
+pub gives : (old new : Core) (client : ℕ) (x y : Client) (bytes : List ℕ) → Turns old new client (Some x) (Some y) → bytes ≡ bytes_of x.output → LosesOutput x y → GivesAll old client bytes new
 gives old new client x y bytes t taken p = (
   taken ∙ ap output_by (sym t.was),
   λ beside fits. (
@@ -310,7 +310,7 @@ set_same (y ∷ ys) zero x e = ap (λ z. z ∷ ys) (sym e)
 set_same (y ∷ ys) (suc i) x e = ap (λ l. y ∷ l) (set_same ys i x e)
 
 -- a client took a piece, or none
-pub fed : (old : Core) (client : ℕ) (x y : Client) (bytes : List ℕ) → client_at old client ≡ Some x → Takes x bytes y → Feeds old client bytes (record old { clients = slab.with_value old.clients client y })
+pub fed : (old : Core) (client : ℕ) (x y : Client) (bytes : List ℕ) → client_at old client ≡ Some x → TakesInPiece x bytes y → Feeds old client bytes (record old { clients = slab.with_value old.clients client y })
 fed old client x y bytes was takes =
     subst (λ b. FeedsOpen b old client bytes (record old { clients = slab.with_value old.clients client y })) (sym (ap dropped_by was)) (by_drop x.dropped refl takes)
   where

@@ -5,7 +5,7 @@ use Rattle.mc_types.specs.declared.answer.Answer.{Answer}
 use Rattle.fresh_runs.specs.Calls.{Call}
 use Rattle.fresh_runs.specs.Log.{Part}
 use Rattle.fresh_runs.specs.Overlap as log
-use Rattle.fresh_runs.specs.Overlap.{Front, Slot, is_last, is_last_slot, after_end, slot_of, slot_in, answered_in, ticket_in}
+use Rattle.fresh_runs.specs.Overlap.{Front, Slot, is_last, is_last_slot, after_end, part_slot, slot_in, answered_in, ticket_in}
 use Rattle.fresh_runs.proofs.OverlapSteps.{walks_lead}
 use Rattle.wire_parts.specs.Stream.{Place}
 use Rattle.wire_stream.proofs.ReaderLaws.{reader_is}
@@ -16,9 +16,9 @@ use Rattle.core_client.specs.declared.client.Client.{Client}
 use Rattle.core_commands.specs.declared.command.Command.{Command}
 use Rattle.core_proxy.specs.declared.proxy.Core.{Core}
 use Rattle.core_client.specs.ClientState.{dialect, front_by, output_by, dropped_by}
-use Rattle.core_proxy.specs.CoreState.{bars_of, client_at, command_at, Beside, owner_by, MayComeOf, state_of, is_call, has_call_out, ArePendingSlots, IsAtFront, IsWaitedFor, IsQueue, IsHeld, IsOnItsWay, ticket_by, FitsBeside, GoesBy, GoesByOne, version_by}
+use Rattle.core_proxy.specs.CoreState.{bars_of, client_at, command_at, Beside, owner_by, MayComeOf, state_of, is_call, has_call_out, ArePendingSlots, IsAtFront, IsWaitedFor, IsQueue, IsHeld, IsOnItsWay, ticket_by, FitsBeside, GoesByEntries, GoesByOne, version_by}
 use Rattle.core_proxy.specs.Steps.{Turns}
-use Rattle.core_client.specs.Replying.{pending_in, replied_in, GoesOn}
+use Rattle.core_client.specs.Replying.{pending_in, replied_in, GoesOnAfter}
 use Rattle.core_proxy.specs.Ending.{Ends, Drops, Frees}
 use Rattle.core_proxy.proofs.Clients.{on_its_way_kept, changed, stays, command_stays, still_fits, owners, by_client}
 use Rattle.core_commands.proofs.Commands.{no_command}
@@ -153,7 +153,7 @@ ended_idle false next here index = refl
 record Parted (x y : Client) (n : ℕ) (a : Command) (reply : Answer) (slots : List (Slot dialect)) : Type 0 where
   part : Part dialect
   ask : part.ask ≡ a.ask
-  slot : slot_in slots n ≡ Some (slot_of n part)
+  slot : slot_in slots n ≡ Some (part_slot n part)
   reads : is_last part ≡ false → dialect.Reads x.stream part.message part.next
   front : front_by (Some y) ≡ after_end (front_by (Some x)) part reply
   at_front : IsAtFront y (answered_in n reply slots)
@@ -212,10 +212,10 @@ module _ (old new : Core) (number : ℕ) (a : Command) (x y : Client) (pending :
         last_is : is_last_slot slot ≡ pending.last
         last_is = same_last x.queue.items (mine beside) number pending slot queue_is.0 r.there slot_is.1
 
-        there : (next : Place) → slot_in (mine beside) number ≡ Some (slot_of number (record { message = slot.message; next = next; index = slot.index; ask = slot.ask }))
+        there : (next : Place) → slot_in (mine beside) number ≡ Some (part_slot number (record { message = slot.message; next = next; index = slot.index; ask = slot.ask }))
         there next = slot_is.1 ∙ (λ i. Some (record { number = number_in (mine beside) number slot slot_is.1 i; message = slot.message; index = slot.index; ask = slot.ask; reply = slot_is.3 i }))
 
-        by : (b : Bool) → pending.last ≡ b → GoesOn b x reply y → Parted x y number a reply (mine beside)
+        by : (b : Bool) → pending.last ≡ b → GoesOnAfter b x reply y → Parted x y number a reply (mine beside)
         by true e g =
             let last : is_last_slot slot ≡ true = last_is ∙ e in
             record {
@@ -298,7 +298,7 @@ module _ (old new : Core) (number : ℕ) (a : Command) (x y : Client) (pending :
         ]) refl ∙ ap (λ o. ticket_by o n s) (sym (r.commands n))
 
   -- the command ends
-  pub ends : GoesBy old (λ entries. (part : Part dialect) × (part.ask ≡ a.ask) × (entries ≡ log.Ends a.client number part reply from ∷ [])) new
+  pub ends : GoesByEntries old (λ entries. (part : Part dialect) × (part.ask ≡ a.ask) × (entries ≡ log.Ends a.client number part reply from ∷ [])) new
   ends = λ beside fits.
       let p = parted beside fits in
       let part = p.part in

@@ -9,7 +9,7 @@ use Rattle.core_client.specs.declared.client.Client.{Client}
 use Rattle.core_proxy.specs.declared.proxy.Core.{Core}
 use Rattle.core_proxy.specs.Steps.{Turns}
 use Rattle.core_client.specs.Fronts.{PassesOne}
-use Rattle.core_client.specs.ClientState.{dialect, Message, front_by, output_by, dropped_by}
+use Rattle.core_client.specs.ClientState.{dialect, ClientMessage, front_by, output_by, dropped_by}
 use Rattle.core_proxy.specs.CoreState.{bars_of, MayComeOf, state_of, ArePendingSlots, IsAtFront, IsWaitedFor, IsQueue, GoesByOne, version_by}
 use Rattle.core_proxy.proofs.Slots.{same_held}
 use Rattle.core_proxy.proofs.Clients.{changed, stays, command_stays, still_fits, owners}
@@ -22,12 +22,12 @@ no_slots (p ∷ ps) slots e h = absurd (some p ps e)
     some : (p : Pending) (ps : List Pending) → ◌≡◌ {A = List Pending} (p ∷ ps) [] → ⊥
     some p ps e = cc
 
-empty_queue : (version : List ℕ) (x y : Client) (message : Message) (next : Place) → PassesOne version x message next y → (slots : List (Slot dialect)) → IsQueue (Some x) slots → IsQueue (Some y) slots
+empty_queue : (version : List ℕ) (x y : Client) (message : ClientMessage) (next : Place) → PassesOne version x message next y → (slots : List (Slot dialect)) → IsQueue (Some x) slots → IsQueue (Some y) slots
 empty_queue version x y message next t slots q =
     let none = no_slots x.queue.items slots t.none q.0 in
     (subst (λ l. ArePendingSlots l slots) (sym t.queue) (subst (ArePendingSlots []) (sym none) tt), subst (IsAtFront y) (sym none) t.waits, subst (IsWaitedFor y.waits) (sym none) tt)
 
-pub passes : (old new : Core) (client : ℕ) (x y : Client) (message : Message) (next : Place) → Turns old new client (Some x) (Some y) → PassesOne (version_by old.limits) x message next y → GoesByOne old (Passes client message next) new
+pub passes : (old new : Core) (client : ℕ) (x y : Client) (message : ClientMessage) (next : Place) → Turns old new client (Some x) (Some y) → PassesOne (version_by old.limits) x message next y → GoesByOne old (Passes client message next) new
 passes old new client x y message next t p = λ beside fits. (
   beside,
   Passes client message next ∷ [],

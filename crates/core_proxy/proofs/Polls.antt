@@ -31,7 +31,7 @@ use Rattle.core_proxy.specs.declared.note.Poll.TheVariants as polls
 use Rattle.core_client.specs.declared.replying.ReplyPlace.{ReplyPlace}
 use Rattle.core_commands.specs.declared.ticket.Ticket.{Ticket}
 use Rattle.core_proxy.specs.Steps.{Turns}
-use Rattle.core_client.specs.Fronts.{Stays, PassesFront, BeginsKey}
+use Rattle.core_client.specs.Fronts.{ClientStays, PassesFront, BeginsKey}
 use Rattle.core_commands.specs.Ready.{IsIdle}
 use Rattle.core_commands.specs.Begun.{IsBegun, IsTicketFor}
 use Rattle.core_proxy.specs.Polls.{ForClient, IsPassed, NothingHappened, HasBegun, BeginsAt, CanSend, IsTicketOf, IsSent, CommandIsEnded, ClientIsServed, AreShown, HasShownAll, queue_len, ShowsNext, StopsFirst, StopsAfter, IsBelowDepth, BeginsBelow, MayAsk, NoCommandGoesOn, IsNextAsk, bars, stands_before, StandsStill, StandsInLine, Acts, Polls, IsPolled, IsActed, IsWhy, SoEnded, SoFar, ReadFault, Perhaps, BeginsOne, DropsAll, StopsPolling}
@@ -43,7 +43,7 @@ use Rattle.core_client.specs.Nexts.{HasCommand}
 use Rattle.core_client.specs.Replying.{IsPlace, AnswersAt}
 use Rattle.core_proxy.specs.Finishing.{CanEnd, IsNote}
 use Rattle.core_client.specs.ClientState.{dialect, front_by, output_by, dropped_by}
-use Rattle.core_proxy.specs.CoreState.{bars_of, client_at, command_at, owner_by, MayComeOf, state_of, is_call, ArePendingSlots, IsAtFront, IsQueue, IsHeld, IsWaitedFor, ticket_by, GoesBy, version_by}
+use Rattle.core_proxy.specs.CoreState.{bars_of, client_at, command_at, owner_by, MayComeOf, state_of, is_call, ArePendingSlots, IsAtFront, IsQueue, IsHeld, IsWaitedFor, ticket_by, GoesByEntries, version_by}
 use Rattle.core_proxy.specs.Claims.{claim_by, is_barred}
 use Rattle.core_client.specs.Clients.{has_own}
 use Rattle.core_proxy.proofs.Clients.{on_its_way_kept, stays, command_stays, still_fits, owners}
@@ -57,16 +57,16 @@ use Rattle.core_client.proofs.Places.{there_at, replied_at}
 use Rattle.core_proxy.proofs.Showing.{shows}
 use Rattle.core_proxy.proofs.Chains.{Then, goes_then, goes_as, goes_nowhere}
 
-stays_at_front : (x y : Client) (slots : List (Slot dialect)) → Stays x y → IsAtFront x slots → IsAtFront y slots
+stays_at_front : (x y : Client) (slots : List (Slot dialect)) → ClientStays x y → IsAtFront x slots → IsAtFront y slots
 stays_at_front x y [] t h = t.waits ∙ h
 stays_at_front x y (slot ∷ []) t h = λ waits. let a = h (sym t.waits ∙ waits) in (a.0, a.1, a.2 ∙ sym t.index, (a.3.0, subst (λ p. dialect.Reads p slot.message a.3.0) (sym t.stream) a.3.1))
 stays_at_front x y (slot ∷ next ∷ slots) t h = stays_at_front x y (next ∷ slots) t h
 
-stays_queue : (x y : Client) (slots : List (Slot dialect)) → Stays x y → IsQueue (Some x) slots → IsQueue (Some y) slots
+stays_queue : (x y : Client) (slots : List (Slot dialect)) → ClientStays x y → IsQueue (Some x) slots → IsQueue (Some y) slots
 stays_queue x y slots t q = (subst (λ l. ArePendingSlots l slots) (sym t.queue) q.0, stays_at_front x y slots t q.1, subst (λ w. IsWaitedFor w slots) (sym t.waits) q.2)
 
 -- a client of whom nothing changed
-pub still_goes : (old new : Core) (client : ℕ) (x y : Client) → Turns old new client (Some x) (Some y) → Stays x y → GoesBy old NothingHappened new
+pub still_goes : (old new : Core) (client : ℕ) (x y : Client) → Turns old new client (Some x) (Some y) → ClientStays x y → GoesByEntries old NothingHappened new
 still_goes old new client x y t p = λ beside fits. (
   beside,
   [],
@@ -99,12 +99,12 @@ pub of_client : (core : Core) (client : ℕ) (Is : Client → Type 0) (x : Clien
 of_client core client Is x e h = subst (λ o. MatchOption o ⊥ Is) e h
 
 -- a message was passed
-pub passed_goes : (old new : Core) (client : ℕ) (x y : Client) (passed : Passed) → Turns old new client (Some x) (Some y) → PassesFront (version_by old.limits) x passed y → GoesBy old (IsPassed client passed) new
+pub passed_goes : (old new : Core) (client : ℕ) (x y : Client) (passed : Passed) → Turns old new client (Some x) (Some y) → PassesFront (version_by old.limits) x passed y → GoesByEntries old (IsPassed client passed) new
 passed_goes old new client x y passed t p =
     goes_as old new (λ entries. entries ≡ Passes client p.message p.next ∷ []) (IsPassed client passed) (λ entries is. (p.message, p.next, p.told, is)) (passes old new client x y p.message p.next t p.passes)
 
 -- nothing changed that the log knows
-pub same_goes : (old new : Core) → ((c : ℕ) → client_at new c ≡ client_at old c) → ((n : ℕ) → command_at new n ≡ command_at old n) → new.tree ≡ old.tree → new.limits ≡ old.limits → new.number ≡ old.number → GoesBy old NothingHappened new
+pub same_goes : (old new : Core) → ((c : ℕ) → client_at new c ≡ client_at old c) → ((n : ℕ) → command_at new n ≡ command_at old n) → new.tree ≡ old.tree → new.limits ≡ old.limits → new.number ≡ old.number → GoesByEntries old NothingHappened new
 same_goes old new clients commands tree limits number = λ beside fits. (
   beside,
   [],
@@ -195,7 +195,7 @@ begun_goes old new client x y ask command was is others served first apart claim
 
 -- a call went out
 pub sent_goes : (old new : Core) (number : ℕ) (can : CanSend old number) (ticket : Ticket) → IsTicketFor number can.command.job ticket → ((n : ℕ) → command_at new n ≡ (if nat_eq number n then Some (record can.command { is_out = true }) else command_at old n))
-    → ((c : ℕ) → client_at new c ≡ client_at old c) → new.tree ≡ old.tree → new.limits ≡ old.limits → new.number ≡ old.number → GoesBy old (IsSent ticket) new
+    → ((c : ℕ) → client_at new c ≡ client_at old c) → new.tree ≡ old.tree → new.limits ≡ old.limits → new.number ≡ old.number → GoesByEntries old (IsSent ticket) new
 sent_goes old new number can ticket is commands clients tree limits number_is =
     let job = can.command.job in
     goes_as old new (λ entries. entries ≡ Sends number (server_of_pending job.pending) (ask_under job.frames.items job.ask) (origin_under job.frames.items OfClient) ∷ []) (IsSent ticket)
@@ -221,7 +221,7 @@ when_ok (Ok a) P e h = h
 when_ok (Err x) P e h = absurd cc
 
 -- a command that was written back as it was
-pub written_back : (old new : Core) (number : ℕ) (a : Command) → command_at old number ≡ Some a → ((n : ℕ) → command_at new n ≡ cond (nat_eq number n) (Some a) (command_at old n)) → ((c : ℕ) → client_at new c ≡ client_at old c) → new.tree ≡ old.tree → new.limits ≡ old.limits → new.number ≡ old.number → GoesBy old NothingHappened new
+pub written_back : (old new : Core) (number : ℕ) (a : Command) → command_at old number ≡ Some a → ((n : ℕ) → command_at new n ≡ cond (nat_eq number n) (Some a) (command_at old n)) → ((c : ℕ) → client_at new c ≡ client_at old c) → new.tree ≡ old.tree → new.limits ≡ old.limits → new.number ≡ old.number → GoesByEntries old NothingHappened new
 written_back old new number a was commands clients tree limits number_is =
     same_goes old new clients (λ n. commands n ∙ (elim (nat_eq number n) as (λ b. nat_eq number n ≡ b → cond b (Some a) (command_at old n) ≡ command_at old n) [
       | true ↦ λ same. sym was ∙ ap (command_at old) (eqb-true number n same)
@@ -233,7 +233,7 @@ pub ended_goes :
     (old new : Core) (client number : ℕ) (x y : Client) (can : CanEnd old client number) (place : ReplyPlace) (is : IsPlace x number place) (given : Given) (ask : Ask) (note : Note) (reply : Answer)
     → client_at old client ≡ Some x → client_at new client ≡ Some y → ((c : ℕ) → nat_eq client c ≡ false → client_at new c ≡ client_at old c) → x.dropped ≡ false
     → Comes can.command.job [] given → ask ≡ can.command.ask → IsNote number ask given note reply → AnswersAt x place.at is.pending.last reply y
-    → ((n : ℕ) → command_at new n ≡ cond (nat_eq number n) None (command_at old n)) → new.tree ≡ old.tree → new.limits ≡ old.limits → new.number ≡ old.number → GoesBy old (CommandIsEnded client note) new
+    → ((n : ℕ) → command_at new n ≡ cond (nat_eq number n) None (command_at old n)) → new.tree ≡ old.tree → new.limits ≡ old.limits → new.number ≡ old.number → GoesByEntries old (CommandIsEnded client note) new
 ended_goes old new client number x y can place is given ask note reply was here others served comes ask_is told replies commands tree limits number_is =
     let a = can.command in
     let own : a.client ≡ client = can.idle.own in
@@ -311,15 +311,15 @@ pub none_shown : (client : ℕ) (entries : List (Entry dialect)) → NothingHapp
 none_shown client entries e = ([], e)
 
 -- some more were shown
-pub show_on : (old mid new : Core) (client : ℕ) → GoesBy old (AreShown client) mid → GoesBy mid (AreShown client) new → GoesBy old (AreShown client) new
+pub show_on : (old mid new : Core) (client : ℕ) → GoesByEntries old (AreShown client) mid → GoesByEntries mid (AreShown client) new → GoesByEntries old (AreShown client) new
 show_on old mid new client a b = goes_as old new (Then (AreShown client) (AreShown client)) (AreShown client) (shown_more client) (goes_then old mid new (AreShown client) (AreShown client) a b)
 
 -- none more was
-pub show_none : (old mid new : Core) (client : ℕ) → GoesBy old (AreShown client) mid → GoesBy mid NothingHappened new → GoesBy old (AreShown client) new
+pub show_none : (old mid new : Core) (client : ℕ) → GoesByEntries old (AreShown client) mid → GoesByEntries mid NothingHappened new → GoesByEntries old (AreShown client) new
 show_none old mid new client a b = show_on old mid new client a (goes_as mid new NothingHappened (AreShown client) (none_shown client) b)
 
 -- memory was refused after some
-pub show_stops : (old mid new : Core) (client : ℕ) (fault : CoreFault) → GoesBy old (AreShown client) mid → StopsFirst client mid fault new → StopsAfter client (AreShown client) old fault new
+pub show_stops : (old mid new : Core) (client : ℕ) (fault : CoreFault) → GoesByEntries old (AreShown client) mid → StopsFirst client mid fault new → StopsAfter client (AreShown client) old fault new
 show_stops old mid new client faults.NoMemory a b = (show_none old mid new client a b.0, b.1)
 show_stops old mid new client faults.TooManyClients a b = absurd b
 show_stops old mid new client faults.NoClient a b = absurd b
@@ -346,22 +346,22 @@ shown_after client note entries h =
       h.4 ∙ ap (λ l. third ++ l) before.4 ∙ sym (append_assoc third second first),
     )
 
-ended_on : (old mid new : Core) (client : ℕ) (note : Note) → GoesBy old (Then (CommandIsEnded client note) (AreShown client)) mid → GoesBy mid (AreShown client) new → GoesBy old (Then (CommandIsEnded client note) (AreShown client)) new
+ended_on : (old mid new : Core) (client : ℕ) (note : Note) → GoesByEntries old (Then (CommandIsEnded client note) (AreShown client)) mid → GoesByEntries mid (AreShown client) new → GoesByEntries old (Then (CommandIsEnded client note) (AreShown client)) new
 ended_on old mid new client note a b =
     goes_as old new (Then (Then (CommandIsEnded client note) (AreShown client)) (AreShown client)) (Then (CommandIsEnded client note) (AreShown client)) (shown_after client note) (goes_then old mid new (Then (CommandIsEnded client note) (AreShown client)) (AreShown client) a b)
 
 -- a command ended after nothing, and nothing was shown
-pub ended_unshown : (old mid new : Core) (client : ℕ) (note : Note) → GoesBy old NothingHappened mid → GoesBy mid (CommandIsEnded client note) new → GoesBy old (Then (CommandIsEnded client note) (AreShown client)) new
+pub ended_unshown : (old mid new : Core) (client : ℕ) (note : Note) → GoesByEntries old NothingHappened mid → GoesByEntries mid (CommandIsEnded client note) new → GoesByEntries old (Then (CommandIsEnded client note) (AreShown client)) new
 ended_unshown old mid new client note a b =
     goes_as old new (Then NothingHappened (CommandIsEnded client note)) (Then (CommandIsEnded client note) (AreShown client))
     (λ entries h. (h.1, [], h.3, ([], refl), h.4 ∙ ap (λ l. h.1 ++ l) h.2 ∙ sym (append_nil h.1)))
     (goes_then old mid new NothingHappened (CommandIsEnded client note) a b)
 
 -- a command ended, and replies were shown
-pub finish_goes : (old mid new : Core) (client : ℕ) (note : Note) → GoesBy old (Then (CommandIsEnded client note) (AreShown client)) mid → GoesBy mid (AreShown client) new → HasShownAll new client → StandsStill old new → Acts old client (polls.Did note) new
+pub finish_goes : (old mid new : Core) (client : ℕ) (note : Note) → GoesByEntries old (Then (CommandIsEnded client note) (AreShown client)) mid → GoesByEntries mid (AreShown client) new → HasShownAll new client → StandsStill old new → Acts old client (polls.Did note) new
 finish_goes old mid new client note a b shown still = record { goes = ended_on old mid new client note a b; why = shown; still = still }
 
-pub finish_stops : (old mid new : Core) (client : ℕ) (note : Note) (fault : CoreFault) → GoesBy old (Then (CommandIsEnded client note) (AreShown client)) mid → StopsAfter client (AreShown client) mid fault new → StopsAfter client (SoEnded client) old fault new
+pub finish_stops : (old mid new : Core) (client : ℕ) (note : Note) (fault : CoreFault) → GoesByEntries old (Then (CommandIsEnded client note) (AreShown client)) mid → StopsAfter client (AreShown client) mid fault new → StopsAfter client (SoEnded client) old fault new
 finish_stops old mid new client note faults.NoMemory a b =
     (goes_as old new (Then (CommandIsEnded client note) (AreShown client)) (SoEnded client) (λ entries h. (h.0, h.1, inr (note, h.2), h.3, h.4)) (ended_on old mid new client note a b.0), b.1)
 finish_stops old mid new client note faults.TooManyClients a b = absurd b
@@ -426,7 +426,7 @@ why_of old new client (polls.Did note) h = h
 pub acts_polls : (old new : Core) (client : ℕ) (poll : Poll) → Acts old client poll new → Polls old client poll new
 acts_polls old new client poll a = record { goes = polled_as old new client poll a.goes; why = why_of old new client poll a.why; order = inl a.still }
   where
-    polled_as : (old new : Core) (client : ℕ) (poll : Poll) → GoesBy old (IsPolled client poll) new → GoesBy old (Then (Perhaps (BeginsBelow old client)) (IsPolled client poll)) new
+    polled_as : (old new : Core) (client : ℕ) (poll : Poll) → GoesByEntries old (IsPolled client poll) new → GoesByEntries old (Then (Perhaps (BeginsBelow old client)) (IsPolled client poll)) new
     polled_as old new client poll g =
         goes_as old new (Then NothingHappened (IsPolled client poll)) (Then (Perhaps (BeginsBelow old client)) (IsPolled client poll)) (λ entries h. (h.0, h.1, inl h.2, h.3, h.4)) (goes_then old old new NothingHappened (IsPolled client poll) (goes_nowhere old) g)
 
@@ -445,7 +445,7 @@ begins_one : (old : Core) (client : ℕ) (entries : List (Entry dialect)) → Pe
 begins_one old client entries (inl none) = inl none
 begins_one old client entries (inr begins) = inr begins.1
 
-pub polls_goes : (old new : Core) (client : ℕ) (poll : Poll) → Polls old client poll new → GoesBy old (Then (Perhaps (BeginsOne client)) (IsPolled client poll)) new
+pub polls_goes : (old new : Core) (client : ℕ) (poll : Poll) → Polls old client poll new → GoesByEntries old (Then (Perhaps (BeginsOne client)) (IsPolled client poll)) new
 polls_goes old new client poll polled =
     goes_as old new (Then (Perhaps (BeginsBelow old client)) (IsPolled client poll)) (Then (Perhaps (BeginsOne client)) (IsPolled client poll)) (λ entries h. (h.0, h.1, begins_one old client h.0 h.2, h.3, h.4)) polled.goes
 
@@ -455,7 +455,7 @@ nothing_polls old client poll f why =
     record { goes = goes_as old old NothingHappened (Then (Perhaps (BeginsBelow old client)) (IsPolled client poll)) (λ entries e. ([], [], inl refl, f [] refl, e)) (goes_nowhere old); why = why; order = inl (refl, refl) }
 
 -- a poll by which nothing happened but that the client came to the line of its key
-pub line_polls : (old new : Core) (client : ℕ) → GoesBy old NothingHappened new → StandsInLine old client new → MayAsk old client → NoCommandGoesOn new client → Polls old client polls.Queued new
+pub line_polls : (old new : Core) (client : ℕ) → GoesByEntries old NothingHappened new → StandsInLine old client new → MayAsk old client → NoCommandGoesOn new client → Polls old client polls.Queued new
 line_polls old new client goes stands may held =
     record { goes = goes_as old new NothingHappened (Then (Perhaps (BeginsBelow old client)) (IsPolled client polls.Queued)) (λ entries e. ([], [], inl refl, refl, e)) goes; why = (held, inr (stands, may)); order = inr (inr stands) }
 
@@ -489,7 +489,7 @@ if_ok (Ok a) P Q f h = f a h
 if_ok (Err e) P Q f h = tt
 
 -- a client of whom nothing changed is served still
-pub still_served : (old new : Core) (client : ℕ) (x y : Client) → Turns old new client (Some x) (Some y) → Stays x y → x.dropped ≡ false → ForClient new client ClientIsServed
+pub still_served : (old new : Core) (client : ℕ) (x y : Client) → Turns old new client (Some x) (Some y) → ClientStays x y → x.dropped ≡ false → ForClient new client ClientIsServed
 still_served old new client x y t p served = subst (λ o. MatchOption o ⊥ ClientIsServed) (sym t.is) (p.dropped ∙ served)
 
 -- memory was refused for one that was served

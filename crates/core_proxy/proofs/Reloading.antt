@@ -2,7 +2,7 @@
 use Rattle.std.proofs.Common.{◌≡◌, ℕ, ◌+◌, ◌≤◌, List, Some, ⊎_elim, refl, sym, ap, ◌∙◌, subst, arith}
 use Rattle.std.proofs.lemmas.Bool.{cases_lt}
 use Rattle.mc_types.specs.declared.call.Origin.TheVariants.{Client as OfClient}
-use Rattle.fresh_runs.specs.OverlapLaws.{AreKept, AreKeptBars}
+use Rattle.fresh_runs.specs.OverlapLaws.{WordsAreKept, AreKeptBars}
 use Rattle.fresh_runs.proofs.OverlapReload.{reloads}
 use Rattle.route_tree.specs.Route.{Route}
 use Rattle.route_tree.specs.Plan.{Plan}
@@ -14,7 +14,7 @@ use Rattle.core_proxy.specs.CoreState.{bars_of, command_at, Beside, state_of, Is
 use Rattle.core_commands.proofs.Commands.{no_command}
 
 -- the words of commands that have begun stay
-words_stay : (old : Core) (tree : Route) (beside : Beside) (at : ℕ → List ℕ → Plan) → IsTakenOver old tree beside at → AreKept (old.number + 1) (tree_words beside.at) (tree_words at)
+words_stay : (old : Core) (tree : Route) (beside : Beside) (at : ℕ → List ℕ → Plan) → IsTakenOver old tree beside at → WordsAreKept (old.number + 1) (tree_words beside.at) (tree_words at)
 words_stay old tree beside at taken n ask calls reply from lt word =
     (word.0, subst (λ plan. Word plan ask OfClient 0 calls (record { reply = reply; from = from })) (sym (taken.begun n ask.key (let l = lt in omega (arith, l)))) word.1)
 

@@ -6,7 +6,7 @@ use Rattle.mc_types.specs.declared.answer.Answer.{Answer}
 use Rattle.mc_types.specs.declared.call.Origin.{Origin}
 use Rattle.mc_types.specs.declared.call.Origin.TheVariants.{Client as OfClient}
 use Rattle.fresh_runs.specs.Calls.{Call}
-use Rattle.fresh_runs.specs.Overlap.{Ticket, Sends, ticket_in, without}
+use Rattle.fresh_runs.specs.Overlap.{Ticket, Sends, ticket_in, without_ticket}
 use Rattle.fresh_runs.proofs.OverlapSteps.{walks_lead}
 use Rattle.route_tree.specs.At.{tree_at}
 use Rattle.route_tree.specs.Word.{tree_words}
@@ -58,10 +58,10 @@ module _ (old new : Core) (number : ℕ) (a : Command) (r : SendsOut old new num
       other true differs = more_other (beside.out s) ticket n differs
       other false differs = refl
 
-  single_then : (beside : Beside) → FitsBeside old beside → (s n : ℕ) → ticket_in (without n (out_then beside s)) n ≡ None
+  single_then : (beside : Beside) → FitsBeside old beside → (s n : ℕ) → ticket_in (without_ticket n (out_then beside s)) n ≡ None
   single_then beside fits s n = by (nat_eq server s)
     where
-      by : (b : Bool) → ticket_in (without n (cond b (beside.out s ++ ticket ∷ []) (beside.out s))) n ≡ None
+      by : (b : Bool) → ticket_in (without_ticket n (cond b (beside.out s ++ ticket ∷ []) (beside.out s))) n ≡ None
       by true = more_single (beside.out s) ticket n (fits.single s n) (λ same. subst (λ m. ticket_in (beside.out s) m ≡ None) (eqb-true number n same) (none_out beside fits s))
       by false = fits.single s n
 

@@ -8,7 +8,7 @@ use Rattle.fresh_runs.specs.Overlap.{Slot, Shows, slot_in, behind_head}
 use Rattle.fresh_runs.proofs.OverlapSteps.{walks_lead}
 use Rattle.wire_stream.specs.Asks.{asks_of, quiet_of}
 use Rattle.wire_stream.specs.TextProtocol.{Whole, LongLine, OtherProtocol, asks_in, shown_by, shown_of}
-use Rattle.wire_stream.specs.Replies.{is_last, shown_text}
+use Rattle.wire_stream.specs.Replies.{is_last_ask, shown_text}
 use Rattle.route_tree.specs.At.{tree_at}
 use Rattle.route_tree.specs.Word.{tree_words}
 use Rattle.core_client.specs.declared.client.Pending.{Pending}
@@ -16,13 +16,13 @@ use Rattle.core_client.specs.declared.client.Client.{Client}
 use Rattle.core_proxy.specs.declared.proxy.Core.{Core}
 use Rattle.core_proxy.specs.Steps.{Turns}
 use Rattle.core_client.specs.Heads.{ShowsHead}
-use Rattle.core_client.specs.ClientState.{dialect, Message, quiet_in, front_by, output_by, dropped_by, IsSlot}
-use Rattle.core_proxy.specs.CoreState.{bars_of, Beside, client_at, MayComeOf, state_of, ArePendingSlots, IsAtFront, IsWaitedFor, IsQueue, ticket_by, GoesBy, version_by}
+use Rattle.core_client.specs.ClientState.{dialect, ClientMessage, quiet_in, front_by, output_by, dropped_by, IsSlot}
+use Rattle.core_proxy.specs.CoreState.{bars_of, Beside, client_at, MayComeOf, state_of, ArePendingSlots, IsAtFront, IsWaitedFor, IsQueue, ticket_by, GoesByEntries, version_by}
 use Rattle.core_proxy.proofs.Slots.{no_reply, behind, none_behind, held_then}
 use Rattle.core_proxy.proofs.Clients.{on_its_way_kept, changed, stays, command_stays, owners}
 
 -- the text that the core writes is that of the message
-shown_is : (message : Message) (index : ℕ) (ask : Ask) (reply : Answer) → slice_get (asks_in message) index ≡ Some ask → shown_of message index reply ≡ shown_text (quiet_in message) (is_last (asks_in message) index) ask reply
+shown_is : (message : ClientMessage) (index : ℕ) (ask : Ask) (reply : Answer) → slice_get (asks_in message) index ≡ Some ask → shown_of message index reply ≡ shown_text (quiet_in message) (is_last_ask (asks_in message) index) ask reply
 shown_is (Whole message) index ask reply at = ap (λ o. shown_by (quiet_of message) (asks_of message) index o reply) at
 shown_is LongLine zero ask reply at = absurd cc
 shown_is LongLine (suc i) ask reply at = absurd cc
@@ -31,7 +31,7 @@ shown_is OtherProtocol (suc i) ask reply at = absurd cc
 
 slot_shown : (pending : Pending) (slot : Slot dialect) (reply : Answer) → IsSlot pending slot → shown_of slot.message slot.index reply ≡ shown_text pending.quiet pending.last pending.ask reply
 slot_shown pending slot reply s =
-    shown_is slot.message slot.index pending.ask reply s.asks ∙ ap (λ q. shown_text q (is_last (asks_in slot.message) slot.index) pending.ask reply) s.quiet ∙ ap (λ l. shown_text pending.quiet l pending.ask reply) s.last
+    shown_is slot.message slot.index pending.ask reply s.asks ∙ ap (λ q. shown_text q (is_last_ask (asks_in slot.message) slot.index) pending.ask reply) s.quiet ∙ ap (λ l. shown_text pending.quiet l pending.ask reply) s.last
 
 -- the slots of a queue with a head
 split : (pending : Pending) (rest : List Pending) (slots : List (Slot dialect)) → ArePendingSlots (pending ∷ rest) slots → (slot : Slot dialect) × (more : List (Slot dialect)) × (slots ≡ slot ∷ more) × IsSlot pending slot × ArePendingSlots rest more
@@ -59,7 +59,7 @@ module _ (old new : Core) (client : ℕ) (x y : Client) (pending : Pending) (rep
   less queue c = cond (nat_eq client c) (behind_head (queue c)) (queue c)
 
   -- the reply is shown
-  pub shows : GoesBy old (λ entries. (slot : Slot dialect) × (slot.number ≡ pending.number) × (entries ≡ Shows client slot reply ∷ [])) new
+  pub shows : GoesByEntries old (λ entries. (slot : Slot dialect) × (slot.number ≡ pending.number) × (entries ≡ Shows client slot reply ∷ [])) new
   shows = λ beside fits.
       let queue = beside.queue in
       let beside' : Beside = record beside { queue = less queue } in

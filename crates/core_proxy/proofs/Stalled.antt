@@ -10,7 +10,7 @@ use Rattle.wire_parts.specs.declared.skip.Skip.TheVariants.{Nothing}
 use Rattle.wire_stream.specs.declared.requests.request.Request.{Request}
 use Rattle.wire_stream.specs.Message.{IsReadFrom, message_in}
 use Rattle.wire_stream.specs.Asks.{asks_of}
-use Rattle.wire_stream.specs.Held.{held_at}
+use Rattle.wire_stream.specs.Held.{bytes_at}
 use Rattle.core_client.specs.declared.client.Client.{Client}
 use Rattle.core_client.specs.declared.client.Pending.{Pending}
 use Rattle.core_client.specs.Clients.{has_own, LosesOutput}
@@ -40,18 +40,18 @@ done_still x y p (inr h) = inr (p.queue ∙ h.0, subst (IsStuck dialect) (sym p.
 ask_still : (request : Request) (ask : Ask) (x y : Client) → LosesOutput x y → IsAskAt x request ask → IsAskAt y request ask
 ask_still request ask x y p h =
     record {
-      place = subst (λ (s : Place). s ≡ Stands Nothing (held_at s)) (sym p.stream) h.place;
-      read = subst (λ (s : Place). IsReadFrom (held_at s) request) (sym p.stream) h.read;
-      at = (λ i. slice_get (asks_of (message_in (held_at (p.stream i)) request)) (p.index i)) ∙ h.at;
-      there = subst (λ (s : Place × ℕ). s.1 < length (asks_of (message_in (held_at s.0) request))) (λ i. (sym p.stream i, sym p.index i)) h.there;
+      place = subst (λ (s : Place). s ≡ Stands Nothing (bytes_at s)) (sym p.stream) h.place;
+      read = subst (λ (s : Place). IsReadFrom (bytes_at s) request) (sym p.stream) h.read;
+      at = (λ i. slice_get (asks_of (message_in (bytes_at (p.stream i)) request)) (p.index i)) ∙ h.at;
+      there = subst (λ (s : Place × ℕ). s.1 < length (asks_of (message_in (bytes_at s.0) request))) (λ i. (sym p.stream i, sym p.index i)) h.there;
     }
 
 can_ask_still : (request : Request) (x y : Client) → LosesOutput x y → CanAsk request x → CanAsk request y
 can_ask_still request x y p h =
     record {
-      stands = subst (λ (s : Place). s ≡ Stands Nothing (held_at s)) (sym p.stream) h.stands;
-      is_read = subst (λ (s : Place). IsReadFrom (held_at s) request) (sym p.stream) h.is_read;
-      there = subst (λ (s : Place × ℕ). s.1 < length (asks_of (message_in (held_at s.0) request))) (λ i. (sym p.stream i, sym p.index i)) h.there;
+      stands = subst (λ (s : Place). s ≡ Stands Nothing (bytes_at s)) (sym p.stream) h.stands;
+      is_read = subst (λ (s : Place). IsReadFrom (bytes_at s) request) (sym p.stream) h.is_read;
+      there = subst (λ (s : Place × ℕ). s.1 < length (asks_of (message_in (bytes_at s.0) request))) (λ i. (sym p.stream i, sym p.index i)) h.there;
       ready = p.waits ∙ h.ready;
       served = p.dropped ∙ h.served;
     }

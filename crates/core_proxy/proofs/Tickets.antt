@@ -1,7 +1,7 @@
 -- Calls that are out at a server: one more after them, and one less.
 use Rattle.std.proofs.Common.{◌≡◌, ℕ, Bool, true, false, cond, List, [], ◌∷◌, ◌++◌, Option, Some, None, refl, sym, ap, ◌∙◌, subst, nat_eq}
 use Rattle.std.proofs.lemmas.Bool.{eqb-true, eq-eqb}
-use Rattle.fresh_runs.specs.Overlap.{Ticket, ticket_in, without}
+use Rattle.fresh_runs.specs.Overlap.{Ticket, ticket_in, without_ticket}
 
 pub contrary : {A : Type 0} (b : Bool) → b ≡ true → b ≡ false → A
 contrary true e f = absurd cc
@@ -36,17 +36,17 @@ pub more_own : (l : List Ticket) (t : Ticket) (n : ℕ) → nat_eq t.number n �
 more_own l t n same none = more l t n ∙ ap (λ o. or_else o (cond (nat_eq t.number n) (Some t) None)) none ∙ ap (λ b. cond b (Some t) None) same
 
 -- with one ticket more there is still one of each number at most
-pub more_single : (l : List Ticket) (t : Ticket) (n : ℕ) → ticket_in (without n l) n ≡ None → (nat_eq t.number n ≡ true → ticket_in l n ≡ None) → ticket_in (without n (l ++ t ∷ [])) n ≡ None
+pub more_single : (l : List Ticket) (t : Ticket) (n : ℕ) → ticket_in (without_ticket n l) n ≡ None → (nat_eq t.number n ≡ true → ticket_in l n ≡ None) → ticket_in (without_ticket n (l ++ t ∷ [])) n ≡ None
 more_single [] t n one new =
     (elim (nat_eq t.number n) as (λ b. nat_eq t.number n ≡ b → ticket_in (cond b [] (t ∷ [])) n ≡ None) [
       | true ↦ λ same. refl
       | false ↦ λ differs. ap (λ b. cond b (Some t) None) differs
     ]) refl
 more_single (x ∷ l) t n one new =
-    (elim (nat_eq x.number n) as (λ b. nat_eq x.number n ≡ b → ticket_in (cond b l (x ∷ without n l)) n ≡ None → (nat_eq t.number n ≡ true → cond b (Some x) (ticket_in l n) ≡ None) → ticket_in (cond b (l ++ t ∷ []) (x ∷ without n (l ++ t ∷ []))) n ≡ None) [
+    (elim (nat_eq x.number n) as (λ b. nat_eq x.number n ≡ b → ticket_in (cond b l (x ∷ without_ticket n l)) n ≡ None → (nat_eq t.number n ≡ true → cond b (Some x) (ticket_in l n) ≡ None) → ticket_in (cond b (l ++ t ∷ []) (x ∷ without_ticket n (l ++ t ∷ []))) n ≡ None) [
       | true ↦ λ same one new. behind one new
-      | false ↦ λ differs one new. ap (λ b. cond b (Some x) (ticket_in (without n (l ++ t ∷ [])) n)) differs
-          ∙ more_single l t n (sym (ap (λ b. cond b (Some x) (ticket_in (without n l) n)) differs) ∙ one) new
+      | false ↦ λ differs one new. ap (λ b. cond b (Some x) (ticket_in (without_ticket n (l ++ t ∷ [])) n)) differs
+          ∙ more_single l t n (sym (ap (λ b. cond b (Some x) (ticket_in (without_ticket n l) n)) differs) ∙ one) new
     ]) refl one new
   where
     behind : ticket_in l n ≡ None → (nat_eq t.number n ≡ true → ◌≡◌ {A = Option Ticket} (Some x) None) → ticket_in (l ++ t ∷ []) n ≡ None
@@ -57,10 +57,10 @@ more_single (x ∷ l) t n one new =
         ]) refl
 
 -- the first of another number, where one less is out
-pub less_other : (l : List Ticket) (m n : ℕ) → nat_eq m n ≡ false → ticket_in (without m l) n ≡ ticket_in l n
+pub less_other : (l : List Ticket) (m n : ℕ) → nat_eq m n ≡ false → ticket_in (without_ticket m l) n ≡ ticket_in l n
 less_other [] m n differs = refl
 less_other (x ∷ l) m n differs =
-    (elim (nat_eq x.number m) as (λ b. nat_eq x.number m ≡ b → ticket_in (cond b l (x ∷ without m l)) n ≡ cond (nat_eq x.number n) (Some x) (ticket_in l n)) [
+    (elim (nat_eq x.number m) as (λ b. nat_eq x.number m ≡ b → ticket_in (cond b l (x ∷ without_ticket m l)) n ≡ cond (nat_eq x.number n) (Some x) (ticket_in l n)) [
       | true ↦ λ same. sym (ap (λ b. cond b (Some x) (ticket_in l n)) (subst (λ k. nat_eq k n ≡ false) (sym (eqb-true x.number m same)) differs))
       | false ↦ λ _. ap (λ o. cond (nat_eq x.number n) (Some x) o) (less_other l m n differs)
     ]) refl
@@ -72,24 +72,24 @@ apart m n differs =
       | false ↦ λ _. refl
     ]) refl
 
-pub none_without : (l : List Ticket) (n : ℕ) → ticket_in l n ≡ None → ticket_in (without n l) n ≡ None
+pub none_without : (l : List Ticket) (n : ℕ) → ticket_in l n ≡ None → ticket_in (without_ticket n l) n ≡ None
 none_without [] n none = refl
 none_without (x ∷ l) n none =
-    (elim (nat_eq x.number n) as (λ b. nat_eq x.number n ≡ b → cond b (Some x) (ticket_in l n) ≡ None → ticket_in (cond b l (x ∷ without n l)) n ≡ None) [
+    (elim (nat_eq x.number n) as (λ b. nat_eq x.number n ≡ b → cond b (Some x) (ticket_in l n) ≡ None → ticket_in (cond b l (x ∷ without_ticket n l)) n ≡ None) [
       | true ↦ λ _ none. some_none x none
-      | false ↦ λ differs none. ap (λ b. cond b (Some x) (ticket_in (without n l) n)) differs ∙ none_without l n none
+      | false ↦ λ differs none. ap (λ b. cond b (Some x) (ticket_in (without_ticket n l) n)) differs ∙ none_without l n none
     ]) refl none
 
 -- one of each number at most, where one less is out
-pub less_single : (l : List Ticket) (m n : ℕ) → nat_eq m n ≡ false → ticket_in (without n (without m l)) n ≡ ticket_in (without n l) n
+pub less_single : (l : List Ticket) (m n : ℕ) → nat_eq m n ≡ false → ticket_in (without_ticket n (without_ticket m l)) n ≡ ticket_in (without_ticket n l) n
 less_single [] m n differs = refl
 less_single (x ∷ l) m n differs =
-    (elim (nat_eq x.number m) as (λ b. nat_eq x.number m ≡ b → ticket_in (without n (cond b l (x ∷ without m l))) n ≡ ticket_in (without n (x ∷ l)) n) [
+    (elim (nat_eq x.number m) as (λ b. nat_eq x.number m ≡ b → ticket_in (without_ticket n (cond b l (x ∷ without_ticket m l))) n ≡ ticket_in (without_ticket n (x ∷ l)) n) [
       | true ↦ λ same.
           let other : nat_eq x.number n ≡ false = subst (λ k. nat_eq k n ≡ false) (sym (eqb-true x.number m same)) differs in
-          sym (ap (λ b. ticket_in (cond b l (x ∷ without n l)) n) other ∙ ap (λ b. cond b (Some x) (ticket_in (without n l) n)) other)
-      | false ↦ λ _. (elim (nat_eq x.number n) as (λ b. nat_eq x.number n ≡ b → ticket_in (cond b (without m l) (x ∷ without n (without m l))) n ≡ ticket_in (cond b l (x ∷ without n l)) n) [
+          sym (ap (λ b. ticket_in (cond b l (x ∷ without_ticket n l)) n) other ∙ ap (λ b. cond b (Some x) (ticket_in (without_ticket n l) n)) other)
+      | false ↦ λ _. (elim (nat_eq x.number n) as (λ b. nat_eq x.number n ≡ b → ticket_in (cond b (without_ticket m l) (x ∷ without_ticket n (without_ticket m l))) n ≡ ticket_in (cond b l (x ∷ without_ticket n l)) n) [
         | true ↦ λ _. less_other l m n differs
-        | false ↦ λ d. ap (λ b. cond b (Some x) (ticket_in (without n (without m l)) n)) d ∙ less_single l m n differs ∙ sym (ap (λ b. cond b (Some x) (ticket_in (without n l) n)) d)
+        | false ↦ λ d. ap (λ b. cond b (Some x) (ticket_in (without_ticket n (without_ticket m l)) n)) d ∙ less_single l m n differs ∙ sym (ap (λ b. cond b (Some x) (ticket_in (without_ticket n l) n)) d)
       ]) refl
     ]) refl

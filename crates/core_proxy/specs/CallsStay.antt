@@ -12,7 +12,7 @@ use Rattle.core_proxy.specs.declared.limits.CoreLimits.{CoreLimits}
 use Rattle.core_proxy.specs.declared.note.Poll.{Poll}
 use Rattle.core_proxy.specs.declared.note.Poll.TheVariants as polls
 use Rattle.core_proxy.specs.declared.proxy.Core.{Core}
-use Rattle.core_proxy.specs.CoreState.{command_at, has_call_out, Beside, FitsBeside, IsFresh, Opens, Feeds, Gives, ClosesClient, LeavesLine, Reloads}
+use Rattle.core_proxy.specs.CoreState.{command_at, has_call_out, Beside, FitsBeside, IsNewCore, Opens, Feeds, GivesAll, ClosesClient, LeavesLine, Reloads}
 use Rattle.core_proxy.specs.Faults.{OpenFault}
 use Rattle.core_proxy.specs.Polls.{Polls, PollFault}
 use Rattle.core_proxy.specs.Settles.{asked, Settles, SettleFault}
@@ -59,11 +59,11 @@ PollsCalls old (polls.Did note) new = KeepsCalls old new
 -- a call that is out stays until it is settled, and asks what it asked; until then no other of its number is given out
 pub record CallsStay : Type 0 where
   pub asks : (core : Core) (n : ℕ) → asked core n ≡ option_map (λ c. c.1) (called core n)
-  pub begins : (tree : Route) (limits : CoreLimits) (core : Core) → IsFresh tree limits core → CanStand core × ((n : ℕ) → called core n ≡ None)
+  pub begins : (tree : Route) (limits : CoreLimits) (core : Core) → IsNewCore tree limits core → CanStand core × ((n : ℕ) → called core n ≡ None)
   pub opens : (old new : Core) (client : ℕ) → CanStand old → Opens old client new → KeepsCalls old new
   pub unopened : (old new : Core) (fault : CoreFault) → CanStand old → OpenFault old fault new → KeepsCalls old new
   pub feeds : (old new : Core) (client : ℕ) (bytes : List ℕ) → CanStand old → Feeds old client bytes new → KeepsCalls old new
-  pub gives : (old new : Core) (client : ℕ) (bytes : List ℕ) → CanStand old → Gives old client bytes new → KeepsCalls old new
+  pub gives : (old new : Core) (client : ℕ) (bytes : List ℕ) → CanStand old → GivesAll old client bytes new → KeepsCalls old new
   pub closes : (old new : Core) (client : ℕ) → CanStand old → ClosesClient old client new → KeepsCalls old new
   pub leaves : (old new : Core) (client : ℕ) → CanStand old → LeavesLine old client new → KeepsCalls old new
   pub reloads : (old new : Core) (tree : Route) → CanStand old → Reloads old tree new → KeepsCalls old new

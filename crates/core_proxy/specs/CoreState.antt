@@ -8,7 +8,7 @@ use Rattle.mc_types.specs.declared.call.Origin.TheVariants.{Client as OfClient}
 use Rattle.mc_types.specs.Items.{Item}
 use Rattle.fresh_runs.specs.Calls.{Call}
 use Rattle.fresh_runs.specs.Overlap as log
-use Rattle.fresh_runs.specs.Overlap.{Slot, Ticket, Entry, Resets, ticket_in, without, slot_in, is_last_slot}
+use Rattle.fresh_runs.specs.Overlap.{Slot, Ticket, Entry, Resets, ticket_in, without_ticket, slot_in, is_last_slot}
 use Rattle.fresh_runs.specs.OverlapState.{OverlapState, LeadsTo, Leads}
 use Rattle.wire_parts.specs.Stream.{Place}
 use Rattle.wire_stream.specs.Version.{version_of}
@@ -29,7 +29,7 @@ use Rattle.core_commands.specs.Lines.{others}
 use Rattle.core_proxy.specs.declared.proxy.Core.{Core}
 use Rattle.core_client.specs.ClientState.{IsSlot}
 use Rattle.core_proxy.specs.OutSince.{out_since}
-pub use Rattle.core_client.specs.ClientState.{dialect, Message, front_by, held_by, output_by, dropped_by}
+pub use Rattle.core_client.specs.ClientState.{dialect, ClientMessage, front_by, held_by, output_by, dropped_by}
 pub use Rattle.core_commands.specs.Begun.{owner_by}
 pub use Rattle.core_commands.specs.Out.{is_call, has_call_out}
 
@@ -133,7 +133,7 @@ pub record FitsBeside (core : Core) (beside : Beside) : Type 0 where
   pub numbered : (c n : ℕ) → core.number < n → slot_in (beside.queue c) n ≡ None
   pub to_come : (n : ℕ) (command : Command) → command_at core n ≡ Some command → IsOnItsWay core.limits.sharing (beside.at n command.ask.key) command
   pub tickets : (s n : ℕ) → ticket_in (beside.out s) n ≡ ticket_by (command_at core n) n s
-  pub single : (s n : ℕ) → ticket_in (without n (beside.out s)) n ≡ None
+  pub single : (s n : ℕ) → ticket_in (without_ticket n (beside.out s)) n ≡ None
   pub numbers : (n : ℕ) → core.number < n → command_at core n ≡ None
   pub unseen : (n : ℕ) → core.number < n → beside.found n ≡ []
   pub trees : (n : ℕ) (key : List ℕ) → core.number < n → beside.at n key ≡ tree_at core.tree key
@@ -143,7 +143,7 @@ abbrev pub nothing_beside : (ℕ → List ℕ → Plan) → (ℕ → List ℕ �
 nothing_beside at opening = record { at = at; queue = λ c. []; out = λ s. []; holds = opening; found = λ n. []; turn = 0 }
 
 -- a core on this tree where nothing happened yet: the empty log leads to it
-pub record IsFresh (tree : Route) (limits : CoreLimits) (core : Core) : Type 0 where
+pub record IsNewCore (tree : Route) (limits : CoreLimits) (core : Core) : Type 0 where
   pub clients : (c : ℕ) → client_at core c ≡ None
   pub commands : (n : ℕ) → command_at core n ≡ None
   pub lines : core.lines ≡ []
@@ -162,8 +162,8 @@ pub record IsBeside (old new : Beside) : Type 0 where
   pub turn : new.turn ≡ old.turn
 
 -- by entries of this kind, the latest first, each log that led to the core before, with whatever stood beside it, leads to the core after. Servers and limits stay, and so do the calls that are out but for what the entries tell of them
-abbrev pub GoesBy : Core → (List (Entry dialect) → Type 0) → Core → Type 0
-GoesBy old IsKind new =
+abbrev pub GoesByEntries : Core → (List (Entry dialect) → Type 0) → Core → Type 0
+GoesByEntries old IsKind new =
     (beside : Beside) → FitsBeside old beside
     → (beside' : Beside) × (entries : List (Entry dialect)) × FitsBeside new beside' × IsBeside beside beside' × IsKind entries
     × Leads (tree_words beside.at) (bars_of old beside) (state_of old beside) entries (state_of new beside') × (new.limits ≡ old.limits)
@@ -171,7 +171,7 @@ GoesBy old IsKind new =
 
 -- this entry comes
 abbrev pub GoesByOne : Core → Entry dialect → Core → Type 0
-GoesByOne old entry new = GoesBy old (λ entries. entries ≡ entry ∷ []) new
+GoesByOne old entry new = GoesByEntries old (λ entries. entries ≡ entry ∷ []) new
 
 -- commands are under way
 abbrev pub IsOut : Core → Type 0
@@ -182,7 +182,7 @@ pub record Opens (old : Core) (client : ℕ) (new : Core) : Type 0 where
   pub free : client_at old client ≡ None
   pub opened : (x : Client) × (client_at new client ≡ Some x)
   pub others : (c : ℕ) → nat_eq client c ≡ false → client_at new c ≡ client_at old c
-  pub goes : GoesBy old (λ entries. entries ≡ []) new
+  pub goes : GoesByEntries old (λ entries. entries ≡ []) new
 
 -- a client for whom nothing is done any more takes no piece; every other client's stream goes on by it
 abbrev pub FeedsOpen : Bool → Core → ℕ → List ℕ → Core → Type 0
@@ -193,8 +193,8 @@ abbrev pub Feeds : Core → ℕ → List ℕ → Core → Type 0
 Feeds old client bytes new = FeedsOpen (dropped_by (client_at old client)) old client bytes new
 
 -- the client is given all its new output
-abbrev pub Gives : Core → ℕ → List ℕ → Core → Type 0
-Gives old client bytes new = (bytes ≡ output_by (client_at old client)) × GoesByOne old (log.Gives client bytes) new
+abbrev pub GivesAll : Core → ℕ → List ℕ → Core → Type 0
+GivesAll old client bytes new = (bytes ≡ output_by (client_at old client)) × GoesByOne old (log.Gives client bytes) new
 
 -- the client's place is free, and the client stands in no line of a key
 abbrev pub ClosesClient : Core → ℕ → Core → Type 0
@@ -202,7 +202,7 @@ ClosesClient old client new = (client_at new client ≡ None) × GoesByOne old (
 
 -- the client stands in no line of a key, and nothing else changes
 abbrev pub LeavesLine : Core → ℕ → Core → Type 0
-LeavesLine old client new = (new ≡ record old { lines = others client old.lines }) × GoesBy old (λ entries. entries ≡ []) new
+LeavesLine old client new = (new ≡ record old { lines = others client old.lines }) × GoesByEntries old (λ entries. entries ≡ []) new
 
 -- these are the plain trees of what has begun, and after that of this tree
 pub record IsTakenOver (old : Core) (tree : Route) (beside : Beside) (at : ℕ → List ℕ → Plan) : Type 0 where

@@ -10,8 +10,8 @@ use Rattle.core_client.specs.declared.client.Client.{Client}
 use Rattle.core_commands.specs.declared.command.Command.{Command}
 use Rattle.core_proxy.specs.declared.proxy.Core.{Core}
 use Rattle.core_client.specs.ClientState.{dialect}
-use Rattle.core_client.specs.Replying.{pending_in, replied_in, GoesOn}
-use Rattle.core_proxy.specs.CoreState.{client_at, command_at, has_call_out, GoesBy, GoesByOne}
+use Rattle.core_client.specs.Replying.{pending_in, replied_in, GoesOnAfter}
+use Rattle.core_proxy.specs.CoreState.{client_at, command_at, has_call_out, GoesByEntries, GoesByOne}
 use Rattle.core_proxy.specs.Steps.{Turns}
 
 -- the command of this number, whose job is done, is over, and its client's queue has its reply
@@ -25,7 +25,7 @@ pub record Ends (old new : Core) (number : ℕ) (a : Command) (x y : Client) (pe
   pub served : x.dropped ≡ false
   pub there : pending_in number x.queue.items ≡ Some pending
   pub queue : y.queue.items ≡ replied_in number reply x.queue.items
-  pub front : GoesOn pending.last x reply y
+  pub front : GoesOnAfter pending.last x reply y
   pub output : bytes_of y.output ≡ bytes_of x.output
   pub dropped : y.dropped ≡ x.dropped
   pub commands : (n : ℕ) → command_at new n ≡ (if nat_eq number n then None else command_at old n)
@@ -58,7 +58,7 @@ pub record Frees (old new : Core) (number : ℕ) (a : Command) (x : Client) : Ty
 abbrev pub EndingIsAStep : Type 0
 EndingIsAStep =
     (old new : Core) (number : ℕ) (a : Command) (x y : Client) (pending : Pending) (reply : Answer) (from : Option ℕ) → Ends old new number a x y pending reply from
-    → GoesBy old (λ entries. (part : Part dialect) × (part.ask ≡ a.ask) × (entries ≡ log.Ends a.client number part reply from ∷ [])) new
+    → GoesByEntries old (λ entries. (part : Part dialect) × (part.ask ≡ a.ask) × (entries ≡ log.Ends a.client number part reply from ∷ [])) new
 
 -- a client is dropped
 abbrev pub DroppingIsAStep : Type 0

@@ -24,8 +24,8 @@ use Rattle.core_proxy.specs.declared.note.Poll.{Poll}
 use Rattle.core_proxy.specs.declared.note.Poll.TheVariants as polls
 use Rattle.core_proxy.specs.Settles.{freed, HasNoIdle, IsCalled}
 use Rattle.core_commands.specs.declared.ticket.Ticket.{Ticket}
-use Rattle.core_client.specs.ClientState.{dialect, Message, output_by, dropped_by}
-use Rattle.core_proxy.specs.CoreState.{client_at, command_at, GoesBy}
+use Rattle.core_client.specs.ClientState.{dialect, ClientMessage, output_by, dropped_by}
+use Rattle.core_proxy.specs.CoreState.{client_at, command_at, GoesByEntries}
 use Rattle.wire_stream.specs.Fronts.{told_of}
 use Rattle.core_client.specs.Fronts.{IsAskAt}
 use Rattle.route_tree.specs.At.{tree_at}
@@ -47,7 +47,7 @@ ClientIsServed x = x.dropped ≡ false
 
 -- a message that asks no server was passed, and is told so
 abbrev pub IsPassed : ℕ → Passed → List (Entry dialect) → Type 0
-IsPassed client passed entries = (message : Message) × (next : Place) × (passed ≡ told_of message) × (entries ≡ Passes client message next ∷ [])
+IsPassed client passed entries = (message : ClientMessage) × (next : Place) × (passed ≡ told_of message) × (entries ≡ Passes client message next ∷ [])
 
 -- nothing happened
 abbrev pub NothingHappened : List (Entry dialect) → Type 0
@@ -55,7 +55,7 @@ NothingHappened entries = entries ≡ []
 
 -- memory was refused after entries of this kind, and the client is served still
 abbrev pub StopsAfter : ℕ → (List (Entry dialect) → Type 0) → Core → CoreFault → Core → Type 0
-StopsAfter client IsKind old faults.NoMemory new = GoesBy old IsKind new × ForClient new client ClientIsServed
+StopsAfter client IsKind old faults.NoMemory new = GoesByEntries old IsKind new × ForClient new client ClientIsServed
 StopsAfter client IsKind old faults.TooManyClients new = ⊥
 StopsAfter client IsKind old faults.NoClient new = ⊥
 StopsAfter client IsKind old faults.InputFull new = ⊥
@@ -83,7 +83,7 @@ pub record BeginsAt (old : Core) (client : ℕ) (ask : Ask) (new : Core) : Type 
   pub number : new.number ≡ old.number + 1
   pub lines : new.lines ≡ others client old.lines
   pub last : IsAtLast new client
-  pub goes : GoesBy old (HasBegun client new.number ask) new
+  pub goes : GoesByEntries old (HasBegun client new.number ask) new
 
 -- the call of this command can go out
 pub record CanSend (core : Core) (number : ℕ) : Type 0 where
@@ -120,8 +120,8 @@ HasShownAll core client = ForClient core client (λ x. HasNoReply x.queue.items)
 
 -- whether the head of the client's commands had a reply, which was shown then
 abbrev pub ShowsNext : Core → ℕ → Bool → Core → Type 0
-ShowsNext old client true new = GoesBy old (AreShown client) new × ForClient new client ClientIsServed × (queue_len (client_at new client) < queue_len (client_at old client))
-ShowsNext old client false new = GoesBy old NothingHappened new × ForClient new client ClientIsServed × HasShownAll new client
+ShowsNext old client true new = GoesByEntries old (AreShown client) new × ForClient new client ClientIsServed × (queue_len (client_at new client) < queue_len (client_at old client))
+ShowsNext old client false new = GoesByEntries old NothingHappened new × ForClient new client ClientIsServed × HasShownAll new client
 
 -- entries of the one kind, and after them some of the other
 abbrev pub EntriesThen : (List (Entry dialect) → Type 0) → (List (Entry dialect) → Type 0) → List (Entry dialect) → Type 0
@@ -263,12 +263,12 @@ IsActed client (polls.Did note) new = HasShownAll new client
 
 -- what was done for a command that can go on
 pub record Acts (old : Core) (client : ℕ) (poll : Poll) (new : Core) : Type 0 where
-  pub goes : GoesBy old (IsPolled client poll) new
+  pub goes : GoesByEntries old (IsPolled client poll) new
   pub why : IsActed client poll new
   pub still : StandsStill old new
 
 pub record Polls (old : Core) (client : ℕ) (poll : Poll) (new : Core) : Type 0 where
-  pub goes : GoesBy old (EntriesThen (Perhaps (BeginsBelow old client)) (IsPolled client poll)) new
+  pub goes : GoesByEntries old (EntriesThen (Perhaps (BeginsBelow old client)) (IsPolled client poll)) new
   pub why : IsWhy old client poll new
   pub order : KeepsOrder old client new
 
@@ -283,7 +283,7 @@ SoFar client = EntriesThen (Perhaps (BeginsOne client)) (SoEnded client)
 -- nothing is done for the client any more, which stands in no line of a key
 pub record DropsOne (old : Core) (client : ℕ) (new : Core) : Type 0 where
   pub lines : new.lines ≡ others client old.lines
-  pub goes : GoesBy old (λ entries. entries ≡ Drops client ∷ []) new
+  pub goes : GoesByEntries old (λ entries. entries ≡ Drops client ∷ []) new
   pub dropped : dropped_by (client_at new client) ≡ true
   pub output : (c : ℕ) → output_by (client_at new c) ≡ output_by (client_at old c)
 
@@ -291,7 +291,7 @@ pub record DropsOne (old : Core) (client : ℕ) (new : Core) : Type 0 where
 pub record DropsAll (old : Core) (client : ℕ) (new : Core) : Type 0 where
   pub numbers : List ℕ
   pub lines : new.lines ≡ others client old.lines
-  pub goes : GoesBy old (λ entries. entries ≡ freed numbers ++ Drops client ∷ []) new
+  pub goes : GoesByEntries old (λ entries. entries ≡ freed numbers ++ Drops client ∷ []) new
   pub gone : HasNoIdle new client
   pub dropped : dropped_by (client_at new client) ≡ true
   pub output : (c : ℕ) → output_by (client_at new c) ≡ output_by (client_at old c)
@@ -300,7 +300,7 @@ pub record DropsAll (old : Core) (client : ℕ) (new : Core) : Type 0 where
 pub record StopsPolling (old : Core) (client : ℕ) (new : Core) : Type 0 where
   pub numbers : List ℕ
   pub lines : new.lines ≡ others client old.lines
-  pub goes : GoesBy old (EntriesThen (SoFar client) (λ entries. entries ≡ freed numbers ++ Drops client ∷ [])) new
+  pub goes : GoesByEntries old (EntriesThen (SoFar client) (λ entries. entries ≡ freed numbers ++ Drops client ∷ [])) new
   pub gone : HasNoIdle new client
   pub dropped : dropped_by (client_at new client) ≡ true
 
@@ -315,7 +315,7 @@ PollFault old client faults.NoTicket new = ⊥
 
 -- why a poll of a client that is served stopped, before the client is dropped for that
 abbrev pub ReadFault : Core → ℕ → CoreFault → Core → Type 0
-ReadFault old client faults.NoMemory new = GoesBy old (SoFar client) new × ForClient new client ClientIsServed × (others client new.lines ≡ others client old.lines)
+ReadFault old client faults.NoMemory new = GoesByEntries old (SoFar client) new × ForClient new client ClientIsServed × (others client new.lines ≡ others client old.lines)
 ReadFault old client faults.Spent new = (old.number ≡ LAST_COMMAND) × (new ≡ old)
 ReadFault old client faults.NoClient new = ⊥
 ReadFault old client faults.TooManyClients new = ⊥

@@ -8,7 +8,7 @@ use Rattle.fresh_runs.specs.Calls.{End, outcome_of}
 use Rattle.fresh_runs.specs.Fleet.{EndsIn}
 use Rattle.fresh_runs.specs.Single.{FitsOutcome}
 use Rattle.fresh_runs.specs.Overlap as log
-use Rattle.fresh_runs.specs.Overlap.{Entry, Happens, without}
+use Rattle.fresh_runs.specs.Overlap.{Entry, Happens, without_ticket}
 use Rattle.fresh_runs.specs.OverlapState.{Leads}
 use Rattle.route_tree.specs.Word.{tree_words}
 use Rattle.route_job.specs.Rest.{ask_under, origin_under}
@@ -19,7 +19,7 @@ use Rattle.core_proxy.specs.declared.fault.CoreFault.{CoreFault}
 use Rattle.core_proxy.specs.declared.fault.CoreFault.TheVariants as faults
 use Rattle.core_proxy.specs.declared.proxy.Core.{Core}
 use Rattle.core_client.specs.ClientState.{dialect, output_by, dropped_by}
-use Rattle.core_proxy.specs.CoreState.{bars_of, client_at, command_at, Beside, state_of, has_call_out, FitsBeside, IsBeside, GoesBy}
+use Rattle.core_proxy.specs.CoreState.{bars_of, client_at, command_at, Beside, state_of, has_call_out, FitsBeside, IsBeside, GoesByEntries}
 use Rattle.core_proxy.specs.Steps.{event_of_call, settled_beside}
 use Rattle.core_proxy.specs.Ending.{Drops}
 use Rattle.core_commands.specs.Lines as line
@@ -56,7 +56,7 @@ SettlesBy old number a outcome IsMore new =
 abbrev pub StandsWithout : Core → ℕ → Command → Core → Type 0
 StandsWithout old number a new =
     (beside : Beside) → FitsBeside old beside
-    → (beside' : Beside) × FitsBeside new beside' × ((s : ℕ) → beside'.out s ≡ (if nat_eq (server_of_pending a.job.pending) s then without number (beside.out s) else beside.out s))
+    → (beside' : Beside) × FitsBeside new beside' × ((s : ℕ) → beside'.out s ≡ (if nat_eq (server_of_pending a.job.pending) s then without_ticket number (beside.out s) else beside.out s))
 
 -- the command of this number has the result of its call; where nothing is done for its client any more, it is broken off
 pub record Settles (old : Core) (number : ℕ) (outcome : Outcome) (new : Core) : Type 0 where
@@ -86,7 +86,7 @@ freed numbers = each log.Frees numbers
 pub record FreesSome (old : Core) (client : ℕ) (new : Core) : Type 0 where
   pub numbers : List ℕ
   pub idle : AreIdle old client numbers
-  pub goes : dropped_by (client_at old client) ≡ true → GoesBy old (λ entries. entries ≡ freed numbers) new
+  pub goes : dropped_by (client_at old client) ≡ true → GoesByEntries old (λ entries. entries ≡ freed numbers) new
   pub kept : (n : ℕ) (command : Command) → command_at new n ≡ Some command → command_at old n ≡ Some command
   pub calls : (n : ℕ) → asked new n ≡ asked old n
   pub clients : (c : ℕ) → client_at new c ≡ client_at old c

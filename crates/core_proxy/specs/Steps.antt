@@ -10,7 +10,7 @@ use Rattle.fresh_runs.specs.Fleet.{EndsIn}
 use Rattle.fresh_runs.specs.Single.{FitsOutcome}
 use Rattle.fresh_runs.specs.Log.{Part}
 use Rattle.fresh_runs.specs.Run.{Event, Calls, after_event}
-use Rattle.fresh_runs.specs.Overlap.{Slot, Starts, Sends, Happens, Shows, Passes, after_start, slot_of, IsNext, out_after}
+use Rattle.fresh_runs.specs.Overlap.{Slot, Starts, Sends, Happens, Shows, Passes, after_start, part_slot, IsNext, out_after}
 use Rattle.fresh_runs.specs.OverlapState.{Leads, found_after}
 use Rattle.wire_parts.specs.Stream.{Place}
 use Rattle.route_tree.specs.At.{tree_at}
@@ -24,10 +24,10 @@ use Rattle.core_commands.specs.declared.command.Command.{Command}
 use Rattle.core_proxy.specs.declared.proxy.Core.{Core}
 use Rattle.core_proxy.specs.Claims.{claim_by, is_barred}
 use Rattle.core_client.specs.Clients.{has_own}
-use Rattle.core_client.specs.ClientState.{dialect, Message, front_by, IsSlot}
+use Rattle.core_client.specs.ClientState.{dialect, ClientMessage, front_by, IsSlot}
 use Rattle.core_client.specs.Fronts.{PassesOne}
 use Rattle.core_client.specs.Heads.{ShowsHead}
-use Rattle.core_proxy.specs.CoreState.{bars_of, client_at, command_at, Beside, owner_by, state_of, FitsBeside, GoesBy, GoesByOne, version_by}
+use Rattle.core_proxy.specs.CoreState.{bars_of, client_at, command_at, Beside, owner_by, state_of, FitsBeside, GoesByEntries, GoesByOne, version_by}
 
 -- one client's place changed, and nothing else of the core but the room for clients and the lines of keys
 pub record Turns (old new : Core) (client : ℕ) (a b : Option Client) : Type 0 where
@@ -40,7 +40,7 @@ pub record Turns (old new : Core) (client : ℕ) (a b : Option Client) : Type 0 
   pub number : new.number ≡ old.number
 
 -- the core began a command of a client: this key of the message at its front
-pub record Begins (old new : Core) (client : ℕ) (x y : Client) (part : Part dialect) (pending : Pending) (command : Command) : Type 0 where
+pub record BeginsCommand (old new : Core) (client : ℕ) (x y : Client) (part : Part dialect) (pending : Pending) (command : Command) : Type 0 where
   pub was : client_at old client ≡ Some x
   pub is : client_at new client ≡ Some y
   pub others : (c : ℕ) → nat_eq client c ≡ false → client_at new c ≡ client_at old c
@@ -54,7 +54,7 @@ pub record Begins (old new : Core) (client : ℕ) (x y : Client) (part : Part di
   pub queue : y.queue.items ≡ x.queue.items ++ pending ∷ []
   pub output : bytes_of y.output ≡ bytes_of x.output
   pub dropped : y.dropped ≡ x.dropped
-  pub slot : IsSlot pending (slot_of (old.number + 1) part)
+  pub slot : IsSlot pending (part_slot (old.number + 1) part)
   -- the command is under way, and no call of it is out
   pub owner : owner_by command ≡ record { client = client; ask = part.ask }
   pub claim : command.claim ≡ claim_by old.limits.sharing part.ask.op (tree_at old.tree part.ask.key)
@@ -97,12 +97,12 @@ pub record Resolves (old new : Core) (number : ℕ) (a b : Command) (outcome : O
 -- a message that asks no server is passed
 abbrev pub PassingIsAStep : Type 0
 PassingIsAStep =
-    (old new : Core) (client : ℕ) (x y : Client) (message : Message) (next : Place) → Turns old new client (Some x) (Some y) → PassesOne (version_by old.limits) x message next y → GoesByOne old (Passes client message next) new
+    (old new : Core) (client : ℕ) (x y : Client) (message : ClientMessage) (next : Place) → Turns old new client (Some x) (Some y) → PassesOne (version_by old.limits) x message next y → GoesByOne old (Passes client message next) new
 
 -- a command begins
 abbrev pub BeginningIsAStep : Type 0
 BeginningIsAStep =
-    (old new : Core) (client : ℕ) (x y : Client) (part : Part dialect) (pending : Pending) (command : Command) → Begins old new client x y part pending command → GoesByOne old (Starts client (old.number + 1) part) new
+    (old new : Core) (client : ℕ) (x y : Client) (part : Part dialect) (pending : Pending) (command : Command) → BeginsCommand old new client x y part pending command → GoesByOne old (Starts client (old.number + 1) part) new
 
 -- a command's call goes out
 abbrev pub SendingIsAStep : Type 0
@@ -137,4 +137,4 @@ SettlingIsAStep =
 abbrev pub ShowingIsAStep : Type 0
 ShowingIsAStep =
     (old new : Core) (client : ℕ) (x y : Client) (pending : Pending) (reply : Answer) → Turns old new client (Some x) (Some y) → ShowsHead x pending reply y
-    → GoesBy old (λ entries. (slot : Slot dialect) × (slot.number ≡ pending.number) × (entries ≡ Shows client slot reply ∷ [])) new
+    → GoesByEntries old (λ entries. (slot : Slot dialect) × (slot.number ≡ pending.number) × (entries ≡ Shows client slot reply ∷ [])) new

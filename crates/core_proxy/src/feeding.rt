@@ -1,7 +1,7 @@
 //! A piece of a client's bytes comes.
 
 ghost use Rattle.std.specs.Prelude.{◌≡◌, OnOk, OnErr, IfErr};
-ghost use Rattle.core_proxy.specs.Feeding.{Takes, HoldsAtMost, RoomFault};
+ghost use Rattle.core_proxy.specs.Feeding.{TakesInPiece, HoldsAtMost, RoomFault};
 
 use crate::fault::CoreFault;
 use core_client::Client;
@@ -11,7 +11,7 @@ use core_client::Client;
 /// `InputFull` where what is held and the piece are more bytes than may be held; `NoMemory`. Both leave the client as
 /// it was.
 pub fn feed_within(client: &mut Client, limit: usize, piece: &[u8]) -> Result<(), CoreFault>
-    ensures ok { OnOk result (HoldsAtMost limit client.old piece.now × Takes client.old piece.now client.new) }
+    ensures ok { OnOk result (HoldsAtMost limit client.old piece.now × TakesInPiece client.old piece.now client.new) }
     ensures err { IfErr result (λ fault. RoomFault limit client.old piece.now fault) }
     ensures same { OnErr result (client.new ≡ client.old) }
 {

@@ -3,10 +3,10 @@
 ghost use Rattle.std.specs.Prelude.{◌≡◌, ◌↔◌, [], IsTrue, None, false, OnOk, IfOk, IfErr, IfSome, IfNone, IsSome, MatchBool};
 ghost use Rattle.route_job.specs.Given.{given_when_done};
 ghost use Rattle.route_job.specs.Jobs.{Comes, IsDone};
-ghost use Rattle.core_proxy.specs.CoreState.{GoesBy, command_at};
+ghost use Rattle.core_proxy.specs.CoreState.{GoesByEntries, command_at};
 ghost use Rattle.core_proxy.specs.Polls.{ForClient, ClientIsServed, CommandIsEnded, AreShown, HasShownAll, NothingHappened, EntriesThen, ShowsNext, StandsStill, StopsFirst, StopsAfter};
 ghost use Rattle.core_proxy.specs.Finishing.{CanEnd, IsNote, ShowsDone, TakesAway};
-ghost use Rattle.core_client.specs.Fronts.{Stays};
+ghost use Rattle.core_client.specs.Fronts.{ClientStays};
 ghost use Rattle.mc_types.specs.Acknowledged.{Acknowledges};
 ghost use Rattle.mc_types.specs.Fits.{is_error};
 
@@ -56,7 +56,7 @@ fn show_done(number: u64, command: &Command, client: &mut Client) -> Option<Ende
     requires done { IsDone command.now.job }
     requires served { client.old.dropped ≡ false }
     ensures some { IfSome result (λ told. ShowsDone number command.now client.old told client.new) }
-    ensures none { IfNone result (Stays client.old client.new) }
+    ensures none { IfNone result (ClientStays client.old client.new) }
 {
     match command.job.next() {
         JobStep::Call { .. } => unreachable!(),
@@ -126,7 +126,7 @@ impl Core {
     fn end_unshown(&mut self, client: usize, number: u64) -> Note
         requires served { ForClient self.old client ClientIsServed }
         requires done { CanEnd self.old client number }
-        ensures ended { GoesBy self.old (CommandIsEnded client result) self.new }
+        ensures ended { GoesByEntries self.old (CommandIsEnded client result) self.new }
         ensures served { ForClient self.new client ClientIsServed }
         ensures still { StandsStill self.old self.new }
     {
@@ -147,8 +147,8 @@ impl Core {
     fn end_at_once(&mut self, client: usize, number: u64) -> Option<Note>
         requires served { ForClient self.old client ClientIsServed }
         requires done { CanEnd self.old client number }
-        ensures some { IfSome result (λ note. GoesBy self.old (EntriesThen (CommandIsEnded client note) (AreShown client)) self.new) }
-        ensures none { IfNone result (GoesBy self.old NothingHappened self.new × CanEnd self.new client number) }
+        ensures some { IfSome result (λ note. GoesByEntries self.old (EntriesThen (CommandIsEnded client note) (AreShown client)) self.new) }
+        ensures none { IfNone result (GoesByEntries self.old NothingHappened self.new × CanEnd self.new client number) }
         ensures served { ForClient self.new client ClientIsServed }
         ensures still { StandsStill self.old self.new }
     {
@@ -173,7 +173,7 @@ impl Core {
     pub(crate) fn end(&mut self, client: usize, number: u64) -> Note
         requires served { ForClient self.old client ClientIsServed }
         requires done { CanEnd self.old client number }
-        ensures ended { GoesBy self.old (EntriesThen (CommandIsEnded client result) (AreShown client)) self.new }
+        ensures ended { GoesByEntries self.old (EntriesThen (CommandIsEnded client result) (AreShown client)) self.new }
         ensures served { ForClient self.new client ClientIsServed }
         ensures still { StandsStill self.old self.new }
     {
@@ -202,7 +202,7 @@ impl Core {
     // All replies at the head of the client's commands are shown. Where memory is refused, some of them are.
     pub(crate) fn show_all(&mut self, client: usize) -> Result<(), CoreFault>
         requires { ForClient self.old client ClientIsServed }
-        ensures ok { OnOk result (GoesBy self.old (AreShown client) self.new) }
+        ensures ok { OnOk result (GoesByEntries self.old (AreShown client) self.new) }
         ensures shown { OnOk result (HasShownAll self.new client) }
         ensures err { IfErr result (λ fault. StopsAfter client (AreShown client) self.old fault self.new) }
         ensures still { StandsStill self.old self.new }

@@ -3,7 +3,7 @@
 ghost use Rattle.std.specs.Prelude.{◌≡◌, ◌<◌, ◌⊎◌, true, false, OnOk, OnErr, IfOk, IfErr, IfSome, IfNone};
 ghost use Rattle.mc_types.specs.Asks.{IsAsk};
 ghost use Rattle.route_tree.specs.Route.{IsTree};
-ghost use Rattle.core_proxy.specs.CoreState.{GoesBy};
+ghost use Rattle.core_proxy.specs.CoreState.{GoesByEntries};
 ghost use Rattle.route_tree.specs.At.{tree_at};
 ghost use Rattle.core_proxy.specs.Claims.{claim_by, is_barred};
 ghost use Rattle.core_client.specs.Clients.{has_own};
@@ -34,7 +34,7 @@ impl Core {
     // The message that was read at the client's front, which asks no server, is answered.
     fn pass_front(&mut self, client: usize, read: Read) -> Result<Passed, CoreFault>
         requires { ForClient self.old client (IsPassing read) }
-        ensures ok { IfOk result (λ passed. GoesBy self.old (IsPassed client passed) self.new) }
+        ensures ok { IfOk result (λ passed. GoesByEntries self.old (IsPassed client passed) self.new) }
         ensures err { IfErr result (λ fault. StopsFirst client self.old fault self.new) }
         ensures still { StandsStill self.old self.new }
     {
@@ -121,7 +121,7 @@ impl Core {
         requires served { ForClient self.old client ClientIsServed }
         requires can { CanSend self.old number }
         ensures number { IfOk result (λ ticket. ticket.number ≡ number) }
-        ensures ok { IfOk result (λ ticket. GoesBy self.old (IsSent ticket) self.new) }
+        ensures ok { IfOk result (λ ticket. GoesByEntries self.old (IsSent ticket) self.new) }
         ensures out { IfOk result (λ ticket. IsTicketOf self.new ticket) }
         ensures err { IfErr result (λ fault. StopsFirst client self.old fault self.new) }
         ensures still { StandsStill self.old self.new }

@@ -3,7 +3,7 @@
 ghost use Rattle.slab.specs.Slab.{get};
 ghost use Rattle.std.specs.Prelude.{◌≡◌, ℕ, [], ◌++◌, ◌↔◌, IsTrue, IfOk, IfErr, OnOk, OnErr};
 ghost use Rattle.wire_parts.specs.Sending.{bytes_of};
-ghost use Rattle.core_proxy.specs.CoreState.{IsFresh, IsOut, Opens, Feeds, Gives, ClosesClient, LeavesLine, Reloads, client_at, held_by};
+ghost use Rattle.core_proxy.specs.CoreState.{IsNewCore, IsOut, Opens, Feeds, GivesAll, ClosesClient, LeavesLine, Reloads, client_at, held_by};
 ghost use Rattle.core_client.specs.ClientState.{output_by};
 ghost use Rattle.core_proxy.specs.Polls.{IsStalled};
 ghost use Rattle.core_commands.specs.Lines.{is_standing};
@@ -40,7 +40,7 @@ pub struct Core {
 impl Core {
     /// A core without clients, on a tree that no gate was asked about. It takes no memory.
     pub fn unchecked(alloc: Global, tree: Tree, limits: CoreLimits) -> Core
-        ensures { IsFresh tree limits result }
+        ensures { IsNewCore tree limits result }
     {
         Core {
             clients: Slab::new(alloc),
@@ -103,7 +103,7 @@ impl Core {
     /// `NoClient`; `NoMemory`.
     pub fn move_output(&mut self, client: usize, out: &mut SendBuffer) -> Result<(), CoreFault>
         ensures bytes { OnOk result (bytes_of out.new ≡ bytes_of out.old ++ output_by (client_at self.old client)) }
-        ensures ok { OnOk result (Gives self.old client (output_by (client_at self.old client)) self.new) }
+        ensures ok { OnOk result (GivesAll self.old client (output_by (client_at self.old client)) self.new) }
         ensures stalled { OnOk result ((c : ℕ) → IsStalled self.old c → IsStalled self.new c) }
         ensures err { IfErr result (λ fault. OutputFault self.old client fault × (self.new ≡ self.old)) }
         ensures out { OnErr result (bytes_of out.new ≡ bytes_of out.old) }
@@ -122,7 +122,7 @@ impl Core {
     ///
     /// `NoClient`; `NoMemory`.
     pub fn take_output(&mut self, client: usize) -> Result<Vec<u8>, CoreFault>
-        ensures ok { IfOk result (λ bytes. Gives self.old client bytes.items self.new) }
+        ensures ok { IfOk result (λ bytes. GivesAll self.old client bytes.items self.new) }
         ensures stalled { OnOk result ((c : ℕ) → IsStalled self.old c → IsStalled self.new c) }
         ensures err { IfErr result (λ fault. OutputFault self.old client fault × (self.new ≡ self.old)) }
         ensures lines { self.new.lines ≡ self.old.lines }

@@ -1,8 +1,8 @@
 //! Whether an answer agrees with what a server holds.
 
 ghost use Rattle.std.specs.Prelude.{◌≡◌, ◌↔◌, ℕ, IsTrue, IfSome, length, decimal, option_and_then};
-ghost use Rattle.mc_types.specs.Items.{counted};
-ghost use Rattle.mc_types.specs.Agree.{Agrees, AgreesFetch, AgreesHeld, AgreesAdd, AgreesCount, CountsTo, MatchesFields};
+ghost use Rattle.mc_types.specs.Items.{number_made};
+ghost use Rattle.mc_types.specs.Agree.{AnswerAgrees, AgreesFetch, AgreesHeld, AgreesAdd, AgreesCount, CountsTo, MatchesFields};
 
 use crate::marks::HeldItem;
 use itoa::Buffer;
@@ -92,7 +92,7 @@ fn agrees_add(answer: &Answer, held: &Option<HeldItem>) -> bool
 }
 
 fn count_of(ask: &Ask, held: &Option<HeldItem>) -> Option<u64>
-    ensures { result ≡ option_and_then (λ item. counted ask.now item.content) held.now }
+    ensures { result ≡ option_and_then (λ item. number_made ask.now item.content) held.now }
 {
     match held {
         Some(item) => incr_or_decr(item.content(), ask.op != Op::Decr, ask.delta),
@@ -148,7 +148,7 @@ fn agrees_count(ask: &Ask, answer: &Answer, held: &Option<HeldItem>) -> bool
 ///
 /// Source: memcached's protocol.txt, what is said of each command and its answers.
 pub fn agrees(ask: &Ask, answer: &Answer, held: &Option<HeldItem>) -> bool
-    ensures { IsTrue result ↔ Agrees ask.now answer.now held.now }
+    ensures { IsTrue result ↔ AnswerAgrees ask.now answer.now held.now }
 {
     match ask.op {
         Op::Get | Op::Gat => agrees_fetch(answer, held),

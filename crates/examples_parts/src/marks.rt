@@ -1,8 +1,8 @@
 //! What a server holds, read plainly from what happened to it.
 
 ghost use Rattle.std.specs.Prelude.{◌≡◌, ◌++◌, ◌↔◌, IfOk, IsTrue, option_map, IsSome, decimal, replicate};
-ghost use Rattle.mc_types.specs.Items.{Item, after_call, after_done, is_done, number_text, counted, recounted, with_content, is_up};
-ghost use Rattle.mc_types.specs.Agree.{Agrees};
+ghost use Rattle.mc_types.specs.Items.{Item, after_call, after_done, is_done, number_text, number_made, recounted, with_content, is_up};
+ghost use Rattle.mc_types.specs.Agree.{AnswerAgrees};
 ghost use Rattle.fresh_runs.specs.Life.{held_in};
 ghost use Rattle.examples_parts.specs.Marks.{life_of_marks};
 
@@ -127,7 +127,7 @@ fn number_body(alloc: Global, spaces: u32, number: u64) -> Result<Body, AllocErr
 }
 
 fn recounted(alloc: Global, ask: &Ask, spaces: u32, item: HeldItem) -> Result<HeldItem, AllocError>
-    ensures { IfOk result (λ new. new ≡ recounted spaces item (counted ask.now item.content)) }
+    ensures { IfOk result (λ new. new ≡ recounted spaces item (number_made ask.now item.content)) }
 {
     match incr_or_decr(item.content.as_slice(), ask.op != Op::Decr, ask.delta) {
         Some(number) => Ok(item.with_content(number_body(alloc, spaces, number)?)),

@@ -2,7 +2,7 @@
 
 ghost use Rattle.std.specs.Prelude.{◌<◌, IfOk};
 ghost use Rattle.mc_types.specs.Asks.{IsAsk};
-ghost use Rattle.script_events.specs.Servers.{count_of};
+ghost use Rattle.script_events.specs.Servers.{count_of_servers};
 
 use crate::reading::{
     ask, drop_ask, drop_outcome, halves, key, number, outcome_text, same, short, with_stamp,
@@ -104,7 +104,7 @@ a copy has the stamp of its item: that of its command is another
 }
 
 fn server(servers: &ScriptServers, text: &str) -> Result<ServerId, Fail>
-    ensures { IfOk result (λ server. server < count_of servers.now) }
+    ensures { IfOk result (λ server. server < count_of_servers servers.now) }
 {
     let number = number(text)?;
     if number as usize >= servers.servers() {
@@ -181,7 +181,7 @@ fn answered(
     stamp: u32,
     ask: &Ask,
 ) -> Result<String, Fail>
-    requires there { at < count_of servers.old }
+    requires there { at < count_of_servers servers.old }
     requires ask { IsAsk ask.now }
 {
     let Ok(made) = servers.answer(u64::from(stamp), at, ask) else {

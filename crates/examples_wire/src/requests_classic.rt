@@ -1,8 +1,8 @@
 //! Classic requests: each refusal, cuts, and the one spelling.
 
 ghost use Rattle.std.specs.Prelude.{◌<◌, IfOk, length};
-ghost use Rattle.wire_classic.specs.Message.{IsClassicReadFrom, message_in};
-ghost use Rattle.wire_classic.specs.Asks.{asks_of, IsClassicAsk};
+ghost use Rattle.wire_classic.specs.Message.{IsClassicReadFrom, classic_message_in};
+ghost use Rattle.wire_classic.specs.Asks.{classic_asks_of, IsClassicAsk};
 
 use crate::escapes::{bytes_of, spelled};
 use crate::reads::{refused, served};
@@ -130,7 +130,7 @@ fn walked(alloc: Global, request: &ClassicRequest, bytes: &[u8]) -> Result<Bytes
 
 fn first_ask(alloc: Global, request: &ClassicRequest, bytes: &[u8]) -> Result<Ask, AllocError>
     requires read { IsClassicReadFrom bytes.now request.now }
-    requires some { 0 < length (asks_of (message_in bytes.now request.now)) }
+    requires some { 0 < length (classic_asks_of (classic_message_in bytes.now request.now)) }
     ensures { IfOk result IsClassicAsk }
 {
     let received = Received::copied(bytes);

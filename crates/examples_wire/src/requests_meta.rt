@@ -1,8 +1,8 @@
 //! Meta requests: refusals by the table, cuts, and the one spelling.
 
 ghost use Rattle.std.specs.Prelude.{◌<◌, IfOk, length};
-ghost use Rattle.wire_meta.specs.Message.{IsMetaReadFrom, message_in};
-ghost use Rattle.wire_meta.specs.Asks.{asks_of, IsMetaAsk};
+ghost use Rattle.wire_meta.specs.Message.{IsMetaReadFrom, meta_message_in};
+ghost use Rattle.wire_meta.specs.Asks.{meta_asks_of, IsMetaAsk};
 
 use crate::escapes::{bytes_of, spelled};
 use crate::reads::{refused, served};
@@ -132,7 +132,7 @@ fn cut_told(alloc: Global, bytes: &[u8]) -> Result<String, AllocError> {
 
 fn first_ask(alloc: Global, request: &MetaRequest, bytes: &[u8]) -> Result<Ask, AllocError>
     requires read { IsMetaReadFrom bytes.now request.now }
-    requires some { 0 < length (asks_of (message_in bytes.now request.now)) }
+    requires some { 0 < length (meta_asks_of (meta_message_in bytes.now request.now)) }
     ensures { IfOk result IsMetaAsk }
 {
     let received = Received::copied(bytes);

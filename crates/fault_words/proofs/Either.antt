@@ -14,7 +14,7 @@ use Rattle.script_events.specs.Events.{◌>>=◌, client_said, server_said, turn
 use Rattle.fault_words.specs.declared.script.trouble.Form.{Form}
 use Rattle.fault_words.specs.declared.script.trouble.Form.TheVariants as forms
 use Rattle.fault_words.specs.declared.script.trouble.Number.TheVariants as numbers
-use Rattle.fault_words.specs.Troubles.{Trouble, NoNumber, NoEscape, unless, or_else, in_parts, form_of, number_trouble, cut_trouble, manner_trouble, key_bytes_trouble, spelled_key_trouble, key_trouble, sent_trouble, hold_trouble, fail_trouble, item_loss_trouble, loss_trouble, at_trouble, named_trouble, line_trouble}
+use Rattle.fault_words.specs.Troubles.{Trouble, NoNumber, NoEscape, unless, first_trouble, in_parts, form_of, number_trouble, cut_trouble, manner_trouble, key_bytes_trouble, spelled_key_trouble, key_trouble, sent_trouble, hold_trouble, fail_trouble, item_loss_trouble, loss_trouble, at_trouble, named_trouble, line_trouble}
 use Rattle.fault_words.specs.Laws.{IsEither, EachLineIsEither}
 
 -- what was read, or a trouble in its place
@@ -23,7 +23,7 @@ one None t = tt
 one (Some a) t = tt
 
 -- something more that is read or has a trouble
-further : {A B : Type 0} (o : Option A) (f : A → Option B) (t u : Option Trouble) → IsEither o t → ((a : A) → IsEither (f a) u) → IsEither (o >>= f) (or_else t u)
+further : {A B : Type 0} (o : Option A) (f : A → Option B) (t u : Option Trouble) → IsEither o t → ((a : A) → IsEither (f a) u) → IsEither (o >>= f) (first_trouble t u)
 further None f None u h k = absurd h
 further None f (Some t) u h k = tt
 further (Some a) f None u h k = k a

@@ -46,5 +46,5 @@ IsWrongIn [] found = ⊥
 IsWrongIn (first ∷ further) found = IsWrongAfter (first_said first) further found
 
 -- of a script with its configuration
-abbrev pub FindsIn : List ℕ → Option BadLine → Type 0
-FindsIn text found = IsWrongIn (lines_of text) found
+abbrev pub FindsBadLine : List ℕ → Option BadLine → Type 0
+FindsBadLine text found = IsWrongIn (lines_of text) found

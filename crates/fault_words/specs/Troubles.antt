@@ -45,9 +45,9 @@ unless None trouble = Some trouble
 unless (Some a) trouble = None
 
 -- the first of two troubles
-abbrev pub or_else : Option Trouble → Option Trouble → Option Trouble
-or_else None other = other
-or_else (Some trouble) other = Some trouble
+abbrev pub first_trouble : Option Trouble → Option Trouble → Option Trouble
+first_trouble None other = other
+first_trouble (Some trouble) other = Some trouble
 
 -- of a text cut at its first space; where it has none the form wants more words
 abbrev pub in_parts : Form → (Parts → Option Trouble) → Option Parts → Option Trouble
@@ -93,22 +93,22 @@ manner_trouble text =
 
 -- after `> ` and `+ `: C TEXT
 abbrev pub sent_trouble : Form → List ℕ → Option Trouble
-sent_trouble form text = in_parts form (λ p. or_else (number_trouble numbers.Client p.word) (text_trouble p.rest)) (cut text)
+sent_trouble form text = in_parts form (λ p. first_trouble (number_trouble numbers.Client p.word) (text_trouble p.rest)) (cut text)
 
 -- after `hold `: S KEY TEXT
 abbrev pub held_trouble : List ℕ → Option Trouble
-held_trouble text = in_parts forms.Hold (λ p. or_else (key_trouble p.word) (text_trouble p.rest)) (cut text)
+held_trouble text = in_parts forms.Hold (λ p. first_trouble (key_trouble p.word) (text_trouble p.rest)) (cut text)
 
 abbrev pub hold_trouble : List ℕ → Option Trouble
-hold_trouble text = in_parts forms.Hold (λ p. or_else (number_trouble numbers.Server p.word) (held_trouble p.rest)) (cut text)
+hold_trouble text = in_parts forms.Hold (λ p. first_trouble (number_trouble numbers.Server p.word) (held_trouble p.rest)) (cut text)
 
 -- after `fail `: K before, K after, K cut B, K junk
 abbrev pub fail_trouble : List ℕ → Option Trouble
-fail_trouble text = in_parts forms.Fail (λ p. or_else (number_trouble numbers.Turn p.word) (manner_trouble p.rest)) (cut text)
+fail_trouble text = in_parts forms.Fail (λ p. first_trouble (number_trouble numbers.Turn p.word) (manner_trouble p.rest)) (cut text)
 
 -- after `lose `: S KEY
 abbrev pub item_loss_trouble : List ℕ → Option Trouble
-item_loss_trouble text = in_parts forms.Lose (λ p. or_else (number_trouble numbers.Server p.word) (key_trouble p.rest)) (cut text)
+item_loss_trouble text = in_parts forms.Lose (λ p. first_trouble (number_trouble numbers.Server p.word) (key_trouble p.rest)) (cut text)
 
 -- what is lost: `lose S KEY`, `restart S`
 abbrev pub loss_trouble : List ℕ → List ℕ → Option Trouble
@@ -122,7 +122,7 @@ abbrev pub lost_trouble : List ℕ → Option Trouble
 lost_trouble text = in_parts forms.At (λ p. loss_trouble p.word p.rest) (cut text)
 
 abbrev pub at_trouble : List ℕ → Option Trouble
-at_trouble text = in_parts forms.At (λ p. or_else (number_trouble numbers.Turn p.word) (lost_trouble p.rest)) (cut text)
+at_trouble text = in_parts forms.At (λ p. first_trouble (number_trouble numbers.Turn p.word) (lost_trouble p.rest)) (cut text)
 
 -- after the word of a line; what `reload JSON` loads is no event, so its trouble counts only where the JSON is no configuration
 abbrev pub form_trouble : Form → List ℕ → Option Trouble

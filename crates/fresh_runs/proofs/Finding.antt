@@ -15,7 +15,7 @@ use Rattle.mc_types.specs.declared.answer.Answer.TheVariants.{Stored, NotStored,
 use Rattle.mc_types.specs.Asks.{IsAsk, HasShapeOf, shape_of, of_store}
 use Rattle.mc_types.specs.Fits.{Fits, FitsIn, FitsClassic, FitsMeta, FitsMetaCode, FitsStore, FitsCas, FitsFetch, FitsDelete, FitsTouch, FitsCount, FitsMetaStore, AreBare, is_error}
 use Rattle.mc_types.specs.Items.{Item}
-use Rattle.mc_types.specs.Agree.{Agrees, AgreesAs, AgreesFetch, AgreesCount}
+use Rattle.mc_types.specs.Agree.{AnswerAgrees, AgreesAs, AgreesFetch, AgreesCount}
 use Rattle.mc_types.specs.Shows.{shows, fields_show}
 use Rattle.fresh_runs.proofs.Lists.{bool_is}
 
@@ -166,9 +166,9 @@ meta_held : (op : Op) (ask : Ask) (answer : Answer) (held : Option Item) → Has
 meta_held op ask (Meta code fields) held shape fits h agrees = meta_code_held op ask code fields held shape fits h agrees
 meta_held op ask answer held shape fits h agrees = absurd (error_is_dark answer fits h)
 
-in_dialect_held : (dialect : Dialect) (ask : Ask) (answer : Answer) (held : Option Item) → HasShapeOf ask (shape_of dialect ask.op) → FitsIn dialect ask answer → shows answer ≡ true → Agrees ask answer held → Held held
+in_dialect_held : (dialect : Dialect) (ask : Ask) (answer : Answer) (held : Option Item) → HasShapeOf ask (shape_of dialect ask.op) → FitsIn dialect ask answer → shows answer ≡ true → AnswerAgrees ask answer held → Held held
 in_dialect_held dialects.Classic ask answer held shape fits h agrees = classic_held ask.op ask.with_cas ask answer held fits h agrees
 in_dialect_held dialects.Meta ask answer held shape fits h agrees = meta_held ask.op ask answer held shape fits h agrees
 
-pub shown_needs_item : (ask : Ask) (answer : Answer) (held : Option Item) → IsAsk ask → Fits ask answer → shows answer ≡ true → Agrees ask answer held → Held held
+pub shown_needs_item : (ask : Ask) (answer : Answer) (held : Option Item) → IsAsk ask → Fits ask answer → shows answer ≡ true → AnswerAgrees ask answer held → Held held
 shown_needs_item ask answer held asked fits h agrees = in_dialect_held ask.dialect ask answer held asked.shape fits.listed h agrees

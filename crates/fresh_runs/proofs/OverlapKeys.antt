@@ -10,7 +10,7 @@ use Rattle.fresh_runs.proofs.Runs.{way_below}
 use Rattle.fresh_runs.proofs.OverlapSteps.{owner_way}
 use Rattle.fresh_runs.specs.Protocol.{Protocol}
 use Rattle.fresh_runs.specs.Log.{Part}
-use Rattle.fresh_runs.specs.Overlap.{Slot, Owner, Entry, Feeds, Starts, Sends, Happens, Ends, Shows, Passes, Gives, Drops, Frees, Resets, slot_of, answered_in, behind_head, run_of, queue_of, is_dropped, owner_of, Follows}
+use Rattle.fresh_runs.specs.Overlap.{Slot, Owner, Entry, Feeds, Starts, Sends, Happens, Ends, Shows, Passes, Gives, Drops, Frees, Resets, part_slot, answered_in, behind_head, run_of, queue_of, is_dropped, owner_of, Follows}
 
 some_slot : {P : Protocol} (a b : Slot P) → ◌≡◌ {A = Option (Slot P)} (Some a) (Some b) → a ≡ b
 some_slot a b e = cc
@@ -131,8 +131,8 @@ module _ {P : Protocol} where
         let n = commands_in (run_of log) in
         let queue = queue_of log c in
         let up = rises_up (n + 1) (n + 1 + 1) queue (omega arith) (rises log f.1 c) in
-        elim (nat_eq client c) as (λ b. Rises (n + 1 + 1) (cond b (queue ++ slot_of number part ∷ []) queue)) [
-          | true ↦ subst (λ m. Rises (m + 1) (queue ++ slot_of number part ∷ [])) f.0.3 (rises_more queue (slot_of number part) (subst (λ m. Rises m queue) (sym f.0.3) (rises log f.1 c)))
+        elim (nat_eq client c) as (λ b. Rises (n + 1 + 1) (cond b (queue ++ part_slot number part ∷ []) queue)) [
+          | true ↦ subst (λ m. Rises (m + 1) (queue ++ part_slot number part ∷ [])) f.0.3 (rises_more queue (part_slot number part) (subst (λ m. Rises m queue) (sym f.0.3) (rises log f.1 c)))
           | false ↦ up
         ]
     rises (Sends n s a o ∷ log) f c = rises log f.1 c
@@ -189,8 +189,8 @@ module _ {P : Protocol} where
           | false ↦ λ _. e
         ]) refl)
         (keys_held log f.1 c served) in
-        (elim (nat_eq client c) as (λ b. nat_eq client c ≡ b → AllHold log' c (cond b (queue ++ slot_of number part ∷ []) queue)) [
-          | true ↦ λ same. hold_more log' c queue (slot_of number part) on
+        (elim (nat_eq client c) as (λ b. nat_eq client c ≡ b → AllHold log' c (cond b (queue ++ part_slot number part ∷ []) queue)) [
+          | true ↦ λ same. hold_more log' c queue (part_slot number part) on
               (ap (λ b. cond b (Some me) (owner_of log number)) (eq-eqb number number refl) ∙ ap (λ d. Some (record { client = d; ask = part.ask })) (eqb-true client c same))
           | false ↦ λ _. on
         ]) refl

@@ -7,9 +7,9 @@ use Rattle.mc_types.specs.Items.{Item}
 use Rattle.fresh_runs.specs.Calls.{Words}
 use Rattle.fresh_runs.specs.Protocol.{Protocol, IsReader}
 use Rattle.fresh_runs.specs.Log.{Part}
-use Rattle.fresh_runs.specs.Overlap.{Front, Slot, Entry, Feeds, Starts, Sends, Happens, Ends, Shows, Passes, Gives, Drops, Frees, Resets, is_last, is_last_slot, slot_of, slot_in, answered_in, behind_head, front_of, queue_of, Follows, IsSettled}
+use Rattle.fresh_runs.specs.Overlap.{Front, Slot, Entry, Feeds, Starts, Sends, Happens, Ends, Shows, Passes, Gives, Drops, Frees, Resets, is_last, is_last_slot, part_slot, slot_in, answered_in, behind_head, front_of, queue_of, Follows, NothingIsLeft}
 use Rattle.fresh_runs.specs.Stream.{Done, written_from, NoneEnds}
-use Rattle.fresh_runs.specs.OverlapStream.{EndsWithLast, ends_by, is_over, over_in, started_by, ended_by, done_after, messages_of, replies_of, done_of}
+use Rattle.fresh_runs.specs.OverlapStream.{EndsWithLast, ends_by, asks_no_more, over_in, started_by, ended_by, done_after, messages_of, replies_of, done_of}
 use Rattle.fresh_runs.specs.OverlapLaws.{WritesSoFar, WritesAll}
 use Rattle.fresh_runs.proofs.OverlapOutputs.{Pick, Behind, Chain, Awaits, writes, outputs, wholes}
 use Rattle.fresh_runs.proofs.OverlapRuns.{streams}
@@ -32,13 +32,13 @@ module _ (P : Protocol) (reader : IsReader P) (last : EndsWithLast P) where
   names_more (x ∷ ds) d = ap (λ l. x.message ∷ l) (names_more ds d)
 
   abbrev over : Slot P → List P.Message
-  over slot = cond (is_over slot) (slot.message ∷ []) []
+  over slot = cond (asks_no_more slot) (slot.message ∷ []) []
 
   over_more : (xs : List (Slot P)) (y : Slot P) → over_in (xs ++ y ∷ []) ≡ over_in xs ++ over y
   over_more [] y = append-nil (over y)
   over_more (x ∷ xs) y = ap (λ l. over x ++ l) (over_more xs y) ∙ sym (append_assoc (over x) (over_in xs) (over y))
 
-  over_started : (number : ℕ) (part : Part P) → over (slot_of number part) ≡ started_by part
+  over_started : (number : ℕ) (part : Part P) → over (part_slot number part) ≡ started_by part
   over_started number part =
       elim (is_last part) as (λ b. cond (ends_by b None (P.ends part.message part.index)) (part.message ∷ []) [] ≡ cond b (part.message ∷ []) []) [
         | true ↦ refl
@@ -66,26 +66,26 @@ module _ (P : Protocol) (reader : IsReader P) (last : EndsWithLast P) where
   abbrev replied : Slot P → Answer → Slot P
   replied slot reply = record { number = slot.number; message = slot.message; index = slot.index; ask = slot.ask; reply = Some reply }
 
-  over_head : (number : ℕ) (part : Part P) (xs : List (Slot P)) (replies : List Answer) (rest : List ℕ) (front : Front P) (reply : Answer) → Chain P reader replies rest (slot_of number part ∷ xs) front → over (replied (slot_of number part) reply) ++ over_in xs ≡ (over (slot_of number part) ++ over_in xs) ++ ended_by part reply
+  over_head : (number : ℕ) (part : Part P) (xs : List (Slot P)) (replies : List Answer) (rest : List ℕ) (front : Front P) (reply : Answer) → Chain P reader replies rest (part_slot number part ∷ xs) front → over (replied (part_slot number part) reply) ++ over_in xs ≡ (over (part_slot number part) ++ over_in xs) ++ ended_by part reply
   over_head number part xs replies rest front reply h =
       let m = part.message ∷ [] in
-      (elim (is_last part) as (λ b. Behind b None (Chain P reader [] [] xs front) (λ r. Pick (P.ends part.message part.index r) (Chain P reader [] [] xs front) (Chain P reader (replies ++ r ∷ []) (rest ++ P.shown part.message part.index r) xs front)) (Awaits P reader (slot_of number part) xs front) → cond (ends_by b (Some reply) (P.ends part.message part.index)) m [] ++ over_in xs ≡ (cond (ends_by b None (P.ends part.message part.index)) m [] ++ over_in xs) ++ cond b [] (cond (P.ends part.message part.index reply) m [])) [
+      (elim (is_last part) as (λ b. Behind b None (Chain P reader [] [] xs front) (λ r. Pick (P.ends part.message part.index r) (Chain P reader [] [] xs front) (Chain P reader (replies ++ r ∷ []) (rest ++ P.shown part.message part.index r) xs front)) (Awaits P reader (part_slot number part) xs front) → cond (ends_by b (Some reply) (P.ends part.message part.index)) m [] ++ over_in xs ≡ (cond (ends_by b None (P.ends part.message part.index)) m [] ++ over_in xs) ++ cond b [] (cond (P.ends part.message part.index reply) m [])) [
         | true ↦ λ _. sym (append-nil (m ++ over_in xs))
-        | false ↦ λ (w : Awaits P reader (slot_of number part) xs front).
+        | false ↦ λ (w : Awaits P reader (part_slot number part) xs front).
             ap (λ l. cond (P.ends part.message part.index reply) m [] ++ over_in l) w.last
             ∙ append-nil (cond (P.ends part.message part.index reply) m [])
             ∙ ap (λ l. over_in l ++ cond (P.ends part.message part.index reply) m []) (sym w.last)
       ]) h.1
 
-  over_ended : (queue : List (Slot P)) (replies : List Answer) (rest : List ℕ) (front : Front P) (number : ℕ) (part : Part P) (reply : Answer) → Chain P reader replies rest queue front → slot_in queue number ≡ Some (slot_of number part) → over_in (answered_in number reply queue) ≡ over_in queue ++ ended_by part reply
-  over_ended [] replies rest front number part reply h is = absurd (no_slot (slot_of number part) is)
+  over_ended : (queue : List (Slot P)) (replies : List Answer) (rest : List ℕ) (front : Front P) (number : ℕ) (part : Part P) (reply : Answer) → Chain P reader replies rest queue front → slot_in queue number ≡ Some (part_slot number part) → over_in (answered_in number reply queue) ≡ over_in queue ++ ended_by part reply
+  over_ended [] replies rest front number part reply h is = absurd (no_slot (part_slot number part) is)
   over_ended (x ∷ xs) replies rest front number part reply h is =
-      (elim (nat_eq x.number number) as (λ b. cond b (Some x) (slot_in xs number) ≡ Some (slot_of number part) → over_in (cond b (replied x reply ∷ xs) (x ∷ answered_in number reply xs)) ≡ over_in (x ∷ xs) ++ ended_by part reply) [
+      (elim (nat_eq x.number number) as (λ b. cond b (Some x) (slot_in xs number) ≡ Some (part_slot number part) → over_in (cond b (replied x reply ∷ xs) (x ∷ answered_in number reply xs)) ≡ over_in (x ∷ xs) ++ ended_by part reply) [
         | true ↦ λ here.
-            let same : x ≡ slot_of number part = some_slot x (slot_of number part) here in
+            let same : x ≡ part_slot number part = some_slot x (part_slot number part) here in
             subst (λ y. over (replied y reply) ++ over_in xs ≡ (over y ++ over_in xs) ++ ended_by part reply) (sym same) (over_head number part xs replies rest front reply (subst (λ y. Chain P reader replies rest (y ∷ xs) front) same h))
         | false ↦ λ there.
-            let c = rest_chain (is_last_slot x) x.reply x xs replies rest front number (slot_of number part) there h.1 in
+            let c = rest_chain (is_last_slot x) x.reply x xs replies rest front number (part_slot number part) there h.1 in
             ap (λ l. over x ++ l) (over_ended xs c.0 c.1 front number part reply c.2 there) ∙ sym (append_assoc (over x) (over_in xs) (ended_by part reply))
       ]) is
 
@@ -105,8 +105,8 @@ module _ (P : Protocol) (reader : IsReader P) (last : EndsWithLast P) where
     named (Starts client number part ∷ log) f c =
         let ds = names (done_of log c) in
         let queue = queue_of log c in
-        elim (nat_eq client c) as (λ b. cond b (messages_of log c ++ started_by part) (messages_of log c) ≡ ds ++ over_in (cond b (queue ++ slot_of number part ∷ []) queue)) [
-          | true ↦ ap (λ l. l ++ started_by part) (named log f.1 c) ∙ append_assoc ds (over_in queue) (started_by part) ∙ ap (λ l. ds ++ (over_in queue ++ l)) (sym (over_started number part)) ∙ ap (λ l. ds ++ l) (sym (over_more queue (slot_of number part)))
+        elim (nat_eq client c) as (λ b. cond b (messages_of log c ++ started_by part) (messages_of log c) ≡ ds ++ over_in (cond b (queue ++ part_slot number part ∷ []) queue)) [
+          | true ↦ ap (λ l. l ++ started_by part) (named log f.1 c) ∙ append_assoc ds (over_in queue) (started_by part) ∙ ap (λ l. ds ++ (over_in queue ++ l)) (sym (over_started number part)) ∙ ap (λ l. ds ++ l) (sym (over_more queue (part_slot number part)))
           | false ↦ named log f.1 c
         ]
     named (Sends number server ask origin ∷ log) f c = named log f.1 c
@@ -116,7 +116,7 @@ module _ (P : Protocol) (reader : IsReader P) (last : EndsWithLast P) where
         let queue = queue_of log c in
         let w = writes P reader words Bars opening version last log f.1 c in
         (elim (nat_eq client c) as (λ b. nat_eq client c ≡ b → cond b (messages_of log c ++ ended_by part reply) (messages_of log c) ≡ ds ++ over_in (cond b (answered_in number reply queue) queue)) [
-          | true ↦ λ same. ap (λ l. l ++ ended_by part reply) (named log f.1 c) ∙ append_assoc ds (over_in queue) (ended_by part reply) ∙ ap (λ l. ds ++ l) (sym (over_ended queue (replies_of log c) w.rest (front_of log c) number part reply w.chain (subst (λ d. slot_in (queue_of log d) number ≡ Some (slot_of number part)) (eqb-true client c same) f.0.2)))
+          | true ↦ λ same. ap (λ l. l ++ ended_by part reply) (named log f.1 c) ∙ append_assoc ds (over_in queue) (ended_by part reply) ∙ ap (λ l. ds ++ l) (sym (over_ended queue (replies_of log c) w.rest (front_of log c) number part reply w.chain (subst (λ d. slot_in (queue_of log d) number ≡ Some (part_slot number part)) (eqb-true client c same) f.0.2)))
           | false ↦ λ _. named log f.1 c
         ]) refl
     named (Shows client slot reply ∷ log) f c =
@@ -149,7 +149,7 @@ module _ (P : Protocol) (reader : IsReader P) (last : EndsWithLast P) where
         ]
 
     -- where nothing is left to do, all of them were done
-    pub all_named : (log : List (Entry P)) → Follows words Bars opening version log → IsSettled version log → (c : ℕ) → messages_of log c ≡ names (done_of log c)
+    pub all_named : (log : List (Entry P)) → Follows words Bars opening version log → NothingIsLeft version log → (c : ℕ) → messages_of log c ≡ names (done_of log c)
     all_named log f settled c = named log f c ∙ ap (λ q. names (done_of log c) ++ over_in q) (settled.shown c) ∙ append-nil (names (done_of log c))
 
     at_rest : (replies : List Answer) (rest : List ℕ) (queue : List (Slot P)) (front : Front P) → Chain P reader replies rest queue front → (replies ≡ [] → rest ≡ []) × ((replies ≡ [] → ⊥) → (message : P.Message) × (rest ≡ written_from P message 0 replies) × NoneEnds P message 0 replies)
@@ -163,7 +163,7 @@ module _ (P : Protocol) (reader : IsReader P) (last : EndsWithLast P) where
         let w = writes P reader words Bars opening version last log f c in
         record { rest = w.rest; output = w.output_is; whole = w.whole; begun = at_rest (replies_of log c) w.rest (queue_of log c) (front_of log c) w.chain; messages = named log f c }
 
-    pub all_written : (log : List (Entry P)) → Follows words Bars opening version log → IsSettled version log → (c : ℕ) → WritesAll P words Bars opening version log c
+    pub all_written : (log : List (Entry P)) → Follows words Bars opening version log → NothingIsLeft version log → (c : ℕ) → WritesAll P words Bars opening version log c
     all_written log f settled c =
         record {
           splits = (streams P words Bars opening reader version log f c, settled.stuck c);

@@ -7,7 +7,7 @@ use Rattle.mc_types.specs.Items.{Item}
 use Rattle.fresh_runs.specs.Calls.{Words}
 use Rattle.fresh_runs.specs.Protocol.{Protocol, IsReader, IsStuck}
 use Rattle.fresh_runs.specs.Log.{Part}
-use Rattle.fresh_runs.specs.Overlap.{Front, Slot, Entry, Feeds, Starts, Sends, Happens, Ends, Shows, Passes, Gives, Drops, Frees, Resets, is_last, is_last_slot, start_front, fed_front, after_start, after_end, slot_of, slot_in, answered_in, behind_head, front_of, queue_of, output_of, given_of, IsNext, IsSettled, Follows}
+use Rattle.fresh_runs.specs.Overlap.{Front, Slot, Entry, Feeds, Starts, Sends, Happens, Ends, Shows, Passes, Gives, Drops, Frees, Resets, is_last, is_last_slot, start_front, fed_front, after_start, after_end, part_slot, slot_in, answered_in, behind_head, front_of, queue_of, output_of, given_of, IsNext, NothingIsLeft, Follows}
 use Rattle.fresh_runs.specs.Stream.{Done, written_from, written, written_all, NoneEnds, LastEnds, IsWhole, AreWhole}
 use Rattle.fresh_runs.specs.OverlapStream.{EndsWithLast, replies_after, done_after, replies_of, done_of}
 
@@ -110,7 +110,7 @@ module _ (P : Protocol) (reader : IsReader P) where
       × Behind (is_last_slot slot) slot.reply (Chain [] [] slots front) (λ r. Pick (P.ends slot.message slot.index r) (Chain [] [] slots front) (Chain (replies ++ r ∷ []) (rest ++ P.shown slot.message slot.index r) slots front)) (Awaits slot slots front)
 
   -- a command more
-  fits_next : (replies : List Answer) (rest : List ℕ) (front : Front P) (number : ℕ) (part : Part P) → Rests replies rest front → IsNext front part → Fits replies rest (slot_of number part)
+  fits_next : (replies : List Answer) (rest : List ℕ) (front : Front P) (number : ℕ) (part : Part P) → Rests replies rest front → IsNext front part → Fits replies rest (part_slot number part)
   fits_next [] rest front number part h n = record { begun = (h.at, tt); index = n.index ∙ h.index; asks = n.asks }
   fits_next (r ∷ rs) rest front number part h n =
       record {
@@ -123,10 +123,10 @@ module _ (P : Protocol) (reader : IsReader P) where
   true_false true e f = absurd cc
   true_false false e f = absurd cc
 
-  chain_start : (queue : List (Slot P)) (replies : List Answer) (rest : List ℕ) (front : Front P) (number : ℕ) (part : Part P) → Chain replies rest queue front → IsNext front part → Chain replies rest (queue ++ slot_of number part ∷ []) (after_start front part)
+  chain_start : (queue : List (Slot P)) (replies : List Answer) (rest : List ℕ) (front : Front P) (number : ℕ) (part : Part P) → Chain replies rest queue front → IsNext front part → Chain replies rest (queue ++ part_slot number part ∷ []) (after_start front part)
   chain_start [] replies rest front number part h n = (
     fits_next replies rest front number part h n,
-    elim (is_last part) as (λ b. Behind b None (Chain [] [] [] (cond {A = Front P} b (record { place = part.next; index = 0; waits = false }) (record { place = front.place; index = front.index; waits = true }))) (λ r. Pick (P.ends part.message part.index r) (Chain [] [] [] (cond {A = Front P} b (record { place = part.next; index = 0; waits = false }) (record { place = front.place; index = front.index; waits = true }))) (Chain (replies ++ r ∷ []) (rest ++ P.shown part.message part.index r) [] (cond {A = Front P} b (record { place = part.next; index = 0; waits = false }) (record { place = front.place; index = front.index; waits = true })))) (Awaits (slot_of number part) [] (cond {A = Front P} b (record { place = part.next; index = 0; waits = false }) (record { place = front.place; index = front.index; waits = true })))) [
+    elim (is_last part) as (λ b. Behind b None (Chain [] [] [] (cond {A = Front P} b (record { place = part.next; index = 0; waits = false }) (record { place = front.place; index = front.index; waits = true }))) (λ r. Pick (P.ends part.message part.index r) (Chain [] [] [] (cond {A = Front P} b (record { place = part.next; index = 0; waits = false }) (record { place = front.place; index = front.index; waits = true }))) (Chain (replies ++ r ∷ []) (rest ++ P.shown part.message part.index r) [] (cond {A = Front P} b (record { place = part.next; index = 0; waits = false }) (record { place = front.place; index = front.index; waits = true })))) (Awaits (part_slot number part) [] (cond {A = Front P} b (record { place = part.next; index = 0; waits = false }) (record { place = front.place; index = front.index; waits = true })))) [
       | true ↦ record { ready = refl; index = refl; at = refl }
       | false ↦ record { last = refl; waits = refl; next = part.next; reads = n.reads }
     ],
@@ -181,7 +181,7 @@ module _ (P : Protocol) (reader : IsReader P) where
       cond {A = Front P} b (record { place = part.next; index = 0; waits = false }) (record { place = front.place; index = part.index + 1; waits = false })
 
   -- the reply that was waited for
-  awaited : (number : ℕ) (part : Part P) (slots : List (Slot P)) (replies : List Answer) (rest : List ℕ) (front : Front P) (reply : Answer) → Fits replies rest (slot_of number part) → Awaits (slot_of number part) slots front → P.Reads front.place part.message part.next → Pick (P.ends part.message part.index reply) (Chain [] [] slots (behind_reply (P.ends part.message part.index reply) front part)) (Chain (replies ++ reply ∷ []) (rest ++ P.shown part.message part.index reply) slots (behind_reply (P.ends part.message part.index reply) front part))
+  awaited : (number : ℕ) (part : Part P) (slots : List (Slot P)) (replies : List Answer) (rest : List ℕ) (front : Front P) (reply : Answer) → Fits replies rest (part_slot number part) → Awaits (part_slot number part) slots front → P.Reads front.place part.message part.next → Pick (P.ends part.message part.index reply) (Chain [] [] slots (behind_reply (P.ends part.message part.index reply) front part)) (Chain (replies ++ reply ∷ []) (rest ++ P.shown part.message part.index reply) slots (behind_reply (P.ends part.message part.index reply) front part))
   awaited number part slots replies rest front reply fits w reads =
       subst (λ l. Pick (P.ends part.message part.index reply) (Chain [] [] l (behind_reply (P.ends part.message part.index reply) front part)) (Chain (replies ++ reply ∷ []) (rest ++ P.shown part.message part.index reply) l (behind_reply (P.ends part.message part.index reply) front part))) (sym w.last)
       ((elim (P.ends part.message part.index reply) as (λ b. P.ends part.message part.index reply ≡ b → Pick b (Rests [] [] (behind_reply b front part)) (Rests (replies ++ reply ∷ []) (rest ++ P.shown part.message part.index reply) (behind_reply b front part))) [
@@ -190,24 +190,24 @@ module _ (P : Protocol) (reader : IsReader P) where
             record {
               ready = refl;
               index = ap (λ i. i + 1) fits.index ∙ sym (length-append replies (reply ∷ []));
-              at = rests_more front.place part.next (slot_of number part) replies rest reply reads fits goes;
+              at = rests_more front.place part.next (part_slot number part) replies rest reply reads fits goes;
             }
       ]) refl)
 
-  chain_end_head : (number : ℕ) (part : Part P) (slots : List (Slot P)) (replies : List Answer) (rest : List ℕ) (front : Front P) (reply : Answer) → Chain replies rest (slot_of number part ∷ slots) front → (is_last part ≡ false → P.Reads front.place part.message part.next) → Chain replies rest (replied (slot_of number part) reply ∷ slots) (after_end front part reply)
+  chain_end_head : (number : ℕ) (part : Part P) (slots : List (Slot P)) (replies : List Answer) (rest : List ℕ) (front : Front P) (reply : Answer) → Chain replies rest (part_slot number part ∷ slots) front → (is_last part ≡ false → P.Reads front.place part.message part.next) → Chain replies rest (replied (part_slot number part) reply ∷ slots) (after_end front part reply)
   chain_end_head number part slots replies rest front reply h reads = (
     record { begun = h.0.begun; index = h.0.index; asks = h.0.asks },
-    (elim (is_last part) as (λ b. is_last part ≡ b → Behind b None (Chain [] [] slots front) (λ r. Pick (P.ends part.message part.index r) (Chain [] [] slots front) (Chain (replies ++ r ∷ []) (rest ++ P.shown part.message part.index r) slots front)) (Awaits (slot_of number part) slots front) → Behind b (Some reply) (Chain [] [] slots (cond b front (behind_reply (P.ends part.message part.index reply) front part))) (λ r. Pick (P.ends part.message part.index r) (Chain [] [] slots (cond b front (behind_reply (P.ends part.message part.index reply) front part))) (Chain (replies ++ r ∷ []) (rest ++ P.shown part.message part.index r) slots (cond b front (behind_reply (P.ends part.message part.index reply) front part)))) (Awaits (replied (slot_of number part) reply) slots (cond b front (behind_reply (P.ends part.message part.index reply) front part)))) [
+    (elim (is_last part) as (λ b. is_last part ≡ b → Behind b None (Chain [] [] slots front) (λ r. Pick (P.ends part.message part.index r) (Chain [] [] slots front) (Chain (replies ++ r ∷ []) (rest ++ P.shown part.message part.index r) slots front)) (Awaits (part_slot number part) slots front) → Behind b (Some reply) (Chain [] [] slots (cond b front (behind_reply (P.ends part.message part.index reply) front part))) (λ r. Pick (P.ends part.message part.index r) (Chain [] [] slots (cond b front (behind_reply (P.ends part.message part.index reply) front part))) (Chain (replies ++ r ∷ []) (rest ++ P.shown part.message part.index r) slots (cond b front (behind_reply (P.ends part.message part.index reply) front part)))) (Awaits (replied (part_slot number part) reply) slots (cond b front (behind_reply (P.ends part.message part.index reply) front part)))) [
       | true ↦ λ _ c. c
       | false ↦ λ more w. awaited number part slots replies rest front reply h.0 w (reads more)
     ]) refl h.1,
   )
 
-  chain_end : (queue : List (Slot P)) (replies : List Answer) (rest : List ℕ) (front : Front P) (number : ℕ) (part : Part P) (reply : Answer) → Chain replies rest queue front → slot_in queue number ≡ Some (slot_of number part) → (is_last part ≡ false → P.Reads front.place part.message part.next) → Chain replies rest (answered_in number reply queue) (after_end front part reply)
-  chain_end [] replies rest front number part reply h is reads = absurd (no_slot (slot_of number part) is)
+  chain_end : (queue : List (Slot P)) (replies : List Answer) (rest : List ℕ) (front : Front P) (number : ℕ) (part : Part P) (reply : Answer) → Chain replies rest queue front → slot_in queue number ≡ Some (part_slot number part) → (is_last part ≡ false → P.Reads front.place part.message part.next) → Chain replies rest (answered_in number reply queue) (after_end front part reply)
+  chain_end [] replies rest front number part reply h is reads = absurd (no_slot (part_slot number part) is)
   chain_end (x ∷ xs) replies rest front number part reply h is reads =
-      (elim (nat_eq x.number number) as (λ b. cond b (Some x) (slot_in xs number) ≡ Some (slot_of number part) → Chain replies rest (cond b (replied x reply ∷ xs) (x ∷ answered_in number reply xs)) (after_end front part reply)) [
-        | true ↦ λ here. subst (λ y. Chain replies rest (replied y reply ∷ xs) (after_end front part reply)) (sym (some_slot x (slot_of number part) here)) (chain_end_head number part xs replies rest front reply (subst (λ y. Chain replies rest (y ∷ xs) front) (some_slot x (slot_of number part) here) h) reads)
+      (elim (nat_eq x.number number) as (λ b. cond b (Some x) (slot_in xs number) ≡ Some (part_slot number part) → Chain replies rest (cond b (replied x reply ∷ xs) (x ∷ answered_in number reply xs)) (after_end front part reply)) [
+        | true ↦ λ here. subst (λ y. Chain replies rest (replied y reply ∷ xs) (after_end front part reply)) (sym (some_slot x (part_slot number part) here)) (chain_end_head number part xs replies rest front reply (subst (λ y. Chain replies rest (y ∷ xs) front) (some_slot x (part_slot number part) here) h) reads)
         | false ↦ λ there. (
           h.0,
           behind_map (is_last_slot x) x.reply
@@ -215,7 +215,7 @@ module _ (P : Protocol) (reader : IsReader P) where
               (λ r. pick_map (P.ends x.message x.index r)
               (λ c. chain_end xs [] [] front number part reply c there reads)
               (λ c. chain_end xs (replies ++ r ∷ []) (rest ++ P.shown x.message x.index r) front number part reply c there reads))
-              (λ (w : Awaits x xs front). absurd (no_slot (slot_of number part) (ap (λ l. slot_in l number) (sym w.last) ∙ there)))
+              (λ (w : Awaits x xs front). absurd (no_slot (part_slot number part) (ap (λ l. slot_in l number) (sym w.last) ∙ there)))
               h.1,
         )
       ]) is
@@ -294,7 +294,7 @@ module _ (P : Protocol) (reader : IsReader P) where
         let w = writes log f.1 c in
         let queue = queue_of log c in
         let front = front_of log c in
-        (elim (nat_eq client c) as (λ b. nat_eq client c ≡ b → Written version (cond b (queue ++ slot_of number part ∷ []) queue) (cond b (after_start front part) front) (replies_of log c) (done_of log c) (output_of version log c)) [
+        (elim (nat_eq client c) as (λ b. nat_eq client c ≡ b → Written version (cond b (queue ++ part_slot number part ∷ []) queue) (cond b (after_start front part) front) (replies_of log c) (done_of log c) (output_of version log c)) [
           | true ↦ λ same. record { rest = w.rest; output_is = w.output_is; chain = chain_start queue (replies_of log c) w.rest front number part w.chain (subst (λ d. IsNext (front_of log d) part) (eqb-true client c same) f.0.1); whole = w.whole }
           | false ↦ λ _. w
         ]) refl
@@ -305,7 +305,7 @@ module _ (P : Protocol) (reader : IsReader P) where
         let queue = queue_of log c in
         let front = front_of log c in
         (elim (nat_eq client c) as (λ b. nat_eq client c ≡ b → Written version (cond b (answered_in number reply queue) queue) (cond b (after_end front part reply) front) (replies_of log c) (done_of log c) (output_of version log c)) [
-          | true ↦ λ same. record { rest = w.rest; output_is = w.output_is; chain = chain_end queue (replies_of log c) w.rest front number part reply w.chain (subst (λ d. slot_in (queue_of log d) number ≡ Some (slot_of number part)) (eqb-true client c same) f.0.2) (subst (λ d. is_last part ≡ false → P.Reads (front_of log d).place part.message part.next) (eqb-true client c same) f.0.3); whole = w.whole }
+          | true ↦ λ same. record { rest = w.rest; output_is = w.output_is; chain = chain_end queue (replies_of log c) w.rest front number part reply w.chain (subst (λ d. slot_in (queue_of log d) number ≡ Some (part_slot number part)) (eqb-true client c same) f.0.2) (subst (λ d. is_last part ≡ false → P.Reads (front_of log d).place part.message part.next) (eqb-true client c same) f.0.3); whole = w.whole }
           | false ↦ λ _. w
         ]) refl
     writes (Shows client slot reply ∷ log) f c =
@@ -345,7 +345,7 @@ module _ (P : Protocol) (reader : IsReader P) where
     nothing_begun place [] rest stuck h = h
     nothing_begun place (r ∷ rs) rest stuck h = absurd (stuck h.0 h.1 h.2)
 
-    pub outputs : (log : List (Entry P)) → Follows words Bars opening version log → IsSettled version log → (c : ℕ) → given_of log c ≡ written_all P version (done_of log c)
+    pub outputs : (log : List (Entry P)) → Follows words Bars opening version log → NothingIsLeft version log → (c : ℕ) → given_of log c ≡ written_all P version (done_of log c)
     outputs log f settled c =
         let w = writes log f c in
         let rests : Rests (replies_of log c) w.rest (front_of log c) = subst (λ q. Chain (replies_of log c) w.rest q (front_of log c)) (settled.shown c) w.chain in

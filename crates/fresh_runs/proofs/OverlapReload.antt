@@ -7,11 +7,11 @@ use Rattle.fresh_runs.specs.Run.{Event, Begins, Calls, Replies, Breaks, Turns, R
 use Rattle.fresh_runs.specs.Protocol.{Protocol}
 use Rattle.fresh_runs.specs.Overlap.{Owner, Entry, Feeds, Starts, Sends, Happens, Ends, Shows, Passes, Gives, Drops, Frees, Resets, start_front, run_of, Follows}
 use Rattle.fresh_runs.specs.OverlapState.{OverlapState, LeadsTo}
-use Rattle.fresh_runs.specs.OverlapLaws.{AreKept, AreKeptBars}
+use Rattle.fresh_runs.specs.OverlapLaws.{WordsAreKept, AreKeptBars}
 use Rattle.fresh_runs.proofs.Runs.{way_below}
 use Rattle.fresh_runs.proofs.OverlapSteps.{owner_way}
 
-module _ (words new : Words) (below : ℕ) (kept : AreKept below words new) where
+module _ (words new : Words) (below : ℕ) (kept : WordsAreKept below words new) where
   kept_front : (n : ℕ) (a : Ask) (calls : List Call) → n < below → IsFront words n a calls → IsFront new n a calls
   kept_front n a calls lt f = (f.0, f.1, f.2, kept n a (calls ++ f.0) f.1 f.2 lt f.3)
 
@@ -21,7 +21,7 @@ kept_apart below Bars NewBars kept past number ask new lt apart other client way
     let low = way_below below past other client new way in
     ((λ bars. two.0 (kept number other ask client lt low bars)), (λ bars. two.1 (kept other number client ask low lt bars)))
 
-module _ {P : Protocol} (words new : Words) (Bars NewBars : ℕ → Ask → ℕ → Ask → Type 0) (opening : ℕ → List ℕ → Option Item) (version : List ℕ) (below : ℕ) (kept : AreKept below words new) (kept_bars : AreKeptBars below Bars NewBars) where
+module _ {P : Protocol} (words new : Words) (Bars NewBars : ℕ → Ask → ℕ → Ask → Type 0) (opening : ℕ → List ℕ → Option Item) (version : List ℕ) (below : ℕ) (kept : WordsAreKept below words new) (kept_bars : AreKeptBars below Bars NewBars) where
   pub follows_kept : (log : List (Entry P)) → IsNewNumber below (run_of log) → Follows words Bars opening version log → Follows new NewBars opening version log
   follows_kept [] n f = tt
   follows_kept (Feeds c b ∷ log) n f = (f.0, follows_kept log n f.1)
@@ -43,7 +43,7 @@ module _ {P : Protocol} (words new : Words) (Bars NewBars : ℕ → Ask → ℕ 
 
 module _ {P : Protocol} (words : Words) (Bars : ℕ → Ask → ℕ → Ask → Type 0) (opening : ℕ → List ℕ → Option Item) where
   -- a reload
-  pub reloads : (new : Words) (NewBars : ℕ → Ask → ℕ → Ask → Type 0) (log : List (Entry P)) (now : OverlapState P) → LeadsTo words Bars opening log now → AreKept (now.number + 1) words new → AreKeptBars (now.number + 1) Bars NewBars → LeadsTo new NewBars opening log now
+  pub reloads : (new : Words) (NewBars : ℕ → Ask → ℕ → Ask → Type 0) (log : List (Entry P)) (now : OverlapState P) → LeadsTo words Bars opening log now → WordsAreKept (now.number + 1) words new → AreKeptBars (now.number + 1) Bars NewBars → LeadsTo new NewBars opening log now
   reloads new NewBars log now h kept kept_bars =
       record {
         follows = follows_kept words new Bars NewBars opening now.version (now.number + 1) kept kept_bars log h.new h.follows;

@@ -8,7 +8,7 @@ use Rattle.fresh_runs.specs.Calls.{Words}
 use Rattle.fresh_runs.specs.Run.{Event, Begins, Replies, Breaks}
 use Rattle.fresh_runs.specs.Protocol.{Protocol}
 use Rattle.fresh_runs.specs.Log.{Part}
-use Rattle.fresh_runs.specs.Overlap.{Slot, Entry, Feeds, Starts, Sends, Happens, Ends, Shows, Passes, Gives, Drops, Frees, Resets, slot_of, slot_in, answered_in, behind_head, run_of, queue_of, Follows}
+use Rattle.fresh_runs.specs.Overlap.{Slot, Entry, Feeds, Starts, Sends, Happens, Ends, Shows, Passes, Gives, Drops, Frees, Resets, part_slot, slot_in, answered_in, behind_head, run_of, queue_of, Follows}
 use Rattle.fresh_runs.specs.Stream.{Done}
 use Rattle.fresh_runs.specs.OverlapStream.{IsReplied, replies_after, done_after, replies_of, done_of, begun_by, shown_slots, all_replies, AreTold, AreReplies}
 
@@ -39,17 +39,17 @@ module _ (P : Protocol) where
       one None h = h
       one (Some reply) h = inr h
 
-  told_more : (past : List Event) (slots : List (Slot P)) (number : ℕ) (part : Part P) → AreTold past slots → AreTold past (slots ++ slot_of number part ∷ [])
+  told_more : (past : List Event) (slots : List (Slot P)) (number : ℕ) (part : Part P) → AreTold past slots → AreTold past (slots ++ part_slot number part ∷ [])
   told_more past [] number part h = (tt, tt)
   told_more past (slot ∷ slots) number part h = (h.0, told_more past slots number part h.1)
 
-  told_answered : (past : List Event) (slots : List (Slot P)) (number : ℕ) (part : Part P) (reply : Answer) (from : Option ℕ) → AreTold past slots → slot_in slots number ≡ Some (slot_of number part) → AreTold (Replies number part.ask.key reply from ∷ past) (answered_in number reply slots)
+  told_answered : (past : List Event) (slots : List (Slot P)) (number : ℕ) (part : Part P) (reply : Answer) (from : Option ℕ) → AreTold past slots → slot_in slots number ≡ Some (part_slot number part) → AreTold (Replies number part.ask.key reply from ∷ past) (answered_in number reply slots)
   told_answered past [] number part reply from h is = tt
   told_answered past (x ∷ xs) number part reply from h is =
       let event = Replies number part.ask.key reply from in
       let all = told_later event past (x ∷ xs) h in
-      (elim (nat_eq x.number number) as (λ b. cond b (Some x) (slot_in xs number) ≡ Some (slot_of number part) → AreTold (event ∷ past) (cond b (record { number = x.number; message = x.message; index = x.index; ask = x.ask; reply = Some reply } ∷ xs) (x ∷ answered_in number reply xs))) [
-        | true ↦ λ here. (inl (ap (λ (s : Slot P). s.number) (sym (some_slot x (slot_of number part) here)), ap (λ (s : Slot P). s.ask.key) (sym (some_slot x (slot_of number part) here)), refl), all.1)
+      (elim (nat_eq x.number number) as (λ b. cond b (Some x) (slot_in xs number) ≡ Some (part_slot number part) → AreTold (event ∷ past) (cond b (record { number = x.number; message = x.message; index = x.index; ask = x.ask; reply = Some reply } ∷ xs) (x ∷ answered_in number reply xs))) [
+        | true ↦ λ here. (inl (ap (λ (s : Slot P). s.number) (sym (some_slot x (part_slot number part) here)), ap (λ (s : Slot P). s.ask.key) (sym (some_slot x (part_slot number part) here)), refl), all.1)
         | false ↦ λ there. (all.0, told_answered past xs number part reply from h.1 there)
       ]) is
 
@@ -100,11 +100,11 @@ module _ (P : Protocol) where
         let queue = queue_of log c in
         let shown = shown_slots log c in
         let told = told_later (Begins number part.ask) (run_of log) queue t.told in
-        elim (nat_eq client c) as (λ b. Told (Begins number part.ask ∷ run_of log) (cond b (queue ++ slot_of number part ∷ []) queue) shown (all_replies (done_of log c) ++ replies_of log c) (cond b (begun_by log c ++ number ∷ []) (begun_by log c))) [
+        elim (nat_eq client c) as (λ b. Told (Begins number part.ask ∷ run_of log) (cond b (queue ++ part_slot number part ∷ []) queue) shown (all_replies (done_of log c) ++ replies_of log c) (cond b (begun_by log c ++ number ∷ []) (begun_by log c))) [
           | true ↦ record {
             told = told_more (Begins number part.ask ∷ run_of log) queue number part told;
             replies_are = replies_later (Begins number part.ask) (run_of log) shown _ t.replies_are;
-            order = ap numbers (sym (append_assoc shown queue (slot_of number part ∷ []))) ∙ numbers_more (shown ++ queue) (slot_of number part ∷ []) ∙ ap (λ l. l ++ number ∷ []) t.order;
+            order = ap numbers (sym (append_assoc shown queue (part_slot number part ∷ []))) ∙ numbers_more (shown ++ queue) (part_slot number part ∷ []) ∙ ap (λ l. l ++ number ∷ []) t.order;
           }
           | false ↦ told_by (Begins number part.ask) (run_of log) queue shown _ _ t
         ]
@@ -117,7 +117,7 @@ module _ (P : Protocol) where
         let event = Replies number part.ask.key reply from in
         (elim (nat_eq client c) as (λ b. nat_eq client c ≡ b → Told (event ∷ run_of log) (cond b (answered_in number reply queue) queue) shown (all_replies (done_of log c) ++ replies_of log c) (begun_by log c)) [
           | true ↦ λ same. record {
-            told = told_answered (run_of log) queue number part reply from t.told (subst (λ d. slot_in (queue_of log d) number ≡ Some (slot_of number part)) (eqb-true client c same) f.0.2);
+            told = told_answered (run_of log) queue number part reply from t.told (subst (λ d. slot_in (queue_of log d) number ≡ Some (part_slot number part)) (eqb-true client c same) f.0.2);
             replies_are = replies_later event (run_of log) shown _ t.replies_are;
             order = numbers_more shown (answered_in number reply queue) ∙ ap (λ l. numbers shown ++ l) (numbers_same number reply queue) ∙ sym (numbers_more shown queue) ∙ t.order;
           }

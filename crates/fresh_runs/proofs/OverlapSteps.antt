@@ -5,15 +5,15 @@ use Rattle.mc_types.specs.declared.ask.Ask.{Ask}
 use Rattle.mc_types.specs.declared.answer.Answer.{Answer}
 use Rattle.mc_types.specs.declared.call.Origin.{Origin}
 use Rattle.mc_types.specs.declared.call.Origin.TheVariants.{Client, CopyOf}
-use Rattle.mc_types.specs.Agree.{Agrees}
+use Rattle.mc_types.specs.Agree.{AnswerAgrees}
 use Rattle.mc_types.specs.Items.{Item}
 use Rattle.fresh_runs.specs.Calls.{Words, Call, End, Read, Unread, Never, outcome_of}
 use Rattle.fresh_runs.specs.Fleet.{StampIn, EndsIn}
 use Rattle.fresh_runs.specs.Run.{Event, Begins, Calls, Replies, Breaks, Turns, Restarts, under_way, calls_so_far, held, item_at, GivesStamp, EndsWell, IsNewNumber, IsFront, IsApart}
 use Rattle.fresh_runs.specs.Protocol.{Protocol}
 use Rattle.fresh_runs.specs.Log.{Part}
-use Rattle.fresh_runs.specs.Overlap.{Front, Slot, Owner, ticket_in, Entry, Feeds, Starts, Sends, Happens, Ends, Shows, Passes, Gives, Drops, Frees, Resets, start_front, fed_front, after_start, after_end, slot_of, slot_in, answered_in, behind_head, without, run_of, output_of, given_of, owner_of, IsNext, Follows}
-use Rattle.fresh_runs.specs.OverlapState.{OverlapState, Either, after, MayStep, IsLike, walked, MayWalk, Walks, LeadsTo, Leads}
+use Rattle.fresh_runs.specs.Overlap.{Front, Slot, Owner, ticket_in, Entry, Feeds, Starts, Sends, Happens, Ends, Shows, Passes, Gives, Drops, Frees, Resets, start_front, fed_front, after_start, after_end, part_slot, slot_in, answered_in, behind_head, without_ticket, run_of, output_of, given_of, owner_of, IsNext, Follows}
+use Rattle.fresh_runs.specs.OverlapState.{OverlapState, Either, after, MayStep, IsLike, walked, MayWalk, WalksTo, LeadsTo, Leads}
 use Rattle.fresh_runs.proofs.Lists.{bool_is, get_last}
 use Rattle.fresh_runs.proofs.Runs.{some_ask, no_ask, way_below, new_calls}
 use Rattle.fresh_runs.proofs.HeldAfter.{held_after, event_same}
@@ -75,8 +75,8 @@ module _ (opening : ℕ → List ℕ → Option Item) where
   stamp_is past found number (CopyOf i) stamp is h = (h.0, is i h.0 h.1, h.2)
 
   pub ends_well : (past : List Event) (found : List (Option Item)) (number server : ℕ) (ask : Ask) (origin : Origin) (end : End) (before : Option Item) → before ≡ held opening past server ask.key → ((i : ℕ) (item : Item) → slice_get found i ≡ Some (Some item) → item_at opening past number i ≡ Some item) → EndsIn before found number ask origin end → EndsWell opening past number server ask origin end
-  ends_well past found number server ask origin (Read stamp answer spaces) before b is h = (subst (Agrees ask answer) b h.0, stamp_is past found number origin stamp is h.1)
-  ends_well past found number server ask origin (Unread stamp answer spaces) before b is h = (subst (Agrees ask answer) b h.0, stamp_is past found number origin stamp is h.1)
+  ends_well past found number server ask origin (Read stamp answer spaces) before b is h = (subst (AnswerAgrees ask answer) b h.0, stamp_is past found number origin stamp is h.1)
+  ends_well past found number server ask origin (Unread stamp answer spaces) before b is h = (subst (AnswerAgrees ask answer) b h.0, stamp_is past found number origin stamp is h.1)
   ends_well past found number server ask origin Never before b is h = tt
 
 module _ {P : Protocol} (words : Words) (Bars : ℕ → Ask → ℕ → Ask → Type 0) (opening : ℕ → List ℕ → Option Item) where
@@ -177,7 +177,7 @@ module _ {P : Protocol} (words : Words) (Bars : ℕ → Ask → ℕ → Ask → 
       record {
         follows = (((fresh, apart), subst (λ (x : Front P). IsNext x part) (h.front client) may.0, (λ n o e. may.1 n o (h.owner n ∙ e)), may.3 ∙ ap (λ n. n + 1) h.count, sym (h.dropped client) ∙ may.4), h.follows);
         front = λ c. ap (λ v. cond (nat_eq client c) (after_start v part) v) (h.front c);
-        queue = λ c. ap (λ v. cond (nat_eq client c) (v ++ slot_of number part ∷ []) v) (h.queue c);
+        queue = λ c. ap (λ v. cond (nat_eq client c) (v ++ part_slot number part ∷ []) v) (h.queue c);
         output = h.output;
         dropped = h.dropped;
         new = ((let k : number < number + 1 = omega arith in k), new_more number run fresh);
@@ -245,7 +245,7 @@ module _ {P : Protocol} (words : Words) (Bars : ℕ → Ask → ℕ → Ask → 
         count = h.count;
         owner = h.owner;
         to_come = λ n x e calls reply from w. called_to_come n x e calls reply from w;
-        out = λ s. ap (λ v. cond (nat_eq server s) (without number v) v) (h.out s);
+        out = λ s. ap (λ v. cond (nat_eq server s) (without_ticket number v) v) (h.out s);
         holds = λ s k. event_same opening event old.holds (held opening run) s k (h.holds s k) ∙ sym (held_after opening event run s k);
         counted = λ n x e. called_counted n x e;
         found = λ n x e i item at. called_found n x e i item at;
@@ -459,12 +459,12 @@ module _ {P : Protocol} (words : Words) (Bars : ℕ → Ask → ℕ → Ask → 
   walked_more (entry ∷ entries) log old h may = steps_more entry (entries ++ log) (walked words old entries) (walked_more entries log old h may.1) may.0
 
   -- any entries: each log that led to the old state goes on by them, and leads to the new one
-  pub walks_more : (entries : List (Entry P)) (log : List (Entry P)) (old new : OverlapState P) → LeadsTo words Bars opening log old → Walks words Bars old entries new → LeadsTo words Bars opening (entries ++ log) new
+  pub walks_more : (entries : List (Entry P)) (log : List (Entry P)) (old new : OverlapState P) → LeadsTo words Bars opening log old → WalksTo words Bars old entries new → LeadsTo words Bars opening (entries ++ log) new
   walks_more entries log old new h w = like_more (entries ++ log) (walked words old entries) new (walked_more entries log old h w.may) w.like
 
 module _ {P : Protocol} (words : Words) (Bars : ℕ → Ask → ℕ → Ask → Type 0) where
   -- entries that may come lead on
-  pub walks_lead : (old new : OverlapState P) (entries : List (Entry P)) → Walks words Bars old entries new → Leads words Bars old entries new
+  pub walks_lead : (old new : OverlapState P) (entries : List (Entry P)) → WalksTo words Bars old entries new → Leads words Bars old entries new
   walks_lead old new entries w = λ opening log h. walks_more words Bars opening entries log old new h w
 
   -- entries that lead from one state to a second, and then others to a third, lead from the first to the third

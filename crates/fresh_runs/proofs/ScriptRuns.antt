@@ -10,8 +10,8 @@ use Rattle.fresh_runs.specs.Log.{Loss, Lose, Restart}
 use Rattle.fresh_runs.specs.Protocol.{Protocol}
 use Rattle.fresh_runs.specs.Overlap.{Entry, Feeds, Starts, Sends, Happens, Ends, Shows, Passes, Gives, Drops, Frees, Resets, run_of, Follows}
 use Rattle.fresh_runs.specs.OverlapStream.{stream_of}
-use Rattle.fresh_runs.specs.OverlapLaws.{AreKept}
-use Rattle.fresh_runs.specs.ScriptLog.{Piece, Add, Result, Fail, Hold, At, Now, Moment, Reload, Line, Takes, Results, Spills, Loads, Does, lost_by, entries_by, IsPlain, fed_by, core_of, losses_of, made_in, fed_of, tree_at, words_in, IsScript}
+use Rattle.fresh_runs.specs.OverlapLaws.{WordsAreKept}
+use Rattle.fresh_runs.specs.ScriptLog.{Piece, Add, Result, Fail, Hold, At, Now, Moment, Reload, Line, Takes, Results, Spills, Loads, Does, lost_by, entries_by, IsPlain, fed_by, core_of, losses_of, made_in, fed_of, tree_loaded_at, words_in, IsScript}
 use Rattle.fresh_runs.proofs.Runs.{way_below}
 use Rattle.fresh_runs.proofs.OverlapReload.{follows_kept}
 
@@ -64,9 +64,9 @@ module _ {P : Protocol} {T : Type 0} (first : T) (words_of : T → Words) (Bars 
   words log = words_in first words_of log
 
   -- a tree is that of later commands
-  pub loads_kept : (tree : T) (log : List (Line P T)) → AreKept (commands_in (run_of (core_of log)) + 1) (words log) (words (Loads tree ∷ log))
+  pub loads_kept : (tree : T) (log : List (Line P T)) → WordsAreKept (commands_in (run_of (core_of log)) + 1) (words log) (words (Loads tree ∷ log))
   loads_kept tree log n ask calls reply from lt w =
-      subst (λ b. words_of (cond b tree (tree_at first log n)) n ask calls reply from) (sym (lower (commands_in (run_of (core_of log))) n lt)) w
+      subst (λ b. words_of (cond b tree (tree_loaded_at first log n)) n ask calls reply from) (sym (lower (commands_in (run_of (core_of log))) n lt)) w
 
   -- the core's log follows
   pub script_follows : (log : List (Line P T)) → IsScript first words_of Bars opening version depth window text_of MaySpill log → Follows (words log) Bars opening version (core_of log)

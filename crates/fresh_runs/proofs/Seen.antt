@@ -4,7 +4,7 @@ use Rattle.mc_types.specs.declared.ask.Op.{Op}
 use Rattle.mc_types.specs.declared.ask.Op.TheVariants.{Get, Gat, Set, Add, Replace, Append, Prepend, Cas, Delete, Incr, Decr, Touch}
 use Rattle.mc_types.specs.declared.ask.Ask.{Ask}
 use Rattle.mc_types.specs.declared.answer.Answer.{Answer}
-use Rattle.mc_types.specs.Items.{Item, after_call, after_done, recounted, counted, is_done, removes}
+use Rattle.mc_types.specs.Items.{Item, after_call, after_done, recounted, number_made, is_done, removes}
 use Rattle.fresh_runs.specs.Life.{Mark, held_in}
 use Rattle.fresh_runs.specs.Calls.{End, Read, Unread, Never, marks_of}
 use Rattle.fresh_runs.proofs.Stamps.{IsGone, by_test}
@@ -33,8 +33,8 @@ has_after_done Q Replace ask stamp spaces before q h = q
 has_after_done Q Cas ask stamp spaces before q h = q
 has_after_done Q Append ask stamp spaces before q h = has_map Q before _ (λ item. refl) h
 has_after_done Q Prepend ask stamp spaces before q h = has_map Q before _ (λ item. refl) h
-has_after_done Q Incr ask stamp spaces before q h = has_map Q before _ (λ item. recounted_stamp spaces item (counted ask item.content)) h
-has_after_done Q Decr ask stamp spaces before q h = has_map Q before _ (λ item. recounted_stamp spaces item (counted ask item.content)) h
+has_after_done Q Incr ask stamp spaces before q h = has_map Q before _ (λ item. recounted_stamp spaces item (number_made ask item.content)) h
+has_after_done Q Decr ask stamp spaces before q h = has_map Q before _ (λ item. recounted_stamp spaces item (number_made ask item.content)) h
 has_after_done Q Get ask stamp spaces before q h = h
 has_after_done Q Gat ask stamp spaces before q h = h
 has_after_done Q Touch ask stamp spaces before q h = h

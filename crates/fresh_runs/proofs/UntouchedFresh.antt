@@ -16,7 +16,7 @@ use Rattle.fresh_runs.specs.Run.{Event, Begins, Calls, Replies, Breaks, Turns, R
 use Rattle.fresh_runs.proofs.Stamps.{by_test, clear_marks, get_left, get_seam, clears_split}
 use Rattle.fresh_runs.proofs.Seen.{Has, Gives, has_from_gone, has_marks, delete_marks}
 use Rattle.fresh_runs.proofs.Runs.{some_ask, no_ask, differs, differ, acked_below, shown_below, new_calls, new_item_at, ended_since, acked_since, acked_over, acked_delete, over, apart, began_after, above}
-use Rattle.fresh_runs.specs.Untouched.{IsPutting, IsUntouched, IsCoveredOrUntouched}
+use Rattle.fresh_runs.specs.Untouched.{IsPutting, KeyIsUntouched, IsCoveredOrUntouched}
 use Rattle.fresh_runs.specs.Freshness.{everybody_bars, copying_bars, RunsAreFreshFrom}
 use Rattle.fresh_runs.proofs.Nothing.{nothing_marks}
 
@@ -94,7 +94,7 @@ module _ (words : ℕ → Ask → List Call → Answer → Option ℕ → Type 0
       by_test (λ l. Has Q (held_in (opening s delete.key) l delete.key)) (nat_eq server s) _ _ (λ _. tt) (λ _. rest)
 
   -- a command of a smaller number puts nothing there
-  unput : (past : List Event) (number server : ℕ) (ask : Ask) (origin : Origin) (end : End) → Run words Bars opening (Calls number server ask origin end ∷ past) → (s : ℕ) → IsUntouched words opening n delete.key s → number < n → server ≡ s → ask.key ≡ delete.key → IsPutting ask.op → ⊥
+  unput : (past : List Event) (number server : ℕ) (ask : Ask) (origin : Origin) (end : End) → Run words Bars opening (Calls number server ask origin end ∷ past) → (s : ℕ) → KeyIsUntouched words opening n delete.key s → number < n → server ≡ s → ask.key ≡ delete.key → IsPutting ask.op → ⊥
   unput past number server ask origin end run s u lt here same puts =
       let call : Call = record { server = server; ask = ask; origin = origin; outcome = outcome_of end } in
       let calls = calls_so_far past number in
@@ -102,7 +102,7 @@ module _ (words : ℕ → Ask → List Call → Answer → Option ℕ → Type 0
       u.unput number run.0.0 lt (sym run.0.2 ∙ same) _ _ _ front.3 (length calls, call, get_left (calls ++ call ∷ []) front.0 (length calls) call (get_seam calls call []), here, puts)
 
   -- before the delete begins, an untouched server holds nothing of the key
-  empty_before : (past : List Event) → Run words Bars opening past → LosesOnly past → IsNewNumber n past → (s : ℕ) → IsUntouched words opening n delete.key s → held opening past s delete.key ≡ None
+  empty_before : (past : List Event) → Run words Bars opening past → LosesOnly past → IsNewNumber n past → (s : ℕ) → KeyIsUntouched words opening n delete.key s → held opening past s delete.key ≡ None
   empty_before [] run lost new s u = u.empty
   empty_before (Begins number ask ∷ past) run lost new s u = empty_before past run.1 lost new.1 s u
   empty_before (Replies number k reply from ∷ past) run lost new s u = empty_before past run.1 lost new.1 s u
@@ -120,7 +120,7 @@ module _ (words : ℕ → Ask → List Call → Answer → Option ℕ → Type 0
       by_test (λ l. held_in (opening s delete.key) l delete.key ≡ None) (nat_eq server s) _ _ (λ _. refl) (λ _. rest)
 
   -- while it is under way, nothing or what may be seen
-  untouched_so_far : (past : List Event) → Run words Bars opening past → LosesOnly past → before past n ≡ began → under_way past n ≡ Some delete → (s : ℕ) → IsUntouched words opening n delete.key s → Has Q (held opening past s delete.key)
+  untouched_so_far : (past : List Event) → Run words Bars opening past → LosesOnly past → before past n ≡ began → under_way past n ≡ Some delete → (s : ℕ) → KeyIsUntouched words opening n delete.key s → Has Q (held opening past s delete.key)
   untouched_so_far [] run lost at e s u = no_ask delete e
   untouched_so_far (Begins number ask ∷ past) run lost at e s u =
       (elim (nat_eq number n) as (λ b. nat_eq number n ≡ b → cond b past (before past n) ≡ began → cond b (Some ask) (under_way past n) ≡ Some delete → Has Q (held opening past s delete.key)) [
@@ -162,7 +162,7 @@ module _ (words : ℕ → Ask → List Call → Answer → Option ℕ → Type 0
 
   -- a server that the delete clears, or that was untouched
   abbrev Guards : ℕ → Type 0
-  Guards s = IsCleared words n delete s ⊎ IsUntouched words opening n delete.key s
+  Guards s = IsCleared words n delete s ⊎ KeyIsUntouched words opening n delete.key s
 
   -- since the delete was acknowledged: what it clears, or was untouched, holds nothing of the key, or what may be seen; and so has each command that began later found it
   pub record Guarded (past : List Event) : Type 0 where

@@ -5,7 +5,7 @@ use Rattle.mc_types.specs.declared.answer.Answer.{Answer}
 use Rattle.mc_types.specs.declared.call.Origin.{Origin}
 use Rattle.mc_types.specs.declared.call.Origin.TheVariants.{Client, CopyOf}
 use Rattle.mc_types.specs.Items.{Item}
-use Rattle.mc_types.specs.Agree.{Agrees}
+use Rattle.mc_types.specs.Agree.{AnswerAgrees}
 use Rattle.fresh_runs.specs.Calls.{Call, End, Read, Unread, Never, outcome_of}
 use Rattle.fresh_runs.specs.Run.{Event, Begins, Calls, Replies, Breaks, Turns, Restarts, under_way, calls_so_far, held, item_at, IsNewNumber, IsApart, IsFront, Run, after_event}
 
@@ -31,8 +31,8 @@ StampIn found number (CopyOf i) stamp = (item : Item) × (slice_get found i ≡ 
 
 -- a call that was applied agrees with what was held before it, and gives the stamp of its origin
 abbrev pub EndsIn : Option Item → List (Option Item) → ℕ → Ask → Origin → End → Type 0
-EndsIn before found number ask origin (Read stamp answer spaces) = Agrees ask answer before × StampIn found number origin stamp
-EndsIn before found number ask origin (Unread stamp answer spaces) = Agrees ask answer before × StampIn found number origin stamp
+EndsIn before found number ask origin (Read stamp answer spaces) = AnswerAgrees ask answer before × StampIn found number origin stamp
+EndsIn before found number ask origin (Unread stamp answer spaces) = AnswerAgrees ask answer before × StampIn found number origin stamp
 EndsIn before found number ask origin Never = Unit {0}
 
 -- each call is on this key

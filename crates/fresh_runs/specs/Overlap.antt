@@ -44,13 +44,13 @@ ticket_in [] n = None
 ticket_in (ticket ∷ tickets) n = if nat_eq ticket.number n then Some ticket else ticket_in tickets n
 
 -- the tickets without the first of a command
-abbrev pub without : ℕ → List Ticket → List Ticket
-without n [] = []
-without n (ticket ∷ tickets) = if nat_eq ticket.number n then tickets else ticket ∷ without n tickets
+abbrev pub without_ticket : ℕ → List Ticket → List Ticket
+without_ticket n [] = []
+without_ticket n (ticket ∷ tickets) = if nat_eq ticket.number n then tickets else ticket ∷ without_ticket n tickets
 
 -- the calls that are out at a server after an event
 abbrev pub out_after : Event → ℕ → List Ticket → List Ticket
-out_after (Calls number server ask origin end) s tickets = if nat_eq server s then without number tickets else tickets
+out_after (Calls number server ask origin end) s tickets = if nat_eq server s then without_ticket number tickets else tickets
 out_after (Begins number ask) s tickets = tickets
 out_after (Replies number key reply from) s tickets = tickets
 out_after (Breaks number) s tickets = tickets
@@ -109,8 +109,8 @@ module _ {P : Protocol} where
       then record { place = part.next; index = 0; waits = false }
       else record { place = front.place; index = part.index + 1; waits = false }
 
-  abbrev pub slot_of : ℕ → Part P → Slot P
-  slot_of number part = record { number = number; message = part.message; index = part.index; ask = part.ask; reply = None }
+  abbrev pub part_slot : ℕ → Part P → Slot P
+  part_slot number part = record { number = number; message = part.message; index = part.index; ask = part.ask; reply = None }
 
   -- the first command of this number in a queue
   abbrev pub slot_in : List (Slot P) → ℕ → Option (Slot P)
@@ -163,7 +163,7 @@ module _ {P : Protocol} where
   abbrev pub queue_of : List (Entry P) → ℕ → List (Slot P)
   queue_of [] c = []
   queue_of (Feeds client bytes ∷ log) c = queue_of log c
-  queue_of (Starts client number part ∷ log) c = if nat_eq client c then queue_of log c ++ slot_of number part ∷ [] else queue_of log c
+  queue_of (Starts client number part ∷ log) c = if nat_eq client c then queue_of log c ++ part_slot number part ∷ [] else queue_of log c
   queue_of (Sends number server ask origin ∷ log) c = queue_of log c
   queue_of (Happens event ∷ log) c = queue_of log c
   queue_of (Ends client number part reply from ∷ log) c = if nat_eq client c then answered_in number reply (queue_of log c) else queue_of log c
@@ -250,8 +250,8 @@ module _ {P : Protocol} where
   out_of (Resets client ∷ log) s = out_of log s
 
   -- no call of this command is out
-  abbrev pub IsIn : List (Entry P) → ℕ → Type 0
-  IsIn log number = (s : ℕ) → ticket_in (out_of log s) number ≡ None
+  abbrev pub HasNoneOut : List (Entry P) → ℕ → Type 0
+  HasNoneOut log number = (s : ℕ) → ticket_in (out_of log s) number ≡ None
 
   -- the part is the next key of the message at the front
   pub record IsNext (front : Front P) (part : Part P) : Type 0 where
@@ -285,15 +285,15 @@ module _ {P : Protocol} where
         × (is_dropped log client ≡ false)
     -- a command has one call out at a time
     MayFollow log (Sends number server ask origin) =
-        ((owner : Owner) × (owner_of log number ≡ Some owner) × (ask.key ≡ owner.ask.key)) × IsIn log number
+        ((owner : Owner) × (owner_of log number ≡ Some owner) × (ask.key ≡ owner.ask.key)) × HasNoneOut log number
     MayFollow log (Happens event) = MayHappen words Bars opening log event
     -- the reply is the run's, and comes after the last call
     MayFollow log (Ends client number part reply from) =
         MayCome words Bars opening (run_of log) (Replies number part.ask.key reply from)
         × (owner_of log number ≡ Some (record { client = client; ask = part.ask }))
-        × (slot_in (queue_of log client) number ≡ Some (slot_of number part))
+        × (slot_in (queue_of log client) number ≡ Some (part_slot number part))
         × (is_last part ≡ false → P.Reads (front_of log client).place part.message part.next)
-        × IsIn log number
+        × HasNoneOut log number
         × (is_dropped log client ≡ false)
     -- in the client's order
     MayFollow log (Shows client slot reply) =
@@ -306,7 +306,7 @@ module _ {P : Protocol} where
     -- a command isn't broken off while its call is out
     MayFollow log (Frees number) =
         MayCome words Bars opening (run_of log) (Breaks number)
-        × ((owner : Owner) × (owner_of log number ≡ Some owner) × (is_dropped log owner.client ≡ true)) × IsIn log number
+        × ((owner : Owner) × (owner_of log number ≡ Some owner) × (is_dropped log owner.client ≡ true)) × HasNoneOut log number
     -- none of its commands is under way
     MayFollow log (Resets client) = (n : ℕ) (o : Owner) → owner_of log n ≡ Some o → nat_eq client o.client ≡ false
 
@@ -316,7 +316,7 @@ module _ {P : Protocol} where
     Follows (entry ∷ log) = MayFollow log entry × Follows log
 
   -- nothing is left to do: no whole message, no command under way, no reply not shown, no output that wasn't given
-  pub record IsSettled (version : List ℕ) (log : List (Entry P)) : Type 0 where
+  pub record NothingIsLeft (version : List ℕ) (log : List (Entry P)) : Type 0 where
     pub stuck : (c : ℕ) → IsStuck P (front_of log c).place
     pub shown : (c : ℕ) → queue_of log c ≡ []
     pub given : (c : ℕ) → given_of log c ≡ output_of version log c

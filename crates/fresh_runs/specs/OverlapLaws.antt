@@ -9,13 +9,13 @@ use Rattle.fresh_runs.specs.Cover.{IsCovered}
 use Rattle.fresh_runs.specs.Stale.{stale_in, tally_of}
 use Rattle.fresh_runs.specs.Protocol.{Protocol, silence, IsReader, Goes, Splits}
 use Rattle.fresh_runs.specs.Stream.{Done, written_from, written_all, NoneEnds, AreWhole}
-use Rattle.fresh_runs.specs.Overlap.{Slot, Owner, Entry, start_front, run_of, front_of, queue_of, output_of, given_of, is_dropped, owner_of, Follows, IsSettled}
+use Rattle.fresh_runs.specs.Overlap.{Slot, Owner, Entry, start_front, run_of, front_of, queue_of, output_of, given_of, is_dropped, owner_of, Follows, NothingIsLeft}
 use Rattle.fresh_runs.specs.OverlapStream.{EndsWithLast, stream_of, messages_of, done_of, replies_of, over_in, begun_by, shown_slots, all_replies, AreReplies}
-use Rattle.fresh_runs.specs.OverlapState.{OverlapState, Walks, LeadsTo}
+use Rattle.fresh_runs.specs.OverlapState.{OverlapState, WalksTo, LeadsTo}
 
 -- these words hold of all commands below a number that others hold of
-abbrev pub AreKept : ℕ → Words → Words → Type 0
-AreKept below old new = (number : ℕ) (ask : Ask) (calls : List Call) (reply : Answer) (from : Option ℕ) → number < below → old number ask calls reply from → new number ask calls reply from
+abbrev pub WordsAreKept : ℕ → Words → Words → Type 0
+WordsAreKept below old new = (number : ℕ) (ask : Ask) (calls : List Call) (reply : Answer) (from : Option ℕ) → number < below → old number ask calls reply from → new number ask calls reply from
 
 module _ (P : Protocol) (words : Words) (Bars : ℕ → Ask → ℕ → Ask → Type 0) (opening : ℕ → List ℕ → Option Item) where
   -- a log that follows has a run
@@ -45,7 +45,7 @@ module _ (P : Protocol) (words : Words) (Bars : ℕ → Ask → ℕ → Ask → 
     pub messages : messages_of log c ≡ map (λ (d : Done P). d.message) (done_of log c)
 
   abbrev pub OverlapWritesAll : Type 0
-  OverlapWritesAll = IsReader P → EndsWithLast P → (version : List ℕ) (log : List (Entry P)) → Follows words Bars opening version log → IsSettled version log → (c : ℕ) → WritesAll version log c
+  OverlapWritesAll = IsReader P → EndsWithLast P → (version : List ℕ) (log : List (Entry P)) → Follows words Bars opening version log → NothingIsLeft version log → (c : ℕ) → WritesAll version log c
 
   -- the replies that a client was shown are those of its commands in the run, in the order in which it asked them
   pub record RepliesInOrder (log : List (Entry P)) (c : ℕ) : Type 0 where
@@ -93,7 +93,7 @@ pub record Course : Type 1 where
 -- entries that may come one after another and lead to the new moment are more of each log that led to the old one
 abbrev pub OverlapGoesOn : Course → Type 0
 OverlapGoesOn x =
-    (entries log : List (Entry x.protocol)) → LeadsTo x.words x.Bars x.opening log x.old → Walks x.words x.Bars x.old entries x.new → LeadsTo x.words x.Bars x.opening (entries ++ log) x.new
+    (entries log : List (Entry x.protocol)) → LeadsTo x.words x.Bars x.opening log x.old → WalksTo x.words x.Bars x.old entries x.new → LeadsTo x.words x.Bars x.opening (entries ++ log) x.new
 
 -- of commands below a number these bar no more than others do
 abbrev pub AreKeptBars : ℕ → (ℕ → Ask → ℕ → Ask → Type 0) → (ℕ → Ask → ℕ → Ask → Type 0) → Type 0
@@ -108,7 +108,7 @@ pub record Change : Type 1 where
   pub NewBars : ℕ → Ask → ℕ → Ask → Type 0
   pub opening : ℕ → List ℕ → Option Item
   pub now : OverlapState protocol
-  pub kept : AreKept (now.number + 1) words new
+  pub kept : WordsAreKept (now.number + 1) words new
   pub kept_bars : AreKeptBars (now.number + 1) Bars NewBars
 
 -- by the new words each log leads where it led

@@ -8,7 +8,7 @@ use Rattle.fresh_runs.specs.Calls.{Words, Call, End, outcome_of}
 use Rattle.fresh_runs.specs.Fleet.{EndsIn}
 use Rattle.fresh_runs.specs.Run.{Event, Begins, Calls, Replies, Breaks, Turns, Restarts, held, calls_so_far, item_at, IsNewNumber, after_event, calls_in, commands_in}
 use Rattle.fresh_runs.specs.Protocol.{Protocol}
-use Rattle.fresh_runs.specs.Overlap.{Front, Slot, Owner, Ticket, ticket_in, out_after, Entry, Feeds, Starts, Sends, Happens, Ends, Shows, Passes, Gives, Drops, Frees, Resets, is_last, start_front, fed_front, after_start, after_end, slot_of, slot_in, answered_in, behind_head, run_of, front_of, queue_of, output_of, given_of, is_dropped, owner_of, out_of, IsNext, IsFirst, Follows}
+use Rattle.fresh_runs.specs.Overlap.{Front, Slot, Owner, Ticket, ticket_in, out_after, Entry, Feeds, Starts, Sends, Happens, Ends, Shows, Passes, Gives, Drops, Frees, Resets, is_last, start_front, fed_front, after_start, after_end, part_slot, slot_in, answered_in, behind_head, run_of, front_of, queue_of, output_of, given_of, is_dropped, owner_of, out_of, IsNext, IsFirst, Follows}
 
 -- what calls, reply and shown call may still come of a command
 abbrev pub Rest : Type 1
@@ -72,7 +72,7 @@ module _ {P : Protocol} where
   after words (Starts client number part) now =
       record now {
         front = λ c. if nat_eq client c then after_start (now.front c) part else now.front c;
-        queue = λ c. if nat_eq client c then now.queue c ++ slot_of number part ∷ [] else now.queue c;
+        queue = λ c. if nat_eq client c then now.queue c ++ part_slot number part ∷ [] else now.queue c;
         number = number;
         owner = λ n. if nat_eq number n then Some (record { client = client; ask = part.ask }) else now.owner n;
         to_come = λ n calls reply from. Either (nat_eq number n) (words number part.ask calls reply from) (now.to_come n calls reply from);
@@ -155,7 +155,7 @@ module _ {P : Protocol} where
   MayStep Bars now (Ends client number part reply from) =
       (now.owner number ≡ Some (record { client = client; ask = part.ask }))
       × now.to_come number [] reply from
-      × (slot_in (now.queue client) number ≡ Some (slot_of number part))
+      × (slot_in (now.queue client) number ≡ Some (part_slot number part))
       × (is_last part ≡ false → P.Reads (now.front client).place part.message part.next)
       × HasNoCall now number
       × (now.dropped client ≡ false)
@@ -198,7 +198,7 @@ module _ {P : Protocol} where
   MayWalk words Bars old [] = Unit {0}
   MayWalk words Bars old (entry ∷ entries) = MayStep Bars (walked words old entries) entry × MayWalk words Bars old entries
 
-  pub record Walks (words : Words) (Bars : ℕ → Ask → ℕ → Ask → Type 0) (old : OverlapState P) (entries : List (Entry P)) (new : OverlapState P) : Type 0 where
+  pub record WalksTo (words : Words) (Bars : ℕ → Ask → ℕ → Ask → Type 0) (old : OverlapState P) (entries : List (Entry P)) (new : OverlapState P) : Type 0 where
     pub may : MayWalk words Bars old entries
     pub like : IsLike new (walked words old entries)
 

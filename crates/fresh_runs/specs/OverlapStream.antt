@@ -41,13 +41,13 @@ module _ {P : Protocol} where
   ended_by part reply = if is_last part then [] else if P.ends part.message part.index reply then part.message ∷ [] else []
 
   -- the message of this command asks nothing more
-  abbrev pub is_over : Slot P → Bool
-  is_over slot = ends_by (is_last_slot slot) slot.reply (P.ends slot.message slot.index)
+  abbrev pub asks_no_more : Slot P → Bool
+  asks_no_more slot = ends_by (is_last_slot slot) slot.reply (P.ends slot.message slot.index)
 
   -- the messages that end within a queue
   abbrev pub over_in : List (Slot P) → List P.Message
   over_in [] = []
-  over_in (slot ∷ slots) = (if is_over slot then slot.message ∷ [] else []) ++ over_in slots
+  over_in (slot ∷ slots) = (if asks_no_more slot then slot.message ∷ [] else []) ++ over_in slots
 
   -- the shown replies of the message at the front of what is shown, after one more; none where that ended it
   abbrev pub replies_after : List Answer → Slot P → Answer → List Answer

@@ -7,7 +7,7 @@ use Rattle.mc_types.specs.declared.call.Origin.{Origin}
 use Rattle.mc_types.specs.declared.call.Origin.TheVariants.{Client, CopyOf}
 use Rattle.mc_types.specs.Acknowledged.{Acknowledges}
 use Rattle.mc_types.specs.Items.{Item}
-use Rattle.mc_types.specs.Agree.{Agrees}
+use Rattle.mc_types.specs.Agree.{AnswerAgrees}
 use Rattle.fresh_runs.specs.Life.{Mark, Turned, Restarted, held_in}
 use Rattle.fresh_runs.specs.Calls.{Call, End, Read, Unread, Never, outcome_of, marks_of, after_end}
 
@@ -111,8 +111,8 @@ module _ (opening : ℕ → List ℕ → Option Item) where
 
   -- a call that was applied agrees with what its server holds just before, and gives the stamp of its origin
   abbrev pub EndsWell : List Event → ℕ → ℕ → Ask → Origin → End → Type 0
-  EndsWell past number server ask origin (Read stamp answer spaces) = Agrees ask answer (held past server ask.key) × GivesStamp past number origin stamp
-  EndsWell past number server ask origin (Unread stamp answer spaces) = Agrees ask answer (held past server ask.key) × GivesStamp past number origin stamp
+  EndsWell past number server ask origin (Read stamp answer spaces) = AnswerAgrees ask answer (held past server ask.key) × GivesStamp past number origin stamp
+  EndsWell past number server ask origin (Unread stamp answer spaces) = AnswerAgrees ask answer (held past server ask.key) × GivesStamp past number origin stamp
   EndsWell past number server ask origin Never = Unit {0}
 
 -- `Bars number ask other client`: the first command doesn't let the second one be under way with it on their key.

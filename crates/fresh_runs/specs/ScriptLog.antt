@@ -212,18 +212,18 @@ module _ {P : Protocol} {T : Type 0} where
 
   module _ (first : T) where
     -- the tree of a command, by its number: that which was loaded when it began
-    abbrev pub tree_at : List (Line P T) → ℕ → T
-    tree_at [] n = first
-    tree_at (Takes event ∷ log) n = tree_at log n
-    tree_at (Results number server ask origin end ∷ log) n = tree_at log n
-    tree_at (Spills server key ∷ log) n = tree_at log n
-    tree_at (Loads tree ∷ log) n = if nat_lt (commands_in (run_of (core_of log))) n then tree else tree_at log n
-    tree_at (Does entry ∷ log) n = tree_at log n
+    abbrev pub tree_loaded_at : List (Line P T) → ℕ → T
+    tree_loaded_at [] n = first
+    tree_loaded_at (Takes event ∷ log) n = tree_loaded_at log n
+    tree_loaded_at (Results number server ask origin end ∷ log) n = tree_loaded_at log n
+    tree_loaded_at (Spills server key ∷ log) n = tree_loaded_at log n
+    tree_loaded_at (Loads tree ∷ log) n = if nat_lt (commands_in (run_of (core_of log))) n then tree else tree_loaded_at log n
+    tree_loaded_at (Does entry ∷ log) n = tree_loaded_at log n
 
     module _ (words_of : T → Words) where
       -- the words of commands by their numbers
       abbrev pub words_in : List (Line P T) → Words
-      words_in log number = words_of (tree_at log number) number
+      words_in log number = words_of (tree_loaded_at log number) number
 
 module _ {P : Protocol} {T : Type 0} (first : T) (words_of : T → Words) (Bars : ℕ → Ask → ℕ → Ask → Type 0) (opening : ℕ → List ℕ → Option Item) (version : List ℕ) (depth window : ℕ) (text_of : Ask → Answer → List ℕ) (MaySpill : List (Line P T) → ℕ → List ℕ → Type 0) where
   -- a call ends as it was named, and is answered where it wasn't; an answer that isn't cut short is read

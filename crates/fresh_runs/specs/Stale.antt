@@ -6,7 +6,7 @@ use Rattle.mc_types.specs.declared.ask.Ask.{Ask}
 use Rattle.mc_types.specs.declared.answer.Answer.{Answer}
 use Rattle.mc_types.specs.declared.call.Outcome.TheVariants.{Answered}
 use Rattle.mc_types.specs.Acknowledged.{says_gone}
-use Rattle.mc_types.specs.Agree.{Agrees}
+use Rattle.mc_types.specs.Agree.{AnswerAgrees}
 use Rattle.mc_types.specs.Shows.{shows}
 use Rattle.mc_types.specs.Items.{Item}
 use Rattle.fresh_runs.specs.Calls.{Call}
@@ -96,7 +96,7 @@ pub record IsFoundAt (opening : ℕ → List ℕ → Option Item) (past : List E
   pub answered : call.outcome ≡ Answered answer
   pub item : Item
   pub there : item_at opening past number i ≡ Some item
-  pub matches : Agrees call.ask answer (Some item)
+  pub matches : AnswerAgrees call.ask answer (Some item)
 
 -- where replies show what they found, each reply of a run shows nothing, or the item that was held at the call that it names
 abbrev pub ShownIsHeld : (ℕ → Ask → List Call → Answer → Option ℕ → Type 0) → (ℕ → Ask → ℕ → Ask → Type 0) → Type 0

@@ -29,12 +29,12 @@ PutsIn calls server = (i : ℕ) × (call : Call) × (slice_get calls i ≡ Some 
 
 module _ (words : ℕ → Ask → List Call → Answer → Option ℕ → Type 0) (opening : ℕ → List ℕ → Option Item) where
   -- nothing of the key was at the server before the run, and no command on the key with a smaller number puts an item there
-  pub record IsUntouched (number : ℕ) (key : List ℕ) (server : ℕ) : Type 0 where
+  pub record KeyIsUntouched (number : ℕ) (key : List ℕ) (server : ℕ) : Type 0 where
     pub empty : opening server key ≡ None
     pub unput : (n : ℕ) (ask : Ask) → n < number → ask.key ≡ key → (calls : List Call) (reply : Answer) (from : Option ℕ) → words n ask calls reply from → PutsIn calls server → ⊥
 
   -- each server that a later command on the key takes is cleared by the delete, or was untouched
   pub record IsCoveredOrUntouched : Type 0 where
-    pub covered : (n m : ℕ) (delete ask : Ask) → n < m → delete.op ≡ Delete → ask.key ≡ delete.key → (calls : List Call) (reply : Answer) (from : Option ℕ) → words m ask calls reply from → (server : ℕ) → TakesIn calls from server → IsCleared words n delete server ⊎ IsUntouched n delete.key server
+    pub covered : (n m : ℕ) (delete ask : Ask) → n < m → delete.op ≡ Delete → ask.key ≡ delete.key → (calls : List Call) (reply : Answer) (from : Option ℕ) → words m ask calls reply from → (server : ℕ) → TakesIn calls from server → IsCleared words n delete server ⊎ KeyIsUntouched n delete.key server
     -- a delete asks for nothing but deletes
     pub deletes : (n : ℕ) (delete : Ask) → delete.op ≡ Delete → (calls : List Call) (reply : Answer) (from : Option ℕ) → words n delete calls reply from → (i : ℕ) (call : Call) → slice_get calls i ≡ Some call → call.ask.op ≡ Delete

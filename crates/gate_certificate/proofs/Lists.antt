@@ -7,7 +7,7 @@ use Rattle.serde_json.specs.View.{view, items_view}
 use Rattle.serde_json.specs.declared.value.Value.{Value}
 use Rattle.gate_certificate.specs.declared.fault.CertificateFault.{CertificateFault}
 use Rattle.gate_certificate.specs.declared.fault.CertificateFault.TheVariants as faults
-use Rattle.gate_certificate.specs.Format.{IsNothing, Reads, each_in}
+use Rattle.gate_certificate.specs.Format.{IsNothing, ReadsCertificate, each_in}
 
 -- one longer by one more
 pub taken : {X : Type 0} (xs : List X) (i : ℕ) (x : X) → i < length xs → x ≡ get_or xs i x → take (i + 1) xs ≡ take i xs ++ x ∷ []
@@ -29,7 +29,7 @@ nothing_of (faults.BadClass class) o p h f = f h
 nothing_of (faults.BadRun class run) o p h f = f h
 nothing_of faults.NoMemory o p h f = tt
 
-pub passed : {X Y Z : Type 0} (seen : X → Y) (r : Result X CertificateFault) (fault : CertificateFault) (o : Option Z) (p : Option Y) → IsErrAnd r (λ f. f ≡ fault) → IsNothing fault o → (o ≡ None → p ≡ None) → Reads seen r p
+pub passed : {X Y Z : Type 0} (seen : X → Y) (r : Result X CertificateFault) (fault : CertificateFault) (o : Option Z) (p : Option Y) → IsErrAnd r (λ f. f ≡ fault) → IsNothing fault o → (o ≡ None → p ≡ None) → ReadsCertificate seen r p
 passed seen (Ok x) fault o p is h f = absurd is
 passed seen (Err e) fault o p is h f = subst (λ (d : CertificateFault). IsNothing d p) (sym is) (nothing_of fault o p h f)
 

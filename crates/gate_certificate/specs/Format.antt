@@ -32,8 +32,8 @@ rows_of certificate = map class_row certificate.classes.items
 abbrev pub small : ℕ → Option ℕ
 small n = if nat_le n MAX_NUMBER then Some n else None
 
-abbrev pub number_in : Data → Option ℕ
-number_in d = option_and_then small (option_and_then as_u64 (as_number d))
+abbrev pub data_number : Data → Option ℕ
+data_number d = option_and_then small (option_and_then as_u64 (as_number d))
 
 -- what each of a list says, if each says something
 abbrev pub each_in : {A : Type 0} → (Data → Option A) → Items → Option (List A)
@@ -42,7 +42,7 @@ each_in f (item d ds) = option_and_then (λ x. option_map (λ xs. x ∷ xs) (eac
 
 -- in a field
 abbrev pub number_at : List ℕ → Data → Option ℕ
-number_at name d = option_and_then number_in (get name d)
+number_at name d = option_and_then data_number (get name d)
 
 abbrev pub list_at : {A : Type 0} → List ℕ → (Data → Option A) → Data → Option (List A)
 list_at name f d = option_and_then (each_in f) (option_and_then as_array (get name d))
@@ -54,7 +54,7 @@ both (Some a) b = option_map (λ x. (a, x)) b
 
 -- an object with `first` and `servers`; other fields say nothing
 abbrev pub run_in : Data → Option (ℕ × List ℕ)
-run_in d = both (number_at (codes "first") d) (list_at (codes "servers") number_in d)
+run_in d = both (number_at (codes "first") d) (list_at (codes "servers") data_number d)
 
 -- an object with `modulus` and `runs`
 abbrev pub class_in : Data → Option (ℕ × List (ℕ × List ℕ))
@@ -84,6 +84,6 @@ IsNothing (faults.BadClass class) found = found ≡ None
 IsNothing (faults.BadRun class run) found = found ≡ None
 
 -- what is answered, seen by `view`, is what is found, running out of memory aside
-abbrev pub Reads : {X Y : Type 0} → (X → Y) → Result X CertificateFault → Option Y → Type 0
-Reads view (Ok x) found = found ≡ Some (view x)
-Reads view (Err e) found = IsNothing e found
+abbrev pub ReadsCertificate : {X Y : Type 0} → (X → Y) → Result X CertificateFault → Option Y → Type 0
+ReadsCertificate view (Ok x) found = found ≡ Some (view x)
+ReadsCertificate view (Err e) found = IsNothing e found

@@ -3,7 +3,7 @@
 ghost use Rattle.std.specs.Prelude.{◌≡◌, option_map, option_and_then};
 ghost use Rattle.serde_json.specs.Find.{get, as_array};
 ghost use Rattle.serde_json.specs.View.{view, items_view};
-ghost use Rattle.gate_certificate.specs.Format.{number_in, number_at};
+ghost use Rattle.gate_certificate.specs.Format.{data_number, number_at};
 
 use serde_json::Value;
 
@@ -12,7 +12,7 @@ pub const MAX_NUMBER: u64 = 4_294_967_295;
 
 /// A number in 0..=[`MAX_NUMBER`]; `None` for any other value.
 pub fn number_in(value: &Value) -> Option<u32>
-    ensures { result ≡ number_in (view value.now) }
+    ensures { result ≡ data_number (view value.now) }
 {
     match value.as_u64() {
         Some(number) if number <= MAX_NUMBER => Some(number as u32),

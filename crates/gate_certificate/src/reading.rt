@@ -2,7 +2,7 @@
 
 ghost use Rattle.std.specs.Prelude.{codes, map};
 ghost use Rattle.serde_json.specs.View.{view, items_view};
-ghost use Rattle.gate_certificate.specs.Format.{Reads, rows_of_text, rows_in, rows_of, class_in, class_row, each_in, list_at, number_in, run_in, run_row};
+ghost use Rattle.gate_certificate.specs.Format.{ReadsCertificate, rows_of_text, rows_in, rows_of, class_in, class_row, each_in, list_at, data_number, run_in, run_row};
 
 use crate::fault::CertificateFault;
 use crate::fields::{list_at, number_at, number_in};
@@ -17,7 +17,7 @@ const VERSION: u32 = 1;
 /// The certificate whose rows a JSON text means, or the first part that isn't as it must be. Fields that the format
 /// doesn't know say nothing. Whether it is valid for a tree is `gate_check::check`'s to say.
 pub fn read_certificate(alloc: Global, text: &str) -> Result<Certificate, CertificateFault>
-    ensures { Reads rows_of result (rows_of_text text.now) }
+    ensures { ReadsCertificate rows_of result (rows_of_text text.now) }
 {
     match Value::from_str(alloc, text) {
         Ok(value) => read_whole(alloc, &value),
@@ -32,7 +32,7 @@ pub fn read_certificate(alloc: Global, text: &str) -> Result<Certificate, Certif
 }
 
 fn read_whole(alloc: Global, value: &Value) -> Result<Certificate, CertificateFault>
-    ensures { Reads rows_of result (rows_in (view value.now)) }
+    ensures { ReadsCertificate rows_of result (rows_in (view value.now)) }
 {
     match number_at("certificate", value) {
         Some(VERSION) => read_classes_of(alloc, value),
@@ -41,7 +41,7 @@ fn read_whole(alloc: Global, value: &Value) -> Result<Certificate, CertificateFa
 }
 
 fn read_classes_of(alloc: Global, value: &Value) -> Result<Certificate, CertificateFault>
-    ensures { Reads rows_of result (list_at (codes "classes") class_in (view value.now)) }
+    ensures { ReadsCertificate rows_of result (list_at (codes "classes") class_in (view value.now)) }
 {
     match list_at("classes", value) {
         Some(items) => Ok(Certificate {
@@ -52,7 +52,7 @@ fn read_classes_of(alloc: Global, value: &Value) -> Result<Certificate, Certific
 }
 
 fn read_classes(alloc: Global, items: &[Value]) -> Result<Vec<ClassRows>, CertificateFault>
-    ensures { Reads (λ v. map class_row v.items) result (each_in class_in (items_view items.now)) }
+    ensures { ReadsCertificate (λ v. map class_row v.items) result (each_in class_in (items_view items.now)) }
 {
     let mut classes = Vec::new(alloc);
     for index in 0..items.len() {
@@ -62,7 +62,7 @@ fn read_classes(alloc: Global, items: &[Value]) -> Result<Vec<ClassRows>, Certif
 }
 
 fn read_class(alloc: Global, class: usize, value: &Value) -> Result<ClassRows, CertificateFault>
-    ensures { Reads class_row result (class_in (view value.now)) }
+    ensures { ReadsCertificate class_row result (class_in (view value.now)) }
 {
     match number_at("modulus", value) {
         Some(modulus) => match list_at("runs", value) {
@@ -77,7 +77,7 @@ fn read_class(alloc: Global, class: usize, value: &Value) -> Result<ClassRows, C
 }
 
 fn read_runs(alloc: Global, class: usize, items: &[Value]) -> Result<Vec<Run>, CertificateFault>
-    ensures { Reads (λ v. map run_row v.items) result (each_in run_in (items_view items.now)) }
+    ensures { ReadsCertificate (λ v. map run_row v.items) result (each_in run_in (items_view items.now)) }
 {
     let mut runs = Vec::new(alloc);
     for index in 0..items.len() {
@@ -87,7 +87,7 @@ fn read_runs(alloc: Global, class: usize, items: &[Value]) -> Result<Vec<Run>, C
 }
 
 fn read_run(alloc: Global, class: usize, run: usize, value: &Value) -> Result<Run, CertificateFault>
-    ensures { Reads run_row result (run_in (view value.now)) }
+    ensures { ReadsCertificate run_row result (run_in (view value.now)) }
 {
     match number_at("first", value) {
         Some(first) => match list_at("servers", value) {
@@ -107,7 +107,7 @@ fn read_servers(
     run: usize,
     items: &[Value],
 ) -> Result<Vec<ServerId>, CertificateFault>
-    ensures { Reads (λ v. v.items) result (each_in number_in (items_view items.now)) }
+    ensures { ReadsCertificate (λ v. v.items) result (each_in data_number (items_view items.now)) }
 {
     let mut servers = Vec::new(alloc);
     for item in items {

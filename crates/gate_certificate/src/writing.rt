@@ -3,7 +3,7 @@
 ghost use Rattle.std.specs.Prelude.{◌≡◌, ◌≤◌, IfOk, Some, map, string_bytes};
 ghost use Rattle.serde_json.specs.Data.{depth, items_depth};
 ghost use Rattle.serde_json.specs.View.{view, items_view};
-ghost use Rattle.gate_certificate.specs.Format.{rows_of_text, rows_in, rows_of, class_in, class_row, each_in, number_in, run_in, run_row};
+ghost use Rattle.gate_certificate.specs.Format.{rows_of_text, rows_in, rows_of, class_in, class_row, each_in, data_number, run_in, run_row};
 
 use gate_check::places::{Certificate, ClassRows, Run};
 use mc_types::ServerId;
@@ -11,14 +11,14 @@ use serde_json::{Value, json};
 use std::alloc::{AllocError, Global};
 
 fn number_value(number: u32) -> Value
-    ensures reads { number_in (view result) ≡ Some number }
+    ensures reads { data_number (view result) ≡ Some number }
     ensures depth { depth (view result) ≤ 0 }
 {
     Value::from(number)
 }
 
 fn servers_value(alloc: Global, servers: &[ServerId]) -> Result<Vec<Value>, AllocError>
-    ensures reads { IfOk result (λ v. each_in number_in (items_view v.items) ≡ Some servers.now) }
+    ensures reads { IfOk result (λ v. each_in data_number (items_view v.items) ≡ Some servers.now) }
     ensures depth { IfOk result (λ v. items_depth (items_view v.items) ≤ 0) }
 {
     let mut values = Vec::new(alloc);

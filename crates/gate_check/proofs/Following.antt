@@ -8,7 +8,7 @@ use Rattle.gate_check.specs.declared.pairs.PairFault.{PairFault}
 use Rattle.gate_check.specs.declared.pairs.PairFault.TheVariants as pairs
 use Rattle.gate_check.specs.declared.reloading.ReloadFault.{ReloadFault}
 use Rattle.gate_check.specs.declared.reloading.ReloadFault.TheVariants as faults
-use Rattle.gate_check.specs.Numbered.{numbered}
+use Rattle.gate_check.specs.Numbered.{numbered_fault}
 use Rattle.gate_check.specs.Pairs.{IsPairFault}
 use Rattle.gate_check.specs.Reload.{AreCovering, FailsAt, IsReloadFault, IsFaultAmong}
 use Rattle.gate_check.specs.Sound.{AreGenerations, EveryRunIsFresh, GenerationsAreFresh, trees_of}
@@ -71,7 +71,7 @@ covering_more trees tree i d h is c j b below at =
     split (suc j) zero lt = absurd (omega (arith, lt))
     split (suc j) (suc i) lt = ⊎_elim (λ (l : j < i). inl (omega (arith, l))) (λ (e : j ≡ i). inr (ap suc e)) (split j i (omega (arith, lt)))
 
-pub fails_at : (trees : List Route) (tree : Route) (i n : ℕ) (d : Route) (fault : PairFault) → AreCovering trees tree i → slice_get trees i ≡ Some d → n ≡ i + 1 → IsPairFault d tree fault → IsFaultAmong trees tree (numbered n fault)
+pub fails_at : (trees : List Route) (tree : Route) (i n : ℕ) (d : Route) (fault : PairFault) → AreCovering trees tree i → slice_get trees i ≡ Some d → n ≡ i + 1 → IsPairFault d tree fault → IsFaultAmong trees tree (numbered_fault n fault)
 fails_at trees tree i n d pairs.TooManyPlaces h at e f = (i, d, e, at, h, f)
 fails_at trees tree i n d (pairs.Uncovered gap) h at e f = (i, d, e, at, h, f)
 fails_at trees tree i n d pairs.NoMemory h at e f = tt
@@ -93,7 +93,7 @@ among_is trees tree (faults.Uncovered n gap) h = fails_front trees tree n (pairs
 among_is trees tree faults.NoMemory h = h
 
 -- a fault of the tree with itself
-pub last_is : (trees : List Route) (tree : Route) (n : ℕ) (fault : PairFault) → AreCovering trees tree (length trees) → n ≡ length trees + 1 → IsPairFault tree tree fault → IsReloadFault trees tree (numbered n fault)
+pub last_is : (trees : List Route) (tree : Route) (n : ℕ) (fault : PairFault) → AreCovering trees tree (length trees) → n ≡ length trees + 1 → IsPairFault tree tree fault → IsReloadFault trees tree (numbered_fault n fault)
 last_is trees tree n pairs.TooManyPlaces h e f = (length trees, tree, e, last_item trees tree, covering_front trees tree tree (length trees) (omega arith) h, f)
 last_is trees tree n (pairs.Uncovered gap) h e f = (length trees, tree, e, last_item trees tree, covering_front trees tree tree (length trees) (omega arith) h, f)
 last_is trees tree n pairs.NoMemory h e f = tt

@@ -8,7 +8,7 @@ use Rattle.std.proofs.lemmas.Cmp.{nat_list_cmp_total, tied_itself, ranked, by_ra
 use Rattle.route_tree.specs.Each.{Each, IsIn}
 use Rattle.route_tree.proofs.Parts.{each_weaker}
 use Rattle.gate_check.specs.Valid.{AreInOrder}
-use Rattle.gate_check.specs.Texts.{one_more, placed, place_in, put_at, with_text, ordered}
+use Rattle.gate_check.specs.Texts.{place_after_it, placed, place_in, put_at, with_text, ordered}
 use Rattle.gate_check.proofs.PlacesValidity.{each_in}
 
 abbrev text_cmp : List ℕ → List ℕ → Ordering
@@ -37,7 +37,7 @@ not_both x y e f = not_itself x (nat_list_cmp_total.trans x y x e f)
 comes_after : (x y : List ℕ) → text_cmp y x ≡ Greater → text_cmp x y ≡ Less
 comes_after x y e = nat_list_cmp_total.antisymm x y ∙ ap ordering_reverse e
 
-put_after : (x : List ℕ) (xs : List (List ℕ)) (k : List ℕ) (o : Option ℕ) → put_at (x ∷ xs) k (one_more o) ≡ x ∷ put_at xs k o
+put_after : (x : List ℕ) (xs : List (List ℕ)) (k : List ℕ) (o : Option ℕ) → put_at (x ∷ xs) k (place_after_it o) ≡ x ∷ put_at xs k o
 put_after x xs k None = refl
 put_after x xs k (Some i) = refl
 

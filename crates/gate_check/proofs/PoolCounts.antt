@@ -6,7 +6,7 @@ use Rattle.route_tree.specs.Operation.{same_op}
 use Rattle.route_tree.specs.Route.{Route, Routes, Policies, Prefixes, Pool, Server, Null, Failing, AllSync, Failover, MissFailover, WarmUp, ByOperation, ByPrefix, End, More, Otherwise, Policy, Wildcard, Prefix, count, count_of_all, count_of_policies, count_of_prefixes}
 use Rattle.route_tree.specs.At.{begins, is_longer, plain_for, plain_for_all}
 use Rattle.route_tree.specs.Chosen.{chosen}
-use Rattle.gate_coverage.specs.Computed.{is_get, fails, hits_each, adds}
+use Rattle.gate_coverage.specs.Computed.{asks_get, fails, hits_each, adds}
 use Rattle.gate_coverage.specs.Pools.{pools_of, pools_of_each, pools_of_some, pools_of_first, pools_of_head, pools_of_policy, has_pool, with_pool, distinct_after, sought_pools, taken_pools}
 use Rattle.gate_coverage.proofs.TakenPools.{pools_of_chosen}
 
@@ -43,12 +43,12 @@ module _ (text : List ℕ) (op : Op) where
     pools_len (AllSync rs) sh co = let h = each_len rs sh co in omega (arith, h)
     pools_len (Failover rs) sh co = let h = first_len rs sh co in omega (arith, h)
     pools_len (MissFailover rs) sh co =
-        let h = either_len (is_get op) (pools_of_some text op sh co rs) (pools_of_head text op sh co rs) (count_of_all rs) (some_len rs sh co) (head_len rs sh co) in
+        let h = either_len (asks_get op) (pools_of_some text op sh co rs) (pools_of_head text op sh co rs) (count_of_all rs) (some_len rs sh co) (head_len rs sh co) in
         omega (arith, h)
     pools_len (WarmUp cold warm e) sh co =
         let sh2 = sh || (co && adds (plain_for 0 text cold)) in
-        let w = either_len (is_get op) (pools_of text op sh2 co warm) [] (count warm) (pools_len warm sh2 co) (none_len (count warm)) in
-        let h = both_len (pools_of text op sh co cold) (cond (is_get op) (pools_of text op sh2 co warm) []) (count cold) (count warm) (pools_len cold sh co) w in
+        let w = either_len (asks_get op) (pools_of text op sh2 co warm) [] (count warm) (pools_len warm sh2 co) (none_len (count warm)) in
+        let h = both_len (pools_of text op sh co cold) (cond (asks_get op) (pools_of text op sh2 co warm) []) (count cold) (count warm) (pools_len cold sh co) w in
         omega (arith, h)
     pools_len (ByOperation ps) sh co = let h = policy_len ps sh co in omega (arith, h)
     pools_len (ByPrefix ps) sh co =

@@ -5,7 +5,7 @@ use Rattle.std.proofs.lemmas.Bool.{eqb-true, eq-eqb, leb-true}
 use Rattle.route_tree.specs.Each.{Each, IsIn}
 use Rattle.route_tree.specs.Plan.{IsGood}
 use Rattle.route_tree.proofs.Parts.{each_weaker}
-use Rattle.gate_check.specs.Texts.{one_more}
+use Rattle.gate_check.specs.Texts.{place_after_it}
 use Rattle.gate_check.specs.Valid.{IsRising}
 use Rattle.gate_coverage.proofs.Choices.{bool_is, either_left, either_right, either_split}
 use Rattle.gate_coverage.proofs.Finding.{taken_is_exact}
@@ -18,7 +18,7 @@ use Rattle.gate_coverage.proofs.TakenPools.{pools_are_taken}
 use Rattle.route_tree.specs.Route.{Route}
 use Rattle.route_tree.specs.At.{plain_for}
 
-put_after : (x : ℕ) (xs : List ℕ) (s : ℕ) (o : Option ℕ) → put_number (x ∷ xs) s (one_more o) ≡ x ∷ put_number xs s o
+put_after : (x : ℕ) (xs : List ℕ) (s : ℕ) (o : Option ℕ) → put_number (x ∷ xs) s (place_after_it o) ≡ x ∷ put_number xs s o
 put_after x xs s None = refl
 put_after x xs s (Some i) = refl
 
@@ -32,14 +32,14 @@ not_same n k e h = let t = eq-eqb n k h in cc
 pub by_place : (P : List ℕ → Type 0) (x : ℕ) (xs : List ℕ) (s : ℕ) → (s < x → P (s ∷ x ∷ xs)) → (s ≡ x → P (x ∷ xs)) → (x < s → P (x ∷ with_number xs s)) → P (with_number (x ∷ xs) s)
 by_place P x xs s a b c = step (nat_lt s x) refl
   where
-    other : nat_lt s x ≡ false → (t : Bool) → nat_eq s x ≡ t → P (put_number (x ∷ xs) s (cond t None (one_more (number_in xs s))))
+    other : nat_lt s x ≡ false → (t : Bool) → nat_eq s x ≡ t → P (put_number (x ∷ xs) s (cond t None (place_after_it (number_in xs s))))
     other k true e = b (eqb-true s x e)
     other k false e = subst P (sym (put_after x xs s (number_in xs s))) (c (let le = not_less s x k in let ne = not_same s x e in ⊎_elim (λ (lt : x < s). lt) (λ (eq : s ≡ x). absurd (ne eq)) (split le)))
       where
         split : x ≤ s → (x < s) ⊎ (s ≡ x)
         split le = ⊎_elim (λ (e : nat_lt x s ≡ true). inl (leb-true _ _ e)) (λ (e : nat_lt x s ≡ false). inr (let k = not_less x s e in omega (arith, k, le))) (bool_is (nat_lt x s))
 
-    step : (t : Bool) → nat_lt s x ≡ t → P (put_number (x ∷ xs) s (cond t (Some 0) (cond (nat_eq s x) None (one_more (number_in xs s)))))
+    step : (t : Bool) → nat_lt s x ≡ t → P (put_number (x ∷ xs) s (cond t (Some 0) (cond (nat_eq s x) None (place_after_it (number_in xs s)))))
     step true e = a (leb-true _ _ e)
     step false e = other e (nat_eq s x) refl
 

@@ -10,7 +10,7 @@ use Rattle.route_tree.proofs.Parts.{each_weaker}
 use Rattle.gate_coverage.specs.declared.deleting.Deleting.{Deleting}
 use Rattle.gate_coverage.specs.declared.deleting.Deleting.TheVariants as kinds
 use Rattle.gate_coverage.specs.Computed.{cleared, is_taken}
-use Rattle.gate_coverage.specs.Pools.{has, server_at, servers_at, taken_pools}
+use Rattle.gate_coverage.specs.Pools.{has, pool_server_at, servers_at, taken_pools}
 use Rattle.gate_coverage.specs.Doubted.{doubts, doubted_pools}
 use Rattle.gate_check.specs.TableRows.{IsRowOf}
 use Rattle.gate_coverage.specs.Cover.{Clears, Covers}
@@ -96,9 +96,9 @@ module _ (plain : Plan) (good : IsGood plain) where
 sure_more : (text : List ℕ) (tree : Route) (hash : ℕ) (p : List ℕ) (ps : List (List ℕ)) (b : Bool) → doubts text p tree ≡ b → (all_cleared (plain_for hash text tree) (servers_at hash (doubted_pools text tree ps)) ≡ true → all_cleared (plain_for hash text tree) (servers_at hash ps) ≡ true) → all_cleared (plain_for hash text tree) (servers_at hash (cond b (p ∷ doubted_pools text tree ps) (doubted_pools text tree ps))) ≡ true → all_cleared (plain_for hash text tree) (servers_at hash (p ∷ ps)) ≡ true
 sure_more text tree hash p ps true e rest k =
     let plain = plain_for hash text tree in
-    let two = both_split (cleared plain (server_at hash p)) (all_cleared plain (servers_at hash (doubted_pools text tree ps))) k in
-    both (cleared plain (server_at hash p)) _ two.0 (rest two.1)
-sure_more text tree hash p ps false e rest k = both (cleared (plain_for hash text tree) (server_at hash p)) _ (ap not (sure text p hash tree e)) (rest k)
+    let two = both_split (cleared plain (pool_server_at hash p)) (all_cleared plain (servers_at hash (doubted_pools text tree ps))) k in
+    both (cleared plain (pool_server_at hash p)) _ two.0 (rest two.1)
+sure_more text tree hash p ps false e rest k = both (cleared (plain_for hash text tree) (pool_server_at hash p)) _ (ap not (sure text p hash tree e)) (rest k)
 
 all_sure : (text : List ℕ) (tree : Route) (hash : ℕ) (pools : List (List ℕ)) → all_cleared (plain_for hash text tree) (servers_at hash (doubted_pools text tree pools)) ≡ true → all_cleared (plain_for hash text tree) (servers_at hash pools) ≡ true
 all_sure text tree hash [] h = refl

@@ -12,7 +12,7 @@ use Rattle.gate_check.specs.declared.places.table.PlaceTable.{PlaceTable}
 use Rattle.gate_check.specs.Places.{place_at}
 use Rattle.gate_check.specs.Tables.{IsTable}
 use Rattle.gate_check.specs.Valid.{AreAfter, AreRuns, EachClass, IsClass, run_at}
-use Rattle.gate_check.specs.Proposed.{last_of, IsLast, IsWithRun, AreRunsBelow, AreRowsBelow, AreProposed, IsValidIfCovered}
+use Rattle.gate_check.specs.Proposed.{last_of, IsLastRun, IsWithRun, AreRunsBelow, AreRowsBelow, AreProposed, IsValidIfCovered}
 use Rattle.gate_check.proofs.PlacesAnswering.{at_index}
 
 at_most : (a b : ℕ) → a ≤ b → nat_le a b ≡ true
@@ -87,7 +87,7 @@ run_at_last_of n (x ∷ xs) some h =
     ap (λ (t : Bool). cond t (run_at x.servers.items xs n) []) (at_most x.first n (let z = h.1.0 in omega (arith, z)))
     ∙ run_at_end x.servers.items 0 n xs h.1.1
 
-rows_joined : (tree : Route) (prefix : Option (List ℕ)) (modulus n : ℕ) (xs : List Run) (servers : List ℕ) → AreRowsBelow tree prefix modulus n xs → IsLast xs servers → IsValidIfCovered (tree_at_place tree (place_at prefix n modulus)) servers → AreRowsBelow tree prefix modulus (suc n) xs
+rows_joined : (tree : Route) (prefix : Option (List ℕ)) (modulus n : ℕ) (xs : List Run) (servers : List ℕ) → AreRowsBelow tree prefix modulus n xs → IsLastRun xs servers → IsValidIfCovered (tree_at_place tree (place_at prefix n modulus)) servers → AreRowsBelow tree prefix modulus (suc n) xs
 rows_joined tree prefix modulus n xs servers h l v = (runs_wider n xs l.0 h.0, all)
   where
     all : (r : ℕ) → r < suc n → IsValidIfCovered (tree_at_place tree (place_at prefix r modulus)) (run_at [] xs r)

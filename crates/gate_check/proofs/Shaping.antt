@@ -4,7 +4,7 @@ use Rattle.std.proofs.lemmas.Bool.{eqb-true, eq-eqb, leb-true, le-leb}
 use Rattle.gate_check.specs.declared.places.table.Class.{Class}
 use Rattle.gate_check.specs.declared.places.table.Run.{Run}
 use Rattle.gate_check.specs.declared.places.table.ClassRows.{ClassRows}
-use Rattle.gate_check.specs.Texts.{one_more}
+use Rattle.gate_check.specs.Texts.{place_after_it}
 use Rattle.gate_check.specs.Valid.{AreAfter, AreRuns, IsShaped}
 use Rattle.gate_coverage.proofs.Choices.{both, both_split}
 use Rattle.gate_check.specs.Shapes.{is_rising, has_runs, is_shaped, first_misshaped, IfMisshaped}
@@ -34,7 +34,7 @@ shape_is c r h = let p = both_split (nat_eq r.modulus c.modulus) (has_runs c.mod
 is_shape : (c : Class) (r : ClassRows) → IsShaped c r → is_shaped c r ≡ true
 is_shape c r h = both (nat_eq r.modulus c.modulus) _ (eq-eqb r.modulus c.modulus h.0) (are_runs c.modulus r.runs.items h.1)
 
-one_more_shaped : (c : Class) (r : ClassRows) (cs : List Class) (rs : List ClassRows) (o : Option ℕ) → IsShaped c r → IfMisshaped cs rs o → IfMisshaped (c ∷ cs) (r ∷ rs) (one_more o)
+one_more_shaped : (c : Class) (r : ClassRows) (cs : List Class) (rs : List ClassRows) (o : Option ℕ) → IsShaped c r → IfMisshaped cs rs o → IfMisshaped (c ∷ cs) (r ∷ rs) (place_after_it o)
 one_more_shaped c r cs rs None h k = (h, k)
 one_more_shaped c r cs rs (Some i) h k = record {
   class = k.class;
@@ -59,7 +59,7 @@ misshaped_is [] (r ∷ rs) len = absurd (omega (arith, len))
 misshaped_is (c ∷ cs) [] len = absurd (omega (arith, len))
 misshaped_is (c ∷ cs) (r ∷ rs) len = step (misshaped_is cs rs (omega (arith, len))) (is_shaped c r) refl
   where
-    step : IfMisshaped cs rs (first_misshaped cs rs) → (b : Bool) → is_shaped c r ≡ b → IfMisshaped (c ∷ cs) (r ∷ rs) (cond b (one_more (first_misshaped cs rs)) (Some 0))
+    step : IfMisshaped cs rs (first_misshaped cs rs) → (b : Bool) → is_shaped c r ≡ b → IfMisshaped (c ∷ cs) (r ∷ rs) (cond b (place_after_it (first_misshaped cs rs)) (Some 0))
     step rest true e = one_more_shaped c r cs rs (first_misshaped cs rs) (shape_is c r e) rest
     step rest false e = record {
       class = c;

@@ -5,7 +5,7 @@ use Rattle.gate_check.specs.declared.pairs.PairFault.TheVariants as pairs
 use Rattle.gate_check.specs.declared.reloading.ReloadFault.{ReloadFault}
 use Rattle.gate_check.specs.declared.reloading.ReloadFault.TheVariants as faults
 
-abbrev pub numbered : ℕ → PairFault → ReloadFault
-numbered n pairs.TooManyPlaces = faults.TooManyPlaces n
-numbered n (pairs.Uncovered gap) = faults.Uncovered n gap
-numbered n pairs.NoMemory = faults.NoMemory
+abbrev pub numbered_fault : ℕ → PairFault → ReloadFault
+numbered_fault n pairs.TooManyPlaces = faults.TooManyPlaces n
+numbered_fault n (pairs.Uncovered gap) = faults.Uncovered n gap
+numbered_fault n pairs.NoMemory = faults.NoMemory

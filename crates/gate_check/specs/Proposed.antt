@@ -22,13 +22,13 @@ last_of servers [] = servers
 last_of servers (run ∷ runs) = last_of run.servers.items runs
 
 -- there is a last run, and it has these servers
-abbrev pub IsLast : List Run → List ℕ → Type 0
-IsLast runs servers = (0 < length runs) × (last_of [] runs ≡ servers)
+abbrev pub IsLastRun : List Run → List ℕ → Type 0
+IsLastRun runs servers = (0 < length runs) × (last_of [] runs ≡ servers)
 
 -- the runs go on with these servers at the residue: the last run has them, or one more begins there
 abbrev pub IsWithRun : ℕ → List ℕ → List Run → List Run → Type 0
 IsWithRun residue servers old new =
-    (IsLast old servers × (new ≡ old))
+    (IsLastRun old servers × (new ≡ old))
     ⊎ ((run : Run) × (run.first ≡ residue) × (run.servers.items ≡ servers) × (new ≡ old ++ run ∷ []))
 
 -- the runs of all residues below this one

@@ -6,7 +6,7 @@ use Rattle.gate_check.specs.declared.places.table.Run.{Run}
 use Rattle.gate_check.specs.declared.places.table.ClassRows.{ClassRows}
 use Rattle.gate_check.specs.declared.places.table.PlaceTable.{PlaceTable}
 use Rattle.gate_check.specs.declared.places.table.Certificate.{Certificate}
-use Rattle.gate_check.specs.Texts.{one_more}
+use Rattle.gate_check.specs.Texts.{place_after_it}
 use Rattle.gate_check.specs.Valid.{EachClass, IsShaped}
 use Rattle.gate_check.specs.Gate.{IsBadRow, IsFirstGap, IsGapMet, IsInvalid}
 use Rattle.gate_check.specs.declared.gap.Reason.{Reason}
@@ -30,7 +30,7 @@ is_shaped class rows = nat_eq rows.modulus class.modulus && has_runs class.modul
 abbrev pub first_misshaped : List Class → List ClassRows → Option ℕ
 first_misshaped [] rows = None
 first_misshaped (c ∷ cs) [] = None
-first_misshaped (c ∷ cs) (r ∷ rs) = if is_shaped c r then one_more (first_misshaped cs rs) else Some 0
+first_misshaped (c ∷ cs) (r ∷ rs) = if is_shaped c r then place_after_it (first_misshaped cs rs) else Some 0
 
 -- the class of this index is the first of a wrong shape
 pub record IsMisshapedAt (classes : List Class) (all : List ClassRows) (i : ℕ) : Type 0 where

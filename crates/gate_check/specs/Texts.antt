@@ -5,14 +5,14 @@ use Rattle.std.specs.declared.cmp.Ordering.{Ordering}
 use Rattle.std.specs.declared.cmp.Ordering.TheVariants.{Less, Equal, Greater}
 use Rattle.std.specs.Cmp.Lexicographic.{slice_cmp}
 
-abbrev pub one_more : Option ℕ → Option ℕ
-one_more None = None
-one_more (Some i) = Some (suc i)
+abbrev pub place_after_it : Option ℕ → Option ℕ
+place_after_it None = None
+place_after_it (Some i) = Some (suc i)
 
 abbrev pub placed : Ordering → Option ℕ → Option ℕ
 placed Less after = Some 0
 placed Equal after = None
-placed Greater after = one_more after
+placed Greater after = place_after_it after
 
 -- where the text goes in, unless it is there
 abbrev pub place_in : List (List ℕ) → List ℕ → Option ℕ

@@ -3,7 +3,7 @@
 ghost use Rattle.std.specs.Prelude.{◌≡◌, ◌+◌, ◌<◌, length, MatchResult};
 ghost use Rattle.gate_check.specs.Pairs.{IsPairFault};
 ghost use Rattle.gate_check.specs.Reload.{AreCovering, IsFaultAmong};
-ghost use Rattle.gate_check.specs.Numbered.{numbered};
+ghost use Rattle.gate_check.specs.Numbered.{numbered_fault};
 ghost use Rattle.gate_check.specs.Sound.{trees_of};
 
 use crate::gap::Gap;
@@ -33,7 +33,7 @@ pub enum ReloadFault {
 
 /// The fault of a generation.
 pub fn numbered(generation: u32, fault: PairFault) -> ReloadFault
-    ensures { result ≡ numbered generation fault }
+    ensures { result ≡ numbered_fault generation fault }
 {
     match fault {
         PairFault::TooManyPlaces => ReloadFault::TooManyPlaces(generation),

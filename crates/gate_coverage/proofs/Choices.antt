@@ -5,7 +5,7 @@ use Rattle.mc_types.specs.declared.ask.Op.TheVariants.{Get}
 use Rattle.fresh_runs.specs.Calls.{Call}
 use Rattle.route_tree.specs.Word.{IfGet}
 use Rattle.route_tree.proofs.Showing.{get_front, get_back}
-use Rattle.gate_coverage.specs.Computed.{is_get}
+use Rattle.gate_coverage.specs.Computed.{asks_get}
 
 pub both : (a b : Bool) → a ≡ true → b ≡ true → (a && b) ≡ true
 both true b p q = q
@@ -89,14 +89,14 @@ pub other_is : (op : Op) (A B : Type 0) → op ≢ Get → B → IfGet op A B
 other_is Get A B n h = absurd (n refl)
 other_is _ A B n h = h
 
-pub is_get_of : (op : Op) → op ≡ Get → is_get op ≡ true
-is_get_of op e = ap is_get e
+pub is_get_of : (op : Op) → op ≡ Get → asks_get op ≡ true
+is_get_of op e = ap asks_get e
 
-pub get_of : (op : Op) → is_get op ≡ true → op ≡ Get
+pub get_of : (op : Op) → asks_get op ≡ true → op ≡ Get
 get_of Get h = refl
 get_of _ h = absurd (cc)
 
-pub no_get_of : (op : Op) → op ≢ Get → is_get op ≡ false
+pub no_get_of : (op : Op) → op ≢ Get → asks_get op ≡ false
 no_get_of Get n = absurd (n refl)
 no_get_of _ n = refl
 

@@ -16,7 +16,7 @@ use Rattle.route_tree.specs.Word.{Given, rank, plain_get, refill, is_plain_get, 
 use Rattle.route_tree.proofs.Parts.{each_at, match_bool}
 use Rattle.route_tree.proofs.Words.{IsOwn, own_calls}
 use Rattle.gate_coverage.specs.Cover.{IsTaking, Takes}
-use Rattle.gate_coverage.specs.Computed.{is_get, is_taking, fails, shown, adds, adds_some, adds_first, adds_head, adds_policy, copied, copied_some, copied_first, copied_policy, taken}
+use Rattle.gate_coverage.specs.Computed.{asks_get, is_taking, fails, shown, adds, adds_some, adds_first, adds_head, adds_policy, copied, copied_some, copied_first, copied_policy, takes_server}
 use Rattle.gate_coverage.proofs.Choices.{both, either_left, either_right, bool_is, if_true, if_false, true_match, false_match, only_get, only_other, is_get_of, HasCall, has_front, has_back, has_weaker, get_either, AreSome, some_either, some_at}
 use Rattle.gate_coverage.proofs.Failing.{word_fails}
 use Rattle.gate_coverage.proofs.Covering.{from_takes, copy_is_get, taking_get}
@@ -223,7 +223,7 @@ same_server test calls i s h c =
     let same : h.2 ≡ c.0 = (let there = c.1 in cc) in
     subst (λ t. test t ≡ true) (ap (λ (x : Call). x.server) same ∙ c.2) h.4
 
-pub takes_is_taken : (plain : Plan) (op : Op) (s : ℕ) → Takes plain op s → taken plain op s ≡ true
+pub takes_is_taken : (plain : Plan) (op : Op) (s : ℕ) → Takes plain op s → takes_server plain op s ≡ true
 takes_is_taken plain op s t =
     let ask = t.0 in
     let calls = t.3 in
@@ -233,10 +233,10 @@ takes_is_taken plain op s t =
     let taking = from_takes plain ask Client 0 calls given t.1 t.6 t.7.0 f in
     let x = word_shows plain ask Client 0 calls given taking t.6 t.7.0 f in
     let is = same_server (λ q. shown ask.op q plain) calls t.7.0 s x.1 t.7.1 in
-    subst (λ o. taken plain o s ≡ true) t.2 (both (is_taking ask.op) _ (taking_is ask.op taking) (either_left (shown ask.op s plain) _ is)))
+    subst (λ o. takes_server plain o s ≡ true) t.2 (both (is_taking ask.op) _ (taking_is ask.op taking) (either_left (shown ask.op s plain) _ is)))
     (λ c.
     let get = copy_is_get plain ask 0 calls given t.6 c.0 t.7.0 c.1 c.2 c.3 in
     let x = word_copies plain ask 0 calls given get t.6 c.0 t.7.0 c.1 c.2 c.3 in
     let is = same_server (λ q. copied Get q plain) calls t.7.0 s x t.7.1 in
-    subst (λ o. taken plain o s ≡ true) t.2 (both (is_taking ask.op) _ (taking_is ask.op (taking_get ask.op get)) (either_right (shown ask.op s plain) _ (both (is_get ask.op) _ (is_get_of ask.op get) (subst (λ o. copied o s plain ≡ true) (sym get) is)))))
+    subst (λ o. takes_server plain o s ≡ true) t.2 (both (is_taking ask.op) _ (taking_is ask.op (taking_get ask.op get)) (either_right (shown ask.op s plain) _ (both (asks_get ask.op) _ (is_get_of ask.op get) (subst (λ o. copied o s plain ≡ true) (sym get) is)))))
     t.7.2

@@ -30,7 +30,7 @@ use Rattle.route_tree.proofs.Parts.{each_at, if_get, match_bool, worst_is}
 use Rattle.route_tree.proofs.Words.{IsOwn, own_calls}
 use Rattle.gate_coverage.specs.declared.deleting.Deleting.{Deleting}
 use Rattle.gate_coverage.specs.declared.deleting.Deleting.TheVariants as kinds
-use Rattle.gate_coverage.specs.Cover.{IsTaking, dialect_of}
+use Rattle.gate_coverage.specs.Cover.{IsTaking, deleting_dialect}
 use Rattle.gate_coverage.specs.Exact.{CoveringIsCovered}
 
 taking_classic : (op : Op) (with_cas : Bool) (answer : Answer) → FitsClassic op with_cas answer → shows answer ≡ true → IsTaking op
@@ -207,6 +207,6 @@ covering_is_covered at sound = record {
     kind_of dialects.Classic = kinds.Delete
     kind_of dialects.Meta = kinds.Md
 
-    kind_is : (d : Dialect) → d ≡ dialect_of (kind_of d)
+    kind_is : (d : Dialect) → d ≡ deleting_dialect (kind_of d)
     kind_is dialects.Classic = refl
     kind_is dialects.Meta = refl

@@ -14,7 +14,7 @@ use Rattle.route_tree.specs.Operation.{same_op}
 use Rattle.route_tree.specs.Plan.{Plan, Plans, PlanPolicies, Server, Null, Failing, AllSync, Failover, MissFailover, WarmUp, ByOperation, End, More, Otherwise, Policy}
 use Rattle.route_tree.specs.Word.{Given, rank, null_reply, answer_of_nothing, plain_get, refill, is_plain_get, Word, WordOfAll, WordOfFirst, WordOfHead, WordOfPolicy, AfterRefill, Refilled, AfterWarm, AfterCold, WarmUpWord}
 use Rattle.route_tree.proofs.Parts.{match_bool}
-use Rattle.gate_coverage.specs.Computed.{is_get, fails, fails_some, fails_each, fails_last, fails_head, fails_policy, hits, hits_each, hits_first, hits_some, hits_head, hits_policy}
+use Rattle.gate_coverage.specs.Computed.{asks_get, fails, fails_some, fails_each, fails_last, fails_head, fails_policy, hits, hits_each, hits_first, hits_some, hits_head, hits_policy}
 use Rattle.gate_coverage.proofs.Choices.{both, either_left, either_right, bool_is, if_true, if_false, true_match, false_match, by_get, only_get, only_other, is_get_of, no_get_of}
 
 null_one : (d : Dialect) (op : Op) → rank_of (answer_of_nothing d op) ≡ 1
@@ -83,8 +83,8 @@ mutual
   word_fails (Failover ps) ask origin b calls given w le = each_fails ps ask origin b calls given w le
   word_fails (MissFailover ps) ask origin b calls given w le =
       by_get ask.op _
-      (λ e. if_true (is_get ask.op) _ _ (is_get_of ask.op e) (last_fails ps ask origin b calls given (only_get ask.op _ _ e w) le))
-      (λ n. if_false (is_get ask.op) _ _ (no_get_of ask.op n) (head_fails ps ask origin b calls given (only_other ask.op _ _ n w) le))
+      (λ e. if_true (asks_get ask.op) _ _ (is_get_of ask.op e) (last_fails ps ask origin b calls given (only_get ask.op _ _ e w) le))
+      (λ n. if_false (asks_get ask.op) _ _ (no_get_of ask.op n) (head_fails ps ask origin b calls given (only_other ask.op _ _ n w) le))
   word_fails (WarmUp cold warm e) ask origin b calls given w le =
       by_get ask.op _
       (λ op. ⊎_elim
@@ -141,13 +141,13 @@ mutual
   word_hits (Failover ps) ask origin b calls given w z = first_hits ps ask origin b calls given w z
   word_hits (MissFailover ps) ask origin b calls given w z =
       by_get ask.op _
-      (λ e. if_true (is_get ask.op) _ _ (is_get_of ask.op e) (some_hits ps ask origin b calls given (only_get ask.op _ _ e w) z))
-      (λ n. if_false (is_get ask.op) _ _ (no_get_of ask.op n) (head_hits ps ask origin b calls given (only_other ask.op _ _ n w) z))
+      (λ e. if_true (asks_get ask.op) _ _ (is_get_of ask.op e) (some_hits ps ask origin b calls given (only_get ask.op _ _ e w) z))
+      (λ n. if_false (asks_get ask.op) _ _ (no_get_of ask.op n) (head_hits ps ask origin b calls given (only_other ask.op _ _ n w) z))
   word_hits (WarmUp cold warm e) ask origin b calls given w z =
       by_get ask.op _
       (λ op. ⊎_elim
       (λ h. either_left (hits ask.op cold) _ (h z))
-      (λ h. either_right (hits ask.op cold) _ (both (is_get ask.op) _ (is_get_of ask.op op) (subst (λ o. hits o warm ≡ true) (sym op) (h.1 h.0))))
+      (λ h. either_right (hits ask.op cold) _ (both (asks_get ask.op) _ (is_get_of ask.op op) (subst (λ o. hits o warm ≡ true) (sym op) (h.1 h.0))))
       (warm_up_sides ask (Word cold ask origin) (Word warm (plain_get ask) origin) (λ hit i. Word cold (refill ask hit e) (CopyOf i)) (Hits ask.op cold) (Hits Get warm) (λ b' c' g' w'. word_hits cold ask origin b' c' g' w') (λ b' c' g' w'. word_hits warm (plain_get ask) origin b' c' g' w') b calls given (only_get ask.op _ _ op w)))
       (λ n. either_left (hits ask.op cold) _ (word_hits cold ask origin b calls given (only_other ask.op _ _ n w) z))
   word_hits (ByOperation policies) ask origin b calls given w z = policy_hits policies ask origin b calls given w z

@@ -24,7 +24,7 @@ use Rattle.route_tree.proofs.Showing.{get_front, get_back}
 use Rattle.route_tree.proofs.Words.{own_calls}
 use Rattle.route_tree.proofs.Going.{first_rest, has_word, all_some, first_some, after_refill_some, after_warm_some, after_cold_some}
 use Rattle.gate_coverage.specs.Cover.{IsTaking, Takes}
-use Rattle.gate_coverage.specs.Computed.{is_get, is_taking, fails, hits, hits_each, hits_first, hits_some, hits_head, hits_policy, shown, shown_each, shown_first, shown_some, shown_head, shown_policy, adds, copied, copied_some, copied_first, copied_policy, taken}
+use Rattle.gate_coverage.specs.Computed.{asks_get, is_taking, fails, hits, hits_each, hits_first, hits_some, hits_head, hits_policy, shown, shown_each, shown_first, shown_some, shown_head, shown_policy, adds, copied, copied_some, copied_first, copied_policy, takes_server}
 use Rattle.gate_coverage.specs.Exact.{TakenIsExact}
 use Rattle.gate_coverage.proofs.Choices.{both, both_split, either_left, either_right, either_split, bool_is, cond_true, cond_false, if_true, if_false, match_true, match_false, by_get, get_is, other_is, is_get_of, get_of, no_get_of, HasCall, has_front, has_back, AreSome, one_less}
 use Rattle.gate_coverage.proofs.Low.{low, first_given, cold_hit, warm_hit}
@@ -42,13 +42,13 @@ module _ (op : Op) where
     some_shown (Failover ps) good h = first_shown ps good.1 h
     some_shown (MissFailover ps) good h =
         by_get op _
-        (λ e. let x = any_shown ps good.1 (cond_true (is_get op) _ _ (is_get_of op e) h) in (x.0, if_true (is_get op) _ _ (is_get_of op e) x.1))
-        (λ n. let x = head_shown ps good.1 (cond_false (is_get op) _ _ (no_get_of op n) h) in (x.0, if_false (is_get op) _ _ (no_get_of op n) x.1))
+        (λ e. let x = any_shown ps good.1 (cond_true (asks_get op) _ _ (is_get_of op e) h) in (x.0, if_true (asks_get op) _ _ (is_get_of op e) x.1))
+        (λ n. let x = head_shown ps good.1 (cond_false (asks_get op) _ _ (no_get_of op n) h) in (x.0, if_false (asks_get op) _ _ (no_get_of op n) x.1))
     some_shown (WarmUp cold warm e) good h =
         ⊎_elim
         (λ here. let x = some_shown cold good.0 here in (x.0, either_left (shown op x.0 cold) _ x.1))
-        (λ there. let t = both_split (is_get op) (hits op warm) there in let x = some_shown warm good.1 t.1 in (x.0, either_right (shown op x.0 cold) _ (both (is_get op) _ t.0 x.1)))
-        (either_split (hits op cold) (is_get op && hits op warm) h)
+        (λ there. let t = both_split (asks_get op) (hits op warm) there in let x = some_shown warm good.1 t.1 in (x.0, either_right (shown op x.0 cold) _ (both (asks_get op) _ t.0 x.1)))
+        (either_split (hits op cold) (asks_get op && hits op warm) h)
     some_shown (ByOperation ps) good h = policy_shown ps good h
 
     each_shown : (ps : Plans) → IsNotEmpty ps → AreGood ps → hits_each op ps ≡ true → (s : ℕ) × (shown_each op s ps ≡ true)
@@ -128,8 +128,8 @@ mutual
   shown_word (Failover ps) good ask r b s h = first_word ps good.1 ask r b s h
   shown_word (MissFailover ps) good ask r b s h =
       by_get ask.op _
-      (λ e. let w = any_word ps good.1 ask r b s (cond_true (is_get ask.op) _ _ (is_get_of ask.op e) h) in (w.0, w.1, get_is ask.op _ _ e w.2, w.3))
-      (λ n. let w = head_word ps good.1 ask r b s (cond_false (is_get ask.op) _ _ (no_get_of ask.op n) h) in (w.0, w.1, other_is ask.op _ _ n w.2, w.3))
+      (λ e. let w = any_word ps good.1 ask r b s (cond_true (asks_get ask.op) _ _ (is_get_of ask.op e) h) in (w.0, w.1, get_is ask.op _ _ e w.2, w.3))
+      (λ n. let w = head_word ps good.1 ask r b s (cond_false (asks_get ask.op) _ _ (no_get_of ask.op n) h) in (w.0, w.1, other_is ask.op _ _ n w.2, w.3))
   shown_word (WarmUp cold warm e) good ask r b s h =
       ⊎_elim
       (λ here.
@@ -138,14 +138,14 @@ mutual
       (λ op. (f.0, f.1, get_is ask.op _ _ op (cold_hit ask (Word cold ask Client) (Word warm (plain_get ask) Client) (λ hit i. Word cold (refill ask hit e) (CopyOf i)) b f.0 f.1 f.2 f.3.0), f.3))
       (λ n. (f.0, f.1, other_is ask.op _ _ n f.2, f.3)))
       (λ there.
-      let t = both_split (is_get ask.op) (shown ask.op s warm) there in
+      let t = both_split (asks_get ask.op) (shown ask.op s warm) there in
       let op = get_of ask.op t.0 in
       let c = low cold good.0 ask Client b in
       let m = one_less (rank c.1) c.3.low in
       let v = shown_word warm good.1 (plain_get ask) (plain_get_readable ask) (b + length c.0) s (subst (λ o. shown o s warm ≡ true) op t.1) in
       let a = low cold good.0 (refill ask v.1.reply e) (CopyOf v.3.1) (b + length c.0 + length v.0) in
       (c.0 ++ (v.0 ++ (a.0 ++ [])), v.1, get_is ask.op _ _ op (warm_hit ask (Word cold ask Client) (Word warm (plain_get ask) Client) (λ hit i. Word cold (refill ask hit e) (CopyOf i)) b m.0 v.3.1 c.0 v.0 a.0 [] c.1 v.1 a.1 v.1 c.2 m.1 v.2 v.3.0 v.3.2 a.2 (match_true (is_plain_get ask) _ _ r.plain (refl, refl))), of_back s b c.0 (v.0 ++ (a.0 ++ [])) v.1 (of_front s (b + length c.0) v.0 (a.0 ++ []) v.1 v.3)))
-      (either_split (shown ask.op s cold) (is_get ask.op && shown ask.op s warm) h)
+      (either_split (shown ask.op s cold) (asks_get ask.op && shown ask.op s warm) h)
   shown_word (ByOperation policies) good ask r b s h = policy_word policies good ask r b s h
 
   each_word : (ps : Plans) → AreGood ps → (ask : Ask) → IsReadable ask → (b s : ℕ) → shown_each ask.op s ps ≡ true → (calls : List Call) × (all : List Given) × (worst : Given) × WordOfAll ps ask Client b calls all × IsWorst rank all worst × IsOf s b calls worst
@@ -392,9 +392,9 @@ some_read Delete h = absurd h
 some_read Touch h = absurd h
 
 module _ (plain : Plan) (op : Op) (s : ℕ) (good : IsGood plain) where
-  taken_takes : taken plain op s ≡ true → Takes plain op s
+  taken_takes : takes_server plain op s ≡ true → Takes plain op s
   taken_takes h =
-      let t = both_split (is_taking op) (shown op s plain || (is_get op && copied op s plain)) h in
+      let t = both_split (is_taking op) (shown op s plain || (asks_get op && copied op s plain)) h in
       let r = some_read op (is_taking_op op t.0) in
       ⊎_elim
       (λ here.
@@ -402,14 +402,14 @@ module _ (plain : Plan) (op : Op) (s : ℕ) (good : IsGood plain) where
       let i : f.3.1 ≡ f.3.3.0 = (let x = f.3.3.1 in omega arith) in
       (r.ask, r.is, r.of, f.0, f.1.reply, f.1.from, f.2, (f.3.3.0, (f.3.3.2, f.3.3.3, f.3.3.4), inl (f.3.2 ∙ ap Some i))))
       (λ there.
-      let g = both_split (is_get op) (copied op s plain) there in
+      let g = both_split (asks_get op) (copied op s plain) there in
       let get : r.ask.op ≡ Get = r.of ∙ get_of op g.0 in
       let f = copied_word plain good r.ask get 0 s (subst (λ o. copied o s plain ≡ true) (get_of op g.0) g.1) in
       let calls = f.0 ++ f.1.0 in
       let c = copy_front s 0 f.0 f.1.0 f.2 in
       let i : c.0 ≡ c.5.0 = (let x = c.5.1 in omega arith) in
       (r.ask, r.is, r.of, calls, f.1.1.reply, f.1.1.from, f.1.2, (c.5.0, (c.5.2, c.5.3, c.5.4), inr (c.1, c.2, c.3, c.4 ∙ ap CopyOf i))))
-      (either_split (shown op s plain) (is_get op && copied op s plain) t.1)
+      (either_split (shown op s plain) (asks_get op && copied op s plain) t.1)
 
 pub taken_is_exact : TakenIsExact
 taken_is_exact plain op s good = (taken_takes plain op s good, takes_is_taken plain op s)

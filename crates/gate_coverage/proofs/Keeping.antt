@@ -28,7 +28,7 @@ use Rattle.route_tree.proofs.Parts.{each_weaker, worst_is}
 use Rattle.route_tree.proofs.Places.{each_append, each_left, each_right}
 use Rattle.gate_coverage.specs.declared.deleting.Deleting.{Deleting}
 use Rattle.gate_coverage.specs.declared.deleting.Deleting.TheVariants as kinds
-use Rattle.gate_coverage.specs.Cover.{Clears, dialect_of}
+use Rattle.gate_coverage.specs.Cover.{Clears, deleting_dialect}
 use Rattle.gate_coverage.specs.Computed.{fails, kept, kept_each, kept_first, kept_head, kept_policy, cleared}
 use Rattle.gate_coverage.specs.Exact.{ClearedIsExact}
 use Rattle.gate_coverage.proofs.Choices.{both, both_split, either_left, either_right, either_split, bool_is, if_true, if_false, cond_true, cond_false, not_false, match_true, match_false, true_match, false_match, only_other}
@@ -204,7 +204,7 @@ module _ (s : ℕ) (ask : Ask) (op : ask.op ≡ Delete) where
 
 -- a delete of the kind
 abbrev a_delete : Deleting → Ask
-a_delete kind = record { key = 97 ∷ []; op = Delete; dialect = dialect_of kind; with_cas = false; flags = 0; exptime = None; body = []; cas = None; delta = 0; tokens = [] }
+a_delete kind = record { key = 97 ∷ []; op = Delete; dialect = deleting_dialect kind; with_cas = false; flags = 0; exptime = None; body = []; cas = None; delta = 0; tokens = [] }
 
 is_a_delete : (kind : Deleting) → IsAsk (a_delete kind)
 is_a_delete kinds.Delete = record { key = record { some = omega arith; short = omega arith; bytes = refl }; ranges = record { flags = omega arith; exptime = tt; body = omega arith; cas = tt; delta = omega arith }; shape = record { with_cas = refl; flags = refl; exptime = refl; body = refl; cas = refl; delta = refl; tokens = refl } }
@@ -223,7 +223,7 @@ gone_says : (kind : Deleting) → says_gone (gone_for kind) ≡ true
 gone_says kinds.Delete = refl
 gone_says kinds.Md = refl
 
-null_gone : (kind : Deleting) → says_gone (answer_of_nothing (dialect_of kind) Delete) ≡ true
+null_gone : (kind : Deleting) → says_gone (answer_of_nothing (deleting_dialect kind) Delete) ≡ true
 null_gone kinds.Delete = refl
 null_gone kinds.Md = refl
 

@@ -16,7 +16,7 @@ use Rattle.route_tree.specs.Plan.{Plan, Plans, PlanPolicies, Server, Null, Faili
 use Rattle.route_tree.specs.Word.{Given, rank, given_by, null_reply, failing_reply, plain_get, refill, Word, WordOfAll, WordOfFirst, WordOfHead, WordOfPolicy, AfterRefill, Refilled, AfterWarm, AfterCold, WarmUpWord}
 use Rattle.route_tree.proofs.Places.{each_append}
 use Rattle.route_tree.proofs.Going.{worst_of, worst_none}
-use Rattle.gate_coverage.specs.Computed.{is_get, fails, fails_some, fails_each, fails_last, fails_head, fails_policy, adds, adds_some, adds_first, adds_head, adds_policy}
+use Rattle.gate_coverage.specs.Computed.{asks_get, fails, fails_some, fails_each, fails_last, fails_head, fails_policy, adds, adds_some, adds_first, adds_head, adds_policy}
 use Rattle.gate_coverage.proofs.Choices.{both_split, either_split, bool_is, cond_true, cond_false, match_true, match_false, by_get, get_is, other_is, is_get_of, no_get_of, AreSome, some_left, some_right, one_less}
 use Rattle.gate_coverage.proofs.Failing.{null_rank}
 
@@ -74,10 +74,10 @@ mutual
       by_get ask.op _
       (λ op.
       let f = low_last ps good.0 good.1 ask origin b in
-      (f.0, f.1, get_is ask.op _ _ op f.2, record { failed = f.3.failed; low = f.3.low; worst = λ h. f.3.worst (cond_true (is_get ask.op) _ _ (is_get_of ask.op op) h); some = λ e. absurd (cc) }))
+      (f.0, f.1, get_is ask.op _ _ op f.2, record { failed = f.3.failed; low = f.3.low; worst = λ h. f.3.worst (cond_true (asks_get ask.op) _ _ (is_get_of ask.op op) h); some = λ e. absurd (cc) }))
       (λ n.
       let f = low_head ps good.0 good.1 ask origin b in
-      (f.0, f.1, other_is ask.op _ _ n f.2, record { failed = f.3.failed; low = f.3.low; worst = λ h. f.3.worst (cond_false (is_get ask.op) _ _ (no_get_of ask.op n) h); some = f.3.some }))
+      (f.0, f.1, other_is ask.op _ _ n f.2, record { failed = f.3.failed; low = f.3.low; worst = λ h. f.3.worst (cond_false (asks_get ask.op) _ _ (no_get_of ask.op n) h); some = f.3.some }))
   low (WarmUp cold warm e) good ask origin b =
       let c = low cold good.0 ask origin b in
       by_get ask.op _

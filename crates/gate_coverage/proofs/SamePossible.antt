@@ -8,7 +8,7 @@ use Rattle.route_tree.specs.Route.{Route, Routes, Policies, Prefixes, Pool, Serv
 use Rattle.route_tree.specs.At.{begins, is_longer, plain_for, plain_for_all, plain_for_policies}
 use Rattle.route_tree.specs.Chosen.{chosen}
 use Rattle.route_tree.proofs.PlainTrees.{plain_for_chosen}
-use Rattle.gate_coverage.specs.Computed.{is_get, fails, fails_some, fails_each, fails_last, fails_head, fails_policy, hits, hits_each, hits_first, hits_some, hits_head, hits_policy, adds, adds_some, adds_first, adds_head, adds_policy}
+use Rattle.gate_coverage.specs.Computed.{asks_get, fails, fails_some, fails_each, fails_last, fails_head, fails_policy, hits, hits_each, hits_first, hits_some, hits_head, hits_policy, adds, adds_some, adds_first, adds_head, adds_policy}
 
 pub record Same (p q : Plan) : Type 0 where
   pub fails_same : (op : Op) → fails op p ≡ fails op q
@@ -62,14 +62,14 @@ module _ (one other : ℕ) (text : List ℕ) where
     same (MissFailover rs) =
         let h = all_same rs in
         record {
-          fails_same = λ op. ap₂ (λ x y. cond (is_get op) x y) (h.fails_last_same op) (h.fails_head_same op);
-          hits_same = λ op. ap₂ (λ x y. cond (is_get op) x y) (h.hits_some_same op) (h.hits_head_same op);
+          fails_same = λ op. ap₂ (λ x y. cond (asks_get op) x y) (h.fails_last_same op) (h.fails_head_same op);
+          hits_same = λ op. ap₂ (λ x y. cond (asks_get op) x y) (h.hits_some_same op) (h.hits_head_same op);
           adds_same = h.adds_head_same;
         }
     same (WarmUp cold warm e) =
         let c = same cold in
         let w = same warm in
-        record { fails_same = c.fails_same; hits_same = λ op. ap₂ (λ x y. x || (is_get op && y)) (c.hits_same op) (w.hits_same op); adds_same = c.adds_same }
+        record { fails_same = c.fails_same; hits_same = λ op. ap₂ (λ x y. x || (asks_get op && y)) (c.hits_same op) (w.hits_same op); adds_same = c.adds_same }
     same (ByOperation ps) = let h = policies_same ps in record { fails_same = h.fails_policy_same; hits_same = h.hits_policy_same; adds_same = h.adds_policy_same }
     same (ByPrefix ps) =
         subst (λ p. Same p (plain_for other text (ByPrefix ps))) (sym (plain_for_chosen one text ps))

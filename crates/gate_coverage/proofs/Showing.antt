@@ -26,7 +26,7 @@ use Rattle.route_tree.specs.Plan.{Plan, Plans, PlanPolicies, Server, Null, Faili
 use Rattle.route_tree.specs.Word.{Given, rank, given_by, plain_get, refill, is_plain_get, Word, WordOfAll, WordOfFirst, WordOfHead, WordOfPolicy, Refilled, AfterWarm, AfterCold, WarmUpWord}
 use Rattle.route_tree.proofs.Parts.{match_bool}
 use Rattle.gate_coverage.specs.Cover.{IsTaking}
-use Rattle.gate_coverage.specs.Computed.{is_get, fails, shown, shown_each, shown_first, shown_some, shown_head, shown_policy}
+use Rattle.gate_coverage.specs.Computed.{asks_get, fails, shown, shown_each, shown_first, shown_some, shown_head, shown_policy}
 use Rattle.gate_coverage.proofs.Choices.{both, either_left, either_right, bool_is, if_true, if_false, true_match, false_match, by_get, only_get, only_other, is_get_of, no_get_of, HasCall, has_front, has_back, has_weaker}
 use Rattle.gate_coverage.proofs.Failing.{word_fails, none_above_hits}
 use Rattle.gate_coverage.proofs.Covering.{bare_shows_nothing}
@@ -170,13 +170,13 @@ mutual
   word_shows (Failover ps) ask origin b calls given taking w = first_shows ps ask origin b calls given taking w
   word_shows (MissFailover ps) ask origin b calls given taking w =
       by_get ask.op _
-      (λ e. shows_weaker (λ s. shown_some ask.op s ps) (λ s. shown ask.op s (MissFailover ps)) b calls given (λ s h. if_true (is_get ask.op) _ _ (is_get_of ask.op e) h) (some_shows ps ask origin b calls given taking (only_get ask.op _ _ e w)))
-      (λ n. shows_weaker (λ s. shown_head ask.op s ps) (λ s. shown ask.op s (MissFailover ps)) b calls given (λ s h. if_false (is_get ask.op) _ _ (no_get_of ask.op n) h) (head_shows ps ask origin b calls given taking (only_other ask.op _ _ n w)))
+      (λ e. shows_weaker (λ s. shown_some ask.op s ps) (λ s. shown ask.op s (MissFailover ps)) b calls given (λ s h. if_true (asks_get ask.op) _ _ (is_get_of ask.op e) h) (some_shows ps ask origin b calls given taking (only_get ask.op _ _ e w)))
+      (λ n. shows_weaker (λ s. shown_head ask.op s ps) (λ s. shown ask.op s (MissFailover ps)) b calls given (λ s h. if_false (asks_get ask.op) _ _ (no_get_of ask.op n) h) (head_shows ps ask origin b calls given taking (only_other ask.op _ _ n w)))
   word_shows (WarmUp cold warm e) ask origin b calls given taking w =
       by_get ask.op _
       (λ op. warm_up_shows ask (Word cold ask origin) (Word warm (plain_get ask) origin) (λ hit i. Word cold (refill ask hit e) (CopyOf i)) (λ s. shown ask.op s (WarmUp cold warm e))
       (λ b' c' g' w'. shows_weaker (λ s. shown ask.op s cold) (λ s. shown ask.op s (WarmUp cold warm e)) b' c' g' (λ s h. either_left (shown ask.op s cold) _ h) (word_shows cold ask origin b' c' g' taking w'))
-      (λ b' c' g' w'. shows_weaker (λ s. shown Get s warm) (λ s. shown ask.op s (WarmUp cold warm e)) b' c' g' (λ s h. either_right (shown ask.op s cold) _ (both (is_get ask.op) _ (is_get_of ask.op op) (subst (λ o. shown o s warm ≡ true) (sym op) h))) (word_shows warm (plain_get ask) origin b' c' g' tt w'))
+      (λ b' c' g' w'. shows_weaker (λ s. shown Get s warm) (λ s. shown ask.op s (WarmUp cold warm e)) b' c' g' (λ s h. either_right (shown ask.op s cold) _ (both (asks_get ask.op) _ (is_get_of ask.op op) (subst (λ o. shown o s warm ≡ true) (sym op) h))) (word_shows warm (plain_get ask) origin b' c' g' tt w'))
       b calls given (only_get ask.op _ _ op w))
       (λ n. shows_weaker (λ s. shown ask.op s cold) (λ s. shown ask.op s (WarmUp cold warm e)) b calls given (λ s h. either_left (shown ask.op s cold) _ h) (word_shows cold ask origin b calls given taking (only_other ask.op _ _ n w)))
   word_shows (ByOperation policies) ask origin b calls given taking w = policy_shows policies ask origin b calls given taking w

@@ -11,16 +11,16 @@ use Rattle.route_tree.specs.Word.{Given}
 use Rattle.route_tree.proofs.Parts.{each_at}
 use Rattle.route_tree.proofs.Servers as route_servers
 use Rattle.gate_coverage.specs.Cover.{IsTaking, Takes}
-use Rattle.gate_coverage.specs.Computed.{taken, is_taken}
+use Rattle.gate_coverage.specs.Computed.{takes_server, is_taken}
 use Rattle.gate_coverage.proofs.Choices.{either_left, either_right, either_split}
 use Rattle.gate_coverage.proofs.Finding.{taken_is_exact}
 
 module _ (plain : Plan) (good : IsGood plain) where
-  pub takes : (op : Op) (s : ℕ) → IsTaking op → taken plain op s ≡ true → is_taken plain s ≡ true
-  takes Get s t h = either_left (taken plain Get s || taken plain Gat s || taken plain Incr s) _ (either_left (taken plain Get s || taken plain Gat s) _ (either_left (taken plain Get s) _ h))
-  takes Gat s t h = either_left (taken plain Get s || taken plain Gat s || taken plain Incr s) _ (either_left (taken plain Get s || taken plain Gat s) _ (either_right (taken plain Get s) _ h))
-  takes Incr s t h = either_left (taken plain Get s || taken plain Gat s || taken plain Incr s) _ (either_right (taken plain Get s || taken plain Gat s) _ h)
-  takes Decr s t h = either_right (taken plain Get s || taken plain Gat s || taken plain Incr s) _ h
+  pub takes : (op : Op) (s : ℕ) → IsTaking op → takes_server plain op s ≡ true → is_taken plain s ≡ true
+  takes Get s t h = either_left (takes_server plain Get s || takes_server plain Gat s || takes_server plain Incr s) _ (either_left (takes_server plain Get s || takes_server plain Gat s) _ (either_left (takes_server plain Get s) _ h))
+  takes Gat s t h = either_left (takes_server plain Get s || takes_server plain Gat s || takes_server plain Incr s) _ (either_left (takes_server plain Get s || takes_server plain Gat s) _ (either_right (takes_server plain Get s) _ h))
+  takes Incr s t h = either_left (takes_server plain Get s || takes_server plain Gat s || takes_server plain Incr s) _ (either_right (takes_server plain Get s || takes_server plain Gat s) _ h)
+  takes Decr s t h = either_right (takes_server plain Get s || takes_server plain Gat s || takes_server plain Incr s) _ h
   takes Set s t h = absurd t
   takes Add s t h = absurd t
   takes Replace s t h = absurd t
@@ -34,11 +34,11 @@ module _ (plain : Plan) (good : IsGood plain) where
   taken_takes s h =
       ⊎_elim
       (λ l. ⊎_elim
-      (λ k. ⊎_elim (λ a. (Get, tt, (taken_is_exact plain Get s good).0 a)) (λ a. (Gat, tt, (taken_is_exact plain Gat s good).0 a)) (either_split (taken plain Get s) (taken plain Gat s) k))
+      (λ k. ⊎_elim (λ a. (Get, tt, (taken_is_exact plain Get s good).0 a)) (λ a. (Gat, tt, (taken_is_exact plain Gat s good).0 a)) (either_split (takes_server plain Get s) (takes_server plain Gat s) k))
       (λ a. (Incr, tt, (taken_is_exact plain Incr s good).0 a))
-      (either_split (taken plain Get s || taken plain Gat s) (taken plain Incr s) l))
+      (either_split (takes_server plain Get s || takes_server plain Gat s) (takes_server plain Incr s) l))
       (λ a. (Decr, tt, (taken_is_exact plain Decr s good).0 a))
-      (either_split (taken plain Get s || taken plain Gat s || taken plain Incr s) (taken plain Decr s) h)
+      (either_split (takes_server plain Get s || takes_server plain Gat s || takes_server plain Incr s) (takes_server plain Decr s) h)
 
   pub within : (op : Op) (s : ℕ) → Takes plain op s → IsIn s (servers plain)
   within op s t =

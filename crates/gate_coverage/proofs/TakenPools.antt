@@ -10,8 +10,8 @@ use Rattle.route_tree.specs.Route.{Route, Routes, Policies, Prefixes, Pool, Serv
 use Rattle.route_tree.specs.At.{begins, is_longer, plain_for, plain_for_all, plain_for_policies}
 use Rattle.route_tree.specs.Chosen.{chosen}
 use Rattle.route_tree.proofs.PlainTrees.{plain_for_chosen}
-use Rattle.gate_coverage.specs.Computed.{is_get, taken, fails, hits_each, adds, shown, shown_each, shown_first, shown_some, shown_head, shown_policy, copied, copied_some, copied_first, copied_head, copied_policy, is_taken}
-use Rattle.gate_coverage.specs.Pools.{has, server_at, servers_at, pools_of, pools_of_each, pools_of_some, pools_of_first, pools_of_head, pools_of_policy, pools_of_prefixes, has_pool, with_pool, distinct_after, sought_pools, taken_pools}
+use Rattle.gate_coverage.specs.Computed.{asks_get, takes_server, fails, hits_each, adds, shown, shown_each, shown_first, shown_some, shown_head, shown_policy, copied, copied_some, copied_first, copied_head, copied_policy, is_taken}
+use Rattle.gate_coverage.specs.Pools.{has, pool_server_at, servers_at, pools_of, pools_of_each, pools_of_some, pools_of_first, pools_of_head, pools_of_policy, pools_of_prefixes, has_pool, with_pool, distinct_after, sought_pools, taken_pools}
 use Rattle.gate_coverage.proofs.SamePossible.{same, all_same}
 
 pub has_append : (xs ys : List ℕ) (s : ℕ) → has (xs ++ ys) s ≡ (has xs s || has ys s)
@@ -24,7 +24,7 @@ has_append (x ∷ xs) ys s = ap (λ b. nat_eq x s || b) (has_append xs ys s) ∙
 
 pub at_append : (hash : ℕ) (xs ys : List (List ℕ)) → servers_at hash (xs ++ ys) ≡ servers_at hash xs ++ servers_at hash ys
 at_append hash [] ys = refl
-at_append hash (x ∷ xs) ys = ap (λ l. server_at hash x ∷ l) (at_append hash xs ys)
+at_append hash (x ∷ xs) ys = ap (λ l. pool_server_at hash x ∷ l) (at_append hash xs ys)
 
 mod_one : (n : ℕ) → n % 1 ≡ 0
 mod_one n = omega arith
@@ -137,7 +137,7 @@ module _ (text : List ℕ) (op : Op) where
     there_if true xs = refl
     there_if false xs = refl
 
-    one_pool : (sh co : Bool) (pool : List ℕ) → there (cond sh (pool ∷ []) []) ≡ part sh co (nat_eq (server_at hash pool) s) false
+    one_pool : (sh co : Bool) (pool : List ℕ) → there (cond sh (pool ∷ []) []) ≡ part sh co (nat_eq (pool_server_at hash pool) s) false
     one_pool true true pool = refl
     one_pool true false pool = refl
     one_pool false true pool = refl
@@ -147,7 +147,7 @@ module _ (text : List ℕ) (op : Op) where
     either_one true sh co xs ys a b x y h k = h
     either_one false sh co xs ys a b x y h k = k
 
-    alone : (x : ℕ) → server_at hash (x ∷ []) ≡ x
+    alone : (x : ℕ) → pool_server_at hash (x ∷ []) ≡ x
     alone x = rw (mod_one hash) refl
 
     abbrev IsThere : Route → Type 0
@@ -169,12 +169,12 @@ module _ (text : List ℕ) (op : Op) where
       all_there Failing sh co = none sh co
       all_there (AllSync rs) sh co = each_there rs sh co
       all_there (Failover rs) sh co = first_there rs sh co
-      all_there (MissFailover rs) sh co = either_one (is_get op) sh co (pools_of_some text op sh co rs) (pools_of_head text op sh co rs) (shown_some op s (plain_for_all hash text rs)) (copied_some op s (plain_for_all hash text rs)) (shown_head op s (plain_for_all hash text rs)) (copied_head op s (plain_for_all hash text rs)) (some_there rs sh co) (head_there rs sh co)
+      all_there (MissFailover rs) sh co = either_one (asks_get op) sh co (pools_of_some text op sh co rs) (pools_of_head text op sh co rs) (shown_some op s (plain_for_all hash text rs)) (copied_some op s (plain_for_all hash text rs)) (shown_head op s (plain_for_all hash text rs)) (copied_head op s (plain_for_all hash text rs)) (some_there rs sh co) (head_there rs sh co)
       all_there (WarmUp cold warm e) sh co =
-          there_append (pools_of text op sh co cold) (cond (is_get op) (pools_of text op (sh || (co && adds (plain_for 0 text cold))) co warm) [])
-          ∙ ap₂ (λ x y. x || y) (all_there cold sh co) (there_if (is_get op) (pools_of text op (sh || (co && adds (plain_for 0 text cold))) co warm) ∙ ap (λ b. cond (is_get op) b false) (all_there warm (sh || (co && adds (plain_for 0 text cold))) co))
-          ∙ ap (λ a. part sh co (shown op s (plain_for hash text cold)) (copied op s (plain_for hash text cold)) || cond (is_get op) (part (sh || (co && a)) co (shown op s (plain_for hash text warm)) (copied op s (plain_for hash text warm))) false) (same 0 hash text cold).adds_same
-          ∙ warm_parts (is_get op) sh co (shown op s (plain_for hash text cold)) (copied op s (plain_for hash text cold)) (adds (plain_for hash text cold)) (shown op s (plain_for hash text warm)) (copied op s (plain_for hash text warm))
+          there_append (pools_of text op sh co cold) (cond (asks_get op) (pools_of text op (sh || (co && adds (plain_for 0 text cold))) co warm) [])
+          ∙ ap₂ (λ x y. x || y) (all_there cold sh co) (there_if (asks_get op) (pools_of text op (sh || (co && adds (plain_for 0 text cold))) co warm) ∙ ap (λ b. cond (asks_get op) b false) (all_there warm (sh || (co && adds (plain_for 0 text cold))) co))
+          ∙ ap (λ a. part sh co (shown op s (plain_for hash text cold)) (copied op s (plain_for hash text cold)) || cond (asks_get op) (part (sh || (co && a)) co (shown op s (plain_for hash text warm)) (copied op s (plain_for hash text warm))) false) (same 0 hash text cold).adds_same
+          ∙ warm_parts (asks_get op) sh co (shown op s (plain_for hash text cold)) (copied op s (plain_for hash text cold)) (adds (plain_for hash text cold)) (shown op s (plain_for hash text warm)) (copied op s (plain_for hash text warm))
       all_there (ByOperation ps) sh co = policy_there ps sh co
       all_there (ByPrefix ps) sh co =
           ap there (pools_of_chosen sh co ps) ∙ chosen_there ps None tt sh co
@@ -218,16 +218,16 @@ module _ (text : List ℕ) (op : Op) where
 -- ---- the four operations
 
 module _ (text : List ℕ) (hash s : ℕ) where
-  at_get : (r : Route) → has (servers_at hash (pools_of text Get true true r)) s ≡ taken (plain_for hash text r) Get s
+  at_get : (r : Route) → has (servers_at hash (pools_of text Get true true r)) s ≡ takes_server (plain_for hash text r) Get s
   at_get r = all_there text Get hash s r true true
 
-  at_gat : (r : Route) → has (servers_at hash (pools_of text Gat true false r)) s ≡ taken (plain_for hash text r) Gat s
+  at_gat : (r : Route) → has (servers_at hash (pools_of text Gat true false r)) s ≡ takes_server (plain_for hash text r) Gat s
   at_gat r = all_there text Gat hash s r true false
 
-  at_incr : (r : Route) → has (servers_at hash (pools_of text Incr true false r)) s ≡ taken (plain_for hash text r) Incr s
+  at_incr : (r : Route) → has (servers_at hash (pools_of text Incr true false r)) s ≡ takes_server (plain_for hash text r) Incr s
   at_incr r = all_there text Incr hash s r true false
 
-  at_decr : (r : Route) → has (servers_at hash (pools_of text Decr true false r)) s ≡ taken (plain_for hash text r) Decr s
+  at_decr : (r : Route) → has (servers_at hash (pools_of text Decr true false r)) s ≡ takes_server (plain_for hash text r) Decr s
   at_decr r = all_there text Decr hash s r true false
 
   sought_are_taken : (r : Route) → has (servers_at hash (sought_pools text r)) s ≡ is_taken (plain_for hash text r) s
@@ -266,13 +266,13 @@ module _ (hash s : ℕ) where
   there_first : (p : List ℕ) (ps : List (List ℕ)) (pool : List ℕ) → bytes_eq p pool ≡ true → has (servers_at hash (p ∷ ps)) s ≡ (has (servers_at hash (p ∷ ps)) s || has (servers_at hash (pool ∷ [])) s)
   there_first p ps pool e =
       subst (λ q. has (servers_at hash (p ∷ ps)) s ≡ (has (servers_at hash (p ∷ ps)) s || has (servers_at hash (q ∷ [])) s)) (same_pool p pool e)
-      (absorbs (nat_eq (server_at hash p) s) (has (servers_at hash ps) s))
+      (absorbs (nat_eq (pool_server_at hash p) s) (has (servers_at hash ps) s))
 
   there_already : (pools : List (List ℕ)) (pool : List ℕ) → has_pool pools pool ≡ true → has (servers_at hash pools) s ≡ (has (servers_at hash pools) s || has (servers_at hash (pool ∷ [])) s)
   there_already [] pool h = absurd (cc)
   there_already (p ∷ ps) pool h =
       ⊎_elim (there_first p ps pool)
-      (λ (e : has_pool ps pool ≡ true). ap (λ b. nat_eq (server_at hash p) s || b) (there_already ps pool e) ∙ assoc (nat_eq (server_at hash p) s) (has (servers_at hash ps) s) (has (servers_at hash (pool ∷ [])) s))
+      (λ (e : has_pool ps pool ≡ true). ap (λ b. nat_eq (pool_server_at hash p) s || b) (there_already ps pool e) ∙ assoc (nat_eq (pool_server_at hash p) s) (has (servers_at hash ps) s) (has (servers_at hash (pool ∷ [])) s))
       (either_split (bytes_eq p pool) (has_pool ps pool) h)
 
   with_one : (pools : List (List ℕ)) (pool : List ℕ) → has (servers_at hash (with_pool pools pool)) s ≡ (has (servers_at hash pools) s || has (servers_at hash (pool ∷ [])) s)
@@ -286,7 +286,7 @@ module _ (hash s : ℕ) where
   distinct_has pools [] = sym (or_false (has (servers_at hash pools) s))
   distinct_has pools (p ∷ ps) =
       distinct_has (with_pool pools p) ps ∙ ap (λ b. b || has (servers_at hash ps) s) (with_one pools p)
-      ∙ regroup (has (servers_at hash pools) s) (nat_eq (server_at hash p) s) (has (servers_at hash ps) s)
+      ∙ regroup (has (servers_at hash pools) s) (nat_eq (pool_server_at hash p) s) (has (servers_at hash ps) s)
 
 -- the servers of the pools at a hash are those that the plain tree of the hash takes
 pub pools_are_taken : (text : List ℕ) (hash s : ℕ) (r : Route) → has (servers_at hash (taken_pools text r)) s ≡ is_taken (plain_for hash text r) s

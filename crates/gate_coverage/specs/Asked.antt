@@ -3,7 +3,7 @@ use Rattle.std.specs.Prelude.{Bool, true, false, ◌&&◌, ◌||◌, if◌then�
 use Rattle.mc_types.specs.declared.ask.Op.{Op}
 use Rattle.route_tree.specs.Operation.{same_op}
 use Rattle.route_tree.specs.Plan.{Plan, Plans, PlanPolicies, Server, Null, Failing, AllSync, Failover, MissFailover, WarmUp, ByOperation, End, More, Otherwise, Policy}
-use Rattle.gate_coverage.specs.Computed.{is_get, fails}
+use Rattle.gate_coverage.specs.Computed.{asks_get, fails}
 
 module _ (op : Op) where
   abbrev mutual
@@ -13,7 +13,7 @@ module _ (op : Op) where
     asks Failing = false
     asks (AllSync ps) = asks_some ps
     asks (Failover ps) = asks_first ps
-    asks (MissFailover ps) = if is_get op then asks_some ps else asks_head ps
+    asks (MissFailover ps) = if asks_get op then asks_some ps else asks_head ps
     asks (WarmUp cold warm e) = asks cold
     asks (ByOperation ps) = asks_policy ps
 

@@ -5,8 +5,8 @@ use Rattle.mc_types.specs.declared.ask.Op.TheVariants.{Get, Gat, Add, Delete, In
 use Rattle.route_tree.specs.Operation.{same_op}
 use Rattle.route_tree.specs.Plan.{Plan, Plans, PlanPolicies, Server, Null, Failing, AllSync, Failover, MissFailover, WarmUp, ByOperation, End, More, Otherwise, Policy}
 
-abbrev pub is_get : Op → Bool
-is_get op = same_op op Get
+abbrev pub asks_get : Op → Bool
+asks_get op = same_op op Get
 
 -- the operations whose replies show items
 abbrev pub is_taking : Op → Bool
@@ -21,7 +21,7 @@ module _ (op : Op) where
     fails Failing = true
     fails (AllSync ps) = fails_some ps
     fails (Failover ps) = fails_each ps
-    fails (MissFailover ps) = if is_get op then fails_last ps else fails_head ps
+    fails (MissFailover ps) = if asks_get op then fails_last ps else fails_head ps
     fails (WarmUp cold warm e) = fails cold
     fails (ByOperation ps) = fails_policy ps
 
@@ -54,8 +54,8 @@ module _ (op : Op) where
     hits Failing = false
     hits (AllSync ps) = hits_each ps
     hits (Failover ps) = hits_first ps
-    hits (MissFailover ps) = if is_get op then hits_some ps else hits_head ps
-    hits (WarmUp cold warm e) = hits cold || (is_get op && hits warm)
+    hits (MissFailover ps) = if asks_get op then hits_some ps else hits_head ps
+    hits (WarmUp cold warm e) = hits cold || (asks_get op && hits warm)
     hits (ByOperation ps) = hits_policy ps
 
     pub hits_each : Plans → Bool
@@ -87,8 +87,8 @@ module _ (op : Op) where
       shown Failing = false
       shown (AllSync ps) = shown_each ps
       shown (Failover ps) = shown_first ps
-      shown (MissFailover ps) = if is_get op then shown_some ps else shown_head ps
-      shown (WarmUp cold warm e) = shown cold || (is_get op && shown warm)
+      shown (MissFailover ps) = if asks_get op then shown_some ps else shown_head ps
+      shown (WarmUp cold warm e) = shown cold || (asks_get op && shown warm)
       shown (ByOperation ps) = shown_policy ps
 
       -- of equal ranks the first is the reply
@@ -149,8 +149,8 @@ module _ (op : Op) (s : ℕ) where
     copied Failing = false
     copied (AllSync ps) = copied_some ps
     copied (Failover ps) = copied_first ps
-    copied (MissFailover ps) = if is_get op then copied_some ps else copied_head ps
-    copied (WarmUp cold warm e) = copied cold || (is_get op && (copied warm || (shown op s warm && adds cold)))
+    copied (MissFailover ps) = if asks_get op then copied_some ps else copied_head ps
+    copied (WarmUp cold warm e) = copied cold || (asks_get op && (copied warm || (shown op s warm && adds cold)))
     copied (ByOperation ps) = copied_policy ps
 
     pub copied_some : Plans → Bool
@@ -199,12 +199,12 @@ module _ (s : ℕ) where
     kept_policy (Policy o p rest) = if same_op o Delete then kept p else kept_policy rest
 
 -- a read can show an item of the server, or copy it
-abbrev pub taken : Plan → Op → ℕ → Bool
-taken plain op s = is_taking op && (shown op s plain || (is_get op && copied op s plain))
+abbrev pub takes_server : Plan → Op → ℕ → Bool
+takes_server plain op s = is_taking op && (shown op s plain || (asks_get op && copied op s plain))
 
 -- some operation takes the server
 abbrev pub is_taken : Plan → ℕ → Bool
-is_taken plain s = taken plain Get s || taken plain Gat s || taken plain Incr s || taken plain Decr s
+is_taken plain s = takes_server plain Get s || takes_server plain Gat s || takes_server plain Incr s || takes_server plain Decr s
 
 -- no delete is acknowledged with the server not cleared, whichever of the two is asked
 abbrev pub cleared : Plan → ℕ → Bool

@@ -38,14 +38,14 @@ Takes plain op server =
     × Word plain ask Client 0 calls (record { reply = reply; from = from }) × TakesIn calls from server
 
 -- `delete` is of the classic dialect, `md` of the meta one
-abbrev pub dialect_of : Deleting → Dialect
-dialect_of kinds.Delete = dialects.Classic
-dialect_of kinds.Md = dialects.Meta
+abbrev pub deleting_dialect : Deleting → Dialect
+deleting_dialect kinds.Delete = dialects.Classic
+deleting_dialect kinds.Md = dialects.Meta
 
 -- in every word of a delete of this kind that is acknowledged the server is cleared
 abbrev pub Clears : Plan → Deleting → ℕ → Type 0
 Clears plain kind server =
-    (ask : Ask) → IsAsk ask → ask.op ≡ Delete → ask.dialect ≡ dialect_of kind → (calls : List Call) (reply : Answer) (from : Option ℕ)
+    (ask : Ask) → IsAsk ask → ask.op ≡ Delete → ask.dialect ≡ deleting_dialect kind → (calls : List Call) (reply : Answer) (from : Option ℕ)
     → Word plain ask Client 0 calls (record { reply = reply; from = from }) → Acknowledges ask reply → ClearsIn calls server
 
 -- each server that the later tree takes is cleared by the earlier one, whichever delete is asked

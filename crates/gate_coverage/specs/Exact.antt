@@ -6,11 +6,11 @@ use Rattle.route_tree.specs.Plan.{Plan, IsGood}
 use Rattle.route_tree.specs.Word.{tree_words}
 use Rattle.gate_coverage.specs.declared.deleting.Deleting.{Deleting}
 use Rattle.gate_coverage.specs.Cover.{Takes, Clears, Covers}
-use Rattle.gate_coverage.specs.Computed.{taken, cleared}
+use Rattle.gate_coverage.specs.Computed.{takes_server, cleared}
 
 -- what is computed of a read is exact
 abbrev pub TakenIsExact : Type 0
-TakenIsExact = (plain : Plan) (op : Op) (s : ℕ) → IsGood plain → IsTrue (taken plain op s) ↔ Takes plain op s
+TakenIsExact = (plain : Plan) (op : Op) (s : ℕ) → IsGood plain → IsTrue (takes_server plain op s) ↔ Takes plain op s
 
 -- what is computed of a delete is exact
 abbrev pub ClearedIsExact : Type 0

@@ -6,20 +6,20 @@ use Rattle.mc_types.specs.declared.ask.Op.TheVariants.{Get, Gat, Incr, Decr}
 use Rattle.route_tree.specs.Operation.{same_op}
 use Rattle.route_tree.specs.Route.{Route, Routes, Policies, Prefixes, Pool, Server, Null, Failing, AllSync, Failover, MissFailover, WarmUp, ByOperation, ByPrefix, End, More, Otherwise, Policy, Wildcard, Prefix}
 use Rattle.route_tree.specs.At.{begins, is_longer, best_or, plain_for, plain_for_all}
-use Rattle.gate_coverage.specs.Computed.{is_get, fails, hits_each, adds}
+use Rattle.gate_coverage.specs.Computed.{asks_get, fails, hits_each, adds}
 
 abbrev pub has : List ℕ → ℕ → Bool
 has [] s = false
 has (x ∷ xs) s = nat_eq x s || has xs s
 
 -- of a pool the server at the hash modulo its size
-abbrev pub server_at : ℕ → List ℕ → ℕ
-server_at hash servers = slice_index servers (hash % length servers)
+abbrev pub pool_server_at : ℕ → List ℕ → ℕ
+pool_server_at hash servers = slice_index servers (hash % length servers)
 
 -- of each pool the server at the hash
 abbrev pub servers_at : ℕ → List (List ℕ) → List ℕ
 servers_at hash [] = []
-servers_at hash (p ∷ ps) = server_at hash p ∷ servers_at hash ps
+servers_at hash (p ∷ ps) = pool_server_at hash p ∷ servers_at hash ps
 
 module _ (text : List ℕ) (op : Op) where
   abbrev mutual
@@ -31,9 +31,9 @@ module _ (text : List ℕ) (op : Op) where
     pools_of shows copies Failing = []
     pools_of shows copies (AllSync rs) = pools_of_each shows copies rs
     pools_of shows copies (Failover rs) = pools_of_first shows copies rs
-    pools_of shows copies (MissFailover rs) = if is_get op then pools_of_some shows copies rs else pools_of_head shows copies rs
+    pools_of shows copies (MissFailover rs) = if asks_get op then pools_of_some shows copies rs else pools_of_head shows copies rs
     pools_of shows copies (WarmUp cold warm e) =
-        pools_of shows copies cold ++ (if is_get op then pools_of (shows || (copies && adds (plain_for 0 text cold))) copies warm else [])
+        pools_of shows copies cold ++ (if asks_get op then pools_of (shows || (copies && adds (plain_for 0 text cold))) copies warm else [])
     pools_of shows copies (ByOperation ps) = pools_of_policy shows copies ps
     pools_of shows copies (ByPrefix ps) = pools_of_prefixes shows copies ps None
 

@@ -3,7 +3,7 @@
 ghost use Rattle.std.specs.Prelude.{◌≡◌, ◌++◌, ◌∷◌, [], ◌<◌, true, if◌then◌else◌, IfOk, length};
 ghost use Rattle.std.specs.Str.{bytes_eq};
 ghost use Rattle.route_tree.specs.Form.{routes_of, policies_of};
-ghost use Rattle.gate_coverage.specs.Pools.{server_at, pools_of, pools_of_each, pools_of_some, pools_of_first, pools_of_head, pools_of_policy, has_pool, with_pool, distinct_after, sought_pools, taken_pools};
+ghost use Rattle.gate_coverage.specs.Pools.{pool_server_at, pools_of, pools_of_each, pools_of_some, pools_of_first, pools_of_head, pools_of_policy, has_pool, with_pool, distinct_after, sought_pools, taken_pools};
 
 use crate::possible::{adds_at, fails_at, hits_at_each};
 use crate::stores::is_op;
@@ -64,7 +64,7 @@ impl<'a> Pool<'a> {
 
     /// The server at the hash modulo the pool's size.
     pub fn at(&self, hash: u32) -> ServerId
-        ensures { result ≡ server_at hash self.now }
+        ensures { result ≡ pool_server_at hash self.now }
     {
         self.servers[hash as usize % self.servers.len()]
     }

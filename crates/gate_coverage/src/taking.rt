@@ -2,7 +2,7 @@
 
 ghost use Rattle.std.specs.Prelude.{◌≡◌, ◌↔◌, IsTrue};
 ghost use Rattle.gate_coverage.specs.Cover.{Takes};
-ghost use Rattle.gate_coverage.specs.Computed.{is_taken, taken, is_taking};
+ghost use Rattle.gate_coverage.specs.Computed.{is_taken, takes_server, is_taking};
 ghost use Rattle.gate_coverage.specs.Seen.{plan_of};
 
 use crate::laws::taken_is_exact;
@@ -31,14 +31,14 @@ pub fn taken(plain: &Plain, op: Op, server: ServerId) -> bool
 
 /// Whether the operation takes the server, as is computed. It takes no memory.
 pub fn is_taken(plain: &Plain, op: Op, server: ServerId) -> bool
-    ensures { result ≡ taken plain.now op server }
+    ensures { result ≡ takes_server plain.now op server }
 {
     is_taken_of(Seen::Plain(plain), op, server)
 }
 
 // Whether replies to the operation show an item of the server, or a get copies one.
 fn is_taken_of(seen: Seen, op: Op, server: ServerId) -> bool
-    ensures { result ≡ taken (plan_of seen.entry) op server }
+    ensures { result ≡ takes_server (plan_of seen.entry) op server }
 {
     let of_op = possible_at(seen, op, server);
     let is_copied = is_op(op, Op::Get) && of_op.copies;

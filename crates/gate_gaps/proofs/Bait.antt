@@ -5,7 +5,7 @@ use Rattle.mc_types.specs.declared.ask.Op.{Op}
 use Rattle.mc_types.specs.declared.ask.Op.TheVariants.{Get, Gat, Set, Add, Replace, Append, Prepend, Cas, Delete, Incr, Decr, Touch}
 use Rattle.mc_types.specs.declared.ask.Ask.{Ask}
 use Rattle.mc_types.specs.KeyText.{IsKey}
-use Rattle.mc_types.specs.Agree.{Agrees}
+use Rattle.mc_types.specs.Agree.{AnswerAgrees}
 use Rattle.mc_types.specs.Asks.{IsAsk}
 use Rattle.mc_types.specs.Fits.{Fits}
 use Rattle.mc_types.specs.Items.{Item}
@@ -14,20 +14,20 @@ use Rattle.mc_types.specs.Shows.{shows}
 use Rattle.route_tree.specs.Word.{answer_of_nothing}
 use Rattle.gate_coverage.specs.declared.deleting.Deleting.{Deleting}
 use Rattle.gate_coverage.specs.declared.deleting.Deleting.TheVariants as kinds
-use Rattle.gate_coverage.specs.Cover.{IsTaking, dialect_of}
+use Rattle.gate_coverage.specs.Cover.{IsTaking, deleting_dialect}
 use Rattle.gate_gaps.specs.Turns.{acks, finds}
 use Rattle.gate_gaps.specs.Leaking.{IsBait}
-use Rattle.gate_gaps.specs.Bait.{delete_of, read_of, bait, answer_of, IsBaited, NumbersLeak, GapsHaveLeaks, BaitIsTaken}
+use Rattle.gate_gaps.specs.Bait.{delete_of, read_of, bait, bait_answer, IsBaited, NumbersLeak, GapsHaveLeaks, BaitIsTaken}
 use Rattle.gate_gaps.proofs.Beside.{gaps_have_words}
 use Rattle.gate_gaps.proofs.Leaking.{gaps_leak}
 
 -- what is known of a read
 pub record IsRead (op : Op) (key : List ℕ) : Type 0 where
   pub is : IsAsk (read_of op key)
-  pub fits : Fits (read_of op key) (answer_of op)
-  pub showing : shows (answer_of op) ≡ true
-  pub done : rank_of (answer_of op) ≡ 0
-  pub agrees : Agrees (read_of op key) (answer_of op) (Some bait)
+  pub fits : Fits (read_of op key) (bait_answer op)
+  pub showing : shows (bait_answer op) ≡ true
+  pub done : rank_of (bait_answer op) ≡ 0
+  pub agrees : AnswerAgrees (read_of op key) (bait_answer op) (Some bait)
 
 pub read_is : (op : Op) (key : List ℕ) → IsTaking op → IsKey key → IsRead op key
 read_is Get key h k = record { is = record { key = k; ranges = record { flags = omega arith; exptime = tt; body = omega arith; cas = tt; delta = omega arith }; shape = record { with_cas = tt; flags = refl; exptime = refl; body = refl; cas = refl; delta = refl; tokens = refl } }; fits = record { ranges = (omega arith, omega arith, tt); listed = refl }; showing = refl; done = refl; agrees = (bait, refl, refl, refl) }
@@ -47,11 +47,11 @@ pub delete_is : (kind : Deleting) (key : List ℕ) → IsKey key → IsAsk (dele
 delete_is kinds.Delete key k = record { key = k; ranges = record { flags = omega arith; exptime = tt; body = omega arith; cas = tt; delta = omega arith }; shape = record { with_cas = refl; flags = refl; exptime = refl; body = refl; cas = refl; delta = refl; tokens = refl } }
 delete_is kinds.Md key k = record { key = k; ranges = record { flags = omega arith; exptime = tt; body = omega arith; cas = tt; delta = omega arith }; shape = record { with_cas = refl; flags = refl; exptime = refl; body = refl; cas = tt; delta = refl; tokens = refl } }
 
-nothing_fits : (kind : Deleting) (key : List ℕ) → Fits (delete_of kind key) (answer_of_nothing (dialect_of kind) Delete)
+nothing_fits : (kind : Deleting) (key : List ℕ) → Fits (delete_of kind key) (answer_of_nothing (deleting_dialect kind) Delete)
 nothing_fits kinds.Delete key = record { ranges = tt; listed = tt }
 nothing_fits kinds.Md key = record { ranges = record { body = tt; cas = tt; flags = tt; size = tt; ttl = tt }; listed = record { body_is = refl; cas = refl; flags = refl; size = refl; ttl = refl } }
 
-is_bait : (opening : ℕ → List ℕ → Option Item) (key : List ℕ) (op : Op) (kind : Deleting) (s : ℕ) → IsKey key → IsTaking op → IsBaited opening s key → IsBait opening (delete_of kind key) (read_of op key) s (answer_of op)
+is_bait : (opening : ℕ → List ℕ → Option Item) (key : List ℕ) (op : Op) (kind : Deleting) (s : ℕ) → IsKey key → IsTaking op → IsBaited opening s key → IsBait opening (delete_of kind key) (read_of op key) s (bait_answer op)
 is_bait opening key op kind s k h baited =
     let r = read_is op key h k in
     record {
@@ -76,7 +76,7 @@ some_number None h = absurd (cc)
 
 numbers_leak : (Bars : ℕ → Ask → ℕ → Ask → Type 0) → NumbersLeak Bars
 numbers_leak Bars at opening key op kind s i j k h good1 good2 baited e f =
-    gaps_leak Bars at opening (delete_of kind key) (read_of op key) s i j (answer_of op) good1 good2 (is_bait opening key op kind s k h baited) e f
+    gaps_leak Bars at opening (delete_of kind key) (read_of op key) s i j (bait_answer op) good1 good2 (is_bait opening key op kind s k h baited) e f
 
 gaps_have_leaks : (Bars : ℕ → Ask → ℕ → Ask → Type 0) → GapsHaveLeaks Bars
 gaps_have_leaks Bars at opening key op kind s k h good1 good2 baited direct1 direct2 takes leaves =

@@ -18,12 +18,12 @@ use Rattle.route_tree.specs.Operation.{same_op}
 use Rattle.route_tree.specs.Plan.{Plan, Plans, PlanPolicies, Server, Null, Failing, AllSync, Failover, MissFailover, WarmUp, ByOperation, End, More, Otherwise, Policy, IsGood, AreGood, ArePoliciesGood}
 use Rattle.route_tree.specs.Word.{Given, given_by, null_reply, answer_of_nothing, Word, WordOfFirst, WordOfHead, WordOfPolicy}
 use Rattle.route_tree.proofs.Places.{each_append}
-use Rattle.gate_coverage.specs.Computed.{is_get, is_taking, fails, kept, kept_first, kept_head, kept_policy, shown, shown_first, shown_some, shown_head, shown_policy, copied, copied_some, copied_first, copied_head, copied_policy}
+use Rattle.gate_coverage.specs.Computed.{asks_get, is_taking, fails, kept, kept_first, kept_head, kept_policy, shown, shown_first, shown_some, shown_head, shown_policy, copied, copied_some, copied_first, copied_head, copied_policy}
 use Rattle.gate_coverage.proofs.Choices.{both_split, either_split, bool_is, cond_true, cond_false, match_true, match_false, true_match, false_match, by_get, get_is, other_is, is_get_of, no_get_of}
 use Rattle.gate_coverage.proofs.Failing.{null_rank}
 use Rattle.gate_coverage.proofs.Copying.{takes_is_taken}
 use Rattle.gate_coverage.proofs.Keeping.{cleared_is_exact}
-use Rattle.gate_gaps.specs.Turns.{or_else, counted_after, tries, acks, acks_first, acks_head, acks_policy, finds, finds_first, finds_some, finds_head, finds_policy}
+use Rattle.gate_gaps.specs.Turns.{or_that, counted_after, tries, acks, acks_first, acks_head, acks_policy, finds, finds_first, finds_some, finds_head, finds_policy}
 use Rattle.gate_gaps.specs.Beside.{IsTry, answered, IsElsewhere, IsDirect, AreDirect, IsPolicyDirect, KeptIsAcked, TakenIsFound, GapsHaveWords}
 use Rattle.gate_gaps.proofs.Trying.{pick_true, pick_false, tried, lengths}
 
@@ -35,7 +35,7 @@ none = None
 some_is : (m n : ℕ) → Some m ≡ Some n → m ≡ n
 some_is m n e = cc
 
-or_split : (x y : Option ℕ) (n : ℕ) → or_else x y ≡ Some n → (x ≡ Some n) ⊎ (y ≡ Some n)
+or_split : (x y : Option ℕ) (n : ℕ) → or_that x y ≡ Some n → (x ≡ Some n) ⊎ (y ≡ Some n)
 or_split None y n e = inr e
 or_split (Some m) y n e = inl e
 
@@ -47,11 +47,11 @@ after_split : (m : ℕ) (x : Option ℕ) (n : ℕ) → counted_after m x ≡ Som
 after_split m None n e = absurd (cc)
 after_split m (Some k) n e = (k, refl, sym (some_is (m + k) n e))
 
-or_left : (x y : Option ℕ) → IsSome x → IsSome (or_else x y)
+or_left : (x y : Option ℕ) → IsSome x → IsSome (or_that x y)
 or_left (Some m) y h = refl
 or_left None y h = absurd (cc)
 
-or_right : (x y : Option ℕ) → IsSome y → IsSome (or_else x y)
+or_right : (x y : Option ℕ) → IsSome y → IsSome (or_that x y)
 or_right (Some m) y h = refl
 or_right None y h = h
 
@@ -167,16 +167,16 @@ module _ (s : ℕ) (ask : Ask) (answer : Answer) (fits : Fits ask answer) (showi
     found (MissFailover ps) good b n e =
         by_get ask.op _
         (λ op.
-        let f = found_some ps good.1 b n (sym (pick_true (is_get ask.op) (finds_some ask.op s ps) (finds_head ask.op s ps) (is_get_of ask.op op)) ∙ e) in
+        let f = found_some ps good.1 b n (sym (pick_true (asks_get ask.op) (finds_some ask.op s ps) (finds_head ask.op s ps) (is_get_of ask.op op)) ∙ e) in
         (f.0, get_is ask.op _ _ op f.1, f.2, f.3))
         (λ other.
-        let f = found_head ps good.1 b n (sym (pick_false (is_get ask.op) (finds_some ask.op s ps) (finds_head ask.op s ps) (no_get_of ask.op other)) ∙ e) in
+        let f = found_head ps good.1 b n (sym (pick_false (asks_get ask.op) (finds_some ask.op s ps) (finds_head ask.op s ps) (no_get_of ask.op other)) ∙ e) in
         (f.0, other_is ask.op _ _ other f.1, f.2, f.3))
     found (WarmUp cold warm x) good b n e =
         by_get ask.op _
-        (λ op. absurd (let y = pick_true (is_get ask.op) None (finds ask.op s cold) (is_get_of ask.op op) in cc))
+        (λ op. absurd (let y = pick_true (asks_get ask.op) None (finds ask.op s cold) (is_get_of ask.op op) in cc))
         (λ other.
-        let f = found cold good.0 b n (sym (pick_false (is_get ask.op) None (finds ask.op s cold) (no_get_of ask.op other)) ∙ e) in
+        let f = found cold good.0 b n (sym (pick_false (asks_get ask.op) None (finds ask.op s cold) (no_get_of ask.op other)) ∙ e) in
         (f.0, other_is ask.op _ _ other f.1, f.2, f.3))
     found (ByOperation policies) good b n e = found_policy policies good b n e
 
@@ -279,9 +279,9 @@ module _ (op : Op) (s : ℕ) where
     shown_found (Failover ps) d h = shown_first_found ps d h
     shown_found (MissFailover ps) d h =
         ⊎_elim
-        (λ (is : is_get op ≡ true). subst IsSome (sym (pick_true (is_get op) (finds_some op s ps) (finds_head op s ps) is)) (shown_some_found ps d (cond_true (is_get op) _ _ is h)))
-        (λ (is : is_get op ≡ false). subst IsSome (sym (pick_false (is_get op) (finds_some op s ps) (finds_head op s ps) is)) (shown_head_found ps d (cond_false (is_get op) _ _ is h)))
-        (bool_is (is_get op))
+        (λ (is : asks_get op ≡ true). subst IsSome (sym (pick_true (asks_get op) (finds_some op s ps) (finds_head op s ps) is)) (shown_some_found ps d (cond_true (asks_get op) _ _ is h)))
+        (λ (is : asks_get op ≡ false). subst IsSome (sym (pick_false (asks_get op) (finds_some op s ps) (finds_head op s ps) is)) (shown_head_found ps d (cond_false (asks_get op) _ _ is h)))
+        (bool_is (asks_get op))
     shown_found (WarmUp cold warm e) d h = absurd d
     shown_found (ByOperation policies) d h = shown_policy_found policies d h
 
@@ -325,9 +325,9 @@ module _ (op : Op) (s : ℕ) where
     none_copied (Failover ps) d h = none_copied_first ps d h
     none_copied (MissFailover ps) d h =
         ⊎_elim
-        (λ (is : is_get op ≡ true). none_copied_some ps d (cond_true (is_get op) _ _ is h))
-        (λ (is : is_get op ≡ false). none_copied_head ps d (cond_false (is_get op) _ _ is h))
-        (bool_is (is_get op))
+        (λ (is : asks_get op ≡ true). none_copied_some ps d (cond_true (asks_get op) _ _ is h))
+        (λ (is : asks_get op ≡ false). none_copied_head ps d (cond_false (asks_get op) _ _ is h))
+        (bool_is (asks_get op))
     none_copied (WarmUp cold warm e) d h = d
     none_copied (ByOperation policies) d h = none_copied_policy policies d h
 
@@ -360,11 +360,11 @@ kept_is_acked plain s kind good direct leaves =
 
 taken_is_found : TakenIsFound
 taken_is_found plain op s good direct takes =
-    let t = both_split (is_taking op) (shown op s plain || (is_get op && copied op s plain)) (takes_is_taken plain op s takes) in
+    let t = both_split (is_taking op) (shown op s plain || (asks_get op && copied op s plain)) (takes_is_taken plain op s takes) in
     ⊎_elim
     (λ here. shown_found op s plain direct here)
-    (λ there. absurd (none_copied op s plain direct (both_split (is_get op) (copied op s plain) there).1))
-    (either_split (shown op s plain) (is_get op && copied op s plain) t.1)
+    (λ there. absurd (none_copied op s plain direct (both_split (asks_get op) (copied op s plain) there).1))
+    (either_split (shown op s plain) (asks_get op && copied op s plain) t.1)
 
 pub gaps_have_words : GapsHaveWords
 gaps_have_words = record {

@@ -11,7 +11,7 @@ use Rattle.mc_types.specs.Rank.{IsWorst, NoneAbove}
 use Rattle.fresh_runs.specs.Calls.{Call}
 use Rattle.route_tree.specs.Operation.{same_op}
 use Rattle.route_tree.specs.Plan.{Plan, Plans, PlanPolicies, Server, Null, Failing, AllSync, Failover, MissFailover, WarmUp, ByOperation, End, More, Otherwise, Policy}
-use Rattle.route_tree.specs.Word.{Given, rank, given_by, null_reply, failing_reply, plain_get, refill, is_plain_get, IfGet, Word, WordOfAll, WordOfFirst, WordOfHead, WordOfPolicy, IsEnd, Then, Gives, AfterRefill, Refilled, AfterWarm, AfterCold, WarmUpWord}
+use Rattle.route_tree.specs.Word.{Given, rank, given_by, null_reply, failing_reply, plain_get, refill, is_plain_get, IfGet, Word, WordOfAll, WordOfFirst, WordOfHead, WordOfPolicy, IsEnd, Then, GivesOnly, AfterRefill, Refilled, AfterWarm, AfterCold, WarmUpWord}
 use Rattle.gate_gaps.specs.Determined.{IsSameCall, Alike, outcomes_of, AreDetermined}
 
 -- ---- lists of calls that go the same way
@@ -47,7 +47,7 @@ both_are E xs ys us vs e f a = subst (λ l. Alike E l ys) (sym e) (subst (λ l. 
 abbrev pub Sure : {G : Type 0} → (ℕ → List Call → G → Type 0) → Type 0
 Sure {G} part = (b : ℕ) (xs ys : List Call) (g h : G) → part b xs g → part b ys h → Alike (g ≡ h) xs ys
 
-gives_sure : (r : Given) → Sure (Gives r)
+gives_sure : (r : Given) → Sure (GivesOnly r)
 gives_sure r b xs ys g h w v = both_are (g ≡ h) xs ys [] [] w.0 v.0 (w.1 ∙ sym v.1)
 
 then_sure : {G H : Type 0} (first : ℕ → List Call → G → Type 0) (second : G → ℕ → List Call → H → Type 0) → Sure first → ((g : G) → Sure (second g)) → Sure (Then first second)
@@ -66,7 +66,7 @@ if_sure _ A B f s = s
 
 module _ (ask : Ask) (cold : ℕ → List Call → Given → Type 0) (warm : ℕ → List Call → Given → Type 0) (add : Answer → ℕ → ℕ → List Call → Given → Type 0) (c : Sure cold) (w : Sure warm) (a : (hit : Answer) (k : ℕ) → Sure (add hit k)) where
   refill_sure : (from_warm : Given) → Sure (AfterRefill ask cold warm add from_warm)
-  refill_sure from_warm = match_sure (is_plain_get ask) (Gives from_warm) cold (gives_sure from_warm) c
+  refill_sure from_warm = match_sure (is_plain_get ask) (GivesOnly from_warm) cold (gives_sure from_warm) c
 
   refilled_sure : (from_warm : Given) (from : Option ℕ) → Sure (Refilled ask cold warm add from_warm from)
   refilled_sure from_warm None = λ b xs ys g h x y. absurd x

@@ -5,8 +5,8 @@ use Rattle.mc_types.specs.declared.ask.Op.TheVariants.{Delete}
 use Rattle.route_tree.specs.Operation.{same_op}
 use Rattle.route_tree.specs.declared.limits.TheConstants.{ROUTE_LIMIT}
 use Rattle.route_tree.specs.Plan.{Plan, Plans, PlanPolicies, Server, Null, Failing, AllSync, Failover, MissFailover, WarmUp, ByOperation, End, More, Otherwise, Policy, count, count_of_all, count_of_policies}
-use Rattle.gate_coverage.specs.Computed.{is_get, fails}
-use Rattle.gate_gaps.specs.Turns.{or_else, counted_after, tries, tries_all, tries_first, tries_head, tries_policy, acks, acks_first, acks_head, acks_policy, finds, finds_first, finds_some, finds_head, finds_policy}
+use Rattle.gate_coverage.specs.Computed.{asks_get, fails}
+use Rattle.gate_gaps.specs.Turns.{or_that, counted_after, tries, tries_all, tries_first, tries_head, tries_policy, acks, acks_first, acks_head, acks_policy, finds, finds_first, finds_some, finds_head, finds_policy}
 
 abbrev pub IsWithin : ℕ → Option ℕ → Type 0
 IsWithin most number = IfSome number (λ (n : ℕ). n ≤ most)
@@ -19,7 +19,7 @@ within_pick : (t : Bool) (x y : Option ℕ) (most : ℕ) → IsWithin most x →
 within_pick true x y most h k = h
 within_pick false x y most h k = k
 
-within_or : (x y : Option ℕ) (most : ℕ) → IsWithin most x → IsWithin most y → IsWithin most (or_else x y)
+within_or : (x y : Option ℕ) (most : ℕ) → IsWithin most x → IsWithin most y → IsWithin most (or_that x y)
 within_or (Some n) y most h k = h
 within_or None y most h k = k
 
@@ -39,8 +39,8 @@ module _ (op : Op) where
     tries_few Failing = omega arith
     tries_few (AllSync ps) = let h = all_few ps in omega arith
     tries_few (Failover ps) = let h = first_few ps in omega arith
-    tries_few (MissFailover ps) = pick (is_get op) (tries_all op ps) (tries_head op ps) (count (MissFailover ps)) (let h = all_few ps in omega arith) (let h = head_few ps in omega arith)
-    tries_few (WarmUp cold warm e) = pick (is_get op) (tries op cold + tries op warm) (tries op cold) (count (WarmUp cold warm e)) (let h = tries_few cold in let k = tries_few warm in omega arith) (let h = tries_few cold in omega arith)
+    tries_few (MissFailover ps) = pick (asks_get op) (tries_all op ps) (tries_head op ps) (count (MissFailover ps)) (let h = all_few ps in omega arith) (let h = head_few ps in omega arith)
+    tries_few (WarmUp cold warm e) = pick (asks_get op) (tries op cold + tries op warm) (tries op cold) (count (WarmUp cold warm e)) (let h = tries_few cold in let k = tries_few warm in omega arith) (let h = tries_few cold in omega arith)
     tries_few (ByOperation ps) = let h = policy_few ps in omega arith
 
     pub all_few : (ps : Plans) → tries_all op ps ≤ count_of_all ps
@@ -94,8 +94,8 @@ module _ (op : Op) (s : ℕ) where
     finds_few Failing = tt
     finds_few (AllSync ps) = tt
     finds_few (Failover ps) = within_more (finds_first op s ps) (count_of_all ps) _ (omega arith) (finds_first_few ps)
-    finds_few (MissFailover ps) = within_more _ (count_of_all ps) _ (omega arith) (within_pick (is_get op) (finds_some op s ps) (finds_head op s ps) _ (finds_some_few ps) (finds_head_few ps))
-    finds_few (WarmUp cold warm e) = within_more _ (count cold) _ (omega arith) (within_pick (is_get op) None (finds op s cold) _ tt (finds_few cold))
+    finds_few (MissFailover ps) = within_more _ (count_of_all ps) _ (omega arith) (within_pick (asks_get op) (finds_some op s ps) (finds_head op s ps) _ (finds_some_few ps) (finds_head_few ps))
+    finds_few (WarmUp cold warm e) = within_more _ (count cold) _ (omega arith) (within_pick (asks_get op) None (finds op s cold) _ tt (finds_few cold))
     finds_few (ByOperation ps) = within_more (finds_policy op s ps) (count_of_policies ps) _ (omega arith) (finds_policy_few ps)
 
     pub finds_first_few : (ps : Plans) → IsWithin (count_of_all ps) (finds_first op s ps)

@@ -9,7 +9,7 @@ use Rattle.mc_types.specs.declared.answer.Answer.{Answer}
 use Rattle.mc_types.specs.declared.call.Outcome.{Outcome}
 use Rattle.mc_types.specs.declared.call.Outcome.TheVariants.{Answered, Failed}
 use Rattle.mc_types.specs.Acknowledged.{says_gone}
-use Rattle.mc_types.specs.Agree.{Agrees, AgreesAs, AgreesHeld}
+use Rattle.mc_types.specs.Agree.{AnswerAgrees, AgreesAs, AgreesHeld}
 use Rattle.mc_types.specs.Items.{Item}
 use Rattle.fresh_runs.specs.Life.{Mark, held_in}
 use Rattle.fresh_runs.specs.Calls.{Call, Read, outcome_of, marks_of}
@@ -20,11 +20,11 @@ use Rattle.route_tree.specs.Plan.{Plan}
 use Rattle.route_tree.specs.Word.{answer_of_nothing, tree_words}
 use Rattle.gate_coverage.proofs.Choices.{bool_is}
 use Rattle.gate_gaps.specs.Beside.{IsTry, IsElsewhere, answered}
-use Rattle.gate_gaps.specs.Leaking.{end_of, played, deleted_run, leaking_run, LeaksIn, IsBait, GapsLeak}
+use Rattle.gate_gaps.specs.Leaking.{call_end, played, deleted_run, leaking_run, LeaksIn, IsBait, GapsLeak}
 use Rattle.gate_gaps.proofs.Trying.{pick_true, pick_false}
 use Rattle.gate_gaps.proofs.Beside.{gaps_have_words}
 
-same_end : (n : ℕ) (o : Outcome) → outcome_of (end_of n o) ≡ o
+same_end : (n : ℕ) (o : Outcome) → outcome_of (call_end n o) ≡ o
 same_end n (Answered answer) = refl
 same_end n Failed = refl
 
@@ -34,35 +34,35 @@ cond_same false a = refl
 
 -- the call as a run reads it back
 abbrev read_back : ℕ → Call → Call
-read_back n c = record { server = c.server; ask = c.ask; origin = c.origin; outcome = outcome_of (end_of n c.outcome) }
+read_back n c = record { server = c.server; ask = c.ask; origin = c.origin; outcome = outcome_of (call_end n c.outcome) }
 
 same_back : (n : ℕ) (c : Call) → read_back n c ≡ c
 same_back n c = λ i. record { server = c.server; ask = c.ask; origin = c.origin; outcome = (same_end n c.outcome) i }
 
 -- ---- calls that fail leave no mark
 
-failed_life : (n : ℕ) (t : Bool) (ask : Ask) (o : Outcome) (life : List Mark) → o ≡ Failed → cond t (marks_of ask (end_of n o) ++ life) life ≡ life
+failed_life : (n : ℕ) (t : Bool) (ask : Ask) (o : Outcome) (life : List Mark) → o ≡ Failed → cond t (marks_of ask (call_end n o) ++ life) life ≡ life
 failed_life n t ask (Answered answer) life e = absurd (cc)
 failed_life n t ask Failed life e = cond_same t life
 
 life_played : (n : ℕ) (key : List ℕ) (calls : List Call) (past : List Event) (s : ℕ) → Each (IsTry key) calls → life_of (played n calls past) s ≡ life_of past s
 life_played n key [] past s h = refl
 life_played n key (c ∷ calls) past s h =
-    life_played n key calls (Calls n c.server c.ask c.origin (end_of n c.outcome) ∷ past) s h.1 ∙ failed_life n (nat_eq c.server s) c.ask c.outcome (life_of past s) h.0.1
+    life_played n key calls (Calls n c.server c.ask c.origin (call_end n c.outcome) ∷ past) s h.1 ∙ failed_life n (nat_eq c.server s) c.ask c.outcome (life_of past s) h.0.1
 
 new_played : (m n : ℕ) (calls : List Call) (past : List Event) → n < m → IsNewNumber m past → IsNewNumber m (played n calls past)
 new_played m n [] past lt h = h
-new_played m n (c ∷ calls) past lt h = new_played m n calls (Calls n c.server c.ask c.origin (end_of n c.outcome) ∷ past) lt (lt, h)
+new_played m n (c ∷ calls) past lt h = new_played m n calls (Calls n c.server c.ask c.origin (call_end n c.outcome) ∷ past) lt (lt, h)
 
 acked_played : (n k : ℕ) (delete : Ask) (calls : List Call) (past : List Event) → IsAcknowledged past k delete → IsAcknowledged (played n calls past) k delete
 acked_played n k delete [] past h = h
-acked_played n k delete (c ∷ calls) past h = acked_played n k delete calls (Calls n c.server c.ask c.origin (end_of n c.outcome) ∷ past) (inr h)
+acked_played n k delete (c ∷ calls) past h = acked_played n k delete calls (Calls n c.server c.ask c.origin (call_end n c.outcome) ∷ past) (inr h)
 
 -- ---- no command is under way once the only one has its reply
 
 under_played : (n m : ℕ) (calls : List Call) (past : List Event) → under_way (played n calls past) m ≡ under_way past m
 under_played n m [] past = refl
-under_played n m (c ∷ calls) past = under_played n m calls (Calls n c.server c.ask c.origin (end_of n c.outcome) ∷ past)
+under_played n m (c ∷ calls) past = under_played n m calls (Calls n c.server c.ask c.origin (call_end n c.outcome) ∷ past)
 
 over_after : {A : Type 0} (t : Bool) (x : A) → cond t None (cond t (Some x) None) ≡ None
 over_after true x = refl
@@ -85,7 +85,7 @@ module _ (at : ℕ → List ℕ → Plan) (Bars : ℕ → Ask → ℕ → Ask �
   begins past n ask run new none =
       record { run = ((new, λ other client e same. absurd (let no = none other in cc)), run); under = pick_true (nat_eq n n) (Some ask) (under_way past n) (eq-eqb n n refl); so_far = new_calls n past new }
 
-  step : (past : List Event) (n : ℕ) (ask : Ask) (made : List Call) (c : Call) → c.ask.key ≡ ask.key → Stage past n ask made → (rest : List Call) (reply : Answer) (from : Option ℕ) → tree_words at n ask ((made ++ c ∷ []) ++ rest) reply from → EndsWell opening past n c.server c.ask c.origin (end_of n c.outcome) → Stage (Calls n c.server c.ask c.origin (end_of n c.outcome) ∷ past) n ask (made ++ c ∷ [])
+  step : (past : List Event) (n : ℕ) (ask : Ask) (made : List Call) (c : Call) → c.ask.key ≡ ask.key → Stage past n ask made → (rest : List Call) (reply : Answer) (from : Option ℕ) → tree_words at n ask ((made ++ c ∷ []) ++ rest) reply from → EndsWell opening past n c.server c.ask c.origin (call_end n c.outcome) → Stage (Calls n c.server c.ask c.origin (call_end n c.outcome) ∷ past) n ask (made ++ c ∷ [])
   step past n ask made c key st rest reply from word well =
       let joined : calls_so_far past n ++ read_back n c ∷ [] ≡ made ++ c ∷ [] = ap₂ (λ l x. l ++ x ∷ []) st.so_far (same_back n c) in
       let front : IsFront (tree_words at) n ask (calls_so_far past n ++ read_back n c ∷ []) = (rest, reply, from, subst (λ l. tree_words at n ask (l ++ rest) reply from) (sym joined) word) in
@@ -100,8 +100,8 @@ module _ (at : ℕ → List ℕ → Plan) (Bars : ℕ → Ask → ℕ → Ask �
   tries_go past n ask made (c ∷ calls) h st rest reply from word =
       let joined : (made ++ c ∷ []) ++ calls ≡ made ++ c ∷ calls = append_assoc made (c ∷ []) calls in
       let whole : tree_words at n ask (((made ++ c ∷ []) ++ calls) ++ rest) reply from = subst (λ l. tree_words at n ask (l ++ rest) reply from) (sym joined) word in
-      let st' = step past n ask made c h.0.0 st (calls ++ rest) reply from (subst (λ l. tree_words at n ask l reply from) (append_assoc (made ++ c ∷ []) calls rest) whole) (subst (λ o. EndsWell opening past n c.server c.ask c.origin (end_of n o)) (sym h.0.1) tt) in
-      subst (Stage (played n (c ∷ calls) past) n ask) joined (tries_go (Calls n c.server c.ask c.origin (end_of n c.outcome) ∷ past) n ask (made ++ c ∷ []) calls h.1 st' rest reply from whole)
+      let st' = step past n ask made c h.0.0 st (calls ++ rest) reply from (subst (λ l. tree_words at n ask l reply from) (append_assoc (made ++ c ∷ []) calls rest) whole) (subst (λ o. EndsWell opening past n c.server c.ask c.origin (call_end n o)) (sym h.0.1) tt) in
+      subst (Stage (played n (c ∷ calls) past) n ask) joined (tries_go (Calls n c.server c.ask c.origin (call_end n c.outcome) ∷ past) n ask (made ++ c ∷ []) calls h.1 st' rest reply from whole)
 
   replies : (past : List Event) (n : ℕ) (ask : Ask) (made : List Call) → Stage past n ask made → (reply : Answer) (from : Option ℕ) → tree_words at n ask made reply from → Run (tree_words at) Bars opening (Replies n ask.key reply from ∷ past)
   replies past n ask made st reply from word = ((ask, st.under, refl, subst (λ l. tree_words at n ask l reply from) (sym st.so_far) word), st.run)
@@ -116,7 +116,7 @@ module _ (at : ℕ → List ℕ → Plan) (Bars : ℕ → Ask → ℕ → Ask �
     none_agrees dialects.Classic o e = e
     none_agrees dialects.Meta o e = e
 
-    gone_agrees : (o : Option Item) → o ≡ None → Agrees delete nothing o
+    gone_agrees : (o : Option Item) → o ≡ None → AnswerAgrees delete nothing o
     gone_agrees o e = subst (λ p. AgreesAs p delete (answer_of_nothing delete.dialect p) o) (sym bait.deletes) (none_agrees delete.dialect o e)
 
     none_gone : (d : Dialect) → says_gone (answer_of_nothing d Delete) ≡ true
@@ -169,7 +169,7 @@ module _ (at : ℕ → List ℕ → Plan) (Bars : ℕ → Ask → ℕ → Ask �
         let r5 = played 2 back (Begins 2 read ∷ r3) in
         let still : held opening r5 s read.key ≡ Some bait.item = ap (λ l. held_in (opening s read.key) l read.key) (life_played 2 read.key back (Begins 2 read ∷ r3) s hb ∙ d.no_mark) ∙ ap (opening s) bait.same_key ∙ bait.held in
         let c = answered s read answer in
-        let st6 = step r5 2 read back c refl st5 [] answer (Some (length back)) (subst (λ l. tree_words at 2 read l answer (Some (length back))) (sym (append-nil (back ++ c ∷ []))) shown') (subst (Agrees read answer) (sym still) bait.agrees, refl) in
+        let st6 = step r5 2 read back c refl st5 [] answer (Some (length back)) (subst (λ l. tree_words at 2 read l answer (Some (length back))) (sym (append-nil (back ++ c ∷ []))) shown') (subst (AnswerAgrees read answer) (sym still) bait.agrees, refl) in
         let r6 = played 2 (c ∷ []) r5 in
         let found : item_at opening r6 2 (length back) ≡ Some bait.item =
         pick_true (nat_eq (length (calls_so_far r5 2)) (length back)) (held opening r5 s read.key) (item_at opening r5 2 (length back)) (eq-eqb (length (calls_so_far r5 2)) (length back) (ap length st5.so_far))

@@ -6,7 +6,7 @@ use Rattle.serde_json.specs.View.{view, items_view, members_view}
 use Rattle.serde_json.specs.declared.value.Value.{Value}
 use Rattle.serde_json.proofs.Views.{Entry}
 use Rattle.route_json.specs.NumberedServers.{Addresses}
-use Rattle.gate_gaps.specs.Pools.{NamedPool, NamedPools, pool_of, pools_of, values, members}
+use Rattle.gate_gaps.specs.Pools.{NamedPool, NamedPools, pool_by_name, named_pools_of, values, members}
 
 -- the members of a map's entries
 abbrev pub entries : List Entry → List (List ℕ × Data)
@@ -25,10 +25,10 @@ items_go f vs i d done more h e so_far is =
     ∙ sym (ap (λ ms. done ++ ms) step)
     ∙ so_far
 
-pub pools_go : (servers : Addresses) (xs left : List (List ℕ × Data)) (x : List ℕ × Data) (p : NamedPool) (done more all : NamedPools) → done ++ pools_of servers xs ≡ all → xs ≡ x ∷ left → p ≡ pool_of servers x → more ≡ done ++ p ∷ [] → more ++ pools_of servers left ≡ all
+pub pools_go : (servers : Addresses) (xs left : List (List ℕ × Data)) (x : List ℕ × Data) (p : NamedPool) (done more all : NamedPools) → done ++ named_pools_of servers xs ≡ all → xs ≡ x ∷ left → p ≡ pool_by_name servers x → more ≡ done ++ p ∷ [] → more ++ named_pools_of servers left ≡ all
 pools_go servers xs left x p done more all so_far at e is =
-    ap (λ (ps : NamedPools). ps ++ pools_of servers left) is
-    ∙ append_assoc done (p ∷ []) (pools_of servers left)
-    ∙ ap (λ (q : NamedPool). done ++ q ∷ pools_of servers left) e
-    ∙ sym (ap (λ (ys : List (List ℕ × Data)). done ++ pools_of servers ys) at)
+    ap (λ (ps : NamedPools). ps ++ named_pools_of servers left) is
+    ∙ append_assoc done (p ∷ []) (named_pools_of servers left)
+    ∙ ap (λ (q : NamedPool). done ++ q ∷ named_pools_of servers left) e
+    ∙ sym (ap (λ (ys : List (List ℕ × Data)). done ++ named_pools_of servers ys) at)
     ∙ so_far

@@ -12,13 +12,13 @@ use Rattle.fresh_runs.specs.Run.{Event, Begins, Calls, Replies, under_way, calls
 use Rattle.fresh_runs.specs.Protocol.{Protocol, IsStuck}
 use Rattle.fresh_runs.specs.Log as said
 use Rattle.fresh_runs.specs.Log.{Part}
-use Rattle.fresh_runs.specs.Overlap.{Front, Slot, Owner, Ticket, ticket_in, without, Entry, Feeds, Starts, Sends, Happens, Ends, Shows, Gives, is_last, slot_of, slot_in, answered_in, behind_head, run_of, front_of, queue_of, output_of, given_of, owner_of, out_of, is_dropped, IsNext, MayFollow, IsSettled}
+use Rattle.fresh_runs.specs.Overlap.{Front, Slot, Owner, Ticket, ticket_in, without_ticket, Entry, Feeds, Starts, Sends, Happens, Ends, Shows, Gives, is_last, part_slot, slot_in, answered_in, behind_head, run_of, front_of, queue_of, output_of, given_of, owner_of, out_of, is_dropped, IsNext, MayFollow, NothingIsLeft}
 use Rattle.fresh_runs.specs.OverlapStream.{IsReplied}
 use Rattle.fresh_runs.specs.ScriptLog.{Manner, Before, Scripted, Piece, Add, Result, Fail, Hold, At, Now, Moment, Reload, Line, Takes, Results, Does, entries_by, core_of, losses_of, made_in, named_in, script_of, said_of, fed_of, current, latest, EndsAs, IsAwaited, IsStill, IsQuiet, IsOver, IsMade, MayBe, IsScript}
 use Rattle.route_tree.specs.Each.{Each}
 use Rattle.gate_coverage.proofs.Choices.{bool_is}
 use Rattle.gate_gaps.specs.Beside.{IsTry}
-use Rattle.gate_gaps.specs.Leaking.{end_of, played}
+use Rattle.gate_gaps.specs.Leaking.{call_end, played}
 use Rattle.gate_gaps.specs.Scripts.{fail_lines, leaking_script, in_log, Leaks, IsOneAsk}
 use Rattle.gate_gaps.proofs.Trying.{pick_true, pick_false}
 
@@ -86,20 +86,20 @@ answered_named name m (c ∷ calls) h is = (subst (IsNamed (name (m + 1))) (sym 
 
 commands_played : (n : ℕ) (calls : List Call) (past : List Event) → commands_in (played n calls past) ≡ commands_in past
 commands_played n [] past = refl
-commands_played n (c ∷ calls) past = commands_played n calls (Calls n c.server c.ask c.origin (end_of n c.outcome) ∷ past)
+commands_played n (c ∷ calls) past = commands_played n calls (Calls n c.server c.ask c.origin (call_end n c.outcome) ∷ past)
 
 replied_played : (n m : ℕ) (key : List ℕ) (reply : Answer) (calls : List Call) (past : List Event) → IsReplied past m key reply → IsReplied (played n calls past) m key reply
 replied_played n m key reply [] past h = h
-replied_played n m key reply (c ∷ calls) past h = replied_played n m key reply calls (Calls n c.server c.ask c.origin (end_of n c.outcome) ∷ past) (inr h)
+replied_played n m key reply (c ∷ calls) past h = replied_played n m key reply calls (Calls n c.server c.ask c.origin (call_end n c.outcome) ∷ past) (inr h)
 
 module _ (words : Words) (Bars : ℕ → Ask → ℕ → Ask → Type 0) (opening : ℕ → List ℕ → Option Item) where
   run_before : (n : ℕ) (calls : List Call) (past : List Event) → Run words Bars opening (played n calls past) → Run words Bars opening past
   run_before n [] past r = r
-  run_before n (c ∷ calls) past r = (run_before n calls (Calls n c.server c.ask c.origin (end_of n c.outcome) ∷ past) r).1
+  run_before n (c ∷ calls) past r = (run_before n calls (Calls n c.server c.ask c.origin (call_end n c.outcome) ∷ past) r).1
 
 -- a call that was out has its result
-back_in : (b : Bool) (n : ℕ) (ticket : Ticket) (tickets : List Ticket) → ticket.number ≡ n → tickets ≡ [] → cond b (without n (cond b (tickets ++ ticket ∷ []) tickets)) (cond b (tickets ++ ticket ∷ []) tickets) ≡ []
-back_in true n ticket tickets e f = ap (λ l. without n (l ++ ticket ∷ [])) f ∙ pick_true (nat_eq ticket.number n) [] (ticket ∷ []) (eq-eqb ticket.number n e)
+back_in : (b : Bool) (n : ℕ) (ticket : Ticket) (tickets : List Ticket) → ticket.number ≡ n → tickets ≡ [] → cond b (without_ticket n (cond b (tickets ++ ticket ∷ []) tickets)) (cond b (tickets ++ ticket ∷ []) tickets) ≡ []
+back_in true n ticket tickets e f = ap (λ l. without_ticket n (l ++ ticket ∷ [])) f ∙ pick_true (nat_eq ticket.number n) [] (ticket ∷ []) (eq-eqb ticket.number n e)
 back_in false n ticket tickets e f = f
 
 -- no tree is ever loaded
@@ -157,7 +157,7 @@ module _ {P : Protocol} where
 
   -- the core has nothing left to do and no call is out, and its first client's reader stands there
   record RestsAt (version : List ℕ) (core : List (Entry P)) (place : P.Place) : Type 0 where
-    settled : IsSettled version core
+    settled : NothingIsLeft version core
     front : front_of core 0 ≡ record { place = place; index = 0; waits = false }
     out : (s : ℕ) → out_of core s ≡ []
     served : (c : ℕ) → is_dropped core c ≡ false
@@ -169,7 +169,7 @@ module _ {P : Protocol} where
     run_is : run_of core ≡ past
     front : front_of core 0 ≡ record { place = part.next; index = 0; waits = false }
     stuck : (c : ℕ) → IsStuck P (front_of core c).place
-    queue : queue_of core 0 ≡ slot_of n part ∷ []
+    queue : queue_of core 0 ≡ part_slot n part ∷ []
     others : (c : ℕ) → queue_of core (suc c) ≡ []
     given : (c : ℕ) → given_of core c ≡ output_of version core c
     owner : (m : ℕ) → owner_of core m ≡ cond (nat_eq n m) (Some (record { client = 0; ask = part.ask })) None
@@ -178,11 +178,11 @@ module _ {P : Protocol} where
 
   abbrev played_log : ℕ → List Call → Lines P → Lines P
   played_log n [] log = log
-  played_log n (c ∷ calls) log = played_log n calls (Results n c.server c.ask c.origin (end_of n c.outcome) ∷ Does (Sends n c.server c.ask c.origin) ∷ log)
+  played_log n (c ∷ calls) log = played_log n calls (Results n c.server c.ask c.origin (call_end n c.outcome) ∷ Does (Sends n c.server c.ask c.origin) ∷ log)
 
   played_made : (n : ℕ) (calls : List Call) (log : Lines P) → made_in (played_log n calls log) ≡ made_in log + length calls
   played_made n [] log = omega arith
-  played_made n (c ∷ calls) log = let e = played_made n calls (Results n c.server c.ask c.origin (end_of n c.outcome) ∷ Does (Sends n c.server c.ask c.origin) ∷ log) in omega arith
+  played_made n (c ∷ calls) log = let e = played_made n calls (Results n c.server c.ask c.origin (call_end n c.outcome) ∷ Does (Sends n c.server c.ask c.origin) ∷ log) in omega arith
 
   module _ (words : Words) (Bars : ℕ → Ask → ℕ → Ask → Type 0) (opening : ℕ → List ℕ → Option Item) (version : List ℕ) where
     abbrev Is : Lines P → Type 0
@@ -227,7 +227,7 @@ module _ {P : Protocol} where
       made (Some (Moment m)) core out = tt
       made (Some (Reload t)) core out = tt
 
-      quiet : (core : List (Entry P)) → IsSettled version core → IsQuiet (tt {0}) (λ tree. words) Bars opening version depth window text_of (λ log server key. ⊥) words core
+      quiet : (core : List (Entry P)) → NothingIsLeft version core → IsQuiet (tt {0}) (λ tree. words) Bars opening version depth window text_of (λ log server key. ⊥) words core
       quiet core settled = (
         record {
           shown = λ c slot slots e. absurd (no_more (queue_of core c) slot slots (settled.shown c) e);
@@ -303,7 +303,7 @@ module _ {P : Protocol} where
           front = front_is;
           stuck = by_client (λ c. IsStuck P (front_of (core_of l3) c).place) (subst (λ (q : Front P). IsStuck P q.place) (sym front_is) one.stuck)
               (λ c. subst (λ (q : Front P). IsStuck P q.place) (sym (pick_false (nat_eq 0 (suc c)) _ (front_of (core_of l2) (suc c)) (not_zero c) ∙ pick_false (nat_eq 0 (suc c)) _ (front_of (core_of old) (suc c)) (not_zero c))) (rests.core.settled.stuck (suc c)));
-          queue = ap (λ l. l ++ slot_of n part ∷ []) (rests.core.settled.shown 0);
+          queue = ap (λ l. l ++ part_slot n part ∷ []) (rests.core.settled.shown 0);
           others = λ c. pick_false (nat_eq 0 (suc c)) _ (queue_of (core_of old) (suc c)) (not_zero c) ∙ rests.core.settled.shown (suc c);
           given = rests.core.settled.given;
           owner = λ m. ap (λ o. cond (nat_eq n m) (Some (record { client = 0; ask = part.ask })) o) (rests.core.settled.free m);
@@ -325,9 +325,9 @@ module _ {P : Protocol} where
       -- ---- a call
 
       module _ (ends : (m : ℕ) (ask : Ask) (front : List Call) (call : Call) (rest : List Call) (r1 r2 : Answer) (f1 f2 : Option ℕ) → words m ask front r1 f1 → words m ask (front ++ call ∷ rest) r2 f2 → ⊥) where
-        ends_as : (depth window : ℕ) (text_of : Ask → Answer → List ℕ) (ask : Ask) (name : Option Manner) (outcome : Outcome) → IsNamed name outcome → EndsAs {P = P} (tt {0}) (λ tree. words) Bars opening version depth window text_of (λ log server key. ⊥) ask name (end_of n outcome)
-        ends_as depth window text_of ask name Failed is = subst (λ m. EndsAs {P = P} (tt {0}) (λ tree. words) Bars opening version depth window text_of (λ log server key. ⊥) ask m (end_of n Failed)) (sym is) tt
-        ends_as depth window text_of ask name (Answered answer) is = subst (λ m. EndsAs {P = P} (tt {0}) (λ tree. words) Bars opening version depth window text_of (λ log server key. ⊥) ask m (end_of n (Answered answer))) (sym is) tt
+        ends_as : (depth window : ℕ) (text_of : Ask → Answer → List ℕ) (ask : Ask) (name : Option Manner) (outcome : Outcome) → IsNamed name outcome → EndsAs {P = P} (tt {0}) (λ tree. words) Bars opening version depth window text_of (λ log server key. ⊥) ask name (call_end n outcome)
+        ends_as depth window text_of ask name Failed is = subst (λ m. EndsAs {P = P} (tt {0}) (λ tree. words) Bars opening version depth window text_of (λ log server key. ⊥) ask m (call_end n Failed)) (sym is) tt
+        ends_as depth window text_of ask name (Answered answer) is = subst (λ m. EndsAs {P = P} (tt {0}) (λ tree. words) Bars opening version depth window text_of (λ log server key. ⊥) ask m (call_end n (Answered answer))) (sym is) tt
 
         awaited : (depth window : ℕ) (text_of : Ask → Answer → List ℕ) (now late : Option (Scripted (Unit {0}))) (core : List (Entry P)) (server : ℕ) → ((now ≡ Some (Piece 0 text)) ⊎ (now ≡ None)) → late ≡ Some (Piece 0 text) → ((s : ℕ) → s < server → out_of core s ≡ []) → IsAwaited (tt {0}) (λ tree. words) Bars opening version depth window text_of (λ log server key. ⊥) now late core server
         awaited depth window text_of now late core server (inl e) f h =
@@ -335,16 +335,16 @@ module _ {P : Protocol} where
         awaited depth window text_of now late core server (inr e) f h =
             subst (λ a. IsAwaited (tt {0}) (λ tree. words) Bars opening version depth window text_of (λ log server key. ⊥) a late core server) (sym e) (subst (λ b. IsAwaited (tt {0}) (λ tree. words) Bars opening version depth window text_of (λ log server key. ⊥) None b core server) (sym f) h)
 
-        module _ (log : Lines P) (past : List Event) (busy : Busy old log n part text past) (c : Call) (may : MayCome words Bars opening past (Calls n c.server c.ask c.origin (end_of n c.outcome))) (name : IsNamed (named_in old (made_in log + 1)) c.outcome) where
+        module _ (log : Lines P) (past : List Event) (busy : Busy old log n part text past) (c : Call) (may : MayCome words Bars opening past (Calls n c.server c.ask c.origin (call_end n c.outcome))) (name : IsNamed (named_in old (made_in log + 1)) c.outcome) where
           abbrev ticket : Ticket
           ticket = record { number = n; ask = c.ask; origin = c.origin }
 
           abbrev event : Event
-          event = Calls n c.server c.ask c.origin (end_of n c.outcome)
+          event = Calls n c.server c.ask c.origin (call_end n c.outcome)
 
           -- the call as a run reads it back
           abbrev read_back : Call
-          read_back = record { server = c.server; ask = c.ask; origin = c.origin; outcome = outcome_of (end_of n c.outcome) }
+          read_back = record { server = c.server; ask = c.ask; origin = c.origin; outcome = outcome_of (call_end n c.outcome) }
 
           abbrev sent : Lines P
           sent = Does (Sends n c.server c.ask c.origin) ∷ log
@@ -353,7 +353,7 @@ module _ {P : Protocol} where
           core1 = core_of sent
 
           abbrev settled : Lines P
-          settled = Results n c.server c.ask c.origin (end_of n c.outcome) ∷ sent
+          settled = Results n c.server c.ask c.origin (call_end n c.outcome) ∷ sent
 
           asked : may.0 ≡ part.ask
           asked = same_some may.0 part.ask (sym may.1 ∙ busy.way)
@@ -383,7 +383,7 @@ module _ {P : Protocol} where
           still : (depth window : ℕ) (text_of : Ask → Answer → List ℕ) → IsStill (tt {0}) (λ tree. words) Bars opening version depth window text_of (λ log server key. ⊥) words core1
           still depth window text_of = record {
             shown = by_client (λ d. (slot : Slot P) (slots : List (Slot P)) → queue_of core1 d ≡ slot ∷ slots → slot.reply ≡ None)
-                (λ slot slots e. ap (λ (s : Slot P). s.reply) (sym (same_head (queue_of core1 0) (slot_of n part) slot slots busy.core.queue e)))
+                (λ slot slots e. ap (λ (s : Slot P). s.reply) (sym (same_head (queue_of core1 0) (part_slot n part) slot slots busy.core.queue e)))
                 (λ d slot slots e. absurd (no_more (queue_of core1 (suc d)) slot slots (busy.core.others d) e));
             started = λ d p next few first apart. busy.core.stuck d p.message p.next next.reads;
             passed = λ d message next reads asks empty. busy.core.stuck d message next reads;
@@ -402,7 +402,7 @@ module _ {P : Protocol} where
           may_send depth window text_of =
               (tt, tt, ((record { client = 0; ask = part.ask }, owned, may.2 ∙ ap (λ (a : Ask). a.key) asked), λ s. ap (λ l. ticket_in l n) (busy.core.out s)))
 
-          may_settle : May sent (Results n c.server c.ask c.origin (end_of n c.outcome))
+          may_settle : May sent (Results n c.server c.ask c.origin (call_end n c.outcome))
           may_settle depth window text_of = (
             subst (λ l. MayFollow words Bars opening version l (Happens event)) (sym lost_none) (subst (λ l. MayCome words Bars opening l event) (sym busy.core.run_is) may, found),
             ends_as depth window text_of c.ask (named_in sent (made_in sent + 1)) c.outcome (subst (λ m. IsNamed m c.outcome) (sym (busy.named (made_in log + 1))) name),
@@ -434,14 +434,14 @@ module _ {P : Protocol} where
             named = busy.named;
             late = busy.late;
             now = inr refl;
-            script = more sent (Results n c.server c.ask c.origin (end_of n c.outcome)) may_settle (more log (Does (Sends n c.server c.ask c.origin)) may_send busy.script);
+            script = more sent (Results n c.server c.ask c.origin (call_end n c.outcome)) may_settle (more log (Does (Sends n c.server c.ask c.origin)) may_send busy.script);
           }
 
         calls : (log : Lines P) (past : List Event) (cs : List Call) → Busy old log n part text past → Run words Bars opening (played n cs past) → AreNamed (named_in old) (made_in log) cs → Busy old (played_log n cs log) n part text (played n cs past)
         calls log past [] busy run named = busy
         calls log past (c ∷ cs) busy run named =
-            let event = Calls n c.server c.ask c.origin (end_of n c.outcome) in
-            calls (Results n c.server c.ask c.origin (end_of n c.outcome) ∷ Does (Sends n c.server c.ask c.origin) ∷ log) (event ∷ past) cs (one_call log past busy c (run_before words Bars opening n cs (event ∷ past) run).0 named.0) run named.1
+            let event = Calls n c.server c.ask c.origin (call_end n c.outcome) in
+            calls (Results n c.server c.ask c.origin (call_end n c.outcome) ∷ Does (Sends n c.server c.ask c.origin) ∷ log) (event ∷ past) cs (one_call log past busy c (run_before words Bars opening n cs (event ∷ past) run).0 named.0) run named.1
 
       -- ---- the reply
 
@@ -459,7 +459,7 @@ module _ {P : Protocol} where
         e3 = Does (Gives 0 (P.shown part.message part.index reply)) ∷ e2
 
         queued : queue_of (core_of e1) 0 ≡ slot ∷ []
-        queued = ap (answered_in n reply) busy.core.queue ∙ pick_true (nat_eq n n) (slot ∷ []) (slot_of n part ∷ []) (eq-eqb n n refl)
+        queued = ap (answered_in n reply) busy.core.queue ∙ pick_true (nat_eq n n) (slot ∷ []) (part_slot n part ∷ []) (eq-eqb n n refl)
 
         front_stays : front_of (core_of e3) 0 ≡ record { place = part.next; index = 0; waits = false }
         front_stays = pick_true (is_last part) (front_of (core_of log) 0) _ at_last ∙ busy.core.front
@@ -497,7 +497,7 @@ module _ {P : Protocol} where
             may_end = (
               subst (λ l. MayCome words Bars opening l (Replies n part.ask.key reply from)) (sym busy.core.run_is) may,
               busy.core.owner n ∙ pick_true (nat_eq n n) _ None (eq-eqb n n refl),
-              ap (λ l. slot_in l n) busy.core.queue ∙ pick_true (nat_eq n n) (Some (slot_of n part)) None (eq-eqb n n refl),
+              ap (λ l. slot_in l n) busy.core.queue ∙ pick_true (nat_eq n n) (Some (part_slot n part)) None (eq-eqb n n refl),
               (λ no. absurd (let e = at_last in cc)),
               (λ s. ap (λ l. ticket_in l n) (busy.core.out s)),
               busy.core.served 0,

@@ -13,7 +13,7 @@ use Rattle.route_tree.specs.Plan.{Plan, Plans, PlanPolicies, Server, Null, Faili
 use Rattle.route_tree.specs.Word.{Given, rank, given_by, null_reply, failing_reply, plain_get, refill, Word, WordOfAll, WordOfFirst, WordOfHead, WordOfPolicy}
 use Rattle.route_tree.proofs.Places.{each_append}
 use Rattle.route_tree.proofs.Going.{worst_none}
-use Rattle.gate_coverage.specs.Computed.{is_get, fails, fails_some, fails_each, fails_last, fails_head, fails_policy}
+use Rattle.gate_coverage.specs.Computed.{asks_get, fails, fails_some, fails_each, fails_last, fails_head, fails_policy}
 use Rattle.gate_coverage.proofs.Choices.{both_split, either_split, bool_is, cond_true, cond_false, match_true, match_false, by_get, get_is, other_is, is_get_of, no_get_of, one_less}
 use Rattle.gate_coverage.proofs.Failing.{null_rank, word_fails}
 use Rattle.gate_coverage.proofs.Low.{first_given, both_miss}
@@ -68,10 +68,10 @@ mutual
       by_get ask.op _
       (λ op.
       let f = tried_last ps good.0 good.1 ask origin b in
-      (f.0, f.1, get_is ask.op _ _ op f.2, record { tried = f.3.tried; count_is = f.3.count_is ∙ sym (pick_true (is_get ask.op) (tries_all ask.op ps) (tries_head ask.op ps) (is_get_of ask.op op)); low = f.3.low; worst = λ h. f.3.worst (cond_true (is_get ask.op) _ _ (is_get_of ask.op op) h) }))
+      (f.0, f.1, get_is ask.op _ _ op f.2, record { tried = f.3.tried; count_is = f.3.count_is ∙ sym (pick_true (asks_get ask.op) (tries_all ask.op ps) (tries_head ask.op ps) (is_get_of ask.op op)); low = f.3.low; worst = λ h. f.3.worst (cond_true (asks_get ask.op) _ _ (is_get_of ask.op op) h) }))
       (λ n.
       let f = tried_head ps good.0 good.1 ask origin b in
-      (f.0, f.1, other_is ask.op _ _ n f.2, record { tried = f.3.tried; count_is = f.3.count_is ∙ sym (pick_false (is_get ask.op) (tries_all ask.op ps) (tries_head ask.op ps) (no_get_of ask.op n)); low = f.3.low; worst = λ h. f.3.worst (cond_false (is_get ask.op) _ _ (no_get_of ask.op n) h) }))
+      (f.0, f.1, other_is ask.op _ _ n f.2, record { tried = f.3.tried; count_is = f.3.count_is ∙ sym (pick_false (asks_get ask.op) (tries_all ask.op ps) (tries_head ask.op ps) (no_get_of ask.op n)); low = f.3.low; worst = λ h. f.3.worst (cond_false (asks_get ask.op) _ _ (no_get_of ask.op n) h) }))
   tried (WarmUp cold warm e) good ask origin b =
       let c = tried cold good.0 ask origin b in
       by_get ask.op _
@@ -80,8 +80,8 @@ mutual
       let m = one_less (rank c.1) c.3.low in
       let n = one_less (rank v.1) v.3.low in
       let count : length v.0 ≡ tries ask.op warm = v.3.count_is ∙ ap (λ o. tries o warm) (sym op) in
-      (c.0 ++ v.0, c.1, get_is ask.op _ _ op (both_miss ask (Word cold ask origin) (Word warm (plain_get ask) origin) (λ hit w. Word cold (refill ask hit e) (CopyOf w)) b m.0 n.0 c.0 v.0 c.1 v.1 c.2 m.1 v.2 n.1), record { tried = join ask.key c.0 v.0 c.3.tried v.3.tried; count_is = lengths c.0 v.0 _ _ c.3.count_is count ∙ sym (pick_true (is_get ask.op) (tries ask.op cold + tries ask.op warm) (tries ask.op cold) (is_get_of ask.op op)); low = c.3.low; worst = c.3.worst }))
-      (λ n. (c.0, c.1, other_is ask.op _ _ n c.2, record { tried = c.3.tried; count_is = c.3.count_is ∙ sym (pick_false (is_get ask.op) (tries ask.op cold + tries ask.op warm) (tries ask.op cold) (no_get_of ask.op n)); low = c.3.low; worst = c.3.worst }))
+      (c.0 ++ v.0, c.1, get_is ask.op _ _ op (both_miss ask (Word cold ask origin) (Word warm (plain_get ask) origin) (λ hit w. Word cold (refill ask hit e) (CopyOf w)) b m.0 n.0 c.0 v.0 c.1 v.1 c.2 m.1 v.2 n.1), record { tried = join ask.key c.0 v.0 c.3.tried v.3.tried; count_is = lengths c.0 v.0 _ _ c.3.count_is count ∙ sym (pick_true (asks_get ask.op) (tries ask.op cold + tries ask.op warm) (tries ask.op cold) (is_get_of ask.op op)); low = c.3.low; worst = c.3.worst }))
+      (λ n. (c.0, c.1, other_is ask.op _ _ n c.2, record { tried = c.3.tried; count_is = c.3.count_is ∙ sym (pick_false (asks_get ask.op) (tries ask.op cold + tries ask.op warm) (tries ask.op cold) (no_get_of ask.op n)); low = c.3.low; worst = c.3.worst }))
   tried (ByOperation policies) good ask origin b = tried_policy policies good ask origin b
 
   pub each_tried : (ps : Plans) → AreGood ps → (ask : Ask) (origin : Origin) (b : ℕ) → (calls : List Call) × (all : List Given) × WordOfAll ps ask origin b calls all × AreTried ask.key (tries_all ask.op ps) (fails_some ask.op ps) calls all

@@ -5,7 +5,7 @@ use Rattle.mc_types.specs.declared.ask.Ask.{Ask}
 use Rattle.mc_types.specs.declared.answer.Answer.{Answer}
 use Rattle.mc_types.specs.declared.call.Outcome.{Outcome}
 use Rattle.mc_types.specs.declared.call.Outcome.TheVariants.{Answered, Failed}
-use Rattle.mc_types.specs.Agree.{Agrees}
+use Rattle.mc_types.specs.Agree.{AnswerAgrees}
 use Rattle.mc_types.specs.Asks.{IsAsk}
 use Rattle.mc_types.specs.Fits.{Fits}
 use Rattle.mc_types.specs.Items.{Item}
@@ -20,14 +20,14 @@ use Rattle.gate_gaps.specs.Turns.{acks, finds}
 use Rattle.gate_gaps.specs.Beside.{IsTry, IsElsewhere, answered}
 
 -- how a client's call ends in the run: answered with the command's stamp, or not applied
-abbrev pub end_of : ℕ → Outcome → End
-end_of n (Answered answer) = Read n answer 0
-end_of n Failed = Never
+abbrev pub call_end : ℕ → Outcome → End
+call_end n (Answered answer) = Read n answer 0
+call_end n Failed = Never
 
 -- the calls of command n, made one after another
 abbrev pub played : ℕ → List Call → List Event → List Event
 played n [] past = past
-played n (c ∷ calls) past = played n calls (Calls n c.server c.ask c.origin (end_of n c.outcome) ∷ past)
+played n (c ∷ calls) past = played n calls (Calls n c.server c.ask c.origin (call_end n c.outcome) ∷ past)
 
 -- command 1 is the delete and command 2 the read; the latest first
 abbrev pub deleted_run : (delete : Ask) (front last : List Call) → List Event
@@ -51,8 +51,8 @@ pub record LeaksIn (at : ℕ → List ℕ → Plan) (Bars : ℕ → Ask → ℕ 
   pub leaks : IsFreshByNumber opening (leaking_run delete read front last back s answer) → ⊥
 
 -- each command has its key alone
-abbrev pub alone : ℕ → Ask → ℕ → Ask → Type 0
-alone number ask other client = Unit {0}
+abbrev pub key_alone : ℕ → Ask → ℕ → Ask → Type 0
+key_alone number ask other client = Unit {0}
 
 -- what is asked of the two commands, and of what server s alone holds of the key
 pub record IsBait (opening : ℕ → List ℕ → Option Item) (delete read : Ask) (s : ℕ) (answer : Answer) : Type 0 where
@@ -68,7 +68,7 @@ pub record IsBait (opening : ℕ → List ℕ → Option Item) (delete read : As
   pub fits : Fits read answer
   pub showing : shows answer ≡ true
   pub done : rank_of answer ≡ 0
-  pub agrees : Agrees read answer (Some item)
+  pub agrees : AnswerAgrees read answer (Some item)
 
 -- where both numbers of failing calls are computed, there is a run that leaks after these, whichever commands bar one another; the trees of the two commands may differ
 abbrev pub GapsLeak : (ℕ → Ask → ℕ → Ask → Type 0) → Type 0

@@ -4,7 +4,7 @@ use Rattle.text_words.specs.Escapes.{escaped}
 use Rattle.mc_types.specs.declared.ask.Op.{Op}
 use Rattle.route_json.specs.NumberedServers.{Addresses}
 use Rattle.gate_coverage.specs.declared.deleting.Deleting.{Deleting}
-use Rattle.gate_gaps.specs.Names.{op_name, delete_name, address_of}
+use Rattle.gate_gaps.specs.Names.{op_name, delete_name, server_address}
 use Rattle.gate_gaps.specs.Phrases.{text_of}
 use Rattle.gate_gaps.specs.Pools.{NamedPools}
 use Rattle.gate_gaps.specs.PoolWords.{server_text}
@@ -43,7 +43,7 @@ way_end servers pools server = codes " " ++ server_text servers pools server ++ 
 
 -- by which way the operation takes the server
 abbrev pub way_line : Addresses → NamedPools → ℕ → Op → List WayStep → List ℕ
-way_line servers pools server op way = way_front (address_of servers server) op ++ steps_text way ++ way_end servers pools server
+way_line servers pools server op way = way_front (server_address servers server) op ++ steps_text way ++ way_end servers pools server
 
 abbrev pub is_of : Which → ServerUse → Bool
 is_of which.Read server_use = server_use.is_read

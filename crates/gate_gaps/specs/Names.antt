@@ -30,5 +30,5 @@ or_nothing None = []
 or_nothing (Some text) = text
 
 -- the address of a server; nothing where there is no such server
-abbrev pub address_of : List (List ℕ) → ℕ → List ℕ
-address_of servers server = or_nothing (slice_get servers server)
+abbrev pub server_address : List (List ℕ) → ℕ → List ℕ
+server_address servers server = or_nothing (slice_get servers server)

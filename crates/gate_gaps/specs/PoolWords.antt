@@ -2,7 +2,7 @@
 use Rattle.std.specs.Prelude.{ℕ, ◌+◌, ◌==◌, ◌&&◌, Bool, true, false, List, [], ◌∷◌, ◌++◌, codes, decimal, length, flat_map, if◌then◌else◌}
 use Rattle.text_words.specs.Escapes.{escaped}
 use Rattle.route_json.specs.NumberedServers.{Addresses}
-use Rattle.gate_gaps.specs.Names.{address_of}
+use Rattle.gate_gaps.specs.Names.{server_address}
 use Rattle.gate_gaps.specs.Pools.{NamedPool, NamedPools}
 use Rattle.gate_gaps.specs.Spellings.{spelled}
 use Rattle.gate_gaps.specs.declared.spelling.Spelling.{Spelling}
@@ -36,7 +36,7 @@ places_text spelling pools server = flat_map (places_in spelling server) pools
 
 -- a server by its address and its places
 abbrev pub server_text : Addresses → NamedPools → ℕ → List ℕ
-server_text servers pools server = escaped (address_of servers server) ++ places_text Line pools server
+server_text servers pools server = escaped (server_address servers server) ++ places_text Line pools server
 
 -- the name of a pool, if it has these slots
 abbrev pub name_if : Spelling → List ℕ → NamedPool → List ℕ

@@ -27,14 +27,14 @@ members no_members = []
 members (member name d ms) = (name, d) ∷ members ms
 
 -- a server of this weight
-abbrev pub with_weight : ℕ → Option ℕ → Option Member
-with_weight w None = None
-with_weight w (Some n) = Some (record { server = n; weight = w })
+abbrev pub member_with_weight : ℕ → Option ℕ → Option Member
+member_with_weight w None = None
+member_with_weight w (Some n) = Some (record { server = n; weight = w })
 
 -- the server of an address and a weight
 abbrev pub member_at : Addresses → Option (List ℕ × ℕ) → Option Member
 member_at servers None = None
-member_at servers (Some s) = with_weight s.1 (position (bytes_eq s.0) servers)
+member_at servers (Some s) = member_with_weight s.1 (position (bytes_eq s.0) servers)
 
 -- the server that a text names
 abbrev pub member_or : Addresses → Option (List ℕ) → Option Member
@@ -58,38 +58,38 @@ members_in servers (Some (string s)) = []
 members_in servers (Some (array ds)) = members_of servers (values ds)
 members_in servers (Some (object ms)) = []
 
-abbrev pub servers_of : List Member → List ℕ
-servers_of ms = map (λ (m : Member). m.server) ms
+abbrev pub member_servers : List Member → List ℕ
+member_servers ms = map (λ (m : Member). m.server) ms
 
 -- each server as often in a row as its weight says
-abbrev pub slots_of : List Member → List ℕ
-slots_of ms = flat_map (λ (m : Member). replicate m.weight m.server) ms
+abbrev pub member_slots : List Member → List ℕ
+member_slots ms = flat_map (λ (m : Member). replicate m.weight m.server) ms
 
 -- what stands at the place of the list that a value of a table names
-abbrev pub placed : List Member → Data → Option Member
-placed ms d = option_and_then (slice_get ms) (option_and_then as_u64 (as_number d))
+abbrev pub member_placed : List Member → Data → Option Member
+member_placed ms d = option_and_then (slice_get ms) (option_and_then as_u64 (as_number d))
 
 abbrev pub table_of : List Member → List Data → List ℕ
-table_of ms ds = flat_map (λ d. servers_of (option_to_list (placed ms d))) ds
+table_of ms ds = flat_map (λ d. member_servers (option_to_list (member_placed ms d))) ds
 
 -- the slots of a table, or those that weights make
-abbrev pub slots_or : List Member → Option Data → List ℕ
-slots_or ms None = slots_of ms
-slots_or ms (Some null) = slots_of ms
-slots_or ms (Some (boolean b)) = slots_of ms
-slots_or ms (Some (number n)) = slots_of ms
-slots_or ms (Some (string s)) = slots_of ms
-slots_or ms (Some (array ds)) = table_of ms (values ds)
-slots_or ms (Some (object os)) = slots_of ms
+abbrev pub member_slots_or : List Member → Option Data → List ℕ
+member_slots_or ms None = member_slots ms
+member_slots_or ms (Some null) = member_slots ms
+member_slots_or ms (Some (boolean b)) = member_slots ms
+member_slots_or ms (Some (number n)) = member_slots ms
+member_slots_or ms (Some (string s)) = member_slots ms
+member_slots_or ms (Some (array ds)) = table_of ms (values ds)
+member_slots_or ms (Some (object os)) = member_slots ms
 
 -- the pool of a name and an object
-abbrev pub pool_of : Addresses → List ℕ × Data → NamedPool
-pool_of servers m =
+abbrev pub pool_by_name : Addresses → List ℕ × Data → NamedPool
+pool_by_name servers m =
     let ms = members_in servers (get (codes "servers") m.1) in
-    (m.0, servers_of ms, slots_or ms (get (codes "slots") m.1))
+    (m.0, member_servers ms, member_slots_or ms (get (codes "slots") m.1))
 
-abbrev pub pools_of : Addresses → List (List ℕ × Data) → NamedPools
-pools_of servers ms = map (pool_of servers) ms
+abbrev pub named_pools_of : Addresses → List (List ℕ × Data) → NamedPools
+named_pools_of servers ms = map (pool_by_name servers) ms
 
 -- the members of a value that is an object
 abbrev pub object_in : Option Data → Option Members
@@ -104,9 +104,9 @@ object_in (Some (object ms)) = Some ms
 -- the pools of an object
 abbrev pub pools_at : Addresses → Option Members → NamedPools
 pools_at servers None = []
-pools_at servers (Some ms) = pools_of servers (members ms)
+pools_at servers (Some ms) = named_pools_of servers (members ms)
 
 -- the pools of a text of a configuration with these servers; none where it is no JSON
-abbrev pub pools_in : Addresses → Option Data → NamedPools
-pools_in servers None = []
-pools_in servers (Some d) = pools_at servers (object_in (get (codes "pools") d))
+abbrev pub named_pools_in : Addresses → Option Data → NamedPools
+named_pools_in servers None = []
+named_pools_in servers (Some d) = pools_at servers (object_in (get (codes "pools") d))

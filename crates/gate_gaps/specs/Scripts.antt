@@ -7,7 +7,7 @@ use Rattle.fresh_runs.specs.Calls.{Words}
 use Rattle.fresh_runs.specs.Run.{IsFreshByNumber, commands_in}
 use Rattle.fresh_runs.specs.Protocol.{Protocol, IsStuck}
 use Rattle.fresh_runs.specs.Log.{Scripted, Piece, Add, Result, Fail, Hold, At, Now, Moment, Before}
-use Rattle.fresh_runs.specs.Overlap.{run_of, IsSettled}
+use Rattle.fresh_runs.specs.Overlap.{run_of, NothingIsLeft}
 use Rattle.fresh_runs.specs.OverlapStream.{IsReplied}
 use Rattle.fresh_runs.specs.ScriptLog as logged
 use Rattle.fresh_runs.specs.ScriptLog.{Line, core_of, script_of, said_of, fed_of, IsScript}
@@ -39,7 +39,7 @@ pub record Leaks (P : Protocol) (words : Words) (Bars : ℕ → Ask → ℕ → 
   pub script : (depth window : ℕ) (text_of : Ask → Answer → List ℕ) → IsScript tt (λ tree. words) Bars opening version depth window text_of (λ log server key. ⊥) log
   pub script_is : script_of log ≡ map in_log events
   pub fed : (c : ℕ) → fed_of log c ≡ said_of log c
-  pub settled : IsSettled version (core_of log)
+  pub settled : NothingIsLeft version (core_of log)
   pub replied : (n : ℕ) → 1 ≤ n → n ≤ commands_in (run_of (core_of log)) → (key : List ℕ) × (reply : Answer) × IsReplied (run_of (core_of log)) n key reply
   pub leaks : IsFreshByNumber opening (run_of (core_of log)) → ⊥
 

@@ -81,21 +81,21 @@ module _ (servers : Addresses) (pools : NamedPools) (server : ℕ) where
   change_text r = change_front r ++ server_text servers pools server ++ change_end r
 
   -- the route by which deletes go at last, and what to change there
-  abbrev pub end_text : Route → List ℕ
-  end_text r = end_line pools r ++ change_text r
+  abbrev pub end_route_text : Route → List ℕ
+  end_route_text r = end_line pools r ++ change_text r
 
   module _ (prefix : List ℕ) where
     abbrev mutual
       -- from a route on: the rest of the path, and then the route. Deletes are followed through selectors alone
       pub site_text : Route → List ℕ
-      site_text (Pool slots) = end_text (Pool slots)
-      site_text (Server s) = end_text (Server s)
-      site_text Null = end_text Null
-      site_text Failing = end_text Failing
-      site_text (AllSync rs) = end_text (AllSync rs)
-      site_text (Failover rs) = end_text (Failover rs)
-      site_text (MissFailover rs) = end_text (MissFailover rs)
-      site_text (WarmUp cold warm e) = end_text (WarmUp cold warm e)
+      site_text (Pool slots) = end_route_text (Pool slots)
+      site_text (Server s) = end_route_text (Server s)
+      site_text Null = end_route_text Null
+      site_text Failing = end_route_text Failing
+      site_text (AllSync rs) = end_route_text (AllSync rs)
+      site_text (Failover rs) = end_route_text (Failover rs)
+      site_text (MissFailover rs) = end_route_text (MissFailover rs)
+      site_text (WarmUp cold warm e) = end_route_text (WarmUp cold warm e)
       site_text (ByOperation ps) = site_by ps
       site_text (ByPrefix ps) = site_begun (longest_begun prefix ps) ps
 

@@ -4,12 +4,12 @@ use Rattle.mc_types.specs.declared.ask.Op.{Op}
 use Rattle.mc_types.specs.declared.ask.Op.TheVariants.{Delete}
 use Rattle.route_tree.specs.Operation.{same_op}
 use Rattle.route_tree.specs.Plan.{Plan, Plans, PlanPolicies, Server, Null, Failing, AllSync, Failover, MissFailover, WarmUp, ByOperation, End, More, Otherwise, Policy}
-use Rattle.gate_coverage.specs.Computed.{is_get, fails}
+use Rattle.gate_coverage.specs.Computed.{asks_get, fails}
 
 -- the first that is there
-abbrev pub or_else : Option ℕ → Option ℕ → Option ℕ
-or_else (Some n) other = Some n
-or_else None other = other
+abbrev pub or_that : Option ℕ → Option ℕ → Option ℕ
+or_that (Some n) other = Some n
+or_that None other = other
 
 -- the number counted after so many others, if there is one
 abbrev pub counted_after : ℕ → Option ℕ → Option ℕ
@@ -25,8 +25,8 @@ module _ (op : Op) where
     tries Failing = 0
     tries (AllSync ps) = tries_all ps
     tries (Failover ps) = tries_first ps
-    tries (MissFailover ps) = if is_get op then tries_all ps else tries_head ps
-    tries (WarmUp cold warm e) = if is_get op then tries cold + tries warm else tries cold
+    tries (MissFailover ps) = if asks_get op then tries_all ps else tries_head ps
+    tries (WarmUp cold warm e) = if asks_get op then tries cold + tries warm else tries cold
     tries (ByOperation ps) = tries_policy ps
 
     pub tries_all : Plans → ℕ
@@ -60,7 +60,7 @@ module _ (s : ℕ) where
 
     pub acks_first : Plans → Option ℕ
     acks_first End = None
-    acks_first (More p ps) = or_else (acks p) (if fails Delete p then counted_after (tries Delete p) (acks_first ps) else None)
+    acks_first (More p ps) = or_that (acks p) (if fails Delete p then counted_after (tries Delete p) (acks_first ps) else None)
 
     pub acks_head : Plans → Option ℕ
     acks_head End = None
@@ -79,17 +79,17 @@ module _ (op : Op) (s : ℕ) where
     finds Failing = None
     finds (AllSync ps) = None
     finds (Failover ps) = finds_first ps
-    finds (MissFailover ps) = if is_get op then finds_some ps else finds_head ps
-    finds (WarmUp cold warm e) = if is_get op then None else finds cold
+    finds (MissFailover ps) = if asks_get op then finds_some ps else finds_head ps
+    finds (WarmUp cold warm e) = if asks_get op then None else finds cold
     finds (ByOperation ps) = finds_policy ps
 
     pub finds_first : Plans → Option ℕ
     finds_first End = None
-    finds_first (More p ps) = or_else (finds p) (if fails op p then counted_after (tries op p) (finds_first ps) else None)
+    finds_first (More p ps) = or_that (finds p) (if fails op p then counted_after (tries op p) (finds_first ps) else None)
 
     pub finds_some : Plans → Option ℕ
     finds_some End = None
-    finds_some (More p ps) = or_else (finds p) (counted_after (tries op p) (finds_some ps))
+    finds_some (More p ps) = or_that (finds p) (counted_after (tries op p) (finds_some ps))
 
     pub finds_head : Plans → Option ℕ
     finds_head End = None

@@ -1,7 +1,7 @@
 //! The names of operations, of the two kinds of delete and of servers, as they are printed.
 
 ghost use Rattle.std.specs.Prelude.{◌≡◌};
-ghost use Rattle.gate_gaps.specs.Names.{op_name, delete_name, address_of};
+ghost use Rattle.gate_gaps.specs.Names.{op_name, delete_name, server_address};
 
 use gate_coverage::Deleting;
 use mc_types::{Op, ServerId};
@@ -39,7 +39,7 @@ pub fn delete_name(deleting: Deleting) -> &'static str
 
 /// The address of a server; no text where there is no such server.
 pub fn address_of(servers: &Servers, server: ServerId) -> &str
-    ensures { result.now ≡ address_of servers.now server }
+    ensures { result.now ≡ server_address servers.now server }
 {
     servers.get(server).unwrap_or("")
 }

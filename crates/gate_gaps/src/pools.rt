@@ -6,7 +6,7 @@ ghost use Rattle.serde_json.specs.Find.{get};
 ghost use Rattle.serde_json.specs.Read.{read};
 ghost use Rattle.serde_json.specs.View.{view, items_view, members_view};
 ghost use Rattle.route_json.specs.ServerTexts.{server_in};
-ghost use Rattle.gate_gaps.specs.Pools.{with_weight, member_at, member_of, members_of, members_in, servers_of, slots_of, placed, table_of, slots_or, pool_of, pools_of, object_in, pools_at, pools_in, values, members};
+ghost use Rattle.gate_gaps.specs.Pools.{member_with_weight, member_at, member_of, members_of, members_in, member_servers, member_slots, member_placed, table_of, member_slots_or, pool_by_name, named_pools_of, object_in, pools_at, named_pools_in, values, members};
 
 use mc_types::ServerId;
 use route_json::addresses::{Servers, read_server};
@@ -64,7 +64,7 @@ pub struct Member {
 
 // The server of this address with this weight, if it is one of these.
 fn member_at(servers: &Servers, address: &str, weight: u32) -> Option<Member>
-    ensures { result ≡ with_weight weight (position (bytes_eq address.now) servers.now) }
+    ensures { result ≡ member_with_weight weight (position (bytes_eq address.now) servers.now) }
 {
     match servers.find(address) {
         Some(server) => Some(Member { server, weight }),
@@ -124,7 +124,7 @@ fn members_in(alloc: Global, servers: &Servers, value: &Value) -> Result<Vec<Mem
 }
 
 fn servers_of(alloc: Global, members: &[Member]) -> Result<Vec<ServerId>, AllocError>
-    ensures { IfOk result (λ servers. servers.items ≡ servers_of members.now) }
+    ensures { IfOk result (λ servers. servers.items ≡ member_servers members.now) }
 {
     let mut servers = Vec::new(alloc);
     for member in members {
@@ -143,7 +143,7 @@ fn push_slots(slots: &mut Vec<ServerId>, member: Member) -> Result<(), AllocErro
 }
 
 fn slots_of(alloc: Global, members: &[Member]) -> Result<Vec<ServerId>, AllocError>
-    ensures { IfOk result (λ slots. slots.items ≡ slots_of members.now) }
+    ensures { IfOk result (λ slots. slots.items ≡ member_slots members.now) }
 {
     let mut slots = Vec::new(alloc);
     for member in members {
@@ -154,7 +154,7 @@ fn slots_of(alloc: Global, members: &[Member]) -> Result<Vec<ServerId>, AllocErr
 
 // What stands at the place of the list that a value of a table names, if there is one.
 fn placed(members: &[Member], item: &Value) -> Option<Member>
-    ensures { result ≡ placed members.now (view item.now) }
+    ensures { result ≡ member_placed members.now (view item.now) }
 {
     let place = item.as_u64()?;
     if place < members.len() as u64 {
@@ -166,7 +166,7 @@ fn placed(members: &[Member], item: &Value) -> Option<Member>
 
 // Adds the server of a slot.
 fn add_slot(slots: &mut Vec<ServerId>, member: Option<Member>) -> Result<(), AllocError>
-    ensures { IfOk result (λ _. slots.new.items ≡ slots.old.items ++ servers_of (option_to_list member)) }
+    ensures { IfOk result (λ _. slots.new.items ≡ slots.old.items ++ member_servers (option_to_list member)) }
 {
     if let Some(member) = member {
         slots.push(member.server)?;
@@ -187,7 +187,7 @@ fn table_of(alloc: Global, members: &[Member], items: &[Value]) -> Result<Vec<Se
 
 // The slots of a pool's object.
 fn slots_or(alloc: Global, members: &[Member], value: &Value) -> Result<Vec<ServerId>, AllocError>
-    ensures { IfOk result (λ slots. slots.items ≡ slots_or members.now (get (codes "slots") (view value.now))) }
+    ensures { IfOk result (λ slots. slots.items ≡ member_slots_or members.now (get (codes "slots") (view value.now))) }
 {
     match value.get("slots") {
         Some(Value::Array(items)) => table_of(alloc, members, items),
@@ -202,7 +202,7 @@ fn pool_of(
     name: &str,
     value: &Value,
 ) -> Result<ConfigPool, AllocError>
-    ensures { IfOk result (λ pool. pool ≡ pool_of servers.now (name.now, view value.now)) }
+    ensures { IfOk result (λ pool. pool ≡ pool_by_name servers.now (name.now, view value.now)) }
 {
     let members = members_in(alloc, servers, value)?;
     Ok(ConfigPool {
@@ -218,7 +218,7 @@ fn pools_of(
     servers: &Servers,
     map: &Map<String, Value>,
 ) -> Result<Vec<ConfigPool>, AllocError>
-    ensures { IfOk result (λ pools. pools.items ≡ pools_of servers.now (members (members_view map.now.entries))) }
+    ensures { IfOk result (λ pools. pools.items ≡ named_pools_of servers.now (members (members_view map.now.entries))) }
 {
     let mut pools = Vec::new(alloc);
     for (name, value) in map.iter() {
@@ -262,7 +262,7 @@ pub fn read_pools(
     text: &str,
     servers: &Servers,
 ) -> Result<Vec<ConfigPool>, AllocError>
-    ensures { IfOk result (λ pools. pools.items ≡ pools_in servers.now (read text.now)) }
+    ensures { IfOk result (λ pools. pools.items ≡ named_pools_in servers.now (read text.now)) }
 {
     match Value::from_str(alloc, text) {
         Ok(value) => pools_of_value(alloc, servers, &value),

@@ -4,7 +4,7 @@ ghost use Rattle.std.specs.Prelude.{◌≡◌, OnOk};
 ghost use Rattle.std.specs.Io.KnownBytes.{Appends};
 ghost use Rattle.route_tree.specs.Form.{policies_of, prefixes_of};
 ghost use Rattle.gate_gaps.specs.Phrases as spec;
-ghost use Rattle.gate_gaps.specs.Sites.{longest_begun, pools_of_route, route_text, lack_phrase, fix_phrase, change_front, change_end, change_text, end_line, end_text, policy_path, site_text, site_by, site_begun, change_lines};
+ghost use Rattle.gate_gaps.specs.Sites.{longest_begun, pools_of_route, route_text, lack_phrase, fix_phrase, change_front, change_end, change_text, end_line, end_route_text, policy_path, site_text, site_by, site_begun, change_lines};
 
 use crate::kinds::kind_name;
 use crate::phrases::{Phrase, text_of};
@@ -138,7 +138,7 @@ fn write_end<W: Write>(
     tree: &Tree,
     out: &mut W,
 ) -> io::Result<()>
-    ensures { OnOk result (Appends (W.contents out.old) (W.contents out.new) (end_text servers.now pools.now server tree.now)) }
+    ensures { OnOk result (Appends (W.contents out.old) (W.contents out.new) (end_route_text servers.now pools.now server tree.now)) }
 {
     write_end_line(pools, tree, out)?;
     write_change(servers, pools, server, tree, out)?;

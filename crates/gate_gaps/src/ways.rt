@@ -1,7 +1,7 @@
 //! The way through a plain tree by which a read reaches a server.
 ghost use Rattle.std.specs.Prelude.{◌≡◌, ◌+◌, ◌<◌, ◌^◌, true, IfOk, length};
 ghost use Rattle.route_tree.specs.Form.{plans_of, plan_policies_of};
-ghost use Rattle.gate_coverage.specs.Computed.{taken};
+ghost use Rattle.gate_coverage.specs.Computed.{takes_server};
 ghost use Rattle.gate_gaps.specs.Ways.{AddsWay, AddsWayAmong, AddsWayBy, some_taken, policy_taken};
 
 use gate_coverage::stores::is_op;
@@ -39,7 +39,7 @@ pub fn add_way(
     server: ServerId,
     way: &mut Vec<WayStep>,
 ) -> Result<(), AllocError>
-    requires { taken plain.now op server ≡ true }
+    requires { takes_server plain.now op server ≡ true }
     ensures { IfOk result (λ _. AddsWay op server plain.now way.old.items way.new.items) }
 {
     match plain.form() {

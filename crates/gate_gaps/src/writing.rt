@@ -2,7 +2,7 @@
 
 ghost use Rattle.std.specs.Prelude.{◌≡◌, OnOk};
 ghost use Rattle.std.specs.Io.KnownBytes.{Appends};
-ghost use Rattle.gate_gaps.specs.Names.{address_of};
+ghost use Rattle.gate_gaps.specs.Names.{server_address};
 ghost use Rattle.gate_gaps.specs.Lines.{list_phrase, step_text, steps_text, is_of, member_text, members_text, has_some, row_text, way_front, way_end, way_line, named_text, reads_line, cleared_line, left_line, server_use_lines, explanation_lines};
 
 use crate::explanation::Explanation;
@@ -72,7 +72,7 @@ fn write_way_front<W: Write>(
     op: Op,
     out: &mut W,
 ) -> io::Result<()>
-    ensures { OnOk result (Appends (W.contents out.old) (W.contents out.new) (way_front (address_of servers.now server) op)) }
+    ensures { OnOk result (Appends (W.contents out.old) (W.contents out.new) (way_front (server_address servers.now server) op)) }
 {
     let server = Escaped(address_of(servers, server).as_bytes());
     let op = op_name(op);

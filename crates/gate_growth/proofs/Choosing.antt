@@ -8,7 +8,7 @@ use Rattle.route_tree.proofs.Places.{each_append}
 use Rattle.gate_coverage.proofs.Choices.{both, both_split, bool_is}
 use Rattle.gate_growth.specs.declared.ledger.class.ClassPages.{ClassPages}
 use Rattle.gate_growth.specs.Classes.{AreClasses, NoneLonger}
-use Rattle.gate_growth.specs.Finer.{is_longer}
+use Rattle.gate_growth.specs.Finer.{begins_longer}
 use Rattle.gate_growth.proofs.Rowing.{not_less}
 
 got_one : {A : Type 0} (xs : List A) (i : ℕ) → i < length xs → (x : A) × (slice_get xs i ≡ Some x)
@@ -42,7 +42,7 @@ module _ (classes : List ClassPages) (text : List ℕ) where
   abbrev Within : ℕ → ClassPages → Type 0
   Within n c = begins (prefix_text c.prefix) text ≡ true → size c ≤ n
 
-  step : (best index : ℕ) (a b : ClassPages) → slice_get classes best ≡ Some a → slice_get classes index ≡ Some b → IsBestOf best index → (t : Bool) → is_longer (prefix_text a.prefix) (prefix_text b.prefix) text ≡ t → IsBestOf (cond t index best) (suc index)
+  step : (best index : ℕ) (a b : ClassPages) → slice_get classes best ≡ Some a → slice_get classes index ≡ Some b → IsBestOf best index → (t : Bool) → begins_longer (prefix_text a.prefix) (prefix_text b.prefix) text ≡ t → IsBestOf (cond t index best) (suc index)
   step best index a b ga gb old true e class got are =
       let same : b ≡ class = cc in
       let split = both_split (begins (prefix_text b.prefix) text) (nat_lt (size a) (size b)) e in
@@ -63,11 +63,11 @@ module _ (classes : List ClassPages) (text : List ℕ) where
       subst (λ (k : ClassPages). (begins (prefix_text k.prefix) text ≡ true) × NoneLonger (take (suc index) classes) text k) same
       (was.0, subst (λ (l : List ClassPages). NoneLonger l text a) (sym (take_one classes index b gb)) all)
 
-  pub best_more : (best index next : ℕ) → best < length classes → index < length classes → ((a b : ClassPages) → slice_get classes best ≡ Some a → slice_get classes index ≡ Some b → next ≡ cond (is_longer (prefix_text a.prefix) (prefix_text b.prefix) text) index best) → IsBestOf best index → (next < length classes) × IsBestOf next (index + 1)
+  pub best_more : (best index next : ℕ) → best < length classes → index < length classes → ((a b : ClassPages) → slice_get classes best ≡ Some a → slice_get classes index ≡ Some b → next ≡ cond (begins_longer (prefix_text a.prefix) (prefix_text b.prefix) text) index best) → IsBestOf best index → (next < length classes) × IsBestOf next (index + 1)
   best_more best index next lb li is old =
       let a = got_one classes best lb in
       let b = got_one classes index li in
-      let t = is_longer (prefix_text a.0.prefix) (prefix_text b.0.prefix) text in
+      let t = begins_longer (prefix_text a.0.prefix) (prefix_text b.0.prefix) text in
       let e = is a.0 b.0 a.1 b.1 in
       let on : suc index ≡ index + 1 = omega arith in
       let within : cond t index best < length classes = (elim t as (λ v. cond v index best < length classes) [ true ↦ li | false ↦ lb ]) in (

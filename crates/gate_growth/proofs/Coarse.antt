@@ -13,7 +13,7 @@ use Rattle.gate_check.specs.Places.{place_at}
 use Rattle.gate_check.specs.Valid.{all_sizes, all_prefixes}
 use Rattle.gate_growth.specs.declared.ledger.class.ClassPages.{ClassPages}
 use Rattle.gate_growth.specs.Grown.{plans_at}
-use Rattle.gate_growth.specs.Classes.{prefixes_of, NoneLonger, IsBest}
+use Rattle.gate_growth.specs.Classes.{class_prefixes, NoneLonger, IsBest}
 use Rattle.gate_growth.proofs.Among.{left_at_place}
 
 -- what is read at a place of a list stands there
@@ -66,14 +66,14 @@ in_some (y ∷ ys) x (inl e) = inl (ap Some e)
 in_some (y ∷ ys) x (inr h) = inr (in_some ys x h)
 
 -- no prefix of a class that begins the text is longer
-bounded : (known : List ClassPages) (text : List ℕ) (best : ClassPages) (p : List ℕ) → IsIn (Some p) (prefixes_of known) → NoneLonger known text best → begins p text ≡ true → length p ≤ length (prefix_text best.prefix)
+bounded : (known : List ClassPages) (text : List ℕ) (best : ClassPages) (p : List ℕ) → IsIn (Some p) (class_prefixes known) → NoneLonger known text best → begins p text ≡ true → length p ≤ length (prefix_text best.prefix)
 bounded [] text best p i none is = absurd i
 bounded (c ∷ known) text best p (inl e) none is =
     subst (λ o. begins (prefix_text o) text ≡ true → length (prefix_text o) ≤ length (prefix_text best.prefix)) (sym e) none.0 is
 bounded (c ∷ known) text best p (inr i) none is = bounded known text best p i none.1 is
 
 -- each prefix begins the text where it begins the best class's prefix
-pub best_tests : (known : List ClassPages) (text : List ℕ) (best : ClassPages) (texts ps : List (List ℕ)) → prefixes_of known ≡ None ∷ map Some texts → Each (λ p. IsIn p texts) ps → IsBest known text best → Each (λ p. begins p text ≡ begins p (prefix_text best.prefix)) ps
+pub best_tests : (known : List ClassPages) (text : List ℕ) (best : ClassPages) (texts ps : List (List ℕ)) → class_prefixes known ≡ None ∷ map Some texts → Each (λ p. IsIn p texts) ps → IsBest known text best → Each (λ p. begins p text ≡ begins p (prefix_text best.prefix)) ps
 best_tests known text best texts ps first whole is =
     each_weaker (λ p. IsIn p texts) (λ p. begins p text ≡ begins p (prefix_text best.prefix)) ps
     (λ p i. same_test p (prefix_text best.prefix) text is.0 (bounded known text best p (subst (IsIn (Some p)) (sym first) (inr (in_some texts p i))) is.1))

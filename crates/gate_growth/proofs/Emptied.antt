@@ -6,7 +6,7 @@ use Rattle.mc_types.specs.declared.answer.Answer.{Answer}
 use Rattle.mc_types.specs.declared.call.Origin.{Origin}
 use Rattle.mc_types.specs.declared.call.Origin.TheVariants.{Client, CopyOf}
 use Rattle.mc_types.specs.Items.{Item}
-use Rattle.mc_types.specs.Agree.{Agrees}
+use Rattle.mc_types.specs.Agree.{AnswerAgrees}
 use Rattle.fresh_runs.specs.Calls.{Call, End, Read, Unread, Never}
 use Rattle.fresh_runs.specs.Run.{Event, Begins, Calls, Replies, Breaks, Turns, Restarts, held, item_at, calls_so_far, GivesStamp, EndsWell, Run, IsShown}
 use Rattle.fresh_runs.proofs.HeldAfter.{held_after, event_same}
@@ -59,9 +59,9 @@ module _ (emptied : ℕ → Bool) (opening : ℕ → List ℕ → Option Item) w
 
   ends_same : (past : List Event) → AreEmptiedFirst emptied past → (number server : ℕ) (ask : Ask) (origin : Origin) (end : End) → (emptied server ≡ true → WasEmptied past server) → EndsWell opening past number server ask origin end → EndsWell new past number server ask origin end
   ends_same past h number server ask origin (Read stamp answer spaces) first w =
-      (subst (Agrees ask answer) (held_same past server ask.key first) w.0, gives_same past h number origin stamp w.1)
+      (subst (AnswerAgrees ask answer) (held_same past server ask.key first) w.0, gives_same past h number origin stamp w.1)
   ends_same past h number server ask origin (Unread stamp answer spaces) first w =
-      (subst (Agrees ask answer) (held_same past server ask.key first) w.0, gives_same past h number origin stamp w.1)
+      (subst (AnswerAgrees ask answer) (held_same past server ask.key first) w.0, gives_same past h number origin stamp w.1)
   ends_same past h number server ask origin Never first w = tt
 
   -- what replies show

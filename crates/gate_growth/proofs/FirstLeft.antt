@@ -19,7 +19,7 @@ use Rattle.gate_check.specs.declared.gap.Gap.{Gap}
 use Rattle.gate_growth.specs.declared.ledger.row.Refused.{Refused}
 use Rattle.gate_growth.specs.declared.ledger.turning.LeftGap.{LeftGap}
 use Rattle.gate_growth.specs.Marks.{IsTaken, IsClear, NoneLeaves, IsFirstLeft as IsFirstLeaving}
-use Rattle.gate_growth.specs.Rows.{IsNotAfter}
+use Rattle.gate_growth.specs.Rows.{RefusedNotAfter}
 use Rattle.gate_growth.specs.Pages.{IsFirstOf}
 use Rattle.gate_growth.specs.Grown.{plans_at}
 use Rattle.gate_growth.specs.LeftGaps.{IsLeftBy, IfLeftBy, MayFollowAt, IsRefusedLater, IsRefusedNotBefore, IsFirstLeft, IfFirstLeft, earlier}
@@ -54,7 +54,7 @@ module _ (arbitrary : ℕ → Bool) (plans : List Plan) (later : Plan) (good : E
 
 -- ---- places
 
-not_after : (r : Refused) (s h : ℕ) → IsNotAfter r s h → r.generation ≤ h
+not_after : (r : Refused) (s h : ℕ) → RefusedNotAfter r s h → r.generation ≤ h
 not_after r s h (inl lt) = omega (arith, lt)
 not_after r s h (inr e) = let same = e.0 in omega (arith, same)
 

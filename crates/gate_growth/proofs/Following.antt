@@ -10,7 +10,7 @@ use Rattle.gate_coverage.specs.Computed.{cleared}
 use Rattle.gate_coverage.proofs.Choices.{bool_is}
 use Rattle.gate_coverage.proofs.Keeping.{cleared_is_exact}
 use Rattle.gate_growth.specs.Puts.{Puts}
-use Rattle.gate_growth.specs.Marks.{IsTaken, IsClear, IsSoundAt, NoneLeaves, MayFollow, NoneIsSound, FollowingIsSound}
+use Rattle.gate_growth.specs.Marks.{IsTaken, IsClear, IsSoundAt, NoneLeaves, MayStandAfter, NoneIsSound, FollowingIsSound}
 use Rattle.gate_growth.proofs.Marking.{get_below}
 
 pub none_is_sound : NoneIsSound
@@ -38,7 +38,7 @@ module _ (arbitrary : Bool) (plans : List Plan) (later : Plan) (s : ℕ) (good :
       (λ other. inr (other.0, other.1, (λ h p small got puts. other.2 h p small (get_left plans (later ∷ []) h p got) puts)))
       (sound i j a b le (get_left plans (later ∷ []) i a ga) (get_left plans (later ∷ []) j b gb) taken)
 
-  follows : IsSoundAt arbitrary more s → MayFollow arbitrary plans later s
+  follows : IsSoundAt arbitrary more s → MayStandAfter arbitrary plans later s
   follows sound taken = (itself, none)
     where
       seam : slice_get more (length plans) ≡ Some later
@@ -76,7 +76,7 @@ module _ (arbitrary : Bool) (plans : List Plan) (later : Plan) (s : ℕ) (good :
     (λ h p small got puts. ⊎_elim (λ l. u.1 h p small l.0 puts) (λ r. (let at = r.0 in let z : ⊥ = omega (arith, at, small, lt) in z)) (get_last plans later p h got)),
   )
 
-  sound_more : IsSoundAt arbitrary plans s → MayFollow arbitrary plans later s → IsSoundAt arbitrary more s
+  sound_more : IsSoundAt arbitrary plans s → MayStandAfter arbitrary plans later s → IsSoundAt arbitrary more s
   sound_more sound may i j a b le ga gb taken =
       ⊎_elim
       (λ l. ⊎_elim

@@ -8,7 +8,7 @@ use Rattle.route_tree.proofs.Parts.{each_at}
 use Rattle.gate_coverage.proofs.Choices.{both, both_split, either_left, either_right, either_split, bool_is}
 use Rattle.gate_growth.specs.Puts.{Puts}
 use Rattle.gate_growth.specs.declared.ledger.mark.Mark.{Mark}
-use Rattle.gate_growth.specs.Marks.{IsTaken, IsClear, MayHold, Leaves, NoneLeaves, IsFirstLeft, MayFollow, IsRefusedFor, IsMarkOf}
+use Rattle.gate_growth.specs.Marks.{IsTaken, IsClear, MayHold, Leaves, NoneLeaves, IsFirstLeft, MayStandAfter, IsRefusedFor, IsMarkOf}
 use Rattle.gate_growth.specs.Computed.{first_left, refusal, mark_after}
 
 pub get_below : {A : Type 0} (xs : List A) (i : ℕ) (x : A) → slice_get xs i ≡ Some x → i < length xs
@@ -131,7 +131,7 @@ module _ (arbitrary : Bool) (plans : List Plan) (later : Plan) (s : ℕ) where
         (bool_is clear)
 
     module _ (left : Option ℕ) (of : MatchOption left (NoneLeaves arbitrary plans s) (IsFirstLeft arbitrary plans s)) where
-      pub may_follow : refusal left (length plans) taken clear ≡ None → MayFollow arbitrary plans later s
+      pub may_follow : refusal left (length plans) taken clear ≡ None → MayStandAfter arbitrary plans later s
       may_follow e t = clears_itself left of (sym (ap (λ b. cond b (first_left left (length plans) (not clear)) None) (is_taken.1 t)) ∙ e)
 
       pub refused : (g : ℕ) → refusal left (length plans) taken clear ≡ Some g → IsRefusedFor arbitrary plans later s g

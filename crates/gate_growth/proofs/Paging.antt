@@ -19,8 +19,8 @@ use Rattle.gate_growth.specs.declared.ledger.row.Cell.{Cell}
 use Rattle.gate_growth.specs.declared.ledger.row.Refused.{Refused}
 use Rattle.gate_growth.specs.declared.ledger.page.Beginning.{Beginning}
 use Rattle.gate_growth.specs.declared.ledger.page.Beginning.TheVariants.{Any, Own}
-use Rattle.gate_growth.specs.Marks.{IsTaken, IsClear, Leaves, NoneLeaves, IsFirstLeft, MayFollow, IsRefusedFor, IsMarkOf}
-use Rattle.gate_growth.specs.Rows.{servers_of, AreCellsOf, IsNotAfter, IfRefused}
+use Rattle.gate_growth.specs.Marks.{IsTaken, IsClear, Leaves, NoneLeaves, IsFirstLeft, MayStandAfter, IsRefusedFor, IsMarkOf}
+use Rattle.gate_growth.specs.Rows.{cell_servers, AreCellsOf, RefusedNotAfter, IfRefused}
 use Rattle.gate_growth.specs.Pages.{is_any, AreBegun, unnamed_mark, has_cell, with_cell, HasCells, IsPageOf, IsPageWith, IfRefusedOf}
 use Rattle.gate_growth.proofs.Marking.{none_held}
 
@@ -71,21 +71,21 @@ module _ (plans : List Plan) (s t : ℕ) (none_s : AreWithout s plans) (none_t :
 
 -- ---- cells
 
-in_append : (xs : List Cell) (c : Cell) (s : ℕ) → IsIn s (servers_of xs) → IsIn s (servers_of (xs ++ c ∷ []))
+in_append : (xs : List Cell) (c : Cell) (s : ℕ) → IsIn s (cell_servers xs) → IsIn s (cell_servers (xs ++ c ∷ []))
 in_append [] c s h = absurd h
 in_append (x ∷ xs) c s (inl e) = inl e
 in_append (x ∷ xs) c s (inr h) = inr (in_append xs c s h)
 
-in_last : (xs : List Cell) (c : Cell) → IsIn c.server (servers_of (xs ++ c ∷ []))
+in_last : (xs : List Cell) (c : Cell) → IsIn c.server (cell_servers (xs ++ c ∷ []))
 in_last [] c = inl refl
 in_last (x ∷ xs) c = inr (in_last xs c)
 
-each_last : (P : ℕ → Type 0) (xs : List Cell) (c : Cell) → Each P (servers_of xs) → P c.server → Each P (servers_of (xs ++ c ∷ []))
+each_last : (P : ℕ → Type 0) (xs : List Cell) (c : Cell) → Each P (cell_servers xs) → P c.server → Each P (cell_servers (xs ++ c ∷ []))
 each_last P [] c h p = (p, tt)
 each_last P (x ∷ xs) c h p = (h.0, each_last P xs c h.1 p)
 
 -- what each cell's server has, a server that has a cell has
-pub of_cell : (Q : ℕ → Type 0) (cells : List Cell) (s : ℕ) → Each (λ (c : Cell). Q c.server) cells → IsIn s (servers_of cells) → Q s
+pub of_cell : (Q : ℕ → Type 0) (cells : List Cell) (s : ℕ) → Each (λ (c : Cell). Q c.server) cells → IsIn s (cell_servers cells) → Q s
 of_cell Q [] s h i = absurd i
 of_cell Q (c ∷ cells) s h (inl e) = subst Q (sym e) h.0
 of_cell Q (c ∷ cells) s h (inr i) = of_cell Q cells s h.1 i
@@ -96,15 +96,15 @@ of_each P (x ∷ xs) s h (inl e) = subst P (sym e) h.0
 of_each P (x ∷ xs) s h (inr i) = of_each P xs s h.1 i
 
 -- a server that the tree names has a cell
-pub has_cell_of : (cells : List Cell) (plan : Plan) → HasCells cells plan → (s : ℕ) → IsIn s (servers plan) → IsIn s (servers_of cells)
-has_cell_of cells plan have s i = of_each (λ x. IsIn x (servers_of cells)) (servers plan) s have i
+pub has_cell_of : (cells : List Cell) (plan : Plan) → HasCells cells plan → (s : ℕ) → IsIn s (servers plan) → IsIn s (cell_servers cells)
+has_cell_of cells plan have s i = of_each (λ x. IsIn x (cell_servers cells)) (servers plan) s have i
 
-pub without : (s : ℕ) (cells : List Cell) (plans : List Plan) → (IsIn s (servers_of cells) → ⊥) → Each (HasCells cells) plans → AreWithout s plans
+pub without : (s : ℕ) (cells : List Cell) (plans : List Plan) → (IsIn s (cell_servers cells) → ⊥) → Each (HasCells cells) plans → AreWithout s plans
 without s cells plans none named = each_weaker (HasCells cells) (λ p. IsIn s (servers p) → ⊥) plans (λ p have i. none (has_cell_of cells p have s i)) named
 
 module _ (arbitrary : ℕ → Bool) (plans : List Plan) (bound : ℕ) (others : Option ℕ) where
   -- the mark of a new cell
-  new_mark : (cells : List Cell) (s : ℕ) (b : Beginning) → IsPageOf arbitrary plans bound cells others → (IsIn s (servers_of cells) → ⊥) → arbitrary s ≡ is_any b → IsMarkOf (arbitrary s) plans s (unnamed_mark b others)
+  new_mark : (cells : List Cell) (s : ℕ) (b : Beginning) → IsPageOf arbitrary plans bound cells others → (IsIn s (cell_servers cells) → ⊥) → arbitrary s ≡ is_any b → IsMarkOf (arbitrary s) plans s (unnamed_mark b others)
   new_mark cells s Any page none e = subst (λ a. IsMarkOf a plans s (unnamed_mark Any others)) (sym e) (page.others s none)
   new_mark cells s Own page none e =
       let bare : Each (λ p. Puts p s → ⊥) plans = each_weaker (λ p. IsIn s (servers p) → ⊥) (λ p. Puts p s → ⊥) plans (λ p un put. un (put_named p s put)) (without s cells plans none page.named) in
@@ -113,38 +113,38 @@ module _ (arbitrary : ℕ → Bool) (plans : List Plan) (bound : ℕ) (others : 
         first = λ i leaves. none_held plans s _ bare leaves.2;
       })
 
-  pub one_cell : (begun : List Beginning) → AreBegun arbitrary begun → (cells : List Cell) (s : ℕ) (b : Beginning) → s < bound → slice_get begun s ≡ Some b → IsPageOf arbitrary plans bound cells others → (IsIn s (servers_of cells) → ⊥) → IsPageOf arbitrary plans bound (cells ++ record { server = s; mark = unnamed_mark b others } ∷ []) others
+  pub one_cell : (begun : List Beginning) → AreBegun arbitrary begun → (cells : List Cell) (s : ℕ) (b : Beginning) → s < bound → slice_get begun s ≡ Some b → IsPageOf arbitrary plans bound cells others → (IsIn s (cell_servers cells) → ⊥) → IsPageOf arbitrary plans bound (cells ++ record { server = s; mark = unnamed_mark b others } ∷ []) others
   one_cell begun are cells s b lt got page none =
       let cell : Cell = record { server = s; mark = unnamed_mark b others } in
       record {
         marks = each_append (λ (c : Cell). IsMarkOf (arbitrary c.server) plans c.server c.mark) cells (cell ∷ []) page.marks (new_mark cells s b page none (are s b got), tt);
         below = each_last (λ x. x < bound) cells cell page.below lt;
-        named = each_weaker (HasCells cells) (HasCells (cells ++ cell ∷ [])) plans (λ p have. each_weaker (λ x. IsIn x (servers_of cells)) (λ x. IsIn x (servers_of (cells ++ cell ∷ []))) (servers p) (λ x i. in_append cells cell x i) have) page.named;
+        named = each_weaker (HasCells cells) (HasCells (cells ++ cell ∷ [])) plans (λ p have. each_weaker (λ x. IsIn x (cell_servers cells)) (λ x. IsIn x (cell_servers (cells ++ cell ∷ []))) (servers p) (λ x i. in_append cells cell x i) have) page.named;
         others = λ x un. page.others x (λ i. un (in_append cells cell x i));
       }
 
   -- ---- refusals of all servers
 
   pub all_refused : (later : Plan) (cells : List Cell) (found : Option Refused) → HasCells cells later → IfRefused arbitrary plans later cells found → IfRefusedOf arbitrary plans later found
-  all_refused later cells None have h = λ s taken. of_cell (λ x. MayFollow (arbitrary x) plans later x) cells s h (has_cell_of cells later have s (taken_named later s taken)) taken
+  all_refused later cells None have h = λ s taken. of_cell (λ x. MayStandAfter (arbitrary x) plans later x) cells s h (has_cell_of cells later have s (taken_named later s taken)) taken
   all_refused later cells (Some r) have h = record {
     refused = h.refused;
-    first = λ s g refused. of_cell (λ x. (g' : ℕ) → IsRefusedFor (arbitrary x) plans later x g' → IsNotAfter r x g') cells s h.first (has_cell_of cells later have s (taken_named later s refused.0)) g refused;
+    first = λ s g refused. of_cell (λ x. (g' : ℕ) → IsRefusedFor (arbitrary x) plans later x g' → RefusedNotAfter r x g') cells s h.first (has_cell_of cells later have s (taken_named later s refused.0)) g refused;
   }
 
 -- ---- one tree more
 
 module _ (arbitrary : ℕ → Bool) (plans : List Plan) (later : Plan) (bound : ℕ) where
   -- a server that isn't below the bound has no cell
-  no_cell : (cells : List Cell) (s : ℕ) → bound ≤ s → Each (λ x. x < bound) (servers_of cells) → IsIn s (servers_of cells) → ⊥
-  no_cell cells s le below i = let lt : s < bound = of_each (λ x. x < bound) (servers_of cells) s below i in omega (arith, lt, le)
+  no_cell : (cells : List Cell) (s : ℕ) → bound ≤ s → Each (λ x. x < bound) (cell_servers cells) → IsIn s (cell_servers cells) → ⊥
+  no_cell cells s le below i = let lt : s < bound = of_each (λ x. x < bound) (cell_servers cells) s below i in omega (arith, lt, le)
 
-  pub page_after : (old new : List Cell) (others after : Option ℕ) → IsPageOf arbitrary plans bound old others → HasCells old later → servers_of new ≡ servers_of old → AreCellsOf arbitrary (plans ++ later ∷ []) new → (IsMarkOf true plans bound (unnamed_mark Any others) → IsMarkOf true (plans ++ later ∷ []) bound (unnamed_mark Any after)) → IsPageOf arbitrary (plans ++ later ∷ []) bound new after
+  pub page_after : (old new : List Cell) (others after : Option ℕ) → IsPageOf arbitrary plans bound old others → HasCells old later → cell_servers new ≡ cell_servers old → AreCellsOf arbitrary (plans ++ later ∷ []) new → (IsMarkOf true plans bound (unnamed_mark Any others) → IsMarkOf true (plans ++ later ∷ []) bound (unnamed_mark Any after)) → IsPageOf arbitrary (plans ++ later ∷ []) bound new after
   page_after old new others after page have same marks follows =
       let more = plans ++ later ∷ [] in
       let named_old : Each (HasCells old) more = each_append (HasCells old) plans (later ∷ []) page.named (have, tt) in
       let named : Each (HasCells new) more = subst (λ xs. Each (λ p. Each (λ s. IsIn s xs) (servers p)) more) (sym same) named_old in
-      let below : Each (λ x. x < bound) (servers_of new) = subst (Each (λ x. x < bound)) (sym same) page.below in
+      let below : Each (λ x. x < bound) (cell_servers new) = subst (Each (λ x. x < bound)) (sym same) page.below in
       let no_old = no_cell old bound (let h : bound ≤ bound = omega arith in h) page.below in
       let no_new = no_cell new bound (let h : bound ≤ bound = omega arith in h) below in
       let at = follows (page.others bound no_old) in
@@ -157,11 +157,11 @@ module _ (arbitrary : ℕ → Bool) (plans : List Plan) (later : Plan) (bound : 
 
 -- ---- cells of several servers
 
-pub has_cell_in : (cells : List Cell) (s : ℕ) → has_cell cells s ≡ true → IsIn s (servers_of cells)
+pub has_cell_in : (cells : List Cell) (s : ℕ) → has_cell cells s ≡ true → IsIn s (cell_servers cells)
 has_cell_in [] s e = absurd cc
 has_cell_in (c ∷ cells) s e = ⊎_elim (λ h. inl (sym (eqb-true c.server s h))) (λ h. inr (has_cell_in cells s h)) (either_split (nat_eq c.server s) (has_cell cells s) e)
 
-pub has_no_cell : (cells : List Cell) (s : ℕ) → has_cell cells s ≡ false → IsIn s (servers_of cells) → ⊥
+pub has_no_cell : (cells : List Cell) (s : ℕ) → has_cell cells s ≡ false → IsIn s (cell_servers cells) → ⊥
 has_no_cell [] s e i = i
 has_no_cell (c ∷ cells) s e (inl is) = let t : (nat_eq c.server s || has_cell cells s) ≡ true = either_left (nat_eq c.server s) (has_cell cells s) (eq-eqb c.server s (sym is)) in cc
 has_no_cell (c ∷ cells) s e (inr i) =
@@ -196,7 +196,7 @@ module _ (arbitrary : ℕ → Bool) (plans : List Plan) (bound : ℕ) (others : 
 pub bound_more : (arbitrary : ℕ → Bool) (plans : List Plan) (bound bound' : ℕ) (cells : List Cell) (others : Option ℕ) → bound ≤ bound' → IsPageOf arbitrary plans bound cells others → IsPageOf arbitrary plans bound' cells others
 bound_more arbitrary plans bound bound' cells others le page = record {
   marks = page.marks;
-  below = each_weaker (λ s. s < bound) (λ s. s < bound') (servers_of cells) (λ s lt. omega (arith, lt, le)) page.below;
+  below = each_weaker (λ s. s < bound) (λ s. s < bound') (cell_servers cells) (λ s lt. omega (arith, lt, le)) page.below;
   named = page.named;
   others = page.others;
 }

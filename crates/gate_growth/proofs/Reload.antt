@@ -10,7 +10,7 @@ use Rattle.route_tree.specs.Place.{prefix_text, tree_at_place}
 use Rattle.route_tree.proofs.Parts.{each_at}
 use Rattle.route_tree.proofs.Places.{each_left}
 use Rattle.gate_growth.specs.Puts.{Puts}
-use Rattle.gate_growth.specs.Marks.{IsTaken, IsClear, NoneLeaves, MayFollow}
+use Rattle.gate_growth.specs.Marks.{IsTaken, IsClear, NoneLeaves, MayStandAfter}
 use Rattle.gate_growth.proofs.Marking.{get_below}
 use Rattle.gate_growth.proofs.Following.{not_left}
 use Rattle.gate_check.proofs.RowTests.{good_plain}
@@ -73,7 +73,7 @@ module _ (arbitrary : ℕ → Bool) (trees : List Route) (tree : Route) (are : E
       (λ other. inr (other.0, other.1, (λ h t small got puts. other.2 h t small (get_left trees (tree ∷ []) h t got) puts)))
       (since i j a b le (get_left trees (tree ∷ []) i a ga) (get_left trees (tree ∷ []) j b gb) place there server taken)
 
-  may_follow : AreSoundSince arbitrary more → (place : Place) → IsPlaceAmong more place → (server : ℕ) → MayFollow (arbitrary server) (plans_at place trees) (tree_at_place tree place) server
+  may_follow : AreSoundSince arbitrary more → (place : Place) → IsPlaceAmong more place → (server : ℕ) → MayStandAfter (arbitrary server) (plans_at place trees) (tree_at_place tree place) server
   may_follow since place among server taken = (itself, none)
     where
       there : IsPlaceAmong (take (suc (length trees)) more) place
@@ -107,7 +107,7 @@ module _ (arbitrary : ℕ → Bool) (trees : List Route) (tree : Route) (are : E
   none_more i place server lt none h t small got puts =
       ⊎_elim (λ l. none h t small l.0 puts) (λ r. (let at = r.0 in let z : ⊥ = omega (arith, at, small, lt) in z)) (get_last trees tree t h got)
 
-  sound_with : AreSoundSince arbitrary trees → ((place : Place) → IsPlaceAmong more place → (server : ℕ) → MayFollow (arbitrary server) (plans_at place trees) (tree_at_place tree place) server) → AreSoundSince arbitrary more
+  sound_with : AreSoundSince arbitrary trees → ((place : Place) → IsPlaceAmong more place → (server : ℕ) → MayStandAfter (arbitrary server) (plans_at place trees) (tree_at_place tree place) server) → AreSoundSince arbitrary more
   sound_with since may i j a b le ga gb place among server taken =
       ⊎_elim
       (λ l. ⊎_elim

@@ -7,8 +7,8 @@ use Rattle.route_tree.proofs.Parts.{each_weaker}
 use Rattle.route_tree.proofs.Places.{each_append}
 use Rattle.gate_growth.specs.declared.ledger.row.Cell.{Cell}
 use Rattle.gate_growth.specs.declared.ledger.row.Refused.{Refused}
-use Rattle.gate_growth.specs.Marks.{IsFirstLeft, MayFollow, IsRefusedFor}
-use Rattle.gate_growth.specs.Rows.{IsRefusedAt, IsNotAfter, IfRefused, lesser_of, lesser}
+use Rattle.gate_growth.specs.Marks.{IsFirstLeft, MayStandAfter, IsRefusedFor}
+use Rattle.gate_growth.specs.Rows.{IsRefusedAt, RefusedNotAfter, IfRefused, lesser_of, lesser_refusal}
 
 pub not_less : (n m : ℕ) → nat_lt n m ≡ false → m ≤ n
 not_less n m e = ⊎_elim (λ (lt : n < m). absurd (let h : ⊥ = grind arith in h)) (λ le. le) (cases_lt n m)
@@ -32,7 +32,7 @@ module _ (arbitrary : Bool) (plans : List Plan) (later : Plan) (s : ℕ) where
       a.1
 
   -- one that may follow isn't refused
-  pub not_refused : (g : ℕ) → MayFollow arbitrary plans later s → IsRefusedFor arbitrary plans later s g → ⊥
+  pub not_refused : (g : ℕ) → MayStandAfter arbitrary plans later s → IsRefusedFor arbitrary plans later s g → ⊥
   not_refused g may r =
       let m = may r.0 in
       ⊎_elim (λ (x : IsFirstLeft arbitrary plans s g). m.1 g x.0) (λ x. x.2 m.0) r.1
@@ -40,29 +40,29 @@ module _ (arbitrary : Bool) (plans : List Plan) (later : Plan) (s : ℕ) where
 -- ---- one server more
 
 -- the first of two stands before whatever either does
-lesser_stands : (b r : Refused) (server g : ℕ) → IsNotAfter b server g ⊎ IsNotAfter r server g → IsNotAfter (lesser_of b r) server g
+lesser_stands : (b r : Refused) (server g : ℕ) → RefusedNotAfter b server g ⊎ RefusedNotAfter r server g → RefusedNotAfter (lesser_of b r) server g
 lesser_stands b r server g h =
-    (elim (nat_lt r.generation b.generation) as (λ t. nat_lt r.generation b.generation ≡ t → IsNotAfter (cond t r (cond (nat_lt b.generation r.generation) b (cond (nat_lt r.server b.server) r b))) server g) [
+    (elim (nat_lt r.generation b.generation) as (λ t. nat_lt r.generation b.generation ≡ t → RefusedNotAfter (cond t r (cond (nat_lt b.generation r.generation) b (cond (nat_lt r.server b.server) r b))) server g) [
       | true ↦ λ e. let lt = leb-true _ _ e in ⊎_elim (λ x. later_b r.generation r.server lt x) (λ x. x) h
       | false ↦ λ e.
-          (elim (nat_lt b.generation r.generation) as (λ t. nat_lt b.generation r.generation ≡ t → IsNotAfter (cond t b (cond (nat_lt r.server b.server) r b)) server g) [
+          (elim (nat_lt b.generation r.generation) as (λ t. nat_lt b.generation r.generation ≡ t → RefusedNotAfter (cond t b (cond (nat_lt r.server b.server) r b)) server g) [
             | true ↦ λ f. let lt = leb-true _ _ f in ⊎_elim (λ x. x) (λ x. later_r b.generation b.server lt x) h
             | false ↦ λ f.
                 let le = not_less r.generation b.generation e in
                 let ge = not_less b.generation r.generation f in
                 let same : r.generation ≡ b.generation = omega (arith, le, ge) in
-                (elim (nat_lt r.server b.server) as (λ t. nat_lt r.server b.server ≡ t → IsNotAfter (cond t r b) server g) [
+                (elim (nat_lt r.server b.server) as (λ t. nat_lt r.server b.server ≡ t → RefusedNotAfter (cond t r b) server g) [
                   | true ↦ λ k. let lt = leb-true _ _ k in ⊎_elim (λ x. by r.generation b.generation r.server b.server same (omega (arith, lt)) x) (λ x. x) h
                   | false ↦ λ k. let more = not_less r.server b.server k in ⊎_elim (λ x. x) (λ x. by b.generation r.generation b.server r.server (sym same) more x) h
                 ]) refl
           ]) refl
     ]) refl
   where
-    later_b : (n s : ℕ) → n < b.generation → IsNotAfter b server g → (n < g) ⊎ ((n ≡ g) × (s ≤ server))
+    later_b : (n s : ℕ) → n < b.generation → RefusedNotAfter b server g → (n < g) ⊎ ((n ≡ g) × (s ≤ server))
     later_b n s lt (inl x) = inl (omega (arith, lt, x))
     later_b n s lt (inr x) = inl (let e = x.0 in omega (arith, lt, e))
 
-    later_r : (n s : ℕ) → n < r.generation → IsNotAfter r server g → (n < g) ⊎ ((n ≡ g) × (s ≤ server))
+    later_r : (n s : ℕ) → n < r.generation → RefusedNotAfter r server g → (n < g) ⊎ ((n ≡ g) × (s ≤ server))
     later_r n s lt (inl x) = inl (omega (arith, lt, x))
     later_r n s lt (inr x) = inl (let e = x.0 in omega (arith, lt, e))
 
@@ -84,10 +84,10 @@ lesser_is P b r pb pr =
 
 module _ (arbitrary : ℕ → Bool) (plans : List Plan) (later : Plan) where
   abbrev May : Cell → Type 0
-  May c = MayFollow (arbitrary c.server) plans later c.server
+  May c = MayStandAfter (arbitrary c.server) plans later c.server
 
   abbrev Stands : Refused → Cell → Type 0
-  Stands r c = (g : ℕ) → IsRefusedFor (arbitrary c.server) plans later c.server g → IsNotAfter r c.server g
+  Stands r c = (g : ℕ) → IsRefusedFor (arbitrary c.server) plans later c.server g → RefusedNotAfter r c.server g
 
   abbrev Refuses : Refused → Type 0
   Refuses r = IsRefusedFor (arbitrary r.server) plans later r.server r.generation
@@ -98,7 +98,7 @@ module _ (arbitrary : ℕ → Bool) (plans : List Plan) (later : Plan) where
   here_refuses : (c : Cell) (r : Refused) → r.server ≡ c.server → IsRefusedFor (arbitrary c.server) plans later c.server r.generation → Refuses r
   here_refuses c r same is = subst (λ s. IsRefusedFor (arbitrary s) plans later s r.generation) (sym same) is
 
-  pub more_refused : (cells : List Cell) (cell : Cell) (best here : Option Refused) → IfRefused arbitrary plans later cells best → IsRefusedAt (arbitrary cell.server) plans later cell.server here → IfRefused arbitrary plans later (cells ++ cell ∷ []) (lesser best here)
+  pub more_refused : (cells : List Cell) (cell : Cell) (best here : Option Refused) → IfRefused arbitrary plans later cells best → IsRefusedAt (arbitrary cell.server) plans later cell.server here → IfRefused arbitrary plans later (cells ++ cell ∷ []) (lesser_refusal best here)
   more_refused cells cell None None h at = each_append May cells (cell ∷ []) h (at, tt)
   more_refused cells cell (Some b) None h at = record {
     refused = h.refused;

@@ -10,7 +10,7 @@ use Rattle.mc_types.specs.declared.call.Origin.TheVariants.{Client}
 use Rattle.mc_types.specs.Items.{Item}
 use Rattle.fresh_runs.specs.Calls.{Call}
 use Rattle.fresh_runs.specs.Cover.{TakesIn, IsCleared}
-use Rattle.fresh_runs.specs.Untouched.{IsUntouched, IsCoveredOrUntouched}
+use Rattle.fresh_runs.specs.Untouched.{KeyIsUntouched, IsCoveredOrUntouched}
 use Rattle.fresh_runs.proofs.UntouchedFresh.{fresh, fresh_by_number, runs_fresh_from}
 use Rattle.route_tree.specs.Tag.{key_hash}
 use Rattle.route_tree.specs.Each.{Each}
@@ -24,7 +24,7 @@ use Rattle.route_tree.proofs.Words.{IsOwn, own_calls}
 use Rattle.route_tree.proofs.Places.{each_append, each_left, each_right, tests}
 use Rattle.gate_coverage.specs.declared.deleting.Deleting.{Deleting}
 use Rattle.gate_coverage.specs.declared.deleting.Deleting.TheVariants as kinds
-use Rattle.gate_coverage.specs.Cover.{IsTaking, Covers, dialect_of}
+use Rattle.gate_coverage.specs.Cover.{IsTaking, Covers, deleting_dialect}
 use Rattle.gate_coverage.proofs.Covering.{from_takes, copy_is_get, taking_get}
 use Rattle.gate_growth.specs.Puts.{Puts}
 use Rattle.gate_check.specs.Places.{IsClassOf, place_at, CoversAt}
@@ -94,7 +94,7 @@ abbrev kind_of : Dialect → Deleting
 kind_of dialects.Classic = kinds.Delete
 kind_of dialects.Meta = kinds.Md
 
-kind_is : (d : Dialect) → d ≡ dialect_of (kind_of d)
+kind_is : (d : Dialect) → d ≡ deleting_dialect (kind_of d)
 kind_is dialects.Classic = refl
 kind_is dialects.Meta = refl
 
@@ -120,7 +120,7 @@ module _ (arbitrary : ℕ → Bool) (trees : List Route) (are : Each IsTree tree
       clear (kind_of delete.dialect) delete word.0 op (kind_is delete.dialect) calls reply from word.1 ack
 
   -- where no tree up to the delete's puts items on it, the server was untouched
-  untouched_of : (n : ℕ) (key : List ℕ) (server : ℕ) → arbitrary server ≡ false → ((h : ℕ) (t : Route) → h ≤ loaded.generation n → slice_get trees h ≡ Some t → Puts (tree_at t key) server → ⊥) → IsUntouched (tree_words plans) opening n key server
+  untouched_of : (n : ℕ) (key : List ℕ) (server : ℕ) → arbitrary server ≡ false → ((h : ℕ) (t : Route) → h ≤ loaded.generation n → slice_get trees h ≡ Some t → Puts (tree_at t key) server → ⊥) → KeyIsUntouched (tree_words plans) opening n key server
   untouched_of n key server empty none =
       record {
         empty = ⊎_elim (λ e. e) (λ first. absurd (none 0 first.0 (omega arith) first.1 first.2)) (opens server key empty);
@@ -129,7 +129,7 @@ module _ (arbitrary : ℕ → Bool) (trees : List Route) (are : Each IsTree tree
             none (loaded.generation k) (tree k) (loaded.rising k n lt) (loaded.loaded k) (ask, word.0, calls, reply, from, w, puts);
       }
 
-  covered : (n m : ℕ) (delete ask : Ask) → n < m → delete.op ≡ Delete → ask.key ≡ delete.key → (calls : List Call) (reply : Answer) (from : Option ℕ) → tree_words plans m ask calls reply from → (server : ℕ) → TakesIn calls from server → IsCleared (tree_words plans) n delete server ⊎ IsUntouched (tree_words plans) opening n delete.key server
+  covered : (n m : ℕ) (delete ask : Ask) → n < m → delete.op ≡ Delete → ask.key ≡ delete.key → (calls : List Call) (reply : Answer) (from : Option ℕ) → tree_words plans m ask calls reply from → (server : ℕ) → TakesIn calls from server → IsCleared (tree_words plans) n delete server ⊎ KeyIsUntouched (tree_words plans) opening n delete.key server
   covered n m delete ask lt op same calls reply from word server takes =
       let key = delete.key in
       let i = loaded.generation n in

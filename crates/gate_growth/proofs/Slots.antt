@@ -5,7 +5,7 @@ use Rattle.route_tree.specs.declared.place.Place.{Place}
 use Rattle.route_tree.specs.Plan.{Server}
 use Rattle.route_tree.specs.Route.{Route, Pool}
 use Rattle.route_tree.specs.Place.{tree_at_place}
-use Rattle.gate_coverage.specs.Computed.{is_get, is_taking}
+use Rattle.gate_coverage.specs.Computed.{asks_get, is_taking}
 use Rattle.gate_coverage.proofs.Choices.{both_split, either_split}
 use Rattle.gate_coverage.proofs.Copying.{takes_is_taken}
 use Rattle.gate_coverage.proofs.Keeping.{cleared_is_exact}
@@ -22,8 +22,8 @@ server_taken t s h =
     let taken = takes_is_taken (Server t) h.0 s h.2 in
     ⊎_elim
     (λ shown. eqb-true t s shown)
-    (λ copied. absurd (let f = (both_split (is_get h.0) false copied).1 in cc))
-    (either_split (nat_eq t s) (is_get h.0 && false) (both_split (is_taking h.0) (nat_eq t s || (is_get h.0 && false)) taken).1)
+    (λ copied. absurd (let f = (both_split (asks_get h.0) false copied).1 in cc))
+    (either_split (nat_eq t s) (asks_get h.0 && false) (both_split (is_taking h.0) (nat_eq t s || (asks_get h.0 && false)) taken).1)
 
 twice_not : (b : Bool) → b ≡ true → not (not b) ≡ true
 twice_not true e = refl

@@ -15,7 +15,7 @@ use Rattle.route_tree.specs.Plan.{Plan, Plans, PlanPolicies, Server, Null, Faili
 use Rattle.route_tree.specs.Word.{Given, rank, plain_get, refill, is_plain_get, Word, WordOfAll, WordOfFirst, WordOfHead, WordOfPolicy, AfterRefill, Refilled, AfterWarm, AfterCold, WarmUpWord}
 use Rattle.route_tree.proofs.Parts.{each_at, match_bool}
 use Rattle.route_tree.proofs.Words.{IsOwn, own_calls}
-use Rattle.gate_coverage.specs.Computed.{is_get, fails, hits}
+use Rattle.gate_coverage.specs.Computed.{asks_get, fails, hits}
 use Rattle.gate_coverage.proofs.Choices.{both, either_left, either_right, bool_is, if_true, if_false, true_match, false_match, by_get, only_get, only_other, is_get_of, no_get_of}
 use Rattle.gate_coverage.proofs.Failing.{word_fails, word_hits}
 use Rattle.gate_coverage.proofs.Copying.{refill_adds}
@@ -28,7 +28,7 @@ get_puts : (op : Op) → op ≡ Get → IsPutting op → ⊥
 get_puts Get e p = p
 get_puts op e p = cc
 
-no_get : (op : Op) → is_get op ≡ false → not (is_get op) ≡ true
+no_get : (op : Op) → asks_get op ≡ false → not (asks_get op) ≡ true
 no_get op e = ap not e
 
 -- through a cold and a warm side: a call that puts is one of a cold part, of the warm one, or of an add of what the warm one hit
@@ -64,21 +64,21 @@ module _ (s : ℕ) where
         let call : Call = record { server = t; ask = ask; origin = origin; outcome = w.0 } in
         let is : call ≡ h.1 = only_one call h.1 h.0 (subst (λ l. slice_get l h.0 ≡ Some h.1) w.2 h.2) in
         let puts : IsPutting ask.op = subst (λ (c : Call). IsPutting c.ask.op) (sym is) h.4 in
-        both (not (is_get ask.op)) (nat_eq t s) (no_get ask.op (no_get_of ask.op (λ e. get_puts ask.op e puts))) (eq-eqb t s (ap (λ (c : Call). c.server) is ∙ h.3))
+        both (not (asks_get ask.op)) (nat_eq t s) (no_get ask.op (no_get_of ask.op (λ e. get_puts ask.op e puts))) (eq-eqb t s (ap (λ (c : Call). c.server) is ∙ h.3))
     word_stores Null ask origin b calls given w h = absurd (puts_none s (subst (λ l. PutsIn l s) w.0 h))
     word_stores Failing ask origin b calls given w h = absurd (puts_none s (subst (λ l. PutsIn l s) w.0 h))
     word_stores (AllSync ps) ask origin b calls given w h = all_stores ps ask origin b calls w.0 w.1 h
     word_stores (Failover ps) ask origin b calls given w h = first_stores ps ask origin b calls given w h
     word_stores (MissFailover ps) ask origin b calls given w h =
         by_get ask.op _
-        (λ e. if_true (is_get ask.op) _ _ (is_get_of ask.op e) (some_stores ps ask origin b calls given (only_get ask.op _ _ e w) h))
-        (λ n. if_false (is_get ask.op) _ _ (no_get_of ask.op n) (head_stores ps ask origin b calls given (only_other ask.op _ _ n w) h))
+        (λ e. if_true (asks_get ask.op) _ _ (is_get_of ask.op e) (some_stores ps ask origin b calls given (only_get ask.op _ _ e w) h))
+        (λ n. if_false (asks_get ask.op) _ _ (no_get_of ask.op n) (head_stores ps ask origin b calls given (only_other ask.op _ _ n w) h))
     word_stores (WarmUp cold warm e) ask origin b calls given w h =
         by_get ask.op _
         (λ op. warm_up_puts s ask (Word cold ask origin) (Word warm (plain_get ask) origin) (λ hit i. Word cold (refill ask hit e) (CopyOf i)) (stores ask.op s (WarmUp cold warm e) ≡ true)
         (λ b' c' g' w' k. either_left (stores ask.op s cold) _ (word_stores cold ask origin b' c' g' w' k))
-        (λ b' c' g' w' k. either_right (stores ask.op s cold) _ (both (is_get ask.op) _ (is_get_of ask.op op) (either_left (stores Get s warm) _ (word_stores warm (plain_get ask) origin b' c' g' w' k))))
-        (λ b' d i c2 c3 g stored v z a k. either_right (stores ask.op s cold) _ (both (is_get ask.op) _ (is_get_of ask.op op) (either_right (stores Get s warm) _ (both (hits Get warm) _ (word_hits warm (plain_get ask) origin b' c2 g v z) (subst (λ o. stores o s cold ≡ true) (refill_adds ask g.reply e) (word_stores cold (refill ask g.reply e) (CopyOf i) d c3 stored a k))))))
+        (λ b' c' g' w' k. either_right (stores ask.op s cold) _ (both (asks_get ask.op) _ (is_get_of ask.op op) (either_left (stores Get s warm) _ (word_stores warm (plain_get ask) origin b' c' g' w' k))))
+        (λ b' d i c2 c3 g stored v z a k. either_right (stores ask.op s cold) _ (both (asks_get ask.op) _ (is_get_of ask.op op) (either_right (stores Get s warm) _ (both (hits Get warm) _ (word_hits warm (plain_get ask) origin b' c2 g v z) (subst (λ o. stores o s cold ≡ true) (refill_adds ask g.reply e) (word_stores cold (refill ask g.reply e) (CopyOf i) d c3 stored a k))))))
         b calls given (only_get ask.op _ _ op w) h)
         (λ n. either_left (stores ask.op s cold) _ (word_stores cold ask origin b calls given (only_other ask.op _ _ n w) h))
     word_stores (ByOperation policies) ask origin b calls given w h = policy_stores policies ask origin b calls given w h

@@ -19,7 +19,7 @@ use Rattle.route_tree.specs.Word.{Given, rank, given_by, plain_get, refill, Word
 use Rattle.route_tree.proofs.Parts.{Replies, HasSome, Rest, then_rest}
 use Rattle.route_tree.proofs.Gets.{NamesHit, get_names_hit}
 use Rattle.route_tree.proofs.Going.{first_rest, has_word, all_some, first_some, after_refill_some, after_warm_some, after_cold_some}
-use Rattle.gate_coverage.specs.Computed.{is_get, fails, hits}
+use Rattle.gate_coverage.specs.Computed.{asks_get, fails, hits}
 use Rattle.gate_coverage.proofs.Choices.{both_split, either_split, bool_is, cond_true, cond_false, match_true, match_false, get_is, other_is, get_of, no_get_of, one_less}
 use Rattle.gate_coverage.proofs.Low.{low, first_given}
 use Rattle.gate_coverage.proofs.Copying.{refill_adds}
@@ -56,7 +56,7 @@ module _ (ask : Ask) (origin : Origin) (putting : IsPutting ask.op) (other : ask
     pub asks_word : (p : Plan) → IsGood p → (b : ℕ) → stores ask.op s p ≡ true → PutsBy (Word p ask origin) b s
     asks_word (Server t) good b h =
         let call : Call = record { server = t; ask = ask; origin = origin; outcome = Failed } in
-        (call ∷ [], ([], given_by b Failed, (Failed, tt, refl, refl)), (0, call, refl, eqb-true t s (both_split (not (is_get ask.op)) (nat_eq t s) h).1, putting))
+        (call ∷ [], ([], given_by b Failed, (Failed, tt, refl, refl)), (0, call, refl, eqb-true t s (both_split (not (asks_get ask.op)) (nat_eq t s) h).1, putting))
     asks_word Null good b h = absurd cc
     asks_word Failing good b h = absurd cc
     asks_word (AllSync ps) good b h =
@@ -65,13 +65,13 @@ module _ (ask : Ask) (origin : Origin) (putting : IsPutting ask.op) (other : ask
         (w.0, (w.1.0, g.0, (w.1.1, w.1.2, g.1)), w.2)
     asks_word (Failover ps) good b h = asks_first ps good.1 b h
     asks_word (MissFailover ps) good b h =
-        let w = asks_head ps good.1 b (cond_false (is_get ask.op) _ _ (no_get_of ask.op other) h) in
+        let w = asks_head ps good.1 b (cond_false (asks_get ask.op) _ _ (no_get_of ask.op other) h) in
         (w.0, (w.1.0, w.1.1, other_is ask.op _ _ other w.1.2), w.2)
     asks_word (WarmUp cold warm e) good b h =
         ⊎_elim
         (λ (here : stores ask.op s cold ≡ true). let w = asks_word cold good.0 b here in (w.0, (w.1.0, w.1.1, other_is ask.op _ _ other w.1.2), w.2))
-        (λ more. absurd (other (get_of ask.op (both_split (is_get ask.op) (stores Get s warm || (hits Get warm && stores Add s cold)) more).0)))
-        (either_split (stores ask.op s cold) (is_get ask.op && (stores Get s warm || (hits Get warm && stores Add s cold))) h)
+        (λ more. absurd (other (get_of ask.op (both_split (asks_get ask.op) (stores Get s warm || (hits Get warm && stores Add s cold)) more).0)))
+        (either_split (stores ask.op s cold) (asks_get ask.op && (stores Get s warm || (hits Get warm && stores Add s cold))) h)
     asks_word (ByOperation policies) good b h = asks_policy policies good b h
 
     asks_some : (ps : Plans) → AreGood ps → (b : ℕ) → stores_some ask.op s ps ≡ true → PutsBy (WordOfAll ps ask origin) b s

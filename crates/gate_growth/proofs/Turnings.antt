@@ -17,10 +17,10 @@ use Rattle.gate_growth.specs.declared.ledger.turning.Successor.{Successor}
 use Rattle.gate_growth.specs.declared.ledger.turning.LeftGap.{LeftGap}
 use Rattle.gate_growth.specs.Grown.{plans_at}
 use Rattle.gate_growth.specs.Pages.{IsPageOf}
-use Rattle.gate_growth.specs.Classes.{prefixes_of, IsBest, IsBestAt, ArePagesBelow, ArePagesOf}
-use Rattle.gate_growth.specs.PlaceRows.{rows_below, rows_of}
+use Rattle.gate_growth.specs.Classes.{class_prefixes, IsBest, IsBestAt, ArePagesBelow, ArePagesOf}
+use Rattle.gate_growth.specs.PlaceRows.{rows_below, place_rows}
 use Rattle.gate_growth.specs.LeftGaps.{IfFirstLeft, earlier}
-use Rattle.gate_growth.specs.Turning.{AreBefore, AreKnown, Turns, TurnsBelow, TurnsPage, TurnsGap}
+use Rattle.gate_growth.specs.Turning.{AreBefore, AreKnown, TurnsTrees, TurnsBelow, TurnsPage, TurnsGap}
 use Rattle.gate_growth.proofs.Paging.{bound_more}
 use Rattle.gate_growth.proofs.Coarse.{plans_coarse, best_tests}
 use Rattle.gate_growth.proofs.RowPlaces.{rows_append, rows_one}
@@ -88,15 +88,15 @@ turn_class known step prefix pages gap r end size below arbitrary trees m bound 
 
 -- ---- several classes
 
-pub turns_none : (known : List ClassPages) (step : Successor) → Turns known step [] None
+pub turns_none : (known : List ClassPages) (step : Successor) → TurnsTrees known step [] None
 turns_none known step arbitrary trees m bound b le k = (tt, tt)
 
-pub turns_both : (known : List ClassPages) (step : Successor) (xs ys : List ClassPages) (a b : Option LeftGap) → Turns known step xs a → Turns known step ys b → Turns known step (xs ++ ys) (earlier a b)
+pub turns_both : (known : List ClassPages) (step : Successor) (xs ys : List ClassPages) (a b : Option LeftGap) → TurnsTrees known step xs a → TurnsTrees known step ys b → TurnsTrees known step (xs ++ ys) (earlier a b)
 turns_both known step xs ys a b h g arbitrary trees m bound before le k =
     let p = h arbitrary trees m bound before le k in
     let q = g arbitrary trees m bound before le k in
     let more = trees ++ step.tree.now ∷ [] in
-    let rows = ap (λ (os : List (Option (List ℕ))). rows_of os step.modulus) (map-append (λ (c : ClassPages). c.prefix) xs ys) ∙ rows_append (prefixes_of xs) (prefixes_of ys) step.modulus in (
+    let rows = ap (λ (os : List (Option (List ℕ))). place_rows os step.modulus) (map-append (λ (c : ClassPages). c.prefix) xs ys) ∙ rows_append (class_prefixes xs) (class_prefixes ys) step.modulus in (
       each_append (ArePagesOf arbitrary more step.modulus (length step.begun.now)) xs ys p.0 q.0,
-      subst (λ (l : List Place). IfFirstLeft arbitrary trees step.tree.now l (earlier a b)) (sym rows) (earlier_first arbitrary trees step.tree.now (rows_of (prefixes_of xs) step.modulus) (rows_of (prefixes_of ys) step.modulus) a b p.1 q.1),
+      subst (λ (l : List Place). IfFirstLeft arbitrary trees step.tree.now l (earlier a b)) (sym rows) (earlier_first arbitrary trees step.tree.now (place_rows (class_prefixes xs) step.modulus) (place_rows (class_prefixes ys) step.modulus) a b p.1 q.1),
     )

@@ -10,8 +10,8 @@ use Rattle.gate_growth.specs.Pages.{IsPageOf}
 use Rattle.gate_growth.specs.declared.ledger.page.Page.{Page}
 use Rattle.gate_growth.specs.declared.ledger.class.ClassPages.{ClassPages}
 
-abbrev pub prefixes_of : List ClassPages → List (Option (List ℕ))
-prefixes_of classes = map (λ (c : ClassPages). c.prefix) classes
+abbrev pub class_prefixes : List ClassPages → List (Option (List ℕ))
+class_prefixes classes = map (λ (c : ClassPages). c.prefix) classes
 
 -- the prefix, where there is one
 abbrev pub given_one : Option (List ℕ) → List (List ℕ)
@@ -34,7 +34,7 @@ IsBest classes text best = (begins (prefix_text best.prefix) text ≡ true) × N
 
 -- the first class has no prefix, and each other one has one
 abbrev pub AreClasses : List ClassPages → Type 0
-AreClasses classes = (texts : List (List ℕ)) × (prefixes_of classes ≡ None ∷ map Some texts)
+AreClasses classes = (texts : List (List ℕ)) × (class_prefixes classes ≡ None ∷ map Some texts)
 
 -- the class at this index is the best for the text
 abbrev pub IsBestAt : List ClassPages → List ℕ → ℕ → Type 0

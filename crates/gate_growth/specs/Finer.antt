@@ -11,5 +11,5 @@ IfFinerRows trees tree found =
     MatchOption found (AreTooManyPlaces (trees ++ tree ∷ [])) (λ finer. AreRowsOf (trees ++ tree ∷ []) (None ∷ map Some finer.texts.items) finer.modulus)
 
 -- the second begins the text and is longer than the first
-abbrev pub is_longer : List ℕ → List ℕ → List ℕ → Bool
-is_longer other own text = begins own text && nat_lt (length other) (length own)
+abbrev pub begins_longer : List ℕ → List ℕ → List ℕ → Bool
+begins_longer other own text = begins own text && nat_lt (length other) (length own)

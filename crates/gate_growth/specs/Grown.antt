@@ -13,7 +13,7 @@ use Rattle.route_tree.specs.At.{tree_at}
 use Rattle.route_tree.specs.Place.{IsLeastCommonMultiple, tree_at_place}
 use Rattle.route_tree.specs.Word.{tree_words}
 use Rattle.gate_growth.specs.Puts.{Puts}
-use Rattle.gate_growth.specs.Marks.{IsTaken, IsClear, MayFollow}
+use Rattle.gate_growth.specs.Marks.{IsTaken, IsClear, MayStandAfter}
 use Rattle.gate_check.specs.Places.{IsClassOf}
 use Rattle.gate_check.specs.Valid.{all_sizes, all_prefixes}
 use Rattle.gate_check.specs.Sound.{AreSound, AreLoaded}
@@ -59,7 +59,7 @@ abbrev pub ReloadIsSound : Type 0
 ReloadIsSound =
     (arbitrary : ℕ → Bool) (trees : List Route) (tree : Route) → Each IsTree (trees ++ tree ∷ [])
     → AreSoundSince arbitrary (trees ++ tree ∷ [])
-    ↔ (AreSoundSince arbitrary trees × ((place : Place) → IsPlaceAmong (trees ++ tree ∷ []) place → (server : ℕ) → MayFollow (arbitrary server) (plans_at place trees) (tree_at_place tree place) server))
+    ↔ (AreSoundSince arbitrary trees × ((place : Place) → IsPlaceAmong (trees ++ tree ∷ []) place → (server : ℕ) → MayStandAfter (arbitrary server) (plans_at place trees) (tree_at_place tree place) server))
 
 -- at any place of more trees, trees are what they are at a place of theirs, so that their marks there are known
 abbrev pub RefinedIsKnown : Type 0

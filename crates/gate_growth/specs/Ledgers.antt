@@ -4,7 +4,7 @@ use Rattle.route_tree.specs.Each.{Each}
 use Rattle.route_tree.specs.Route.{Route, IsTree}
 use Rattle.gate_check.specs.declared.gap.Gap.{Gap}
 use Rattle.gate_growth.specs.Pages.{AreBegun}
-use Rattle.gate_growth.specs.PlaceRows.{rows_of, AreRowsOf, AreTooManyPlaces}
+use Rattle.gate_growth.specs.PlaceRows.{place_rows, AreRowsOf, AreTooManyPlaces}
 use Rattle.gate_growth.specs.LeftGaps.{IsFirstLeft}
 use Rattle.gate_growth.specs.Turning.{AreKnown}
 use Rattle.gate_growth.specs.Grown.{AreSoundSince}
@@ -35,7 +35,7 @@ pub record IsFirstLeftGap (arbitrary : ℕ → Bool) (trees : List Route) (tree 
   pub prefixes : List (Option (List ℕ))
   pub modulus : ℕ
   pub are_rows : AreRowsOf (trees ++ tree ∷ []) prefixes modulus
-  pub first : IsFirstLeft arbitrary trees tree (rows_of prefixes modulus) g found
+  pub first : IsFirstLeft arbitrary trees tree (place_rows prefixes modulus) g found
   pub unsound : AreSoundSince arbitrary (trees ++ tree ∷ []) → ⊥
 
 -- why the tree may not follow

@@ -9,8 +9,8 @@ use Rattle.gate_coverage.specs.declared.deleting.Deleting.TheVariants as kinds
 use Rattle.gate_check.specs.Gate.{IsGapAt}
 use Rattle.gate_check.specs.Looking.{IsFirstTaken}
 use Rattle.gate_check.specs.declared.gap.Gap.{Gap}
-use Rattle.gate_growth.specs.Marks.{MayFollow, IsRefusedFor}
-use Rattle.gate_growth.specs.Rows.{IsNotAfter}
+use Rattle.gate_growth.specs.Marks.{MayStandAfter, IsRefusedFor}
+use Rattle.gate_growth.specs.Rows.{RefusedNotAfter}
 use Rattle.gate_growth.specs.Grown.{plans_at}
 use Rattle.gate_growth.specs.declared.ledger.turning.LeftGap.{LeftGap}
 
@@ -18,7 +18,7 @@ use Rattle.gate_growth.specs.declared.ledger.turning.LeftGap.{LeftGap}
 -- the gap there for the earliest generation, this one, counted from 0; of that the smallest server, then the first operation. Both kinds of delete leave the server, of which `delete` is named
 pub record IsLeftBy (arbitrary : ℕ → Bool) (plans : List Plan) (later : Plan) (g : ℕ) (found : Gap) : Type 0 where
   pub refused : IsRefusedFor (arbitrary found.server) plans later found.server g
-  pub first : (server h : ℕ) → IsRefusedFor (arbitrary server) plans later server h → IsNotAfter (record { server = found.server; generation = g }) server h
+  pub first : (server h : ℕ) → IsRefusedFor (arbitrary server) plans later server h → RefusedNotAfter (record { server = found.server; generation = g }) server h
   pub taken : IsFirstTaken later found.server found.op
   pub kind : found.deleting ≡ kinds.Delete
   -- it is a gap of that generation's tree and this one
@@ -28,7 +28,7 @@ pub record IsLeftBy (arbitrary : ℕ → Bool) (plans : List Plan) (later : Plan
 
 -- whatever the server, the tree may follow
 abbrev pub MayFollowBy : (ℕ → Bool) → List Plan → Plan → Type 0
-MayFollowBy arbitrary plans later = (server : ℕ) → MayFollow (arbitrary server) plans later server
+MayFollowBy arbitrary plans later = (server : ℕ) → MayStandAfter (arbitrary server) plans later server
 
 -- the tree may follow there, or this is its gap
 abbrev pub IfLeftBy : (ℕ → Bool) → List Plan → Plan → Place → Option LeftGap → Type 0

@@ -41,8 +41,8 @@ module _ (arbitrary : Bool) where
   IsFirstLeft plans server g = Leaves plans g server × ((i : ℕ) → i < g → Leaves plans i server → ⊥)
 
   -- a server that the tree takes is cleared by it, and left by none before it
-  abbrev pub MayFollow : List Plan → Plan → ℕ → Type 0
-  MayFollow plans later server = IsTaken later server → IsClear later server × NoneLeaves plans server
+  abbrev pub MayStandAfter : List Plan → Plan → ℕ → Type 0
+  MayStandAfter plans later server = IsTaken later server → IsClear later server × NoneLeaves plans server
 
   -- the tree takes the server, which this one is the first to leave: one before it, or itself
   abbrev pub IsRefusedFor : List Plan → Plan → ℕ → ℕ → Type 0
@@ -62,4 +62,4 @@ NoneIsSound = (arbitrary : Bool) (server : ℕ) → IsSoundAt arbitrary [] serve
 abbrev pub FollowingIsSound : Type 0
 FollowingIsSound =
     (arbitrary : Bool) (plans : List Plan) (later : Plan) (server : ℕ) → Each IsGood plans → IsGood later
-    → IsSoundAt arbitrary (plans ++ later ∷ []) server ↔ (IsSoundAt arbitrary plans server × MayFollow arbitrary plans later server)
+    → IsSoundAt arbitrary (plans ++ later ∷ []) server ↔ (IsSoundAt arbitrary plans server × MayStandAfter arbitrary plans later server)

@@ -8,8 +8,8 @@ use Rattle.gate_growth.specs.declared.ledger.row.Cell.{Cell}
 use Rattle.gate_growth.specs.declared.ledger.row.Refused.{Refused}
 use Rattle.gate_growth.specs.declared.ledger.page.Beginning.{Beginning}
 use Rattle.gate_growth.specs.declared.ledger.page.Beginning.TheVariants.{Any, Own}
-use Rattle.gate_growth.specs.Marks.{IsMarkOf, MayFollow, IsRefusedFor}
-use Rattle.gate_growth.specs.Rows.{servers_of, AreCellsOf, IsNotAfter}
+use Rattle.gate_growth.specs.Marks.{IsMarkOf, MayStandAfter, IsRefusedFor}
+use Rattle.gate_growth.specs.Rows.{cell_servers, AreCellsOf, RefusedNotAfter}
 
 -- whether it is anything
 abbrev pub is_any : Beginning → Bool
@@ -40,26 +40,26 @@ with_cell cells cell = if has_cell cells cell.server then cells else cells ++ ce
 
 -- each server that the plain tree names has a cell
 abbrev pub HasCells : List Cell → Plan → Type 0
-HasCells cells plan = Each (λ s. IsIn s (servers_of cells)) (servers plan)
+HasCells cells plan = Each (λ s. IsIn s (cell_servers cells)) (servers plan)
 
 -- the page of a place after these trees: the marks of the servers that they name there, all below the bound, and those of an arbitrary server that none of them names
 pub record IsPageOf (arbitrary : ℕ → Bool) (plans : List Plan) (bound : ℕ) (cells : List Cell) (left : Option ℕ) : Type 0 where
   pub marks : AreCellsOf arbitrary plans cells
-  pub below : Each (λ s. s < bound) (servers_of cells)
+  pub below : Each (λ s. s < bound) (cell_servers cells)
   pub named : Each (HasCells cells) plans
-  pub others : (s : ℕ) → (IsIn s (servers_of cells) → ⊥) → IsMarkOf true plans s (unnamed_mark Any left)
+  pub others : (s : ℕ) → (IsIn s (cell_servers cells) → ⊥) → IsMarkOf true plans s (unnamed_mark Any left)
 
 -- more cells on the page, of each of these servers one
 pub record IsPageWith (arbitrary : ℕ → Bool) (plans : List Plan) (bound : ℕ) (old : List Cell) (others : Option ℕ) (named : List ℕ) (cells : List Cell) : Type 0 where
   pub page : IsPageOf arbitrary plans bound cells others
-  pub kept : (s : ℕ) → IsIn s (servers_of old) → IsIn s (servers_of cells)
-  pub have : Each (λ s. IsIn s (servers_of cells)) named
+  pub kept : (s : ℕ) → IsIn s (cell_servers old) → IsIn s (cell_servers cells)
+  pub have : Each (λ s. IsIn s (cell_servers cells)) named
 
 -- of all servers the first refusal
 pub record IsFirstOf (arbitrary : ℕ → Bool) (plans : List Plan) (later : Plan) (r : Refused) : Type 0 where
   pub refused : IsRefusedFor (arbitrary r.server) plans later r.server r.generation
-  pub first : (s g : ℕ) → IsRefusedFor (arbitrary s) plans later s g → IsNotAfter r s g
+  pub first : (s g : ℕ) → IsRefusedFor (arbitrary s) plans later s g → RefusedNotAfter r s g
 
 -- the tree may follow whatever the server, or is refused
 abbrev pub IfRefusedOf : (ℕ → Bool) → List Plan → Plan → Option Refused → Type 0
-IfRefusedOf arbitrary plans later found = MatchOption found ((s : ℕ) → MayFollow (arbitrary s) plans later s) (IsFirstOf arbitrary plans later)
+IfRefusedOf arbitrary plans later found = MatchOption found ((s : ℕ) → MayStandAfter (arbitrary s) plans later s) (IsFirstOf arbitrary plans later)

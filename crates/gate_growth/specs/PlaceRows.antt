@@ -14,9 +14,9 @@ rows_below prefix modulus zero = []
 rows_below prefix modulus (suc n) = rows_below prefix modulus n ++ place_at prefix n modulus ∷ []
 
 -- the places of these prefixes
-abbrev pub rows_of : List (Option (List ℕ)) → ℕ → List Place
-rows_of [] modulus = []
-rows_of (o ∷ os) modulus = rows_below o modulus modulus ++ rows_of os modulus
+abbrev pub place_rows : List (Option (List ℕ)) → ℕ → List Place
+place_rows [] modulus = []
+place_rows (o ∷ os) modulus = rows_below o modulus modulus ++ place_rows os modulus
 
 -- the prefixes and the modulus of these trees' places: those of a table of them
 pub record AreRowsOf (trees : List Route) (prefixes : List (Option (List ℕ))) (modulus : ℕ) : Type 0 where

@@ -4,18 +4,18 @@ use Rattle.mc_types.specs.declared.ask.Op.{Op}
 use Rattle.mc_types.specs.declared.ask.Op.TheVariants.{Get, Set, Add, Replace, Cas}
 use Rattle.route_tree.specs.Operation.{same_op}
 use Rattle.route_tree.specs.Plan.{Plan, Plans, PlanPolicies, Server, Null, Failing, AllSync, Failover, MissFailover, WarmUp, ByOperation, End, More, Otherwise, Policy}
-use Rattle.gate_coverage.specs.Computed.{is_get, fails, hits}
+use Rattle.gate_coverage.specs.Computed.{asks_get, fails, hits}
 
 -- Of a store: it can ask the server. Of a get: it can add a copy there.
 abbrev mutual
   pub stores : Op → ℕ → Plan → Bool
-  stores op s (Server t) = not (is_get op) && nat_eq t s
+  stores op s (Server t) = not (asks_get op) && nat_eq t s
   stores op s Null = false
   stores op s Failing = false
   stores op s (AllSync ps) = stores_some op s ps
   stores op s (Failover ps) = stores_first op s ps
-  stores op s (MissFailover ps) = if is_get op then stores_some op s ps else stores_head op s ps
-  stores op s (WarmUp cold warm e) = stores op s cold || (is_get op && (stores Get s warm || (hits Get warm && stores Add s cold)))
+  stores op s (MissFailover ps) = if asks_get op then stores_some op s ps else stores_head op s ps
+  stores op s (WarmUp cold warm e) = stores op s cold || (asks_get op && (stores Get s warm || (hits Get warm && stores Add s cold)))
   stores op s (ByOperation ps) = stores_policy op s ps
 
   pub stores_some : Op → ℕ → Plans → Bool

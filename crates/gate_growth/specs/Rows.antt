@@ -4,11 +4,11 @@ use Rattle.route_tree.specs.Each.{Each}
 use Rattle.route_tree.specs.Plan.{Plan}
 use Rattle.gate_growth.specs.declared.ledger.row.Cell.{Cell}
 use Rattle.gate_growth.specs.declared.ledger.row.Refused.{Refused}
-use Rattle.gate_growth.specs.Marks.{IsMarkOf, MayFollow, IsRefusedFor}
+use Rattle.gate_growth.specs.Marks.{IsMarkOf, MayStandAfter, IsRefusedFor}
 
 -- whose marks they are
-abbrev pub servers_of : List Cell → List ℕ
-servers_of cells = map (λ (c : Cell). c.server) cells
+abbrev pub cell_servers : List Cell → List ℕ
+cell_servers cells = map (λ (c : Cell). c.server) cells
 
 -- each has the marks of its server after these trees
 abbrev pub AreCellsOf : (ℕ → Bool) → List Plan → List Cell → Type 0
@@ -17,21 +17,21 @@ AreCellsOf arbitrary plans cells = Each (λ (c : Cell). IsMarkOf (arbitrary c.se
 -- at one server: the tree may follow, or is refused for this generation
 abbrev pub IsRefusedAt : Bool → List Plan → Plan → ℕ → Option Refused → Type 0
 IsRefusedAt arbitrary plans later server found =
-    MatchOption found (MayFollow arbitrary plans later server) (λ r. (r.server ≡ server) × IsRefusedFor arbitrary plans later server r.generation)
+    MatchOption found (MayStandAfter arbitrary plans later server) (λ r. (r.server ≡ server) × IsRefusedFor arbitrary plans later server r.generation)
 
 -- a refusal stands before another, or is it: by generations, then by servers
-abbrev pub IsNotAfter : Refused → ℕ → ℕ → Type 0
-IsNotAfter r server generation = (r.generation < generation) ⊎ ((r.generation ≡ generation) × (r.server ≤ server))
+abbrev pub RefusedNotAfter : Refused → ℕ → ℕ → Type 0
+RefusedNotAfter r server generation = (r.generation < generation) ⊎ ((r.generation ≡ generation) × (r.server ≤ server))
 
 -- the first refusal at these servers
 pub record IsFirstRefused (arbitrary : ℕ → Bool) (plans : List Plan) (later : Plan) (cells : List Cell) (r : Refused) : Type 0 where
   pub refused : IsRefusedFor (arbitrary r.server) plans later r.server r.generation
-  pub first : Each (λ (c : Cell). (g : ℕ) → IsRefusedFor (arbitrary c.server) plans later c.server g → IsNotAfter r c.server g) cells
+  pub first : Each (λ (c : Cell). (g : ℕ) → IsRefusedFor (arbitrary c.server) plans later c.server g → RefusedNotAfter r c.server g) cells
 
 -- the tree may follow at all of them, or is refused
 abbrev pub IfRefused : (ℕ → Bool) → List Plan → Plan → List Cell → Option Refused → Type 0
 IfRefused arbitrary plans later cells found =
-    MatchOption found (Each (λ (c : Cell). MayFollow (arbitrary c.server) plans later c.server) cells) (IsFirstRefused arbitrary plans later cells)
+    MatchOption found (Each (λ (c : Cell). MayStandAfter (arbitrary c.server) plans later c.server) cells) (IsFirstRefused arbitrary plans later cells)
 
 -- of equal ones the first
 abbrev pub lesser_of : Refused → Refused → Refused
@@ -41,7 +41,7 @@ lesser_of other refused =
     else if nat_lt refused.server other.server then refused
     else other
 
-abbrev pub lesser : Option Refused → Option Refused → Option Refused
-lesser best None = best
-lesser None (Some refused) = Some refused
-lesser (Some other) (Some refused) = Some (lesser_of other refused)
+abbrev pub lesser_refusal : Option Refused → Option Refused → Option Refused
+lesser_refusal best None = best
+lesser_refusal None (Some refused) = Some refused
+lesser_refusal (Some other) (Some refused) = Some (lesser_of other refused)

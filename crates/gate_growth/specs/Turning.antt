@@ -6,8 +6,8 @@ use Rattle.route_tree.specs.Place.{tree_at_place}
 use Rattle.route_tree.specs.declared.place.Place.{Place}
 use Rattle.gate_growth.specs.Grown.{plans_at}
 use Rattle.gate_growth.specs.Pages.{AreBegun, IsPageOf}
-use Rattle.gate_growth.specs.Classes.{prefixes_of, ArePagesBelow, ArePagesOf}
-use Rattle.gate_growth.specs.PlaceRows.{rows_below, rows_of, AreRowsOf}
+use Rattle.gate_growth.specs.Classes.{class_prefixes, ArePagesBelow, ArePagesOf}
+use Rattle.gate_growth.specs.PlaceRows.{rows_below, place_rows, AreRowsOf}
 use Rattle.gate_growth.specs.LeftGaps.{IfLeftBy, IfFirstLeft}
 use Rattle.gate_growth.specs.declared.ledger.page.Beginning.{Beginning}
 use Rattle.gate_growth.specs.declared.ledger.page.Page.{Page}
@@ -23,17 +23,17 @@ pub record AreBefore (arbitrary : ℕ → Bool) (trees : List Route) (number : �
 
 -- the classes of the trees' places, each with its pages
 pub record AreKnown (arbitrary : ℕ → Bool) (trees : List Route) (modulus bound : ℕ) (classes : List ClassPages) : Type 0 where
-  pub rows : AreRowsOf trees (prefixes_of classes) modulus
+  pub rows : AreRowsOf trees (class_prefixes classes) modulus
   pub pages : Each (ArePagesOf arbitrary trees modulus bound) classes
 
 -- the pages of these classes after one tree more, and its first gap at their places
 abbrev pub AreTurned : (ℕ → Bool) → List Route → Route → ℕ → ℕ → List ClassPages → Option LeftGap → Type 0
 AreTurned arbitrary trees tree modulus bound classes gap =
-    Each (ArePagesOf arbitrary (trees ++ tree ∷ []) modulus bound) classes × IfFirstLeft arbitrary trees tree (rows_of (prefixes_of classes) modulus) gap
+    Each (ArePagesOf arbitrary (trees ++ tree ∷ []) modulus bound) classes × IfFirstLeft arbitrary trees tree (place_rows (class_prefixes classes) modulus) gap
 
 -- whatever the trees were of whose places these classes tell
-abbrev pub Turns : List ClassPages → Successor → List ClassPages → Option LeftGap → Type 0
-Turns known step classes gap =
+abbrev pub TurnsTrees : List ClassPages → Successor → List ClassPages → Option LeftGap → Type 0
+TurnsTrees known step classes gap =
     (arbitrary : ℕ → Bool) (trees : List Route) (modulus bound : ℕ) → AreBefore arbitrary trees step.number step.begun.now → bound ≤ length step.begun.now
     → AreKnown arbitrary trees modulus bound known → AreTurned arbitrary trees step.tree.now step.modulus (length step.begun.now) classes gap
 

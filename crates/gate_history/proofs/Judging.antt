@@ -10,7 +10,7 @@ use Rattle.gate_growth.specs.declared.ledger.page.Beginning.{Beginning}
 use Rattle.gate_growth.specs.declared.ledger.book.Ledger.{Ledger}
 use Rattle.gate_growth.specs.declared.ledger.unsound.Unsound.{Unsound}
 use Rattle.gate_history.specs.declared.generation.Generation.{Generation}
-use Rattle.gate_history.specs.Histories.{Knows, trees_of, count_after, servers_after, AreOpenedBy}
+use Rattle.gate_history.specs.Histories.{Knows, generation_trees, count_after, servers_after, AreOpenedBy}
 use Rattle.gate_history.specs.Judged.{Judges, IsUnsoundAfter}
 
 -- what the ledger answers of the configuration, whatever the trees were
@@ -21,12 +21,12 @@ Answers ledger config new r Follows =
 
 module _ (gs : List Generation) (ledger : Ledger) (config : Configuration) (new : Beginning) where
   pub judged : (r : Result (Unit {0}) Unsound) → Knows gs ledger → Answers ledger config new r (λ arbitrary trees _. AreSoundSince arbitrary (trees ++ config.tree ∷ [])) → Judges gs config new r
-  judged (Ok u) k h = λ arbitrary opened. h arbitrary (trees_of gs) (k.ledger_is arbitrary opened.0) (subst (λ n. AreOpened arbitrary n (length config.servers) new) (sym k.count) opened.1)
-  judged (Err e) k h = λ arbitrary opened. h arbitrary (trees_of gs) (k.ledger_is arbitrary opened.0) (subst (λ n. AreOpened arbitrary n (length config.servers) new) (sym k.count) opened.1)
+  judged (Ok u) k h = λ arbitrary opened. h arbitrary (generation_trees gs) (k.ledger_is arbitrary opened.0) (subst (λ n. AreOpened arbitrary n (length config.servers) new) (sym k.count) opened.1)
+  judged (Err e) k h = λ arbitrary opened. h arbitrary (generation_trees gs) (k.ledger_is arbitrary opened.0) (subst (λ n. AreOpened arbitrary n (length config.servers) new) (sym k.count) opened.1)
 
   pub unsound_after : (e : Unsound) → Knows gs ledger → ((arbitrary : ℕ → Bool) (trees : List Route) → IsLedgerOf arbitrary trees ledger → AreOpened arbitrary (server_count ledger) (length config.servers) new → IsUnsoundFor arbitrary trees config.tree e)
       → IsUnsoundAfter gs config new e
-  unsound_after e k h = λ arbitrary opened. h arbitrary (trees_of gs) (k.ledger_is arbitrary opened.0) (subst (λ n. AreOpened arbitrary n (length config.servers) new) (sym k.count) opened.1)
+  unsound_after e k h = λ arbitrary opened. h arbitrary (generation_trees gs) (k.ledger_is arbitrary opened.0) (subst (λ n. AreOpened arbitrary n (length config.servers) new) (sym k.count) opened.1)
 
 pub known_none : (gs : List Generation) (ledger : Ledger) → gs ≡ [] → server_count ledger ≡ 0 → ((arbitrary : ℕ → Bool) → IsLedgerOf arbitrary [] ledger) → Knows gs ledger
 known_none gs ledger none count is = subst (λ (l : List Generation). Knows l ledger) (sym none) (record { count = count; ledger_is = λ arbitrary opened. is arbitrary })
@@ -39,7 +39,7 @@ opened_push : (arbitrary : ℕ → Bool) (n : ℕ) (gs : List Generation) (g : G
 opened_push arbitrary n [] g h = (tt, h.0)
 opened_push arbitrary n (x ∷ gs) g h = let rest = opened_push arbitrary (max n (length x.config.servers)) gs g h.1 in ((h.0, rest.0), rest.1)
 
-trees_push : (gs : List Generation) (g : Generation) → trees_of (gs ++ g ∷ []) ≡ trees_of gs ++ g.config.tree ∷ []
+trees_push : (gs : List Generation) (g : Generation) → generation_trees (gs ++ g ∷ []) ≡ generation_trees gs ++ g.config.tree ∷ []
 trees_push [] g = refl
 trees_push (h ∷ gs) g = ap (λ (l : List Route). h.config.tree ∷ l) (trees_push gs g)
 
@@ -52,7 +52,7 @@ known_next gs new g old ledger k is count follows =
       ledger_is = λ arbitrary opened.
           let parts = opened_push arbitrary 0 gs g opened in
           subst (λ (ts : List Route). IsLedgerOf arbitrary ts ledger) (sym (trees_push gs g))
-          (follows arbitrary (trees_of gs) (k.ledger_is arbitrary parts.0) (subst (λ n. AreOpened arbitrary n (length g.config.servers) g.began) (sym k.count) parts.1));
+          (follows arbitrary (generation_trees gs) (k.ledger_is arbitrary parts.0) (subst (λ n. AreOpened arbitrary n (length g.config.servers) g.began) (sym k.count) parts.1));
     })
 
 -- whether or not it may follow

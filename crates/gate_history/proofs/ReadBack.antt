@@ -12,7 +12,7 @@ use Rattle.route_json.specs.Fault.{Fault}
 use Rattle.gate_growth.specs.declared.ledger.page.Beginning.{Beginning}
 use Rattle.gate_growth.specs.declared.ledger.page.Beginning.TheVariants.{Any, Own}
 use Rattle.gate_history.specs.declared.generation.Generation.{Generation}
-use Rattle.gate_history.specs.Spelled.{word_of, body_of, line_of}
+use Rattle.gate_history.specs.Spelled.{word_of, body_of, generation_line}
 use Rattle.gate_history.specs.Histories.{Says, SayAll, servers_after}
 use Rattle.gate_history.specs.Written.{WrittenIsRead, HistoriesAreDetermined}
 use Rattle.gate_history.proofs.Cuts.{cut_once}
@@ -22,7 +22,7 @@ use Rattle.gate_history.proofs.Pushing.{push_line}
 pub written_is_read : WrittenIsRead
 written_is_read gs g history text bytes is line says =
     let said = line.0 in
-    let spelled = line_of (length gs + 1) g.began said in
+    let spelled = generation_line (length gs + 1) g.began said in
     let e : length gs + 1 ≡ 1 + length gs = omega arith in
     let reads : read_after (servers_after [] gs) (read said) ≡ Ok (g.config.tree, g.config.servers) = ap (λ (d : Option Data). read_after (servers_after [] gs) d) line.3 ∙ says in
     let next : Says (1 + length gs) (servers_after [] gs) g spelled = subst (λ n. Says n (servers_after [] gs) g spelled) e (said, refl, reads) in

@@ -8,12 +8,12 @@ use Rattle.gate_growth.specs.Pages.{AreOpened}
 use Rattle.gate_growth.specs.Ledgers.{server_count, IsLedgerOf}
 use Rattle.gate_growth.specs.declared.ledger.book.Ledger.{Ledger}
 use Rattle.gate_history.specs.declared.generation.Generation.{Generation}
-use Rattle.gate_history.specs.Spelled.{line_of}
+use Rattle.gate_history.specs.Spelled.{generation_line}
 use Rattle.gate_history.specs.Lines.{IsCutAt}
 
 -- their trees, the oldest first
-abbrev pub trees_of : List Generation → List Route
-trees_of gs = map (λ (g : Generation). g.config.tree) gs
+abbrev pub generation_trees : List Generation → List Route
+generation_trees gs = map (λ (g : Generation). g.config.tree) gs
 
 -- how many servers are known after them, where so many were before
 abbrev pub count_after : ℕ → List Generation → ℕ
@@ -33,11 +33,11 @@ AreOpenedBy arbitrary n (g ∷ gs) = AreOpened arbitrary n (length g.config.serv
 -- the ledger is the one of these generations, whichever servers are arbitrary, if they began so
 pub record Knows (gs : List Generation) (ledger : Ledger) : Type 0 where
   pub count : server_count ledger ≡ count_after 0 gs
-  pub ledger_is : (arbitrary : ℕ → Bool) → AreOpenedBy arbitrary 0 gs → IsLedgerOf arbitrary (trees_of gs) ledger
+  pub ledger_is : (arbitrary : ℕ → Bool) → AreOpenedBy arbitrary 0 gs → IsLedgerOf arbitrary (generation_trees gs) ledger
 
 -- the line says this generation, of this number, after these servers
 abbrev pub Says : ℕ → Addresses → Generation → List ℕ → Type 0
-Says number servers g line = (said : List ℕ) × (line ≡ line_of number g.began said) × (read_after servers (read said) ≡ Ok (g.config.tree, g.config.servers))
+Says number servers g line = (said : List ℕ) × (line ≡ generation_line number g.began said) × (read_after servers (read said) ≡ Ok (g.config.tree, g.config.servers))
 
 -- the text is the lines of these generations, each ended, numbered from this one on, after these servers
 abbrev pub SayAll : ℕ → Addresses → List Generation → List ℕ → Type 0

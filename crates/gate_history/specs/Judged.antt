@@ -13,9 +13,9 @@ use Rattle.gate_history.specs.declared.generation.Generation.{Generation}
 use Rattle.gate_history.specs.declared.fault.HistoryFault.{HistoryFault}
 use Rattle.gate_history.specs.declared.fault.HistoryFault.TheVariants as faults
 use Rattle.gate_history.specs.declared.lines.BadLine.TheVariants as lines
-use Rattle.gate_history.specs.Spelled.{line_of}
+use Rattle.gate_history.specs.Spelled.{generation_line}
 use Rattle.gate_history.specs.Lines.{Lacks, IsCutAt, IsBadLine}
-use Rattle.gate_history.specs.Histories.{trees_of, count_after, servers_after, AreOpenedBy, Says, IsHistoryOf}
+use Rattle.gate_history.specs.Histories.{generation_trees, count_after, servers_after, AreOpenedBy, Says, IsHistoryOf}
 
 -- the most generations that have a number
 abbrev pub most_lines : ℕ
@@ -23,7 +23,7 @@ most_lines = 4294967295
 
 -- the trees of the generations are sound, if servers began as they say
 abbrev pub AreSoundBy : List Generation → Type 0
-AreSoundBy gs = (arbitrary : ℕ → Bool) → AreOpenedBy arbitrary 0 gs → AreSoundSince arbitrary (trees_of gs)
+AreSoundBy gs = (arbitrary : ℕ → Bool) → AreOpenedBy arbitrary 0 gs → AreSoundSince arbitrary (generation_trees gs)
 
 -- servers began as the generations and the next one say
 abbrev pub AreOpenedWith : (ℕ → Bool) → List Generation → Configuration → Beginning → Type 0
@@ -31,11 +31,11 @@ AreOpenedWith arbitrary gs config new = AreOpenedBy arbitrary 0 gs × AreOpened 
 
 -- however they began, the trees of the generations followed by the configuration's aren't sound, or there are too many of them
 abbrev pub IsUnsoundAfter : List Generation → Configuration → Beginning → Unsound → Type 0
-IsUnsoundAfter gs config new unsound = (arbitrary : ℕ → Bool) → AreOpenedWith arbitrary gs config new → IsUnsoundFor arbitrary (trees_of gs) config.tree unsound
+IsUnsoundAfter gs config new unsound = (arbitrary : ℕ → Bool) → AreOpenedWith arbitrary gs config new → IsUnsoundFor arbitrary (generation_trees gs) config.tree unsound
 
 -- they are sound
 abbrev pub IsSoundAfter : List Generation → Configuration → Beginning → Type 0
-IsSoundAfter gs config new = (arbitrary : ℕ → Bool) → AreOpenedWith arbitrary gs config new → AreSoundSince arbitrary (trees_of gs ++ config.tree ∷ [])
+IsSoundAfter gs config new = (arbitrary : ℕ → Bool) → AreOpenedWith arbitrary gs config new → AreSoundSince arbitrary (generation_trees gs ++ config.tree ∷ [])
 
 -- the verdict
 abbrev pub Judges : List Generation → Configuration → Beginning → Result (Unit {0}) Unsound → Type 0
@@ -47,7 +47,7 @@ IsLineFault gs number line (faults.Torn n) = ⊥
 IsLineFault gs number line (faults.Edited n) = (n ≡ number) × IsBadLine number line lines.Edited
 IsLineFault gs number line (faults.OutOfOrder n) = (n ≡ number) × IsBadLine number line lines.OutOfOrder
 IsLineFault gs number line (faults.Config n fault) =
-    (n ≡ number) × (began : Beginning) × (said : List ℕ) × (line ≡ line_of number began said) × Fails (fault_of fault) (read_after (servers_after [] gs) (read said))
+    (n ≡ number) × (began : Beginning) × (said : List ℕ) × (line ≡ generation_line number began said) × Fails (fault_of fault) (read_after (servers_after [] gs) (read said))
 IsLineFault gs number line (faults.Refused n unsound) =
     (n ≡ number) × (g : Generation) × Says number (servers_after [] gs) g line × IsUnsoundAfter gs g.config g.began unsound
 IsLineFault gs number line faults.TooManyLines = ⊥

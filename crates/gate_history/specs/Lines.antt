@@ -4,7 +4,7 @@ use Rattle.gate_growth.specs.declared.ledger.page.Beginning.{Beginning}
 use Rattle.gate_history.specs.declared.lines.BadLine.{BadLine}
 use Rattle.gate_history.specs.declared.lines.BadLine.TheVariants as lines
 use Rattle.gate_history.specs.declared.lines.Said.{Said}
-use Rattle.gate_history.specs.Spelled.{body_of, summed, line_of}
+use Rattle.gate_history.specs.Spelled.{body_of, summed, generation_line}
 
 -- this byte isn't among them
 abbrev pub Lacks : ℕ → List ℕ → Type 0
@@ -16,8 +16,8 @@ abbrev pub IsCutAt : ℕ → List ℕ → List ℕ → List ℕ → Type 0
 IsCutAt byte bytes front rest = (bytes ≡ front ++ byte ∷ rest) × Lacks byte front
 
 -- the line is that of the generation of this number, as it is said
-abbrev pub IsSaid : ℕ → List ℕ → Said → Type 0
-IsSaid number line said = line ≡ line_of number said.began said.config.now
+abbrev pub LineIsSaid : ℕ → List ℕ → Said → Type 0
+LineIsSaid number line said = line ≡ generation_line number said.began said.config.now
 
 -- its sum is of something else; or it is right, and the line is of no generation of this number
 abbrev pub IsBadLine : ℕ → List ℕ → BadLine → Type 0

@@ -18,13 +18,13 @@ abbrev pub body_of : ℕ → Beginning → List ℕ → List ℕ
 body_of generation began said = head_of generation began ++ (said ++ codes "}")
 
 -- what stands before the comma and that part: its sum
-abbrev pub front_of : List ℕ → List ℕ
-front_of body = codes "{\"sum\":" ++ decimal (fnv1a body)
+abbrev pub before_comma : List ℕ → List ℕ
+before_comma body = codes "{\"sum\":" ++ decimal (fnv1a body)
 
 -- a part of a line with its sum before it
 abbrev pub summed : List ℕ → List ℕ
-summed body = front_of body ++ 44 ∷ body
+summed body = before_comma body ++ 44 ∷ body
 
 -- the line of a generation whose configuration is said so: a JSON object of its sum, its number, how new servers began, and the configuration
-abbrev pub line_of : ℕ → Beginning → List ℕ → List ℕ
-line_of generation began said = summed (body_of generation began said)
+abbrev pub generation_line : ℕ → Beginning → List ℕ → List ℕ
+generation_line generation began said = summed (body_of generation began said)

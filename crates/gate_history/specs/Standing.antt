@@ -9,14 +9,14 @@ use Rattle.gate_growth.specs.declared.ledger.page.Beginning.{Beginning}
 use Rattle.gate_history.specs.declared.generation.Generation.{Generation}
 use Rattle.gate_history.specs.declared.fault.NextFault.{NextFault}
 use Rattle.gate_history.specs.declared.fault.NextFault.TheVariants as faults
-use Rattle.gate_history.specs.Spelled.{line_of}
+use Rattle.gate_history.specs.Spelled.{generation_line}
 use Rattle.gate_history.specs.Histories.{servers_after, IsHistoryOf}
 use Rattle.gate_history.specs.Judged.{AreSoundBy, IsUnsoundAfter}
 
 -- the bytes end with the line of a generation that is said by JSON of the same value as the text's
 abbrev pub EndsWith : List ℕ → List ℕ → Type 0
 EndsWith bytes text =
-    (front : List ℕ) × (number : ℕ) × (began : Beginning) × (said : List ℕ) × (bytes ≡ front ++ (line_of number began said ++ 10 ∷ [])) × (read said ≡ read text)
+    (front : List ℕ) × (number : ℕ) × (began : Beginning) × (said : List ℕ) × (bytes ≡ front ++ (generation_line number began said ++ 10 ∷ [])) × (read said ≡ read text)
 
 -- the bytes are a history of generations whose trees are sound, and the text says the last one
 pub record StandsInHistory (bytes text : List ℕ) : Type 0 where

@@ -4,14 +4,14 @@ use Rattle.serde_json.specs.Read.{read}
 use Rattle.route_json.specs.Configs.{read_after}
 use Rattle.gate_growth.specs.declared.ledger.page.Beginning.{Beginning}
 use Rattle.gate_history.specs.declared.generation.Generation.{Generation}
-use Rattle.gate_history.specs.Spelled.{line_of}
+use Rattle.gate_history.specs.Spelled.{generation_line}
 use Rattle.gate_history.specs.Lines.{Lacks}
 use Rattle.gate_history.specs.Histories.{IsHistoryOf, servers_after}
 
 -- these bytes are the ended line of a generation whose configuration is said by JSON of the same value as the text's
 abbrev pub IsLineFor : ℕ → Beginning → List ℕ → List ℕ → Type 0
 IsLineFor number began text bytes =
-    (said : List ℕ) × (bytes ≡ line_of number began said ++ 10 ∷ []) × Lacks 10 (line_of number began said) × (read said ≡ read text)
+    (said : List ℕ) × (bytes ≡ generation_line number began said ++ 10 ∷ []) × Lacks 10 (generation_line number began said) × (read said ≡ read text)
 
 -- a history with the line of one more generation at its end is the history of that generation too
 abbrev pub WrittenIsRead : Type 0

@@ -3,7 +3,7 @@
 ghost use Rattle.std.specs.Prelude.{◌≡◌, ◌≢◌, ℕ, List, IfOk, MatchOption, MatchResult};
 ghost use Rattle.gate_growth.specs.declared.ledger.page.Beginning.{Beginning};
 ghost use Rattle.gate_history.specs.Spelled.{body_of, summed};
-ghost use Rattle.gate_history.specs.Lines.{Lacks, IsCutAt, IsSaid, IsBadLine};
+ghost use Rattle.gate_history.specs.Lines.{Lacks, IsCutAt, LineIsSaid, IsBadLine};
 
 use crate::spelled::{front_of, head_of};
 use gate_growth::ledger::Beginning;
@@ -106,7 +106,7 @@ fn said_in(alloc: Global, generation: u32, body: &str) -> Result<Option<Said<'_>
 
 /// What a line says of the generation of this number, or why it doesn't.
 pub fn read_line(alloc: Global, generation: u32, line: &str) -> Result<Said<'_>, BadLine>
-    ensures { MatchResult result (IsSaid generation line.now) (IsBadLine generation line.now) }
+    ensures { MatchResult result (LineIsSaid generation line.now) (IsBadLine generation line.now) }
 {
     match body_of(alloc, line)? {
         None => Err(BadLine::Edited),

@@ -1,7 +1,7 @@
 //! How a generation is spelled as a line.
 
 ghost use Rattle.std.specs.Prelude.{◌≡◌, IfOk, string_bytes};
-ghost use Rattle.gate_history.specs.Spelled.{word_of, head_of, front_of};
+ghost use Rattle.gate_history.specs.Spelled.{word_of, head_of, before_comma};
 
 use gate_growth::ledger::Beginning;
 use route_tree::fnv1a_32;
@@ -30,7 +30,7 @@ pub fn head_of(alloc: Global, generation: u32, began: Beginning) -> Result<Strin
 
 /// What stands in a line before the comma and the part that its sum is of. The only error is that memory was refused.
 pub fn front_of(alloc: Global, body: &str) -> Result<String, AllocError>
-    ensures { IfOk result (λ front. string_bytes front ≡ front_of body.now) }
+    ensures { IfOk result (λ front. string_bytes front ≡ before_comma body.now) }
 {
     let sum = fnv1a_32(body.as_bytes());
     let mut front = String::from_str(alloc, "{\"sum\":")?;

@@ -3,7 +3,7 @@ use Rattle.std.specs.Prelude.{ℕ, ◌+◌, ◌-◌, ◌==◌, Bool, List, [], �
 use Rattle.route_tree.specs.Route.{Route, Routes, Prefixes, Pool, Server, Null, Failing, AllSync, Failover, MissFailover, WarmUp, ByOperation, ByPrefix, End, More, Wildcard, Prefix}
 use Rattle.route_json.specs.Servers.{Addresses}
 use Rattle.gate_gaps.specs.Kinds.{kind_name}
-use Rattle.gate_gaps.specs.Names.{address_of}
+use Rattle.gate_gaps.specs.Names.{server_address}
 use Rattle.gate_gaps.specs.Pools.{NamedPool, NamedPools}
 use Rattle.gate_gaps.specs.PoolWords.{places_text, pool_names}
 use Rattle.gate_gaps.specs.Quoting.{quoted}
@@ -12,7 +12,7 @@ use Rattle.gate_picture.specs.declared.labels.TheConstants.{NAMED}
 
 -- a line of its own for a server
 abbrev pub address_line : Addresses → ℕ → List ℕ
-address_line servers server = codes "\\n" ++ quoted (address_of servers server)
+address_line servers server = codes "\\n" ++ quoted (server_address servers server)
 
 -- lines for the servers of the slots after this one, so many of them; two dots in place of more
 abbrev pub later_slots : Addresses → (left before : ℕ) → List ℕ → List ℕ
@@ -33,7 +33,7 @@ pool_text servers pools slots = pool_names spellings.Label pools slots ++ slots_
 
 -- a server, with its places
 abbrev pub alone_text : Addresses → NamedPools → ℕ → List ℕ
-alone_text servers pools server = codes " " ++ quoted (address_of servers server) ++ places_text spellings.Label pools server
+alone_text servers pools server = codes " " ++ quoted (server_address servers server) ++ places_text spellings.Label pools server
 
 -- what a node says of a route beside its kind
 abbrev pub detail_text : Addresses → NamedPools → Route → List ℕ

@@ -6,7 +6,7 @@ use Rattle.gate_gaps.specs.Pools.{NamedPools}
 use Rattle.gate_gaps.specs.declared.ways.WayStep.{WayStep}
 use Rattle.gate_picture.specs.Lines.{tree_lines}
 use Rattle.gate_picture.specs.Marks.{way_lines}
-use Rattle.gate_picture.specs.Statements.{graph_lines, left_line}
+use Rattle.gate_picture.specs.Statements.{graph_lines, left_server_line}
 
 -- the front and the tree
 unfoldable pub config_lines : Configuration → NamedPools → List ℕ
@@ -18,7 +18,7 @@ picture config pools = config_lines config pools ++ codes "}\n"
 
 -- the way of the read is marked, and the server that the delete leaves is drawn
 unfoldable pub gap_lines : Configuration → NamedPools → Gap → List WayStep → List ℕ
-gap_lines config pools gap way = way_lines gap config.tree way ++ left_line config.servers pools gap.server gap.deleting
+gap_lines config pools gap way = way_lines gap config.tree way ++ left_server_line config.servers pools gap.server gap.deleting
 
 -- a tree with a gap
 abbrev pub gap_picture : Configuration → NamedPools → Gap → List WayStep → List ℕ

@@ -4,7 +4,7 @@ use Rattle.mc_types.specs.declared.ask.Op.{Op}
 use Rattle.gate_coverage.specs.declared.deleting.Deleting.{Deleting}
 use Rattle.route_tree.specs.Route.{Route, Routes, Prefixes, Pool, Server, Null, Failing, AllSync, Failover, MissFailover, WarmUp, ByOperation, ByPrefix}
 use Rattle.route_json.specs.Servers.{Addresses}
-use Rattle.gate_gaps.specs.Names.{op_name, delete_name, address_of}
+use Rattle.gate_gaps.specs.Names.{op_name, delete_name, server_address}
 use Rattle.gate_gaps.specs.Pools.{NamedPools}
 use Rattle.gate_gaps.specs.PoolWords.{places_text}
 use Rattle.gate_gaps.specs.declared.spelling.Spelling.TheVariants as spellings
@@ -83,5 +83,5 @@ unfoldable pub left_end : Deleting → List ℕ
 left_end kind = text_of phrases.NotCleared ++ delete_name kind ++ text_of phrases.LabelThick ++ codes "\n"
 
 -- the server that the delete leaves
-abbrev pub left_line : Addresses → NamedPools → ℕ → Deleting → List ℕ
-left_line servers pools server kind = left_front server (address_of servers server) ++ places_text spellings.Label pools server ++ left_end kind
+abbrev pub left_server_line : Addresses → NamedPools → ℕ → Deleting → List ℕ
+left_server_line servers pools server kind = left_front server (server_address servers server) ++ places_text spellings.Label pools server ++ left_end kind

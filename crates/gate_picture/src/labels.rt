@@ -2,7 +2,7 @@
 
 ghost use Rattle.std.specs.Prelude.{◌+◌, ◌<◌, ◌^◌, OnOk, length};
 ghost use Rattle.std.specs.Io.KnownBytes.{Appends};
-ghost use Rattle.gate_gaps.specs.Names.{address_of};
+ghost use Rattle.gate_gaps.specs.Names.{server_address};
 ghost use Rattle.route_tree.specs.Form.{routes_of, prefixes_of};
 ghost use Rattle.gate_picture.specs.Labels.{address_line, later_slots, slots_text, pool_text, alone_text, detail_text, one_text, leaf_line, dots_text, last_leaf, count_text, leaf_lines, prefix_leaf_lines, run_text, prefix_run_text};
 

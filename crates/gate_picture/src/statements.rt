@@ -3,9 +3,9 @@
 ghost use Rattle.std.specs.Prelude.{◌≡◌, ◌+◌, ◌<◌, ◌^◌, OnOk};
 ghost use Rattle.std.specs.Io.KnownBytes.{Appends};
 ghost use Rattle.route_tree.specs.Form.{routes_of, prefixes_of};
-ghost use Rattle.gate_gaps.specs.Names.{address_of};
+ghost use Rattle.gate_gaps.specs.Names.{server_address};
 ghost use Rattle.gate_picture.specs.Edges.{edge_text};
-ghost use Rattle.gate_picture.specs.Statements.{graph_lines, more_text, edge_front, edge_line, node_front, node_end, end_phrase, node_line, run_line, prefix_run_line, red_node_line, red_edge_line, step_lines, read_line, left_front, left_end, left_line};
+ghost use Rattle.gate_picture.specs.Statements.{graph_lines, more_text, edge_front, edge_line, node_front, node_end, end_phrase, node_line, run_line, prefix_run_line, red_node_line, red_edge_line, step_lines, read_line, left_front, left_end, left_server_line};
 
 use crate::edges::Edge;
 use crate::labels::{write_one, write_prefix_run, write_run};
@@ -198,7 +198,7 @@ pub fn write_read<W: Write>(number: u32, server: ServerId, op: Op, out: &mut W) 
 
 #[tactic(auto, unfolding(crate::specs::Statements::left_front))]
 fn write_left_front<W: Write>(servers: &Servers, server: ServerId, out: &mut W) -> io::Result<()>
-    ensures { OnOk result (Appends (W.contents out.old) (W.contents out.new) (left_front server (address_of servers.now server))) }
+    ensures { OnOk result (Appends (W.contents out.old) (W.contents out.new) (left_front server (server_address servers.now server))) }
 {
     let address = Quoted(address_of(servers, server).as_bytes());
     let server = server.number();
@@ -224,7 +224,7 @@ pub fn write_left<W: Write>(
     deleting: Deleting,
     out: &mut W,
 ) -> io::Result<()>
-    ensures { OnOk result (Appends (W.contents out.old) (W.contents out.new) (left_line servers.now pools.now server deleting)) }
+    ensures { OnOk result (Appends (W.contents out.old) (W.contents out.new) (left_server_line servers.now pools.now server deleting)) }
 {
     write_left_front(servers, server, out)?;
     write_places(Spelling::Label, pools, server, out)?;

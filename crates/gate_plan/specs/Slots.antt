@@ -22,8 +22,8 @@ NeverHad count slot server [] = Unit {0}
 NeverHad count slot server (l ∷ ls) = NeverHadBy count slot server l × NeverHad count slot server ls
 
 -- how many slots a server has
-abbrev pub count_of : ℕ → List ℕ → ℕ
-count_of server slots = count_by (nat_eq server) slots
+abbrev pub slots_of_server : ℕ → List ℕ → ℕ
+slots_of_server server slots = count_by (nat_eq server) slots
 
 -- What may become of a slot, of so many. Where a server is added: the slot stays where it is, or that server gets it, which never had
 -- a key of it. Where a server is taken out: the slot stays where it is, or one of the others gets it, which never had a key of it.
@@ -35,7 +35,7 @@ MayBecome (Remove server) others earlier count slot from to =
 
 -- a server that is added has as many slots as each has where they are even, rounded down
 abbrev pub HasShare : Change → (others new : List ℕ) → Type 0
-HasShare (Add server) others new = count_of server new ≡ length new / (length others + 1)
+HasShare (Add server) others new = slots_of_server server new ≡ length new / (length others + 1)
 HasShare (Remove server) others new = Unit {0}
 
 -- what a change makes of slots

@@ -18,12 +18,12 @@ abbrev pub SaysAfter : List Generation → List ℕ → Configuration → Type 0
 SaysAfter gs text config = read_after (servers_after [] gs) (read text) ≡ Ok (config.tree, config.servers)
 
 -- the configuration that the text says may be the next generation
-abbrev pub MayFollow : List Generation → List ℕ → Beginning → Type 0
-MayFollow gs text began = (config : Configuration) × SaysAfter gs text config × IsSoundAfter gs config began
+abbrev pub MaySucceed : List Generation → List ℕ → Beginning → Type 0
+MaySucceed gs text began = (config : Configuration) × SaysAfter gs text config × IsSoundAfter gs config began
 
 -- the configuration that the text says is the next generation, and may be
-abbrev pub Follows : List Generation → List ℕ → Beginning → List Generation → Type 0
-Follows gs text began new =
+abbrev pub FollowsText : List Generation → List ℕ → Beginning → List Generation → Type 0
+FollowsText gs text began new =
     (config : Configuration) × SaysAfter gs text config × (new ≡ gs ++ record { config = config; began = began } ∷ []) × IsSoundAfter gs config began
 
 -- the configuration may not follow the generations, for this reason

@@ -8,7 +8,7 @@ ghost use Rattle.gate_growth.specs.declared.ledger.page.Beginning.{Beginning};
 ghost use Rattle.gate_history.specs.declared.generation.Generation.{Generation};
 ghost use Rattle.gate_history.specs.Histories.{servers_after};
 ghost use Rattle.gate_history.specs.Judged.{IsSoundAfter, IsUnsoundAfter};
-ghost use Rattle.gate_plan.specs.Steps.{IsRefusal, MayFollow, Follows, IsNoStep};
+ghost use Rattle.gate_plan.specs.Steps.{IsRefusal, MaySucceed, FollowsText, IsNoStep};
 
 use gate_growth::ledger::{Beginning, Unsound};
 use gate_history::History;
@@ -94,7 +94,7 @@ pub fn step(
     text: &str,
     began: Beginning,
 ) -> Result<History, StepFault>
-    ensures { MatchResult result (Follows history text.now began) (IsNoStep history text.now began) }
+    ensures { MatchResult result (FollowsText history text.now began) (IsNoStep history text.now began) }
 {
     let servers = history.servers(alloc)?;
     match read_config_after(alloc, servers, text) {
@@ -113,7 +113,7 @@ pub fn judge_text(
     text: &str,
     began: Beginning,
 ) -> Result<(), StepFault>
-    ensures { MatchResult result (λ _. MayFollow history.now text.now began) (IsNoStep history.now text.now began) }
+    ensures { MatchResult result (λ _. MaySucceed history.now text.now began) (IsNoStep history.now text.now began) }
 {
     let servers = history.servers(alloc)?;
     match read_config_after(alloc, servers, text) {

@@ -5,8 +5,8 @@ ghost use Rattle.serde_json.specs.Data.{depth};
 ghost use Rattle.serde_json.specs.Read.{read, max_depth};
 ghost use Rattle.serde_json.specs.View.{view};
 ghost use Rattle.gate_history.specs.declared.generation.Generation.{Generation};
-ghost use Rattle.gate_plan.specs.Steps.{MayFollow, MayNotFollow, Follows, IsNoStep};
-ghost use Rattle.gate_plan.specs.Plans.{EndsWith, GoesOnTo, LeadsTo, IsUndoable, IsAnew, IsPlan, IsNoFirst, IsPlanFrom};
+ghost use Rattle.gate_plan.specs.Steps.{MaySucceed, MayNotFollow, FollowsText, IsNoStep};
+ghost use Rattle.gate_plan.specs.Plans.{MayEnd, GoesOnTo, LeadsThrough, IsUndoable, IsAnew, IsPlanned, IsNoFirst, IsPlanFrom};
 ghost use Rattle.gate_growth.specs.declared.ledger.page.Beginning.{Beginning};
 
 use crate::merging::{Answering, with_deletes_to_both};
@@ -82,7 +82,7 @@ fn write_verdict<W: Write>(
     began: Beginning,
     out: &mut W,
 ) -> io::Result<Option<History>>
-    ensures { IfOk result (λ next. MatchOption next (Unit {0}) (Follows history text.now began)) }
+    ensures { IfOk result (λ next. MatchOption next (Unit {0}) (FollowsText history text.now began)) }
 {
     match step(alloc, history, text, began) {
         Ok(next) => {
@@ -105,7 +105,7 @@ fn write_step<W: Write>(
     began: Beginning,
     out: &mut W,
 ) -> io::Result<Option<History>>
-    ensures { IfOk result (λ next. MatchOption next (Unit {0}) (Follows history text.now began)) }
+    ensures { IfOk result (λ next. MatchOption next (Unit {0}) (FollowsText history text.now began)) }
 {
     write!(out, "{what}: ")?;
     let next = write_verdict(alloc, history, text, began, out)?;
@@ -131,7 +131,7 @@ fn write_third<W: Write>(
     added: Beginning,
     out: &mut W,
 ) -> io::Result<bool>
-    ensures { IfOk result (λ all. IsTrue all → EndsWith history (string_bytes way.now.new) added) }
+    ensures { IfOk result (λ all. IsTrue all → MayEnd history (string_bytes way.now.new) added) }
 {
     let what = "step 3, the new one";
     Ok(write_step(alloc, history, what, way.new.as_str(), added, out)?.is_some())
@@ -164,7 +164,7 @@ fn write_way<W: Write>(
     added: Beginning,
     out: &mut W,
 ) -> io::Result<bool>
-    ensures { IfOk result (λ all. IsTrue all → LeadsTo history (string_bytes way.now.new) opened added) }
+    ensures { IfOk result (λ all. IsTrue all → LeadsThrough history (string_bytes way.now.new) opened added) }
 {
     let what = "step 1, the old one with deletes to both";
     match write_step(alloc, history, what, way.old_to_both.as_str(), opened, out)? {
@@ -265,8 +265,8 @@ fn write_accepted<W: Write>(
     added: Beginning,
     out: &mut W,
 ) -> io::Result<Planned>
-    requires { MayFollow history new.now added }
-    ensures { IfOk result (IsPlan history new.now added) }
+    requires { MaySucceed history new.now added }
+    ensures { IfOk result (IsPlanned history new.now added) }
 {
     writeln!(out, "accepted")?;
     match way_of(alloc, old, new)? {
@@ -283,7 +283,7 @@ fn write_refused<W: Write>(
     added: Beginning,
     out: &mut W,
 ) -> io::Result<Planned>
-    ensures { IfOk result (λ planned. (gs : List Generation) → MayNotFollow gs new.now added → IsPlan gs new.now added planned) }
+    ensures { IfOk result (λ planned. (gs : List Generation) → MayNotFollow gs new.now added → IsPlanned gs new.now added planned) }
 {
     match way_of(alloc, old, new)? {
         None => Ok(Planned::Refused),
@@ -303,7 +303,7 @@ fn write_other_way<W: Write>(
     added: Beginning,
     out: &mut W,
 ) -> io::Result<Planned>
-    ensures { IfOk result (λ planned. (gs : List Generation) → IsNoStep gs new.now added fault.now → IsPlan gs new.now added planned) }
+    ensures { IfOk result (λ planned. (gs : List Generation) → IsNoStep gs new.now added fault.now → IsPlanned gs new.now added planned) }
 {
     match fault {
         StepFault::Refused(_, _) => write_refused(alloc, old, new, added, out),
@@ -323,7 +323,7 @@ pub fn write_plan<W: Write>(
     added: Beginning,
     out: &mut W,
 ) -> io::Result<Planned>
-    ensures { IfOk result (IsPlan history new.now added) }
+    ensures { IfOk result (IsPlanned history new.now added) }
 {
     write!(out, "at once: ")?;
     match judge_text(alloc, &history, new, added) {

@@ -5,7 +5,7 @@ use Rattle.std.proofs.lemmas.Bool.{cases_lt, lt-ltb}
 use Rattle.std.proofs.lemmas.List.{length-append, length-take-le, take_at, drop_at, drop-drop}
 use Rattle.mc_types.specs.KeyText.{IsKey, HoldsKey, is_bad_byte, is_key_byte}
 use Rattle.mc_types.specs.OpaqueText.{IsOpaque, HoldsOpaque}
-use Rattle.mc_types.specs.Padded.{LiesIn, zeros_of}
+use Rattle.mc_types.specs.Padded.{IsPadded, zeros_of}
 
 length-replicated : (n : ℕ) → length (zeros_of n) ≡ n
 length-replicated zero = refl
@@ -17,7 +17,7 @@ drop-replicate (suc n) zero = let e : 0 ≡ 0 - suc n = omega arith in ap zeros_
 drop-replicate (suc n) (suc m) = let e : m - n ≡ suc m - suc n = omega arith in drop-replicate n m ∙ ap zeros_of e
 
 -- a text in front of an array of zeros
-pub lies_in : (room : ℕ) (text : List ℕ) → length text ≤ room → LiesIn room (length text) (text ++ drop (length text) (zeros_of room))
+pub lies_in : (room : ℕ) (text : List ℕ) → length text ≤ room → IsPadded room (length text) (text ++ drop (length text) (zeros_of room))
 lies_in room text short =
     let zeros = drop-replicate (length text) room in
     record {
@@ -55,7 +55,7 @@ not_empty [] e = absurd cc
 not_empty (b ∷ text) e = omega arith
 
 -- after a text of at least this length there were zeros already
-pub zeros_after : (len before : ℕ) (bytes : List ℕ) → LiesIn 250 before bytes → before ≤ len → drop len bytes ≡ zeros_of (250 - len)
+pub zeros_after : (len before : ℕ) (bytes : List ℕ) → IsPadded 250 before bytes → before ≤ len → drop len bytes ≡ zeros_of (250 - len)
 zeros_after len before bytes h le =
     let n : len ≡ before + (len - before) = omega (arith, le) in
     let m : (250 - before) - (len - before) ≡ 250 - len = omega (arith, le, h.within) in
@@ -66,7 +66,7 @@ zeros-join zero m = let e : m ≡ 0 + m = omega arith in ap zeros_of e
 zeros-join (suc n) m = let e : suc (n + m) ≡ suc n + m = omega arith in ap (λ (l : List ℕ). 0 ∷ l) (zeros-join n m) ∙ ap zeros_of e
 
 -- what stood there of a longer text is set to 0
-pub cleared : (len before : ℕ) (bytes filled : List ℕ) → LiesIn 250 before bytes → len < before → filled ≡ zeros_of (before - len) → drop len (take len bytes ++ (filled ++ drop (before - len) (drop len bytes))) ≡ zeros_of (250 - len)
+pub cleared : (len before : ℕ) (bytes filled : List ℕ) → IsPadded 250 before bytes → len < before → filled ≡ zeros_of (before - len) → drop len (take len bytes ++ (filled ++ drop (before - len) (drop len bytes))) ≡ zeros_of (250 - len)
 cleared len before bytes filled h lt is =
     let n : before ≡ len + (before - len) = omega (arith, lt) in
     let front : length (take len bytes) ≡ len = length-take-le len bytes (omega (arith, lt, h.within, h.whole)) in

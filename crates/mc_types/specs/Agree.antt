@@ -1,6 +1,6 @@
 -- Which answers agree with what a server holds of the key. Source: memcached's protocol.txt, what is said of each command and its answers.
 use Rattle.std.specs.Prelude.{◌≡◌, ℕ, Option, Some, None, IsSome, IfSome, length, decimal}
-use Rattle.mc_types.specs.Items.{Item, counted}
+use Rattle.mc_types.specs.Items.{Item, number_made}
 use Rattle.mc_types.specs.declared.ask.Op.{Op}
 use Rattle.mc_types.specs.declared.ask.Op.TheVariants.{Get, Gat, Set, Add, Replace, Append, Prepend, Cas, Delete, Incr, Decr, Touch}
 use Rattle.mc_types.specs.declared.ask.Ask.{Ask}
@@ -48,7 +48,7 @@ AgreesAdd _ held = Unit {0}
 
 -- a number item is held, and the ask makes this number of it
 abbrev pub CountsTo : Ask → Option Item → ℕ → Type 0
-CountsTo ask held n = (item : Item) × (held ≡ Some item) × (counted ask item.content ≡ Some n)
+CountsTo ask held n = (item : Item) × (held ≡ Some item) × (number_made ask item.content ≡ Some n)
 
 abbrev pub AgreesCount : Ask → Answer → Option Item → Type 0
 AgreesCount ask (Number n) held = CountsTo ask held n
@@ -75,5 +75,5 @@ AgreesAs Decr ask answer held = AgreesCount ask answer held
 AgreesAs Touch ask answer held = AgreesHeld answer held
 
 -- the answer agrees with what is held of the ask's key; error lines agree with anything
-abbrev pub Agrees : Ask → Answer → Option Item → Type 0
-Agrees ask answer held = AgreesAs ask.op ask answer held
+abbrev pub AnswerAgrees : Ask → Answer → Option Item → Type 0
+AnswerAgrees ask answer held = AgreesAs ask.op ask answer held

@@ -34,8 +34,8 @@ place_of LetterV = 5
 place_of LetterO = 6
 
 -- which fields an ask has
-abbrev pub fields_of : Fields → Shape
-fields_of f = record {
+abbrev pub fields_shape : Fields → Shape
+fields_shape f = record {
   with_cas = presence_of f.with_cas;
   flags = presence_of f.flags;
   exptime = presence_of f.exptime;

@@ -22,8 +22,8 @@ is_up Decr = false
 is_up _ = true
 
 -- the number that the ask makes of these data, where they are one: spaces after it aren't counted, `incr` wraps at 2^64 and `decr` stops at 0
-abbrev pub counted : Ask → List ℕ → Option ℕ
-counted ask content = option_map (changed (is_up ask.op) ask.delta) (number_held content)
+abbrev pub number_made : Ask → List ℕ → Option ℕ
+number_made ask content = option_map (changed (is_up ask.op) ask.delta) (number_held content)
 
 -- the number as data; a server may put spaces after it
 abbrev pub number_text : ℕ → ℕ → List ℕ
@@ -48,8 +48,8 @@ after_done Replace ask stamp spaces before = Some (new_item ask stamp)
 after_done Cas ask stamp spaces before = Some (new_item ask stamp)
 after_done Append ask stamp spaces before = option_map (λ item. with_content item (item.content ++ ask.body)) before
 after_done Prepend ask stamp spaces before = option_map (λ item. with_content item (ask.body ++ item.content)) before
-after_done Incr ask stamp spaces before = option_map (λ item. recounted spaces item (counted ask item.content)) before
-after_done Decr ask stamp spaces before = option_map (λ item. recounted spaces item (counted ask item.content)) before
+after_done Incr ask stamp spaces before = option_map (λ item. recounted spaces item (number_made ask item.content)) before
+after_done Decr ask stamp spaces before = option_map (λ item. recounted spaces item (number_made ask item.content)) before
 after_done Get ask stamp spaces before = before
 after_done Gat ask stamp spaces before = before
 after_done Touch ask stamp spaces before = before

@@ -1,7 +1,7 @@
 -- What a key is. Source: memcached's protocol.txt, "Keys": up to 250 characters, without control characters or white space.
 use Rattle.std.specs.Prelude.{◌≡◌, ℕ, ◌<◌, ◌≤◌, Bool, true, not, List, length, take, nat_lt, ◌||◌, ◌==◌}
 use Rattle.std.specs.List.{list_all}
-use Rattle.mc_types.specs.Padded.{LiesIn}
+use Rattle.mc_types.specs.Padded.{IsPadded}
 use Rattle.mc_types.specs.declared.limits.TheConstants.{KEY_LIMIT}
 
 abbrev pub is_bad_byte : ℕ → Bool
@@ -18,5 +18,5 @@ pub record IsKey (text : List ℕ) : Type 0 where
 
 -- how a key's text lies in its array
 pub record HoldsKey (len : ℕ) (bytes : List ℕ) : Type 0 where
-  pub lies : LiesIn KEY_LIMIT len bytes
+  pub lies : IsPadded KEY_LIMIT len bytes
   pub text : IsKey (take len bytes)

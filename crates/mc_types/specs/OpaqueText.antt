@@ -1,7 +1,7 @@
 -- What the text of an opaque token is. Source: memcached's protocol.txt, "Meta Commands": "O(token): opaque value, consumes a token and copies back with response"; at most 32 bytes.
 use Rattle.std.specs.Prelude.{◌≡◌, ℕ, ◌<◌, ◌≤◌, ◌&&◌, Bool, true, List, length, take, nat_le}
 use Rattle.std.specs.List.{list_all}
-use Rattle.mc_types.specs.Padded.{LiesIn}
+use Rattle.mc_types.specs.Padded.{IsPadded}
 use Rattle.mc_types.specs.declared.limits.TheConstants.{OPAQUE_LIMIT}
 
 abbrev pub is_opaque_byte : ℕ → Bool
@@ -15,5 +15,5 @@ pub record IsOpaque (text : List ℕ) : Type 0 where
 
 -- how it lies in its array
 pub record HoldsOpaque (len : ℕ) (bytes : List ℕ) : Type 0 where
-  pub lies : LiesIn OPAQUE_LIMIT len bytes
+  pub lies : IsPadded OPAQUE_LIMIT len bytes
   pub text : IsOpaque (take len bytes)

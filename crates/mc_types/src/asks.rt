@@ -4,7 +4,7 @@ ghost use Rattle.std.specs.Prelude.{◌≡◌, ◌≤◌, ◌<◌, ◌^◌, ◌�
 ghost use Rattle.mc_types.specs.Asks.{IsAsk, AreInRange, IsExptime, data_limit, classic_shape, meta_shape, shape_of};
 ghost use Rattle.mc_types.specs.KeyText.{IsKey};
 ghost use Rattle.mc_types.specs.Tokens.{letter_of, same_letter, has_letter, wants, are_served};
-ghost use Rattle.mc_types.specs.ClientAsks.{presence_of, letters_of, fields_of, flag_is, number_is, some_is, place_of, has_shape, has_shape_of};
+ghost use Rattle.mc_types.specs.ClientAsks.{presence_of, letters_of, fields_shape, flag_is, number_is, some_is, place_of, has_shape, has_shape_of};
 ghost use Rattle.mc_types.specs.declared.asks.Occurs.TheVariants as occurs;
 
 use crate::{Ask, DATA_LIMIT, Dialect, Op, Token};
@@ -65,7 +65,7 @@ fn storing(served: Served) -> Fields
 }
 
 fn classic_fields(op: Op) -> Fields
-    ensures { fields_of result ≡ classic_shape op }
+    ensures { fields_shape result ≡ classic_shape op }
 {
     match op {
         Op::Get => Fields {
@@ -95,7 +95,7 @@ fn classic_fields(op: Op) -> Fields
 }
 
 fn meta_fields(op: Op) -> Option<Fields>
-    ensures { option_map fields_of result ≡ meta_shape op }
+    ensures { option_map fields_shape result ≡ meta_shape op }
 {
     match op {
         Op::Get => Some(bare(Served::OfGet)),
@@ -126,7 +126,7 @@ fn meta_fields(op: Op) -> Option<Fields>
 
 // The fields that an ask of this dialect and operation has, where there is one.
 fn table_fields(dialect: Dialect, op: Op) -> Option<Fields>
-    ensures { option_map fields_of result ≡ shape_of dialect op }
+    ensures { option_map fields_shape result ≡ shape_of dialect op }
 {
     match dialect {
         Dialect::Classic => Some(classic_fields(op)),
@@ -246,7 +246,7 @@ fn are_served(served: Served, tokens: &[Token]) -> bool
 
 #[inline(always)]
 fn has_fields(ask: &Ask, fields: Fields) -> bool
-    ensures { result ≡ has_shape ask.now (fields_of fields) }
+    ensures { result ≡ has_shape ask.now (fields_shape fields) }
 {
     flag_is(fields.with_cas, ask.with_cas)
         && number_is(fields.flags, u64::from(ask.flags))

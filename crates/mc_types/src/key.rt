@@ -9,7 +9,7 @@ ghost use Rattle.std.specs.Cmp.{partial_equiv_from_equiv};
 ghost use Rattle.std.specs.Cmp.Rules.{hashing};
 ghost use Rattle.std.proofs.Common.{rules};
 ghost use Rattle.mc_types.specs.KeyText.{IsKey, is_bad_byte};
-ghost use Rattle.mc_types.specs.Padded.{LiesIn, zeros_of};
+ghost use Rattle.mc_types.specs.Padded.{IsPadded, zeros_of};
 ghost use Rattle.mc_types.specs.declared.limits.TheConstants.{KEY_LIMIT};
 
 use crate::limits::KEY_LIMIT;
@@ -73,7 +73,7 @@ pub fn first_bad_byte(text: &[u8]) -> Option<usize>
 
 // What stands after so many bytes is set to 0, where a longer text stood.
 fn clear_after(bytes: &mut [u8; KEY_LIMIT], len: usize, before: usize)
-    requires lies { LiesIn KEY_LIMIT before bytes.old }
+    requires lies { IsPadded KEY_LIMIT before bytes.old }
     requires short { len ≤ KEY_LIMIT }
     ensures { drop len bytes.new ≡ zeros_of (KEY_LIMIT - len) }
 {

@@ -7,11 +7,11 @@ use Rattle.route_tree.specs.Route.{Route}
 use Rattle.core_commands.specs.declared.sharing.Sharing.{Sharing}
 use Rattle.core_accepted.specs.declared.served.ServedCore.{ServedCore}
 use Rattle.serve_links.specs.declared.settings.Settings.{Settings}
-use Rattle.serve_wire.specs.Events.{Event}
+use Rattle.serve_wire.specs.Events.{WireEvent}
 use Rattle.serve_wire.specs.declared.sockets.sockets.Sockets.{Sockets}
 use Rattle.serve_links.specs.CoreSteps.{Step, Walks}
 use Rattle.serve_links.specs.Story.{Agrees, texts_of}
-use Rattle.serve_links.specs.Called.{TellsCalls}
+use Rattle.serve_links.specs.Called.{TellsCallsOut}
 use Rattle.serve_links.specs.Talks.{IsOrderly}
 use Rattle.core_accepted.specs.Tallies.{nothing_done}
 use Rattle.serve_links.specs.Counts.{AreCounted, ResultsAreCounted}
@@ -34,18 +34,18 @@ use Rattle.mcgate.specs.declared.serve.Servable.TheVariants as servables
 use Rattle.mcgate.specs.Sharing.{sharing_for}
 use Rattle.mcgate_serve.specs.declared.serving.Serving.{Serving}
 use Rattle.mcgate_serve.specs.Serves.{proxy_of, GoesOnServing}
-use Rattle.mcgate.specs.Served.{history_of, HasTree, IsUsedFirst, HasServers, BeginsBy, Begins, BeginsServing, GoFreshly, GoFreshlyLate, HasServed, StaysFresh}
+use Rattle.mcgate.specs.Served.{history_of, HasTree, IsUsedFirst, HasServers, BeginsBy, BeginsToServe, BeginsServing, GoFreshly, GoFreshlyLate, HasServed, StaysFresh}
 
 -- an end that began by these settings but for its sharing, which is that of its tree
 pub begins_on :
     {T E : Type 0} (core : T → ServedCore) (servable known : Servable) (begun : Beginnings) (settings : Settings) (sharing : Sharing) (tree : Route) (r : Result T E) → servable ≡ known → HasTree known tree → sharing ≡ sharing_for tree
-    → IfOk r (λ end. BeginsBy known begun (record settings { sharing = sharing }) (core end)) → IfOk r (λ end. Begins servable begun settings (core end))
+    → IfOk r (λ end. BeginsBy known begun (record settings { sharing = sharing }) (core end)) → IfOk r (λ end. BeginsToServe servable begun settings (core end))
 begins_on core servable known begun settings sharing tree (Ok end) is has sharing_is begins =
-    subst (λ (x : Servable). Begins x begun settings (core end)) (sym is) (tree, has, subst (λ (s : Sharing). BeginsBy known begun (record settings { sharing = s }) (core end)) sharing_is begins)
+    subst (λ (x : Servable). BeginsToServe x begun settings (core end)) (sym is) (tree, has, subst (λ (s : Sharing). BeginsBy known begun (record settings { sharing = s }) (core end)) sharing_is begins)
 begins_on core servable known begun settings sharing tree (Err fault) is has sharing_is begins = tt
 
 -- nothing has happened
-pub no_conns : (h : List Event) → h ≡ [] → HasNoConns h
+pub no_conns : (h : List WireEvent) → h ≡ [] → HasNoConns h
 no_conns h none = subst HasNoConns (sym none) (λ conn. (refl, refl), refl)
 
 -- its servers were copied
@@ -57,7 +57,7 @@ servers_on servable known servers (Err fault) is has same = tt
 -- what serves is over an end that begins
 pub begins_serving :
     {E : Type 0} (servable : Servable) (begun : Beginnings) (settings : Settings) (servers : Addresses) (end : ProxyEnd Sockets) (r : Result (Serving Sockets) E) → IfOk r (λ serving. serving.end ≡ end)
-    → Begins servable begun settings end.core.value → Agrees [] (proxy_of history_of end) → texts_of end.sockets.links.all.items ≡ servers → HasServers servable servers → IfOk r (λ serving. BeginsServing servable begun settings serving.end)
+    → BeginsToServe servable begun settings end.core.value → Agrees [] (proxy_of history_of end) → texts_of end.sockets.links.all.items ≡ servers → HasServers servable servers → IfOk r (λ serving. BeginsServing servable begun settings serving.end)
 begins_serving servable begun settings servers end (Ok serving) is begins agrees texts has =
     subst (λ x. BeginsServing servable begun settings x) (sym is) (record { core = begins; agrees = agrees; servers = subst (λ (l : Addresses). HasServers servable l) (sym texts) has })
 begins_serving servable begun settings servers end (Err fault) is begins agrees texts has = tt
@@ -73,7 +73,7 @@ late_since first begun b sound is any = late_core b sound (record (first_of firs
 
 -- over the connections of its steps
 has_freshly_late :
-    (servable : Servable) (begun : Beginnings) (settings : Settings) (steps : List Step) (a b : ServedCore) → BeginsBy servable begun settings a → Walks steps a b → TellsCalls [] a → IsOrderly steps → TreesAreSound b
+    (servable : Servable) (begun : Beginnings) (settings : Settings) (steps : List Step) (a b : ServedCore) → BeginsBy servable begun settings a → Walks steps a b → TellsCallsOut [] a → IsOrderly steps → TreesAreSound b
     → GoFreshlyLate servable begun steps a b
 has_freshly_late (servables.Accepted accepted) begun settings steps a b begins walks tells orderly sound =
     λ any. walks_are_fresh_late steps a b tells orderly (late_since begins.config begun b sound (walks_keep_since steps a b walks begins.config begun ([], begins.word)) any).1
@@ -88,7 +88,7 @@ has_counted : (steps : List Step) (first last : ServedCore) → first.tally ≡ 
 has_counted steps first last none walks = subst (λ l. AreCounted l last.tally) (append-nil steps) (steps_are_counted.goes_on steps [] first last walks (subst (AreCounted []) (sym none) steps_are_counted.begins))
 
 -- the results too, of calls that were out
-has_results : (steps : List Step) (first last : ServedCore) → first.tally ≡ nothing_done → Walks steps first last → TellsCalls [] first → IsOrderly steps → ResultsAreCounted steps last.tally
+has_results : (steps : List Step) (first last : ServedCore) → first.tally ≡ nothing_done → Walks steps first last → TellsCallsOut [] first → IsOrderly steps → ResultsAreCounted steps last.tally
 has_results steps first last none walks tells orderly =
     subst (λ l. ResultsAreCounted l last.tally) (append-nil steps)
     (steps_are_counted.results_go_on steps [] first last walks tells (subst IsOrderly (sym (append-nil steps)) orderly) (subst (ResultsAreCounted []) (sym none) steps_are_counted.results_begin))

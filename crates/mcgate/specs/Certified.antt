@@ -14,7 +14,7 @@ use Rattle.mcgate_args.specs.Program.{StopBreaksOff}
 use Rattle.mcgate.specs.declared.serve.Servable.TheVariants as servables
 use Rattle.mcgate.specs.declared.serve.Judged.{Judged}
 use Rattle.mcgate.specs.declared.serve.Judged.TheVariants as judgements
-use Rattle.mcgate.specs.Judging.{TellsFault}
+use Rattle.mcgate.specs.Judging.{TellsFirstFault}
 
 -- status 1: the tree is refused by the certificate for this reason, and that was written; status 2: the text means no certificate
 abbrev pub TellsWhy : Configuration → List ℕ → Option (List ℕ) → Option (List ℕ) → ℕ → Type 0
@@ -34,4 +34,4 @@ JudgesBy configuration certificate old new (Err stop) = StopBreaksOff stop
 abbrev pub JudgesTextBy : List ℕ → List ℕ → Option (List ℕ) → Option (List ℕ) → Result Judged Stop → Type 0
 JudgesTextBy text certificate old new result =
     ((configuration : Configuration) × (read_or (read text) ≡ Ok (configuration.tree, configuration.servers)) × JudgesBy configuration certificate old new result)
-    ⊎ TellsFault text old new result
+    ⊎ TellsFirstFault text old new result

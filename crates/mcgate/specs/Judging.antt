@@ -24,12 +24,12 @@ JudgesToServe any configuration old new (Ok (judgements.Printed status)) = (any 
 JudgesToServe any configuration old new (Err stop) = StopBreaksOff stop
 
 -- the text says none, and its first fault was written; or memory or the writer failed
-abbrev pub TellsFault : List ℕ → Option (List ℕ) → Option (List ℕ) → Result Judged Stop → Type 0
-TellsFault text old new (Ok (judgements.Servable servable)) = ⊥
-TellsFault text old new (Ok (judgements.Printed status)) = (status ≡ 2) × PrintsFault text old new
-TellsFault text old new (Err stop) = StopBreaksOff stop
+abbrev pub TellsFirstFault : List ℕ → Option (List ℕ) → Option (List ℕ) → Result Judged Stop → Type 0
+TellsFirstFault text old new (Ok (judgements.Servable servable)) = ⊥
+TellsFirstFault text old new (Ok (judgements.Printed status)) = (status ≡ 2) × PrintsFault text old new
+TellsFirstFault text old new (Err stop) = StopBreaksOff stop
 
 -- the configuration that the text says is judged; or it says none
 abbrev pub JudgesText : Bool → List ℕ → Option (List ℕ) → Option (List ℕ) → Result Judged Stop → Type 0
 JudgesText any text old new result =
-    ((configuration : Configuration) × (read_or (read text) ≡ Ok (configuration.tree, configuration.servers)) × JudgesToServe any configuration old new result) ⊎ TellsFault text old new result
+    ((configuration : Configuration) × (read_or (read text) ≡ Ok (configuration.tree, configuration.servers)) × JudgesToServe any configuration old new result) ⊎ TellsFirstFault text old new result

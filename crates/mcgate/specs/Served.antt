@@ -6,7 +6,7 @@ use Rattle.route_tree.specs.Route.{Route}
 use Rattle.gate_check.specs.Sound.{IsLast}
 use Rattle.core_accepted.specs.declared.served.ServedCore.{ServedCore}
 use Rattle.serve_links.specs.declared.settings.Settings.{Settings}
-use Rattle.serve_wire.specs.Events.{Event}
+use Rattle.serve_wire.specs.Events.{WireEvent}
 use Rattle.serve_wire.specs.declared.sockets.sockets.Sockets.{Sockets}
 use Rattle.serve_links.specs.CoreSteps.{Step}
 use Rattle.serve_links.specs.Story.{Agrees, texts_of}
@@ -28,7 +28,7 @@ use Rattle.mcgate.specs.declared.serve.Judged.{Judged}
 use Rattle.mcgate.specs.declared.serve.Judged.TheVariants as judgements
 
 -- all that has happened on its sockets, the latest first
-abbrev pub history_of : Sockets → List Event
+abbrev pub history_of : Sockets → List WireEvent
 history_of wire = wire.log.events
 
 -- it is a new core on the trees that the gate accepted, where servers began so; or on the configuration's tree, of which no gate was asked
@@ -52,8 +52,8 @@ IsUsedFirst fleet servable None = fleet ≡ false
 IsUsedFirst fleet servable (Some used) = HasTree servable used.tree
 
 -- the same by these settings, but that commands share their keys by the rule for its tree
-abbrev pub Begins : Servable → Beginnings → Settings → ServedCore → Type 0
-Begins servable begun settings core = (tree : Route) × HasTree servable tree × BeginsBy servable begun (record settings { sharing = sharing_for tree }) core
+abbrev pub BeginsToServe : Servable → Beginnings → Settings → ServedCore → Type 0
+BeginsToServe servable begun settings core = (tree : Route) × HasTree servable tree × BeginsBy servable begun (record settings { sharing = sharing_for tree }) core
 
 -- these are its servers: of configurations that the gate accepted, those of the last one
 abbrev pub HasServers : Servable → Addresses → Type 0
@@ -62,7 +62,7 @@ HasServers (servables.Unchecked configuration) servers = servers ≡ configurati
 
 -- an end of a proxy that begins with a new core of this: nothing was fed or given, each link is to its server, and no link has a connection
 pub record BeginsServing (servable : Servable) (begun : Beginnings) (settings : Settings) (end : ProxyEnd Sockets) : Type 0 where
-  pub core : Begins servable begun settings end.core.value
+  pub core : BeginsToServe servable begun settings end.core.value
   pub agrees : Agrees [] (proxy_of history_of end)
   pub servers : HasServers servable (texts_of end.sockets.links.all.items)
 

@@ -8,7 +8,7 @@ ghost use Rattle.serve_proxy.specs.Ends.{HasNoConns, WireIsQuiet};
 ghost use Rattle.mcgate.specs.Judging.{JudgesToServe, JudgesText};
 ghost use Rattle.mcgate_serve.specs.LooksUp.{AreLookedUp};
 ghost use Rattle.mcgate_serve.specs.Serves.{proxy_of};
-ghost use Rattle.mcgate.specs.Served.{HasTree, ServesIn, IsUsedFirst, Begins, HasServers, BeginsServing, HasServed, StaysFresh, history_of};
+ghost use Rattle.mcgate.specs.Served.{HasTree, ServesIn, IsUsedFirst, BeginsToServe, HasServers, BeginsServing, HasServed, StaysFresh, history_of};
 
 use crate::listening::{ListenPlace, place_of};
 use crate::sharing::sharing_for;
@@ -164,7 +164,7 @@ fn end_over(
     begun: Beginnings,
     settings: Settings,
 ) -> Result<Proxy, AllocError>
-    ensures core { IfOk result (λ end. Begins servable begun settings end.core.value) }
+    ensures core { IfOk result (λ end. BeginsToServe servable begun settings end.core.value) }
     ensures ends { IfOk result (λ end. HasNoConns (history_of wire) → Agrees [] (proxy_of history_of end)) }
     ensures texts { IfOk result (λ end. texts_of end.sockets.links.all.items ≡ servers.now) }
 {
@@ -306,7 +306,7 @@ fn open<R: Net + Clock + AllocGlobal + Eprint>(
     servable: Servable,
     servers: &Servers,
 ) -> io::Result<Proxy>
-    ensures core { IfOk result (λ end. Begins servable job.now.begun job.now.settings end.core.value) }
+    ensures core { IfOk result (λ end. BeginsToServe servable job.now.begun job.now.settings end.core.value) }
     ensures ends { IfOk result (λ end. Agrees [] (proxy_of history_of end)) }
     ensures texts { IfOk result (λ end. texts_of end.sockets.links.all.items ≡ servers.now) }
 {

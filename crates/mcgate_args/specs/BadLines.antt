@@ -3,7 +3,7 @@ use Rattle.std.specs.Prelude.{◌≡◌, ℕ, List, Option, None, Result, Ok, Er
 use Rattle.std.specs.declared.alloc.Global.{Global}
 use Rattle.route_json.specs.Configuration.{Configuration}
 use Rattle.script_events.specs.Lines.{lines_of}
-use Rattle.fault_words.specs.Finding.{IsWrong, FindsIn}
+use Rattle.fault_words.specs.Finding.{IsWrong, FindsBadLine}
 use Rattle.fault_words.specs.declared.script.finding.BadLine.{BadLine}
 use Rattle.mcgate_args.specs.declared.arguments.Task.{Task}
 use Rattle.mcgate_args.specs.declared.arguments.Task.TheVariants as tasks
@@ -17,7 +17,7 @@ FindsBy P (Err fault) found = found ≡ None
 -- in a script with its configuration its first bad line; in a configuration alone nothing
 abbrev pub FindsInTask : Task → Result (String Global) InputFault → Option BadLine → Type 0
 FindsInTask (tasks.Check form) input found = found ≡ None
-FindsInTask (tasks.Replay judging) input found = FindsBy FindsIn input found
+FindsInTask (tasks.Replay judging) input found = FindsBy FindsBadLine input found
 
 -- in events over a configuration
 abbrev pub FindsInEvents : Configuration → Result (String Global) InputFault → Option BadLine → Type 0

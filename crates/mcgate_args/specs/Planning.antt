@@ -15,6 +15,6 @@ planned_status plans.Refused = 1
 planned_status plans.NoConfig = 2
 
 -- what the plan of two texts is, and so its status; or it was broken off
-abbrev pub Plans : Beginnings → List ℕ → List ℕ → Result ℕ Stop → Type 0
-Plans begun old new (Ok status) = (planned : Planned) × IsPlanFrom old new begun.opened begun.added planned × (status ≡ planned_status planned)
-Plans begun old new (Err stop) = Unit {0}
+abbrev pub PlansTexts : Beginnings → List ℕ → List ℕ → Result ℕ Stop → Type 0
+PlansTexts begun old new (Ok status) = (planned : Planned) × IsPlanFrom old new begun.opened begun.added planned × (status ≡ planned_status planned)
+PlansTexts begun old new (Err stop) = Unit {0}

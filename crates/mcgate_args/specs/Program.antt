@@ -7,7 +7,7 @@ use Rattle.route_json.specs.Configs.{read_or}
 use Rattle.route_json.specs.Configuration.{Configuration}
 use Rattle.mcgate_check.specs.Checking.{PrintsFault}
 use Rattle.mcgate_check.specs.Reporting.{Checks}
-use Rattle.script_events.specs.Told.{told}
+use Rattle.script_events.specs.Told.{text_told}
 use Rattle.mcgate_replay.specs.Replay.{Replays, Overran, IsBrokenOff as IsCutShort}
 use Rattle.mcgate_args.specs.declared.arguments.Task.{Task}
 use Rattle.mcgate_args.specs.declared.arguments.Task.TheVariants as tasks
@@ -33,9 +33,9 @@ BreaksRunOff Refused Overran stops.Device = Unit {0}
 BreaksRunOff Refused Overran stops.Calls = Overran
 
 -- this line was written and the status is 2; or the line could not be written
-abbrev pub Tells : List ℕ → Option (List ℕ) → Option (List ℕ) → Result ℕ Stop → Type 0
-Tells line old new (Ok status) = (status ≡ 2) × Appends old new line
-Tells line old new (Err stop) = StopBreaksOff stop
+abbrev pub TellsLine : List ℕ → Option (List ℕ) → Option (List ℕ) → Result ℕ Stop → Type 0
+TellsLine line old new (Ok status) = (status ≡ 2) × Appends old new line
+TellsLine line old new (Err stop) = StopBreaksOff stop
 
 -- nothing was written
 abbrev pub StopsSilently : Stop → Option (List ℕ) → Option (List ℕ) → Result ℕ Stop → Type 0
@@ -49,12 +49,12 @@ DoesTask (tasks.Replay judging) text old new status = Replays judging text old n
 -- what it wrote of a text where memory was refused: of a configuration nothing, of a script nothing or the transcript of a part of its run
 abbrev pub MemoryRefused : Task → List ℕ → Option (List ℕ) → Option (List ℕ) → Type 0
 MemoryRefused (tasks.Check form) text old new = new ≡ old
-MemoryRefused (tasks.Replay judging) text old new = IsCutShort judging (told text) old new
+MemoryRefused (tasks.Replay judging) text old new = IsCutShort judging (text_told text) old new
 
 -- what it wrote of a text where there were too many calls; a check makes none
 abbrev pub Overruns : Task → List ℕ → Option (List ℕ) → Option (List ℕ) → Type 0
 Overruns (tasks.Check form) text old new = ⊥
-Overruns (tasks.Replay judging) text old new = Overran judging (told text) old new
+Overruns (tasks.Replay judging) text old new = Overran judging (text_told text) old new
 
 -- a run over TCP, certificates and where keys live: there never are too many calls
 abbrev pub NeverOverruns : List ℕ → Option (List ℕ) → Option (List ℕ) → Type 0
@@ -82,8 +82,8 @@ RunsText P M O text old new (Err stop) = BreaksRunOff (M text old new) (O text o
 
 -- what is written of an input that was not read, and how that ended
 abbrev pub Declines : InputFault → Option (List ℕ) → Option (List ℕ) → Result ℕ Stop → Type 0
-Declines TooLarge old new ended = Tells (codes "input: too large" ++ codes "\n") old new ended
-Declines NotUtf8 old new ended = Tells (codes "input: not UTF-8" ++ codes "\n") old new ended
+Declines TooLarge old new ended = TellsLine (codes "input: too large" ++ codes "\n") old new ended
+Declines NotUtf8 old new ended = TellsLine (codes "input: not UTF-8" ++ codes "\n") old new ended
 Declines NoMemory old new ended = StopsSilently stops.Memory old new ended
 Declines Device old new ended = StopsSilently stops.Device old new ended
 

@@ -72,6 +72,6 @@ stop_line stops.Device = codes "device: failed"
 stop_line stops.Calls = calls_line
 
 -- the exit status, and the line on standard error if there is one
-abbrev pub end_of : Result ℕ Stop → ℕ × Option (List ℕ)
-end_of (Ok status) = (status, None)
-end_of (Err stop) = (stop_status stop, Some (stop_line stop))
+abbrev pub exit_of : Result ℕ Stop → ℕ × Option (List ℕ)
+exit_of (Ok status) = (status, None)
+exit_of (Err stop) = (stop_status stop, Some (stop_line stop))

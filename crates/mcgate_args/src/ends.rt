@@ -6,7 +6,7 @@ ghost use Rattle.std.specs.IoError.{error_kind};
 ghost use Rattle.mcgate_args.specs.Program.{AnswersTask, RunsTask, AnswersInput, RunsText, AnswersBy, NeverOverruns, SaysNothing, Declines, GivesConfig, ReadsConfig};
 ghost use Rattle.mcgate_replay.specs.Replay.{ReplaysOver, Overran, IsBrokenOff as IsCutShort};
 ghost use Rattle.mcgate_check.specs.Finding.{FindsKeys};
-ghost use Rattle.mcgate_args.specs.Stops.{stop_at, stop_by, stop_of, key_fault_line, calls_line, EndsProgram, end_of};
+ghost use Rattle.mcgate_args.specs.Stops.{stop_at, stop_by, stop_of, key_fault_line, calls_line, EndsProgram, exit_of};
 
 use crate::arguments::{ArgumentsFault, Task};
 use crate::input_text::InputFault;
@@ -100,7 +100,7 @@ pub struct End {
 ///
 /// Source: mcgate's own.
 pub fn end_of(ended: Result<u8, Stop>) -> End
-    ensures { (result.status, option_map (λ s. s.now) result.complaint) ≡ end_of ended }
+    ensures { (result.status, option_map (λ s. s.now) result.complaint) ≡ exit_of ended }
 {
     match ended {
         Ok(status) => End {

@@ -1,7 +1,7 @@
 //! What is printed of a change from one configuration to another.
 
 ghost use Rattle.std.specs.Prelude.{◌≡◌};
-ghost use Rattle.mcgate_args.specs.Planning.{Plans, planned_status};
+ghost use Rattle.mcgate_args.specs.Planning.{PlansTexts, planned_status};
 
 use crate::ends::Stop;
 use core_accepted::Beginnings;
@@ -31,7 +31,7 @@ pub fn run_plan<W: Write>(
     new: &str,
     out: &mut W,
 ) -> Result<u8, Stop>
-    ensures { Plans begun old.now new.now result }
+    ensures { PlansTexts begun old.now new.now result }
 {
     let planned = write_plan_from(alloc, old, new, begun.opened, begun.added, out)?;
     Ok(status_of(planned))

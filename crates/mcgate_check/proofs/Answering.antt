@@ -23,7 +23,7 @@ use Rattle.route_tree.proofs.Places.{place_is_enough}
 use Rattle.route_json.specs.Configuration.{Configuration}
 use Rattle.route_json.specs.Fits.{IsBelow}
 use Rattle.gate_coverage.specs.declared.deleting.Deleting.TheVariants as kinds
-use Rattle.gate_coverage.specs.Cover.{IsTaking, dialect_of}
+use Rattle.gate_coverage.specs.Cover.{IsTaking, deleting_dialect}
 use Rattle.gate_coverage.proofs.Choices.{not_false}
 use Rattle.gate_check.specs.declared.gap.Gap.{Gap}
 use Rattle.script_events.specs.declared.script.Report.{Report}
@@ -33,14 +33,14 @@ use Rattle.script_events.specs.Opening.{opening_of}
 use Rattle.script_events.specs.Bad.{first_bad}
 use Rattle.cache_server.specs.Contents.{empty}
 use Rattle.script_events.specs.Limits.{capacity}
-use Rattle.script_events.specs.Servers.{AreNewServers, count_of}
+use Rattle.script_events.specs.Servers.{AreNewServers, count_of_servers}
 use Rattle.script_events.specs.declared.servers.servers.ScriptServers.{ScriptServers}
 use Rattle.core_proxy.specs.Claims.{bars_by}
 use Rattle.core_commands.specs.declared.sharing.Sharing.TheVariants.{Alone}
 use Rattle.script_run.specs.Standing.{tree_by}
 use Rattle.script_run.specs.Driving.{DrivesStepped, FollowsBy}
 use Rattle.gate_gaps.specs.Turns.{acks, finds}
-use Rattle.gate_gaps.specs.Bait.{delete_of, read_of, answer_of}
+use Rattle.gate_gaps.specs.Bait.{delete_of, read_of, bait_answer}
 use Rattle.gate_gaps.specs.Scripts.{Leaks}
 use Rattle.gate_gaps.proofs.Beside.{gaps_have_words}
 use Rattle.gate_gaps.proofs.Gaps.{numbers_have_script}
@@ -78,7 +78,7 @@ module _ (config : Configuration) (gap : Gap) (key : List ℕ) (f : Failures) (t
   bars = bars_by Alone (λ n k. tree_at config.tree k)
 
   leaks : Leaks memcached_text (words_of config.tree) bars (opening_of events) default_version events
-  leaks = numbers_have_script memcached_text (λ n k. tree_at config.tree k) bars (opening_of events) default_version key gap.op kinds.Delete gap.server (delete_text key) (read_text gap.op key) (Whole (message_of (delete_of kinds.Delete key))) (Whole (message_of (read_of gap.op key))) (Stands Nothing []) (Stands Nothing []) first.is_key.key_is taking good good (baited gap.server key f.delete f.read (delete_text key) (read_text gap.op key)) quiet_start (one_delete key (answer_of_nothing (dialect_of kinds.Delete) Delete) first.is_key.key_is) (one_read gap.op key (answer_of gap.op) taking first.is_key.key_is) f.delete f.read numbers.0 numbers.1
+  leaks = numbers_have_script memcached_text (λ n k. tree_at config.tree k) bars (opening_of events) default_version key gap.op kinds.Delete gap.server (delete_text key) (read_text gap.op key) (Whole (message_of (delete_of kinds.Delete key))) (Whole (message_of (read_of gap.op key))) (Stands Nothing []) (Stands Nothing []) first.is_key.key_is taking good good (baited gap.server key f.delete f.read (delete_text key) (read_text gap.op key)) quiet_start (one_delete key (answer_of_nothing (deleting_dialect kinds.Delete) Delete) first.is_key.key_is) (one_read gap.op key (bait_answer gap.op) taking first.is_key.key_is) f.delete f.read numbers.0 numbers.1
 
   can_be : first_bad (length config.servers) events ≡ None
   can_be =
@@ -133,7 +133,7 @@ answered config gap None h n = n
 answered config gap (Some script) h n = h
 
 -- so many servers as were asked for
-pub counted : (n : ℕ) (servers : ScriptServers) → AreNewServers n servers → count_of servers ≡ n
+pub counted : (n : ℕ) (servers : ScriptServers) → AreNewServers n servers → count_of_servers servers ≡ n
 counted n servers new = ap length new.caches ∙ length-replicate n (empty capacity)
 
 -- each command has its key alone

@@ -5,7 +5,7 @@ use Rattle.std.proofs.lemmas.Slice.Eq.{bytes_eq-Decides}
 use Rattle.std.specs.List.{IsDistinct}
 use Rattle.std.specs.Map.{keys_of}
 use Rattle.fresh_runs.specs.Log.{Scripted, Piece, Fail, Hold, Before}
-use Rattle.cache_server.specs.Contents.{Contents, empty, same_key, storing, opening}
+use Rattle.cache_server.specs.Contents.{Contents, empty, same_key, storing_item, opening}
 use Rattle.cache_server.specs.Held.{holds}
 use Rattle.cache_server.proofs.CallLemmas.{hold_is}
 use Rattle.script_events.specs.Limits.{capacity}
@@ -44,11 +44,11 @@ module _ (s : ℕ) (key : List ℕ) (i j : ℕ) (text1 text2 : List ℕ) where
 
   pub baited : IsBaited (opening_of (leaking_script s key i text1 j text2)) s key
   baited = (
-    ap (λ (c : Contents). holds c key) (put_script s ∙ pick_true (nat_eq s s) (storing (empty capacity) key (opening (49 ∷ []))) (empty capacity) (eq-eqb s s refl))
+    ap (λ (c : Contents). holds c key) (put_script s ∙ pick_true (nat_eq s s) (storing_item (empty capacity) key (opening (49 ∷ []))) (empty capacity) (eq-eqb s s refl))
         ∙ (hold_is (empty capacity) key (49 ∷ []) nothing_distinct key
         ∙ pick_true (bytes_eq key key) (Some bait) None ((bytes_eq-Decides key key).1 refl)),
     λ t other.
-        ap (λ (c : Contents). holds c key) (put_script t ∙ pick_false (nat_eq s t) (storing (empty capacity) key (opening (49 ∷ []))) (empty capacity) (not_same t other)),
+        ap (λ (c : Contents). holds c key) (put_script t ∙ pick_false (nat_eq s t) (storing_item (empty capacity) key (opening (49 ∷ []))) (empty capacity) (not_same t other)),
   )
     where
       not_same : (t : ℕ) → t ≢ s → nat_eq s t ≡ false

@@ -11,8 +11,8 @@ use Rattle.route_tree.specs.Route.{Route, Routes, Policies, Prefixes, Pool, Serv
 use Rattle.route_tree.specs.At.{begins, is_longer, plain_for, plain_for_all, plain_for_policies, plain_for_prefixes, tree_at}
 use Rattle.route_json.specs.Fits.{IsBelow, AreBelow, ArePoliciesBelow, ArePrefixesBelow}
 use Rattle.route_json.specs.Pools.{AllBelow}
-use Rattle.gate_coverage.specs.Computed.{is_get, fails}
-use Rattle.gate_gaps.specs.Turns.{or_else, counted_after, tries, finds, finds_first, finds_some, finds_head, finds_policy}
+use Rattle.gate_coverage.specs.Computed.{asks_get, fails}
+use Rattle.gate_gaps.specs.Turns.{or_that, counted_after, tries, finds, finds_first, finds_some, finds_head, finds_policy}
 
 slot_below : (bound : ℕ) (servers : List ℕ) (i : ℕ) → AllBelow bound servers → i < length servers → slice_index servers i < bound
 slot_below bound [] i h lt = absurd (omega (arith, lt))
@@ -78,7 +78,7 @@ module _ (bound hash : ℕ) (text : List ℕ) where
         prefixes_plain_below ps _ (best_below (begins p text && is_longer p best) (p, plain_for hash text r) best (plain_below r good.1 below.0) b) good.2 below.1
 
 -- what is found first is found here or after it
-or_else_some : (here later : Option ℕ) (n : ℕ) (A : Type 0) → or_else here later ≡ Some n → ((m : ℕ) → here ≡ Some m → A) → ((m : ℕ) → later ≡ Some m → A) → A
+or_else_some : (here later : Option ℕ) (n : ℕ) (A : Type 0) → or_that here later ≡ Some n → ((m : ℕ) → here ≡ Some m → A) → ((m : ℕ) → later ≡ Some m → A) → A
 or_else_some (Some m) o n A e f g = f m refl
 or_else_some None o n A e f g = g n e
 
@@ -109,8 +109,8 @@ module _ (bound : ℕ) (op : Op) (s : ℕ) where
     found_below plan.Failing n e below = none_some n (s < bound) e
     found_below (plan.AllSync ps) n e below = none_some n (s < bound) e
     found_below (plan.Failover ps) n e below = first_below ps n e below
-    found_below (plan.MissFailover ps) n e below = cond_some (is_get op) (finds_some op s ps) (finds_head op s ps) n (s < bound) e (λ x. some_below ps n x below) (λ x. head_below ps n x below)
-    found_below (plan.WarmUp cold warm t) n e below = cond_some (is_get op) None (finds op s cold) n (s < bound) e (λ x. none_some n (s < bound) x) (λ x. found_below cold n x below.0)
+    found_below (plan.MissFailover ps) n e below = cond_some (asks_get op) (finds_some op s ps) (finds_head op s ps) n (s < bound) e (λ x. some_below ps n x below) (λ x. head_below ps n x below)
+    found_below (plan.WarmUp cold warm t) n e below = cond_some (asks_get op) None (finds op s cold) n (s < bound) e (λ x. none_some n (s < bound) x) (λ x. found_below cold n x below.0)
     found_below (plan.ByOperation ps) n e below = policy_below ps n e below
 
     first_below : (ps : Plans) (n : ℕ) → finds_first op s ps ≡ Some n → ArePlansBelow bound ps → s < bound

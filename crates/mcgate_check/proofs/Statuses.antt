@@ -4,7 +4,7 @@ use Rattle.route_json.specs.Configuration.{Configuration}
 use Rattle.route_tree.specs.Route.{Route}
 use Rattle.gate_check.specs.Gate.{IsCertified}
 use Rattle.gate_check.specs.Sound.{IsLast}
-use Rattle.mcgate_check.specs.Checking.{StopsUnwritten, answer_of}
+use Rattle.mcgate_check.specs.Checking.{StopsUnwritten, fault_answer}
 use Rattle.mcgate_check.specs.Reporting.{Checks, ReportsConfig}
 use Rattle.mcgate_check.specs.declared.reporting.Form.{Form}
 use Rattle.mcgate_check.specs.declared.status.RunFault.{RunFault}
@@ -19,7 +19,7 @@ checks_status form text old new status (inl verdict) = let few = config_status f
 checks_status form text old new status (inr faulty) = let e = faulty.0 in omega (arith, e)
 
 -- no calls are made
-pub stops_status : (old new : Option (List ℕ)) (fault : RunFault) → StopsUnwritten old new fault → answer_of fault ≤ 4
+pub stops_status : (old new : Option (List ℕ)) (fault : RunFault) → StopsUnwritten old new fault → fault_answer fault ≤ 4
 stops_status old new NoMemory kept = omega arith
 stops_status old new Writer kept = omega arith
 stops_status old new TooManyCalls kept = absurd kept

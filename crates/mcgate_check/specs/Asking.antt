@@ -3,7 +3,7 @@ use Rattle.std.specs.Prelude.{ℕ, List, [], ◌∷◌, ◌++◌, if◌then◌el
 use Rattle.mc_types.specs.declared.ask.Op.{Op}
 use Rattle.route_tree.specs.Operation.{same_op}
 use Rattle.route_tree.specs.Plan.{Plan, Plans, PlanPolicies, Server, Null, Failing, AllSync, Failover, MissFailover, WarmUp, ByOperation, End, More, Otherwise, Policy}
-use Rattle.gate_coverage.specs.Computed.{is_get}
+use Rattle.gate_coverage.specs.Computed.{asks_get}
 
 module _ (op : Op) where
   abbrev mutual
@@ -13,8 +13,8 @@ module _ (op : Op) where
     asked Failing = []
     asked (AllSync ps) = asked_of_all ps
     asked (Failover ps) = asked_of_all ps
-    asked (MissFailover ps) = if is_get op then asked_of_all ps else asked_of_head ps
-    asked (WarmUp cold warm e) = if is_get op then asked cold ++ asked warm else asked cold
+    asked (MissFailover ps) = if asks_get op then asked_of_all ps else asked_of_head ps
+    asked (WarmUp cold warm e) = if asks_get op then asked cold ++ asked warm else asked cold
     asked (ByOperation ps) = asked_by ps
 
     pub asked_of_all : Plans → List ℕ

@@ -17,7 +17,7 @@ use Rattle.gate_gaps.specs.Pools.{NamedPools}
 use Rattle.gate_gaps.specs.PoolWords.{server_text}
 use Rattle.mcgate_check.specs.Verdict.{place_fields}
 use Rattle.mcgate_check.specs.Asking.{asked}
-use Rattle.mcgate_check.specs.LimitLines.{limits_lines, servers_of}
+use Rattle.mcgate_check.specs.LimitLines.{limits_lines, plan_servers}
 
 -- key=K hash_part=P hash=N
 abbrev pub key_line : List ℕ → List ℕ
@@ -43,7 +43,7 @@ op_lines addresses pools plain ops = flat_map (λ op. op_line addresses pools op
 
 -- the lines of a key with this plain tree: those of the operations, and of the limits that pools say for their servers
 abbrev pub plain_lines : Addresses → NamedPools → Data → Plan → List ℕ
-plain_lines addresses pools value plain = op_lines addresses pools plain all_ops ++ limits_lines addresses pools value (servers_of plain all_ops)
+plain_lines addresses pools value plain = op_lines addresses pools plain all_ops ++ limits_lines addresses pools value (plan_servers plain all_ops)
 
 -- the block of a key whose place is this, by a configuration of this value
 abbrev pub block : Addresses → NamedPools → Data → Route → Place → List ℕ → List ℕ

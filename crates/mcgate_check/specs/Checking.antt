@@ -96,10 +96,10 @@ pub record PrintsFault (text : List ℕ) (old new : Option (List ℕ)) : Type 0 
   pub printed : Appends old new (config_fault_line fault)
 
 -- the answer where a run was broken off
-abbrev pub answer_of : RunFault → ℕ
-answer_of NoMemory = 3
-answer_of Writer = 4
-answer_of TooManyCalls = 5
+abbrev pub fault_answer : RunFault → ℕ
+fault_answer NoMemory = 3
+fault_answer Writer = 4
+fault_answer TooManyCalls = 5
 
 -- memory was refused, or a writer or a device failed; no script had too many calls
 abbrev pub IsNoOverrun : RunFault → Type 0

@@ -9,7 +9,7 @@ use Rattle.gate_check.specs.declared.gap.Reason.TheVariants as reasons
 use Rattle.gate_check.specs.Gate.{IsCertified, IsJudged}
 use Rattle.gate_gaps.specs.declared.explanation.Explanation.{Explanation}
 use Rattle.gate_gaps.specs.Explanations as gaps
-use Rattle.gate_gaps.specs.Pools.{NamedPools, pools_in}
+use Rattle.gate_gaps.specs.Pools.{NamedPools, named_pools_in}
 use Rattle.gate_picture.specs.Picture.{picture, gap_picture}
 use Rattle.mcgate_check.specs.Checking.{ReasonHasLine}
 use Rattle.mcgate_check.specs.Verdict.{judged_line}
@@ -28,10 +28,10 @@ pub record DrawsRefused (text : List ℕ) (config : Configuration) (reason : Rea
   pub told : ReasonHasLine reason
   pub judged : IsJudged config.tree reason
   pub lines : List ℕ
-  pub drawn : IsDrawn config (pools_in config.servers (read text)) reason lines
+  pub drawn : IsDrawn config (named_pools_in config.servers (read text)) reason lines
   pub printed : Appends old new lines
 
 -- some certificate is valid for the tree, and the tree was drawn
 pub record DrawsAccepted (text : List ℕ) (config : Configuration) (old new : Option (List ℕ)) : Type 0 where
   pub certified : IsCertified config.tree
-  pub printed : Appends old new (picture config (pools_in config.servers (read text)))
+  pub printed : Appends old new (picture config (named_pools_in config.servers (read text)))

@@ -13,7 +13,7 @@ use Rattle.script_events.specs.declared.script.Script.{Script}
 use Rattle.gate_gaps.specs.declared.explanation.Explanation.{Explanation}
 use Rattle.gate_gaps.specs.Explanations as gaps
 use Rattle.gate_gaps.specs.Lines.{explanation_lines}
-use Rattle.gate_gaps.specs.Pools.{NamedPools, pools_in}
+use Rattle.gate_gaps.specs.Pools.{NamedPools, named_pools_in}
 use Rattle.gate_gaps.specs.PoolWords.{server_text}
 use Rattle.gate_gaps.specs.Sites.{change_lines}
 use Rattle.mcgate_check.specs.Checking.{PrintsAccepted, ChecksFound, IsFoundFor}
@@ -70,8 +70,8 @@ abbrev pub AreWordsFor : Configuration → Reason → Words → Type 0
 AreWordsFor config reason w = (pools : NamedPools) (found : Option Script) → IsInWords config pools found reason (words_text config.servers config.tree pools found w)
 
 -- what is told of a configuration that this text means, refused for this reason
-pub record Tells (text : List ℕ) (config : Configuration) (reason : Reason) (told : Told) : Type 0 where
-  pub pools : told.pools.items ≡ pools_in config.servers (read text)
+pub record ExplainsFault (text : List ℕ) (config : Configuration) (reason : Reason) (told : Told) : Type 0 where
+  pub pools : told.pools.items ≡ named_pools_in config.servers (read text)
   pub found : IsFoundFor config reason told.run
   pub words : AreWordsFor config reason told.words
 
@@ -81,7 +81,7 @@ pub record ExplainsRefused (text : List ℕ) (config : Configuration) (reason : 
   pub found : Option Script
   pub checks : ChecksFound config reason found old between
   pub lines : List ℕ
-  pub in_words : IsInWords config (pools_in config.servers (read text)) found reason lines
+  pub in_words : IsInWords config (named_pools_in config.servers (read text)) found reason lines
   pub printed : Appends between new lines
 
 -- what is printed of an accepted tree, and then what that is

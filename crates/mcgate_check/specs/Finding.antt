@@ -7,7 +7,7 @@ use Rattle.route_json.specs.Configuration.{Configuration}
 use Rattle.gate_check.specs.Tables.{IsPlaceFault}
 use Rattle.gate_check.specs.declared.places.table.PlaceFault.TheVariants.{TooManyPlaces}
 use Rattle.gate_check.specs.declared.gap.Reason.TheVariants as reasons
-use Rattle.gate_gaps.specs.Pools.{pools_in}
+use Rattle.gate_gaps.specs.Pools.{named_pools_in}
 use Rattle.mcgate_check.specs.Checking.{PrintsFault}
 use Rattle.mcgate_check.specs.Verdict.{judged_line}
 use Rattle.mcgate_check.specs.Blocks.{WritesBlocks}
@@ -16,7 +16,7 @@ use Rattle.mcgate_check.specs.LimitLines.{limits_value}
 -- status 0: a block for each key was written, with the pools that the text names and the limits that they say; status 1: the tree has too many places, and that was written
 abbrev pub FindsAt : (text : List ℕ) → Configuration → List (List ℕ) → Option (List ℕ) → Option (List ℕ) → ℕ → Type 0
 FindsAt text config keys old new status =
-    ((status ≡ 0) × WritesBlocks config.servers (pools_in config.servers (read text)) (limits_value (read text)) config.tree keys old new)
+    ((status ≡ 0) × WritesBlocks config.servers (named_pools_in config.servers (read text)) (limits_value (read text)) config.tree keys old new)
     ⊎ ((status ≡ 1) × IsPlaceFault (config.tree ∷ []) TooManyPlaces × Appends old new (judged_line config.servers reasons.TooManyPlaces))
 
 -- the text is a configuration, and the keys were looked up in its tree

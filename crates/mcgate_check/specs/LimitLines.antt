@@ -7,7 +7,7 @@ use Rattle.route_tree.specs.Plan.{Plan}
 use Rattle.route_json.specs.Servers.{Addresses}
 use Rattle.route_json.specs.declared.limits.ServerLimits.{ServerLimits}
 use Rattle.route_json.specs.Limits.{limits_said, pools_said}
-use Rattle.gate_gaps.specs.Names.{address_of}
+use Rattle.gate_gaps.specs.Names.{server_address}
 use Rattle.gate_gaps.specs.Pools.{NamedPools}
 use Rattle.gate_gaps.specs.PoolWords.{server_text}
 use Rattle.mcgate_check.specs.Asking.{asked}
@@ -39,7 +39,7 @@ limits_line addresses pools server limits =
 
 -- the limits that the pools of a configuration's value say of the server of a number
 abbrev pub limits_at : Addresses → Data → ℕ → ServerLimits
-limits_at addresses value server = limits_said (pools_said value) (address_of addresses server)
+limits_at addresses value server = limits_said (pools_said value) (server_address addresses server)
 
 -- the line of a server, if it is one of these
 abbrev pub limits_line_of : Addresses → NamedPools → Data → List ℕ → ℕ → List ℕ
@@ -51,5 +51,5 @@ abbrev pub limits_lines : Addresses → NamedPools → Data → List ℕ → Lis
 limits_lines addresses pools value servers = flat_map (limits_line_of addresses pools value servers) (range_with_len 0 (length addresses))
 
 -- the servers that the plain tree has for these operations
-abbrev pub servers_of : Plan → List Op → List ℕ
-servers_of plain ops = flat_map (λ op. asked op plain) ops
+abbrev pub plan_servers : Plan → List Op → List ℕ
+plan_servers plain ops = flat_map (λ op. asked op plain) ops

@@ -23,7 +23,7 @@ use Rattle.core_proxy.specs.CoreState.{dialect}
 use Rattle.core_commands.specs.declared.sharing.Sharing.TheVariants.{Alone}
 use Rattle.script_events.specs.declared.servers.servers.ScriptServers.{ScriptServers}
 use Rattle.script_run.specs.Standing.{replies_in_run}
-use Rattle.script_run.specs.Driving.{said_in, IsSettled, FollowsBy}
+use Rattle.script_run.specs.Driving.{said_in, EventsAreSettled, FollowsBy}
 use Rattle.script_run.specs.World.{World}
 use Rattle.script_events.specs.declared.script.Script.{Script}
 use Rattle.script_events.specs.Scripted.{scripted_of}
@@ -52,7 +52,7 @@ pub record LeaksStepped (tree : Route) (events : List Scripted) : Type 0 where
   pub log : List (Entry dialect)
   pub follows : FollowsBy tree [] events log
   pub streams : (c : ℕ) → stream_of log c ≡ said_in events c
-  pub settled : IsSettled events log
+  pub settled : EventsAreSettled events log
   pub replied : replies_in_run (run_of log) ≡ commands_in (run_of log)
   pub servers : ScriptServers
   pub world : World events events log servers

@@ -4,7 +4,7 @@ use Rattle.text_words.specs.Escapes.{escaped}
 use Rattle.route_tree.specs.declared.place.Place.{Place}
 use Rattle.route_tree.specs.Place.{prefix_text}
 use Rattle.route_json.specs.Servers.{Addresses}
-use Rattle.gate_gaps.specs.Names.{op_name, delete_name, address_of}
+use Rattle.gate_gaps.specs.Names.{op_name, delete_name, server_address}
 use Rattle.gate_check.specs.declared.gap.Gap.{Gap}
 use Rattle.gate_check.specs.declared.gap.Reason.{Reason}
 use Rattle.gate_check.specs.declared.gap.Reason.TheVariants as reasons
@@ -23,7 +23,7 @@ place_fields place = codes " prefix=" ++ escaped (prefix_text place.prefix) ++ c
 
 -- the fields of a gap, and the line's end
 abbrev pub gap_fields : Addresses → Gap → List ℕ
-gap_fields servers gap = ask_fields (address_of servers gap.server) (op_name gap.op) (delete_name gap.deleting) ++ place_fields gap.place
+gap_fields servers gap = ask_fields (server_address servers gap.server) (op_name gap.op) (delete_name gap.deleting) ++ place_fields gap.place
 
 -- the line of a gap
 abbrev pub gap_line : Addresses → Gap → List ℕ

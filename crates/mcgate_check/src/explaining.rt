@@ -6,7 +6,7 @@ ghost use Rattle.gate_check.specs.Gate.{IsCertified, IsJudged};
 ghost use Rattle.gate_check.specs.declared.gap.Reason.TheVariants as reasons;
 ghost use Rattle.mcgate_check.specs.Checking.{StopsUnwritten};
 ghost use Rattle.mcgate_check.specs.Explaining as told;
-ghost use Rattle.mcgate_check.specs.Explaining.{ExplainsAccepted, ExplainsRefused, AreWordsFor, Tells, accepted_words, number_front, number_line, script_words, gap_words, words_text};
+ghost use Rattle.mcgate_check.specs.Explaining.{ExplainsAccepted, ExplainsRefused, AreWordsFor, ExplainsFault, accepted_words, number_front, number_line, script_words, gap_words, words_text};
 ghost use Rattle.gate_gaps.specs.Explanations as gaps;
 ghost use Rattle.route_tree.specs.Place.{tree_at_place};
 
@@ -175,7 +175,7 @@ fn write_words<W: Write>(
 // What is told of a configuration that this text means.
 fn told_of(alloc: Global, text: &str, config: &Config, reason: &Reason) -> Result<Told, AllocError>
     requires { IsJudged config.now.tree reason.now }
-    ensures { IfOk result (Tells text.now config.now reason.now) }
+    ensures { IfOk result (ExplainsFault text.now config.now reason.now) }
 {
     let words = words_of(alloc, config, reason)?;
     let run = run_of(alloc, config, reason)?;
@@ -192,7 +192,7 @@ fn print_told<W: Write>(
     out: &mut W,
 ) -> Result<u8, RunFault>
     requires judged { IsJudged config.now.tree reason.now }
-    requires told { Tells text.now config.now reason.now told.now }
+    requires told { ExplainsFault text.now config.now reason.now told.now }
     ensures ok { IfOk result (λ status. (status ≡ 1) × ExplainsRefused text.now config.now reason.now (W.contents out.old) (W.contents out.new)) }
     ensures err { IfErr result (StopsUnwritten (W.contents out.old) (W.contents out.new)) }
 {

@@ -1,7 +1,7 @@
 //! Exit statuses, and what breaks off a run of the program.
 
 ghost use Rattle.std.specs.Prelude.{◌≡◌};
-ghost use Rattle.mcgate_check.specs.Checking.{answer_of};
+ghost use Rattle.mcgate_check.specs.Checking.{fault_answer};
 ghost use Rattle.mcgate_check.specs.declared.status.RunFault.TheVariants.{NoMemory, Writer};
 
 use std::alloc::AllocError;
@@ -56,7 +56,7 @@ impl From<io::Error> for RunFault {
 
 /// The answer where a run was broken off.
 pub fn answer_of(fault: RunFault) -> u8
-    ensures { result ≡ answer_of fault }
+    ensures { result ≡ fault_answer fault }
 {
     match fault {
         RunFault::NoMemory => NO_MEMORY,

@@ -2,7 +2,7 @@
 
 ghost use Rattle.std.specs.Prelude.{◌≡◌, OnOk};
 ghost use Rattle.std.specs.Io.KnownBytes.{Appends};
-ghost use Rattle.gate_gaps.specs.Names.{op_name, delete_name, address_of};
+ghost use Rattle.gate_gaps.specs.Names.{op_name, delete_name, server_address};
 ghost use Rattle.mcgate_check.specs.Verdict.{accepted_line, ask_fields, place_fields, gap_fields, gap_line, judged_line};
 
 use gate_check::{Gap, Reason};
@@ -24,7 +24,7 @@ pub fn write_accepted<W: Write>(places: u32, out: &mut W) -> io::Result<()>
 
 // Writes which server a gap leaves, and what is asked there, the address in the escapes.
 fn write_ask<W: Write>(servers: &Servers, gap: &Gap, out: &mut W) -> io::Result<()>
-    ensures { OnOk result (Appends (W.contents out.old) (W.contents out.new) (ask_fields (address_of servers.now gap.now.server) (op_name gap.now.op) (delete_name gap.now.deleting))) }
+    ensures { OnOk result (Appends (W.contents out.old) (W.contents out.new) (ask_fields (server_address servers.now gap.now.server) (op_name gap.now.op) (delete_name gap.now.deleting))) }
 {
     let address = Escaped(address_of(servers, gap.server).as_bytes());
     let read = op_name(gap.op);

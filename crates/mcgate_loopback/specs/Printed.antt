@@ -1,7 +1,7 @@
 -- What a run over TCP prints. Source: mcgate's own.
 use Rattle.std.specs.Prelude.{ℕ, List, [], ◌++◌, codes, decimal, flat_map, slice_get, Option, Some, None}
 use Rattle.script_events.specs.declared.script.Reload.{Reload}
-use Rattle.script_events.specs.Scripted.{shown_by}
+use Rattle.script_events.specs.Scripted.{output_shown}
 use Rattle.gate_check.specs.declared.reloading.ReloadFault.{ReloadFault}
 use Rattle.script_events.specs.Printed.{shown_line}
 use Rattle.mcgate_check.specs.Reloads.{loaded_line, kept_line}
@@ -16,7 +16,7 @@ kept_line_of (Some reload) fault = kept_line reload.config.servers fault
 
 -- the line of an entry of a script with these reloads
 abbrev pub entry_line : List Reload → Entry → List ℕ
-entry_line reloads (entries.Shown output) = shown_line (shown_by output)
+entry_line reloads (entries.Shown output) = shown_line (output_shown output)
 entry_line reloads (entries.Loaded generation) = loaded_line generation
 entry_line reloads (entries.Kept number fault) = kept_line_of (slice_get reloads number) fault
 

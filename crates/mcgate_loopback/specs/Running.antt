@@ -8,7 +8,7 @@ use Rattle.script_events.specs.declared.script.Reload.{Reload}
 use Rattle.script_events.specs.Scripted.{Scripted, scripted_of}
 use Rattle.script_events.specs.Bad.{first_bad}
 use Rattle.script_events.specs.FirstLine.{WhyNot}
-use Rattle.script_events.specs.Told.{Told, told, bad_line, bad_event_line, servers_known, ReadsScript}
+use Rattle.script_events.specs.Told.{Told, text_told, bad_line, bad_event_line, servers_known, ReadsScript}
 use Rattle.script_events.specs.declared.text.configured.ConfiguredScript.{ConfiguredScript}
 use Rattle.script_events.specs.declared.text.configured.ScriptFault.{ScriptFault}
 use Rattle.script_events.specs.Printed.{bad_line_line}
@@ -85,7 +85,7 @@ abbrev pub RunsTold : Result Told WhyNot → Option (List ℕ) → Option (List 
 RunsTold t old new status = Ran t old new status ⊎ ((status ≡ 2) × (HasFaultyConfig t old new ⊎ HasBadLine t old new))
 
 abbrev pub RunsLoopback : List ℕ → Option (List ℕ) → Option (List ℕ) → ℕ → Type 0
-RunsLoopback text = RunsTold (told text)
+RunsLoopback text = RunsTold (text_told text)
 
 -- ---- what was read of a text
 

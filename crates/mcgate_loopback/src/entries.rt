@@ -2,7 +2,7 @@
 
 ghost use Rattle.std.specs.Prelude.{OnOk, slice_get};
 ghost use Rattle.std.specs.Io.KnownBytes.{Appends};
-ghost use Rattle.script_events.specs.Scripted.{shown_by};
+ghost use Rattle.script_events.specs.Scripted.{output_shown};
 ghost use Rattle.script_events.specs.Printed.{shown_line};
 ghost use Rattle.mcgate_loopback.specs.Printed.{entry_line, entry_lines, kept_line_of};
 
@@ -26,7 +26,7 @@ pub enum Entry {
 
 // Writes the line of an output.
 fn write_output<W: Write>(output: &Output, out: &mut W) -> io::Result<()>
-    ensures { OnOk result (Appends (W.contents out.old) (W.contents out.new) (shown_line (shown_by output.now))) }
+    ensures { OnOk result (Appends (W.contents out.old) (W.contents out.new) (shown_line (output_shown output.now))) }
 {
     let bytes = Escaped(output.bytes.as_slice());
     writeln!(out, "< {} {}", output.client, bytes)

@@ -10,7 +10,7 @@ use Rattle.std.proofs.lemmas.Slice.Eq.{bytes_eq-Decides}
 use Rattle.lru.specs.LruCache.{lru_cache, put_entries}
 use Rattle.cache_server.specs.declared.item.CacheItem.{CacheItem}
 use Rattle.cache_server.specs.declared.item.Entry.{Entry}
-use Rattle.cache_server.specs.Contents.{Contents, Key, Entries, same_key, held, empty, next_number, storing}
+use Rattle.cache_server.specs.Contents.{Contents, Key, Entries, same_key, entry_held, empty, next_number, storing_item}
 use Rattle.cache_server.specs.Held.{item_of}
 use Rattle.route_tree.specs.Each.{Each}
 use Rattle.route_tree.specs.At.{tree_at}
@@ -99,7 +99,7 @@ module _ (P : Key → Type 0) where
         | false ↦ λ later. found test es e later all.1
       ]) is
 
-  stored : (c : Contents) (key : Key) (item : CacheItem) → P key → Each OfKey c.entries → Each OfKey (storing c key item).entries
+  stored : (c : Contents) (key : Key) (item : CacheItem) → P key → Each OfKey c.entries → Each OfKey (storing_item c key item).entries
   stored c key item here all = by (lookup_entry (same_key key) c.entries) refl
     where
       entry : Entry
@@ -135,7 +135,7 @@ module _ (begun : Beginnings) (config : Configuration) (server : ℕ) where
       allowed : s ≡ server → Allowed key
       allowed same = subst (λ (n : ℕ). may_hold begun config n key ≡ true) same (not_true (may_hold begun config s key) fits)
 
-      by : (b : Bool) → nat_eq s server ≡ b → Each (OfKey Allowed) (cond b (storing c key (record { body = content; flags = 0; expiry = None; stamp = 0 })) c).entries
+      by : (b : Bool) → nat_eq s server ≡ b → Each (OfKey Allowed) (cond b (storing_item c key (record { body = content; flags = 0; expiry = None; stamp = 0 })) c).entries
       by true is = stored Allowed c key (record { body = content; flags = 0; expiry = None; stamp = 0 }) (allowed (eqb-true s server is)) all
       by false is = all
 
@@ -160,12 +160,12 @@ module _ (begun : Beginnings) (config : Configuration) (server : ℕ) where
 
 -- where no event is excluded, servers begin as is said
 pub holds_begin_so : (begun : Beginnings) (config : Configuration) (events : List Scripted) → IsTree config.tree → first_excluded begun config 0 events ≡ None → BeginSo config begun (opening_of events)
-holds_begin_so begun config events tree fits server key own = by (held (opening_cache events server) key) refl
+holds_begin_so begun config events tree fits server key own = by (entry_held (opening_cache events server) key) refl
   where
     all : Each (OfKey (Allowed begun config server)) (opening_cache events server).entries
     all = put_all begun config server 0 events (empty capacity) fits tt
 
-    by : (o : Option Entry) → held (opening_cache events server) key ≡ o
+    by : (o : Option Entry) → entry_held (opening_cache events server) key ≡ o
         → (opening_of events server key ≡ None) ⊎ ((first : Route) × (slice_get (config.tree ∷ []) 0 ≡ Some first) × Puts (tree_at first key) server)
     by None is = inl (ap (option_map (λ (entry : Entry). item_of entry.item)) is)
     by (Some entry) is = inr (config.tree, refl, puts_there begun config server tree key own (looked (Allowed begun config server) key (opening_cache events server).entries entry is all))

@@ -13,12 +13,12 @@ use Rattle.script_events.specs.Events.{◌>>=◌}
 use Rattle.script_events.specs.Told.{Told, bad_line, bad_event_line, either, servers_said, events_said, lines_said, servers_known, AreChainedFrom, IsScriptOf, ReadsScript, Numbered}
 use Rattle.script_events.specs.declared.text.configured.ConfiguredScript.{ConfiguredScript}
 use Rattle.script_events.specs.declared.script.Output.{Output}
-use Rattle.script_events.specs.Reloads.{AreInOrder}
+use Rattle.script_events.specs.Reloads.{ReloadsInOrder}
 use Rattle.script_events.specs.declared.script.Reload.{Reload}
 use Rattle.script_events.specs.declared.script.Report.{Report}
 use Rattle.script_events.specs.declared.script.DriveFault.{DriveFault}
 use Rattle.script_events.specs.declared.script.DriveFault.TheVariants as faults
-use Rattle.script_events.specs.Scripted.{Scripted, Shown, shown_by, scripted_of}
+use Rattle.script_events.specs.Scripted.{Scripted, Shown, output_shown, scripted_of}
 use Rattle.script_events.specs.Bad.{first_bad}
 use Rattle.gate_check.specs.Reload.{AreKept}
 use Rattle.script_events.specs.declared.text.configured.ScriptFault.{ScriptFault}
@@ -28,7 +28,7 @@ use Rattle.mcgate_check.specs.declared.status.RunFault.{RunFault}
 use Rattle.mcgate_check.specs.declared.status.RunFault.TheVariants.{NoMemory, Writer, TooManyCalls}
 use Rattle.mcgate_replay.specs.declared.judging.Judging.{Judging}
 use Rattle.mcgate_replay.specs.Growing.{asks_no_gate, excluded_by}
-use Rattle.mcgate_replay.specs.Replay.{ReplaysTold, excluded_line, bad_line_by, RunsScript, RunsGood, BreaksTreeOff, BreaksScriptOff, BreaksOff, BrokeOff, run_fault_of, HasReloads, replayed_events, reloads_of, servers_of, load_line, load_lines, with_loads}
+use Rattle.mcgate_replay.specs.Replay.{ReplaysTold, excluded_line, bad_line_by, RunsScript, RunsGood, BreaksTreeOff, BreaksScriptOff, ReplayBreaksOff, BrokeOff, run_fault_of, HasReloads, replayed_events, reloads_of, servers_of, load_line, load_lines, with_loads}
 
 pub both_written : (old mid new : Option (List ℕ)) (a b : List ℕ) → Appends old mid a → Appends mid new b → Appends old new (a ++ b)
 both_written None mid new a b x y = tt
@@ -53,11 +53,11 @@ capped xs k n fits (inr e) =
 module _ (any : Bool) (reloads : List Reload) (loadings : List Loading) (marks : List ℕ) where
   -- what is still to be written, where so many reloads have their lines
   abbrev pub left : (number before : ℕ) → List Output → List ℕ
-  left number before rest = with_loads before (map shown_by rest) (drop number marks) (load_lines any number (drop number reloads) loadings)
+  left number before rest = with_loads before (map output_shown rest) (drop number marks) (load_lines any number (drop number reloads) loadings)
 
   pub one_more_load : (number before mark cut due : ℕ) (reload : Reload) (rest shown later : List Output) → number < length marks → number < length reloads → mark ≡ get_or marks number 0 → reload ≡ get_or reloads number reload
       → cut ≡ mark - before → (due ≤ cut) × (due ≤ length rest) → (due ≡ cut) ⊎ (due ≡ length rest) → shown ≡ take due rest → later ≡ drop due rest
-      → left number before rest ≡ shown_lines (map shown_by shown) ++ load_line any number reload (slice_get loadings number) ++ left (number + 1) mark later
+      → left number before rest ≡ shown_lines (map output_shown shown) ++ load_line any number reload (slice_get loadings number) ++ left (number + 1) mark later
   one_more_load number before mark cut due reload rest shown later marked there mark_is reload_is cut_is fits is shown_is later_is =
       let ends = capped rest due cut fits is in
       let head = ap (λ (n : ℕ). take n rest) (sym cut_is) ∙ sym ends.0 ∙ sym shown_is in
@@ -67,20 +67,20 @@ module _ (any : Bool) (reloads : List Reload) (loadings : List Loading) (marks :
       let rs = drop-cons reloads number reload there ∙ ap (λ (n : ℕ). get_or reloads number reload ∷ drop n reloads) next ∙ ap (λ (r : Reload). r ∷ drop (number + 1) reloads) (sym reload_is) in
       let line = load_line any number reload (slice_get loadings number) in
       let behind = load_lines any (number + 1) (drop (number + 1) reloads) loadings in
-      ap (λ (m : List ℕ). with_loads before (map shown_by rest) m (load_lines any number (drop number reloads) loadings)) ms
-      ∙ ap (λ (r : List Reload). with_loads before (map shown_by rest) (mark ∷ drop (number + 1) marks) (load_lines any number r loadings)) rs
-      ∙ ap (λ (s : List Shown). shown_lines s ++ line ++ with_loads mark (drop (mark - before) (map shown_by rest)) (drop (number + 1) marks) behind) (take-map shown_by (mark - before) rest ∙ ap (map shown_by) head)
-      ∙ ap (λ (s : List Shown). shown_lines (map shown_by shown) ++ line ++ with_loads mark s (drop (number + 1) marks) behind) (drop-map shown_by (mark - before) rest ∙ ap (map shown_by) tail)
+      ap (λ (m : List ℕ). with_loads before (map output_shown rest) m (load_lines any number (drop number reloads) loadings)) ms
+      ∙ ap (λ (r : List Reload). with_loads before (map output_shown rest) (mark ∷ drop (number + 1) marks) (load_lines any number r loadings)) rs
+      ∙ ap (λ (s : List Shown). shown_lines s ++ line ++ with_loads mark (drop (mark - before) (map output_shown rest)) (drop (number + 1) marks) behind) (take-map output_shown (mark - before) rest ∙ ap (map output_shown) head)
+      ∙ ap (λ (s : List Shown). shown_lines (map output_shown shown) ++ line ++ with_loads mark s (drop (number + 1) marks) behind) (drop-map output_shown (mark - before) rest ∙ ap (map output_shown) tail)
 
   -- where no further reload has a mark, or none is there
   no_lines : (before : ℕ) (shown : List Shown) (ms : List ℕ) → with_loads before shown ms [] ≡ shown_lines shown
   no_lines before shown [] = refl
   no_lines before shown (m ∷ ms) = refl
 
-  pub none_left : (number before : ℕ) (rest : List Output) → (length marks ≤ number) ⊎ (length reloads ≤ number) → left number before rest ≡ shown_lines (map shown_by rest)
-  none_left number before rest (inl few) = ap (λ (m : List ℕ). with_loads before (map shown_by rest) m (load_lines any number (drop number reloads) loadings)) (drop_all number marks few)
+  pub none_left : (number before : ℕ) (rest : List Output) → (length marks ≤ number) ⊎ (length reloads ≤ number) → left number before rest ≡ shown_lines (map output_shown rest)
+  none_left number before rest (inl few) = ap (λ (m : List ℕ). with_loads before (map output_shown rest) m (load_lines any number (drop number reloads) loadings)) (drop_all number marks few)
   none_left number before rest (inr few) =
-      ap (λ (r : List Reload). with_loads before (map shown_by rest) (drop number marks) (load_lines any number r loadings)) (drop_all number reloads few) ∙ no_lines before (map shown_by rest) (drop number marks)
+      ap (λ (r : List Reload). with_loads before (map output_shown rest) (drop number marks) (load_lines any number r loadings)) (drop_all number reloads few) ∙ no_lines before (map output_shown rest) (drop number marks)
 
 -- a count that ended by the end of one of two lists
 pub ended : (a b count n : ℕ) → (count ≡ a) ⊎ (count ≡ b) → count ≤ n → (a ≤ n) ⊎ (b ≤ n)
@@ -111,7 +111,7 @@ first_few used (r ∷ rs) chained =
     omega (arith, one, more)
 
 pub has_reloads : (read : Result ConfiguredScript ScriptFault)
-    → IfOk read (λ s. AreInOrder (length s.script.events.items) (length (servers_known s.config.servers s.reloads.items)) 0 s.reloads.items)
+    → IfOk read (λ s. ReloadsInOrder (length s.script.events.items) (length (servers_known s.config.servers s.reloads.items)) 0 s.reloads.items)
     → IfOk read (λ s. AreChainedFrom s.config.servers s.reloads.items) → IfOk read HasReloads
 has_reloads (Ok s) order chained = record { order = order; chained = chained }
 has_reloads (Err fault) order chained = tt
@@ -172,7 +172,7 @@ replays judging (Ok t) script old new status h (inr r) = inr (r.0, inr (record {
 broken_said : (judging : Judging) (t : Told) (script : ConfiguredScript) (old new : Option (List ℕ)) (fault : RunFault) → IsScriptOf t script → BreaksTreeOff judging script.config (reloads_of script) (replayed_events script) old new fault → BreaksTreeOff judging t.configuration t.loads (events_said t) old new fault
 broken_said judging t script old new fault h p = rw (← h.configuration, ← h.events, ← h.reloads) p
 
-pub breaks_off : (judging : Judging) (t : Result Told WhyNot) (script : ConfiguredScript) (old new : Option (List ℕ)) (fault : RunFault) → ReadsScript t (Ok script) → BreaksScriptOff judging script old new fault → BreaksOff judging t old new fault
+pub breaks_off : (judging : Judging) (t : Result Told WhyNot) (script : ConfiguredScript) (old new : Option (List ℕ)) (fault : RunFault) → ReadsScript t (Ok script) → BreaksScriptOff judging script old new fault → ReplayBreaksOff judging t old new fault
 breaks_off judging (Err why) script old new fault h b = absurd h
 breaks_off judging (Ok t) script old new NoMemory h b = elim (broken_said judging t script old new NoMemory h b) [ inl kept ↦ inl kept | inr part ↦ inr (record { script = t; said = refl; prints = part }) ]
 breaks_off judging (Ok t) script old new TooManyCalls h b = record { script = t; said = refl; prints = broken_said judging t script old new TooManyCalls h b }

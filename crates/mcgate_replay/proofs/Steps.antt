@@ -8,14 +8,14 @@ use Rattle.script_events.specs.Printed.{report_line}
 use Rattle.script_events.specs.declared.text.configured.ConfiguredScript.{ConfiguredScript}
 use Rattle.cache_server.specs.Contents.{empty}
 use Rattle.script_events.specs.Limits.{capacity}
-use Rattle.script_events.specs.Servers.{AreNewServers, count_of}
+use Rattle.script_events.specs.Servers.{AreNewServers, count_of_servers}
 use Rattle.script_events.specs.declared.servers.servers.ScriptServers.{ScriptServers}
 use Rattle.script_events.specs.declared.script.Reload.{Reload}
 use Rattle.script_events.specs.declared.script.Report.{Report}
 use Rattle.script_events.specs.declared.script.Transcript.{Transcript}
 use Rattle.script_events.specs.declared.script.DriveFault.{DriveFault}
-use Rattle.script_events.specs.Scripted.{Scripted, shown_by, transcript_of}
-use Rattle.script_events.specs.Reloads.{AreInOrder}
+use Rattle.script_events.specs.Scripted.{Scripted, output_shown, transcript_of}
+use Rattle.script_events.specs.Reloads.{ReloadsInOrder}
 use Rattle.script_run.specs.Driving.{DrivesStepped, StepsPart, EndsStepped, AreMarks}
 use Rattle.script_run.specs.declared.accepted.judging.Loading.{Loading}
 use Rattle.script_run.specs.Reloads.{loading_is_refused}
@@ -33,22 +33,22 @@ true_is_not_false e = cc
 
 -- ---- servers
 
-pub counted : (servers : ℕ) (made : ScriptServers) → AreNewServers servers made → count_of made ≡ servers
+pub counted : (servers : ℕ) (made : ScriptServers) → AreNewServers servers made → count_of_servers made ≡ servers
 counted servers made new = ap length new.caches ∙ length-replicate servers (empty capacity)
 
-pub new_servers : (servers : ℕ) (made : ScriptServers) → AreNewServers servers made → AreNewServers (count_of made) made
+pub new_servers : (servers : ℕ) (made : ScriptServers) → AreNewServers servers made → AreNewServers (count_of_servers made) made
 new_servers servers made new = subst (λ (n : ℕ). AreNewServers n made) (sym (counted servers made new)) new
 
-pub enough : (script : ConfiguredScript) (servers : ℕ) (made : ScriptServers) → servers ≡ servers_of script → AreNewServers servers made → HasReloads script → length script.config.servers ≤ count_of made
+pub enough : (script : ConfiguredScript) (servers : ℕ) (made : ScriptServers) → servers ≡ servers_of script → AreNewServers servers made → HasReloads script → length script.config.servers ≤ count_of_servers made
 enough script servers made is new has =
     let few = first_few script.config.servers (reloads_of script) has.chained in
     let count = counted servers made new in
     omega (arith, few, is, count)
 
-pub in_order : (script : ConfiguredScript) (reloads : List Reload) (servers : ℕ) (made : ScriptServers) → reloads ≡ reloads_of script → servers ≡ servers_of script → AreNewServers servers made → HasReloads script → AreInOrder (length script.script.events.items) (count_of made) 0 reloads
+pub in_order : (script : ConfiguredScript) (reloads : List Reload) (servers : ℕ) (made : ScriptServers) → reloads ≡ reloads_of script → servers ≡ servers_of script → AreNewServers servers made → HasReloads script → ReloadsInOrder (length script.script.events.items) (count_of_servers made) 0 reloads
 in_order script reloads servers made same is new has =
-    subst (λ (rs : List Reload). AreInOrder (length script.script.events.items) (count_of made) 0 rs) (sym same)
-    (subst (λ (n : ℕ). AreInOrder (length script.script.events.items) n 0 (reloads_of script)) (sym (counted servers made new ∙ is)) has.order)
+    subst (λ (rs : List Reload). ReloadsInOrder (length script.script.events.items) (count_of_servers made) 0 rs) (sym same)
+    (subst (λ (n : ℕ). ReloadsInOrder (length script.script.events.items) n 0 (reloads_of script)) (sym (counted servers made new ∙ is)) has.order)
 
 -- ---- what a drive did
 
@@ -61,7 +61,7 @@ module _ (config : Configuration) (reloads : List Reload) (loadings : List Loadi
         ∙ ap (λ (m : List ℕ). transcript_lines any reloads loadings (transcript_of t) m) ms_are
 
     within_shown : AreMarks (length t.shown.items) marks → AreMarks (length (transcript_of t)) marks
-    within_shown within = subst (λ (n : ℕ). AreMarks n marks) (sym (length-map t.shown.items shown_by)) within
+    within_shown within = subst (λ (n : ℕ). AreMarks n marks) (sym (length-map t.shown.items output_shown)) within
 
     -- through trees that no gate has seen
     pub ran_any : loadings ≡ [] → IfOk driven (DrivesStepped config.tree (map loading_is_refused loadings) rs events (transcript_of t) marks) → OnOk driven (length marks ≡ length rs) → AreMarks (length t.shown.items) marks → Wrote driven (transcript_lines true rs ls (transcript_of t) ms) old new → RunsEvents Any config reloads events old new

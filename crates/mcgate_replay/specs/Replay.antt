@@ -13,7 +13,7 @@ use Rattle.script_events.specs.declared.script.DriveFault.{DriveFault}
 use Rattle.script_events.specs.declared.script.DriveFault.TheVariants as drive_faults
 use Rattle.script_events.specs.Scripted.{Scripted, Shown, scripted_of}
 use Rattle.script_events.specs.Opening.{opening_of}
-use Rattle.script_events.specs.Reloads.{AreInOrder}
+use Rattle.script_events.specs.Reloads.{ReloadsInOrder}
 use Rattle.fresh_runs.specs.Overlap.{run_of}
 use Rattle.fresh_runs.specs.Run.{IsFreshByNumber}
 use Rattle.script_run.specs.Driving.{DrivesStepped, StepsPart, AreSpentIn, AreMarks}
@@ -22,7 +22,7 @@ use Rattle.script_run.specs.declared.accepted.judging.Loading.TheVariants.{Loade
 use Rattle.script_run.specs.Reloads.{loading_is_refused}
 use Rattle.script_events.specs.FirstLine.{WhyNot}
 use Rattle.script_events.specs.Events.{◌>>=◌}
-use Rattle.script_events.specs.Told.{Told, told, told_over, bad_line, bad_event_line, either, events_said, lines_said, servers_known, AreChainedFrom, ReadsScript}
+use Rattle.script_events.specs.Told.{Told, text_told, told_over, bad_line, bad_event_line, either, events_said, lines_said, servers_known, AreChainedFrom, ReadsScript}
 use Rattle.script_events.specs.declared.text.configured.ConfiguredScript.{ConfiguredScript}
 use Rattle.script_events.specs.declared.text.configured.ScriptFault.{ScriptFault}
 use Rattle.script_events.specs.Printed.{shown_lines, report_line, bad_line_line}
@@ -183,7 +183,7 @@ BreaksScriptOff judging script old new fault = BreaksTreeOff judging script.conf
 
 -- its reloads stand in the order of their places, and each list of servers begins with the one before it
 pub record HasReloads (script : ConfiguredScript) : Type 0 where
-  pub order : AreInOrder (length script.script.events.items) (servers_of script) 0 (reloads_of script)
+  pub order : ReloadsInOrder (length script.script.events.items) (servers_of script) 0 (reloads_of script)
   pub chained : AreChainedFrom script.config.servers (reloads_of script)
 
 -- ---- what a text says
@@ -226,10 +226,10 @@ pub record Overran (judging : Judging) (t : Result Told WhyNot) (old new : Optio
 abbrev pub IsBrokenOff : Judging → Result Told WhyNot → Option (List ℕ) → Option (List ℕ) → Type 0
 IsBrokenOff judging t old new = (new ≡ old) ⊎ RanInPart judging t old new
 
-abbrev pub BreaksOff : Judging → Result Told WhyNot → Option (List ℕ) → Option (List ℕ) → RunFault → Type 0
-BreaksOff judging t old new NoMemory = IsBrokenOff judging t old new
-BreaksOff judging t old new TooManyCalls = Overran judging t old new
-BreaksOff judging t old new Writer = Unit {0}
+abbrev pub ReplayBreaksOff : Judging → Result Told WhyNot → Option (List ℕ) → Option (List ℕ) → RunFault → Type 0
+ReplayBreaksOff judging t old new NoMemory = IsBrokenOff judging t old new
+ReplayBreaksOff judging t old new TooManyCalls = Overran judging t old new
+ReplayBreaksOff judging t old new Writer = Unit {0}
 
 -- ---- what was read of a text
 
@@ -238,13 +238,13 @@ abbrev pub ReplaysRead : Judging → Result ConfiguredScript ScriptFault → Opt
 ReplaysRead judging read old new status = (t : Result Told WhyNot) → ReadsScript t read → ReplaysTold judging t old new status
 
 abbrev pub BreaksReadOff : Judging → Result ConfiguredScript ScriptFault → Option (List ℕ) → Option (List ℕ) → RunFault → Type 0
-BreaksReadOff judging read old new fault = (t : Result Told WhyNot) → ReadsScript t read → BreaksOff judging t old new fault
+BreaksReadOff judging read old new fault = (t : Result Told WhyNot) → ReadsScript t read → ReplayBreaksOff judging t old new fault
 
 -- ---- a text
 
 -- of a script with its configuration
 abbrev pub Replays : Judging → List ℕ → Option (List ℕ) → Option (List ℕ) → ℕ → Type 0
-Replays judging text = ReplaysTold judging (told text)
+Replays judging text = ReplaysTold judging (text_told text)
 
 -- of a script of events alone, over a configuration from elsewhere
 abbrev pub ReplaysOver : Judging → Configuration → List ℕ → Option (List ℕ) → Option (List ℕ) → ℕ → Type 0

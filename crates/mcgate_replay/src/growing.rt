@@ -3,9 +3,9 @@
 ghost use Rattle.std.specs.Prelude.{◌≡◌, ◌≤◌, [], length, map, None, IfOk, IfErr, OnOk, MatchResult};
 ghost use Rattle.route_json.specs.declared.addresses.servers.TheConstants.{MAX_SERVERS};
 ghost use Rattle.script_events.specs.Bad.{first_bad, Refuses};
-ghost use Rattle.script_events.specs.Reloads.{AreInOrder};
+ghost use Rattle.script_events.specs.Reloads.{ReloadsInOrder};
 ghost use Rattle.script_events.specs.Scripted.{scripted_of, transcript_of};
-ghost use Rattle.script_events.specs.Servers.{AreNewServers, count_of};
+ghost use Rattle.script_events.specs.Servers.{AreNewServers, count_of_servers};
 ghost use Rattle.script_run.specs.Driving.{AreMarks};
 ghost use Rattle.script_run.specs.Reloads.{loading_is_refused};
 ghost use Rattle.script_run.specs.Stepped.{StepsFreshly, EndsSteps};
@@ -113,13 +113,13 @@ pub fn drive_grown(
 ) -> Result<Report, DriveFault>
     requires followed { AreFollowed first.now reloads.now judged.now.loadings.items (map scripted_of script.now.events.items) }
     requires refused { judged.now.refused.items ≡ map loading_is_refused judged.now.loadings.items }
-    requires servers { length first.now.servers ≤ count_of servers.old }
-    requires few { count_of servers.old ≤ MAX_SERVERS }
-    requires order { AreInOrder (length script.now.events.items) (count_of servers.old) 0 reloads.now }
-    requires new { AreNewServers (count_of servers.old) servers.old }
+    requires servers { length first.now.servers ≤ count_of_servers servers.old }
+    requires few { count_of_servers servers.old ≤ MAX_SERVERS }
+    requires order { ReloadsInOrder (length script.now.events.items) (count_of_servers servers.old) 0 reloads.now }
+    requires new { AreNewServers (count_of_servers servers.old) servers.old }
     requires transcript { transcript.old.shown.items ≡ [] }
     requires marks { marks.old.items ≡ [] }
-    ensures refuses { MatchResult result (λ _. first_bad (count_of servers.old) (map scripted_of script.now.events.items) ≡ None) (Refuses (count_of servers.old) script.now) }
+    ensures refuses { MatchResult result (λ _. first_bad (count_of_servers servers.old) (map scripted_of script.now.events.items) ≡ None) (Refuses (count_of_servers servers.old) script.now) }
     ensures ok { IfOk result (λ report. StepsFreshly first.now.tree judged.now.loadings.items reloads.now (map scripted_of script.now.events.items) (transcript_of transcript.new) marks.new.items report) }
     ensures fault { IfErr result (λ fault. EndsSteps first.now.tree judged.now.loadings.items reloads.now (map scripted_of script.now.events.items) transcript.new marks.new.items servers.old servers.new fault) }
     ensures marked { OnOk result (length marks.new.items ≡ length reloads.now) }

@@ -2,10 +2,10 @@
 
 ghost use Rattle.std.specs.Prelude.{◌≡◌, ◌≤◌, ◌<◌, Ok, Some, None, IfOk, IfErr, IfSome, MatchOption, length};
 ghost use Rattle.script_events.specs.Bad.{first_bad};
-ghost use Rattle.script_events.specs.Told.{either, IsReading, told, told_over};
+ghost use Rattle.script_events.specs.Told.{either, IsReading, text_told, told_over};
 ghost use Rattle.mcgate_replay.specs.Growing.{first_excluded, excluded_by};
 ghost use Rattle.mcgate_replay.specs.declared.judging.Judging.TheVariants.{Asked, Begun};
-ghost use Rattle.mcgate_replay.specs.Replay.{Replays, ReplaysOver, ReplaysRead, BreaksReadOff, RunsScript, RunsGood, BreaksTreeOff, BreaksScriptOff, HasReloads, IsBrokenOff, Overran, BreaksOff, servers_of, replayed_events, reloads_of};
+ghost use Rattle.mcgate_replay.specs.Replay.{Replays, ReplaysOver, ReplaysRead, BreaksReadOff, RunsScript, RunsGood, BreaksTreeOff, BreaksScriptOff, HasReloads, IsBrokenOff, Overran, ReplayBreaksOff, servers_of, replayed_events, reloads_of};
 
 use crate::holds::excluded_event;
 use crate::judging::Judging;
@@ -146,7 +146,7 @@ fn replay_text<W: Write>(
     out: &mut W,
 ) -> Result<u8, RunFault>
     ensures ok { IfOk result (Replays judging text.now (W.contents out.old) (W.contents out.new)) }
-    ensures err { IfErr result (BreaksOff judging (told text.now) (W.contents out.old) (W.contents out.new)) }
+    ensures err { IfErr result (ReplayBreaksOff judging (text_told text.now) (W.contents out.old) (W.contents out.new)) }
 {
     replay_read(alloc, judging, read_script(alloc, text), out)
 }
@@ -159,7 +159,7 @@ fn replay_events<W: Write>(
     out: &mut W,
 ) -> Result<u8, RunFault>
     ensures ok { IfOk result (ReplaysOver judging config text.now (W.contents out.old) (W.contents out.new)) }
-    ensures err { IfErr result (BreaksOff judging (Ok (told_over config text.now)) (W.contents out.old) (W.contents out.new)) }
+    ensures err { IfErr result (ReplayBreaksOff judging (Ok (told_over config text.now)) (W.contents out.old) (W.contents out.new)) }
 {
     replay_read(alloc, judging, read_events(alloc, config, text), out)
 }
@@ -183,8 +183,8 @@ fn replay_events<W: Write>(
 pub fn run_replay<W: Write>(alloc: Global, judging: Judging, text: &str, out: &mut W) -> u8
     ensures status { result ≤ 5 }
     ensures wrote { result ≤ 2 → Replays judging text.now (W.contents out.old) (W.contents out.new) result }
-    ensures refused { result ≡ 3 → IsBrokenOff judging (told text.now) (W.contents out.old) (W.contents out.new) }
-    ensures too_many { result ≡ 5 → Overran judging (told text.now) (W.contents out.old) (W.contents out.new) }
+    ensures refused { result ≡ 3 → IsBrokenOff judging (text_told text.now) (W.contents out.old) (W.contents out.new) }
+    ensures too_many { result ≡ 5 → Overran judging (text_told text.now) (W.contents out.old) (W.contents out.new) }
 {
     match replay_text(alloc, judging, text, out) {
         Ok(status) => status,

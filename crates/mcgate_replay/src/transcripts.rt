@@ -4,7 +4,7 @@ ghost use Rattle.std.specs.Prelude.{◌≡◌, ◌≤◌, ◌+◌, ◌-◌, ◌+
 ghost use Rattle.std.specs.Io.KnownBytes.{Appends};
 ghost use Rattle.mcgate_check.specs.declared.status.RunFault.TheVariants.{Writer};
 ghost use Rattle.mcgate_check.specs.Reloads.{unchecked_line};
-ghost use Rattle.script_events.specs.Scripted.{shown_by, transcript_of};
+ghost use Rattle.script_events.specs.Scripted.{output_shown, transcript_of};
 ghost use Rattle.script_events.specs.Printed.{shown_lines};
 ghost use Rattle.mcgate_replay.specs.Replay.{loading_line, load_line, transcript_lines, run_fault_of, Wrote, BrokeOff};
 
@@ -69,7 +69,7 @@ fn write_then_load<W: Write>(
     loadings: &[Loading],
     out: &mut W,
 ) -> Result<(), RunFault>
-    ensures ok { OnOk result (Appends (W.contents out.old) (W.contents out.new) (shown_lines (map shown_by outputs.now) ++ load_line any number reload.now (slice_get loadings.now number))) }
+    ensures ok { OnOk result (Appends (W.contents out.old) (W.contents out.new) (shown_lines (map output_shown outputs.now) ++ load_line any number reload.now (slice_get loadings.now number))) }
     ensures err { IfErr result (λ fault. fault ≡ Writer) }
 {
     write_outputs(outputs, out)?;
@@ -92,7 +92,7 @@ fn write_entries<W: Write>(
     marks: &[usize],
     out: &mut W,
 ) -> Result<(), RunFault>
-    ensures ok { OnOk result (Appends (W.contents out.old) (W.contents out.new) (transcript_lines any reloads.now loadings.now (map shown_by outputs.now) marks.now)) }
+    ensures ok { OnOk result (Appends (W.contents out.old) (W.contents out.new) (transcript_lines any reloads.now loadings.now (map output_shown outputs.now) marks.now)) }
     ensures err { IfErr result (λ fault. fault ≡ Writer) }
 {
     let count = least(marks.len(), reloads.len());

@@ -4,7 +4,7 @@ use Rattle.std.specs.Prelude.{IfOk, IsTrue}
 use Rattle.route_json.specs.Servers.{Addresses}
 use Rattle.route_json.specs.Configuration.{Configuration}
 use Rattle.core_accepted.specs.declared.served.ServedCore.{ServedCore}
-use Rattle.serve_wire.specs.Events.{Event}
+use Rattle.serve_wire.specs.Events.{WireEvent}
 use Rattle.serve_links.specs.CoreSteps.{Step, Opened, NotOpened, Fed, Polled, Stopped, Settled, Gave, Closed, LeftLine, Broke, Ticked, Loaded, Linked, Asked, Greeted, Spelled, Late, CameLate, Lost, StepsAreOf, IsOfTurn}
 use Rattle.serve_links.specs.Story.{AnEnd, AllGo, AllGoFrom}
 use Rattle.serve_proxy.specs.declared.proxy.ProxyEnd.{ProxyEnd}
@@ -55,27 +55,27 @@ pub turned : {P Q : List Step → AnEnd → Type 0} {a b : AnEnd} → AllGoFrom 
 turned g = grows (record { steps = g.steps; kinds = each_of_turn g.steps g.kinds; walks = g.walks; agree = g.agree; servers = g.servers })
 
 -- nothing is done with the core, nor on any connection
-pub stays_on : {W : Type 0} {Is : Step → Type 0} (history : W → List Event) (old new : ProxyEnd W) → new.core ≡ old.core → Stay history old.sockets new.sockets → AllGo Is (proxy_of history old) (proxy_of history new)
+pub stays_on : {W : Type 0} {Is : Step → Type 0} (history : W → List WireEvent) (old new : ProxyEnd W) → new.core ≡ old.core → Stay history old.sockets new.sockets → AllGo Is (proxy_of history old) (proxy_of history new)
 stays_on history old new core ends = and_then (stays old.core.value ends) (calls_still (ap (λ c. c.value) core))
 
-pub stood : {W : Type 0} {Is : Step → Type 0} (history : W → List Event) (old new : ProxyEnd W) → new.core ≡ old.core → Stay history old.sockets new.sockets → AllGrow Is (proxy_of history old) (proxy_of history new)
+pub stood : {W : Type 0} {Is : Step → Type 0} (history : W → List WireEvent) (old new : ProxyEnd W) → new.core ≡ old.core → Stay history old.sockets new.sockets → AllGrow Is (proxy_of history old) (proxy_of history new)
 stood history old new core ends = grows (stays_on history old new core ends)
 
 -- the same where limits may have changed
-pub stood_but_limits : {W : Type 0} {Is : Step → Type 0} (history : W → List Event) (old new : ProxyEnd W) → new.core ≡ old.core → StayButLimits history old.sockets new.sockets → AllGrow Is (proxy_of history old) (proxy_of history new)
+pub stood_but_limits : {W : Type 0} {Is : Step → Type 0} (history : W → List WireEvent) (old new : ProxyEnd W) → new.core ≡ old.core → StayButLimits history old.sockets new.sockets → AllGrow Is (proxy_of history old) (proxy_of history new)
 stood_but_limits history old new core ends = then_grows (limited_grows old.core.value ends) (grows (calls_still (ap (λ c. c.value) core)))
 
-pub same_end : {W : Type 0} (history : W → List Event) (old new : ProxyEnd W) → new ≡ old → GoesOnServing history old new
+pub same_end : {W : Type 0} (history : W → List WireEvent) (old new : ProxyEnd W) → new ≡ old → GoesOnServing history old new
 same_end history old new same = subst (λ x. GoesOnServing history old x) (sym same) (stood history old old refl (stay_still (history old.sockets.wire) old.sockets.clients old.sockets.links.all.items))
 
 -- nothing is done at all
-pub serves_still : {W : Type 0} (history : W → List Event) (end : ProxyEnd W) → GoesOnServing history end end
+pub serves_still : {W : Type 0} (history : W → List WireEvent) (end : ProxyEnd W) → GoesOnServing history end end
 serves_still history end = same_end history end end refl
 
-pub goes_still : {W : Type 0} (history : W → List Event) (end : ProxyEnd W) → AllGoOn history end.core.value end.sockets end.core.value end.sockets
+pub goes_still : {W : Type 0} (history : W → List WireEvent) (end : ProxyEnd W) → AllGoOn history end.core.value end.sockets end.core.value end.sockets
 goes_still history end = still
 
-pub from_end : {W : Type 0} (history : W → List Event) (old mid new : ProxyEnd W) → mid ≡ old → GoesOnServing history mid new → GoesOnServing history old new
+pub from_end : {W : Type 0} (history : W → List WireEvent) (old mid new : ProxyEnd W) → mid ≡ old → GoesOnServing history mid new → GoesOnServing history old new
 from_end history old mid new same g = subst (λ x. GoesOnServing history x new) same g
 
 -- it is the same end
@@ -85,14 +85,14 @@ same_box {W} old new same = ap (λ (e : ProxyEnd W). e.core) same
 pub same_core : {W : Type 0} (old new : ProxyEnd W) → new ≡ old → new.core.value ≡ old.core.value
 same_core {W} old new same = ap (λ (e : ProxyEnd W). e.core.value) same
 
-pub stayed : {W : Type 0} (history : W → List Event) (first old new : ProxyEnd W) → new ≡ old → Stay history first.sockets old.sockets → Stay history first.sockets new.sockets
+pub stayed : {W : Type 0} (history : W → List WireEvent) (first old new : ProxyEnd W) → new ≡ old → Stay history first.sockets old.sockets → Stay history first.sockets new.sockets
 stayed {W} history first old new same stay = subst (λ (e : ProxyEnd W). Stay history first.sockets e.sockets) (sym same) stay
 
 -- nothing is done on any connection
-pub stays_still : {W : Type 0} (history : W → List Event) (end : ProxyEnd W) → Stay history end.sockets end.sockets
+pub stays_still : {W : Type 0} (history : W → List WireEvent) (end : ProxyEnd W) → Stay history end.sockets end.sockets
 stays_still history end = stay_still (history end.sockets.wire) end.sockets.clients end.sockets.links.all.items
 
-pub stays_same : {W : Type 0} (history : W → List Event) (old new : ProxyEnd W) → new ≡ old → Stay history old.sockets new.sockets
+pub stays_same : {W : Type 0} (history : W → List WireEvent) (old new : ProxyEnd W) → new ≡ old → Stay history old.sockets new.sockets
 stays_same history old new same = stayed history old old new same (stays_still history old)
 
 -- it wasn't loaded
@@ -156,7 +156,7 @@ may_load_beside used configuration a b beside may = ⊎_elim (λ e. inl e) (λ l
 pub loads_none : (configuration : Configuration) (used : Option Configuration) (core : ServedCore) → LoadsOne false configuration used used core core
 loads_none configuration used core = (refl, refl)
 
-pub load_still : {W : Type 0} (history : W → List Event) (configuration : Configuration) (end : ProxyEnd W) → AllGrow (IsLoadOf configuration) (proxy_of history end) (proxy_of history end)
+pub load_still : {W : Type 0} (history : W → List WireEvent) (configuration : Configuration) (end : ProxyEnd W) → AllGrow (IsLoadOf configuration) (proxy_of history end) (proxy_of history end)
 load_still history configuration end = stood history end end refl (stay_still (history end.sockets.wire) end.sockets.clients end.sockets.links.all.items)
 
 -- it was loaded, and is in use

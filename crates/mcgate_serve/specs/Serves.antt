@@ -6,7 +6,7 @@ use Rattle.route_json.specs.Configs.{read_after}
 use Rattle.route_json.specs.Configuration.{Configuration}
 use Rattle.core_accepted.specs.declared.served.ServedCore.{ServedCore}
 use Rattle.core_accepted.specs.Loading.{IsLoaded}
-use Rattle.serve_wire.specs.Events.{Event}
+use Rattle.serve_wire.specs.Events.{WireEvent}
 use Rattle.serve_links.specs.CoreSteps.{Step, Opened, NotOpened, Fed, Polled, Stopped, Settled, Gave, Closed, LeftLine, Broke, Ticked, Loaded, Linked, Asked, Greeted, Spelled, Late, CameLate, Lost}
 use Rattle.serve_links.specs.Story.{AnEnd}
 use Rattle.serve_proxy.specs.declared.proxy.ProxyEnd.{ProxyEnd}
@@ -40,11 +40,11 @@ IsServeStep (Spelled at number ask answer bytes) = Unit {0}
 IsServeStep (Lost at why) = IsSome why
 
 -- a proxy's core, and the ends of clients and servers beside it, over a wire of this history
-abbrev pub proxy_of : {W : Type 0} → (W → List Event) → ProxyEnd W → AnEnd
+abbrev pub proxy_of : {W : Type 0} → (W → List WireEvent) → ProxyEnd W → AnEnd
 proxy_of history end = end_of history end.core.value end.sockets
 
 -- turns and such loads, one after another, and the ends of clients and servers go on with them
-abbrev pub GoesOnServing : {W : Type 0} → (W → List Event) → ProxyEnd W → ProxyEnd W → Type 0
+abbrev pub GoesOnServing : {W : Type 0} → (W → List WireEvent) → ProxyEnd W → ProxyEnd W → Type 0
 GoesOnServing history old new = AllGrow IsServeStep (proxy_of history old) (proxy_of history new)
 
 -- nothing is done, or this configuration is loaded

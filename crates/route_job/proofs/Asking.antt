@@ -14,19 +14,19 @@ use Rattle.mc_types.specs.declared.call.Outcome.{Outcome}
 use Rattle.mc_types.specs.declared.call.Outcome.TheVariants.{Answered, Failed}
 use Rattle.fresh_runs.specs.Single.{FitsOutcome, reply_of}
 use Rattle.route_tree.specs.Word.{plain_get, refill, answer_of_nothing}
-use Rattle.route_job.specs.Parts.{data_of}
+use Rattle.route_job.specs.Parts.{hit_data}
 
 -- ---- the data of a reply
 
-answer_is_short : (answer : Answer) → IsAnswer answer → length (data_of answer) ≤ data_limit
+answer_is_short : (answer : Answer) → IsAnswer answer → length (hit_data answer) ≤ data_limit
 answer_is_short (Hit flags body cas) is = is.1
 answer_is_short _ is = omega arith
 
-pub outcome_is_short : (ask : Ask) (outcome : Outcome) → FitsOutcome ask outcome → length (data_of (reply_of outcome)) ≤ data_limit
+pub outcome_is_short : (ask : Ask) (outcome : Outcome) → FitsOutcome ask outcome → length (hit_data (reply_of outcome)) ≤ data_limit
 outcome_is_short ask (Answered answer) fits = answer_is_short answer fits.ranges
 outcome_is_short ask Failed fits = omega arith
 
-no_data : (dialect : Dialect) (op : Op) → data_of (answer_of_nothing dialect op) ≡ []
+no_data : (dialect : Dialect) (op : Op) → hit_data (answer_of_nothing dialect op) ≡ []
 no_data dialects.Classic Get = refl
 no_data dialects.Classic Gat = refl
 no_data dialects.Classic Set = refl
@@ -41,8 +41,8 @@ no_data dialects.Classic Decr = refl
 no_data dialects.Classic Touch = refl
 no_data dialects.Meta op = refl
 
-pub nothing_is_short : (dialect : Dialect) (op : Op) (reply : Answer) → reply ≡ answer_of_nothing dialect op → length (data_of reply) ≤ data_limit
-nothing_is_short dialect op reply is = let none = ap (λ a. length (data_of a)) is ∙ ap length (no_data dialect op) in omega (arith, none)
+pub nothing_is_short : (dialect : Dialect) (op : Op) (reply : Answer) → reply ≡ answer_of_nothing dialect op → length (hit_data reply) ≤ data_limit
+nothing_is_short dialect op reply is = let none = ap (λ a. length (hit_data a)) is ∙ ap length (no_data dialect op) in omega (arith, none)
 
 -- ---- asks of a warm-up
 
@@ -55,11 +55,11 @@ get_is_formed ask get shared is same key =
       shape = record { with_cas = tt; flags = refl; exptime = refl; body = refl; cas = refl; delta = refl; tokens = refl };
     })
 
-refill_data : (ask : Ask) (hit : Answer) (e : ℕ) → (refill ask hit e).body ≡ data_of hit
+refill_data : (ask : Ask) (hit : Answer) (e : ℕ) → (refill ask hit e).body ≡ hit_data hit
 refill_data ask (Hit flags body cas) e = refl
 refill_data ask _ e = refl
 
-pub refill_is_short : (ask add : Ask) (hit : Answer) (e : ℕ) → add ≡ refill ask hit e → length (data_of hit) ≤ data_limit → length add.body ≤ data_limit
+pub refill_is_short : (ask add : Ask) (hit : Answer) (e : ℕ) → add ≡ refill ask hit e → length (hit_data hit) ≤ data_limit → length add.body ≤ data_limit
 refill_is_short ask add hit e is short = let same = ap (λ (a : Ask). length a.body) is ∙ ap length (refill_data ask hit e) in omega (arith, same, short)
 
 refill_shape : (ask : Ask) (hit : Answer) (e : ℕ) → HasShapeOf (refill ask hit e) (shape_of (refill ask hit e).dialect (refill ask hit e).op)

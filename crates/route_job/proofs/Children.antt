@@ -10,7 +10,7 @@ use Rattle.fresh_runs.specs.Calls.{Call}
 use Rattle.route_tree.specs.Operation.{same_op}
 use Rattle.route_tree.specs.Plan.{Plan, Plans, PlanPolicies, Otherwise, Policy, End, More, AllSync, count, count_of_all, count_of_policies}
 use Rattle.route_tree.specs.Levels.{chosen_plan}
-use Rattle.route_tree.specs.Word.{Given, rank, Gives, Then, Word, WordOfFirst, WordOfPolicy, AfterCold, AfterWarm, IfGet}
+use Rattle.route_tree.specs.Word.{Given, rank, GivesOnly, Then, Word, WordOfFirst, WordOfPolicy, AfterCold, AfterWarm, IfGet}
 use Rattle.route_job.specs.Parts.{SameAt, worse, WorstWith, AfterFirst, is_get}
 use Rattle.route_job.proofs.Same.{same_refl, same_trans, all_begin, worst_more, worst_one, first_begin, choice_true, choice_false}
 
@@ -20,26 +20,26 @@ enter_all_is ps p qs e ask origin b = subst (λ x. SameAt b (Word (AllSync x) as
 pub next_of_all_is : (ps : Plans) (p : Plan) (qs : Plans) → ps ≡ More p qs → (ask : Ask) (origin : Origin) (worst : Given) (b : ℕ) → SameAt b (WorstWith ps ask origin worst) (Then (Word p ask origin) (λ g. WorstWith qs ask origin (worse worst g)))
 next_of_all_is ps p qs e ask origin worst b = subst (λ x. SameAt b (WorstWith x ask origin worst) (Then (Word p ask origin) (λ g. WorstWith qs ask origin (worse worst g)))) (sym e) (worst_more p qs ask origin worst b)
 
-pub none_of_all_is : (ps : Plans) → ps ≡ End → (ask : Ask) (origin : Origin) (worst : Given) (b : ℕ) → SameAt b (WorstWith ps ask origin worst) (Gives worst)
-none_of_all_is ps e ask origin worst b = subst (λ x. SameAt b (WorstWith x ask origin worst) (Gives worst)) (sym e) (worst_one ask origin worst b)
+pub none_of_all_is : (ps : Plans) → ps ≡ End → (ask : Ask) (origin : Origin) (worst : Given) (b : ℕ) → SameAt b (WorstWith ps ask origin worst) (GivesOnly worst)
+none_of_all_is ps e ask origin worst b = subst (λ x. SameAt b (WorstWith x ask origin worst) (GivesOnly worst)) (sym e) (worst_one ask origin worst b)
 
 pub enter_first_is : (ps : Plans) (p : Plan) (qs : Plans) → ps ≡ More p qs → (limit : ℕ) (ask : Ask) (origin : Origin) (b : ℕ) → SameAt b (WordOfFirst ps limit ask origin) (Then (Word p ask origin) (AfterFirst qs limit ask origin))
 enter_first_is ps p qs e limit ask origin b = subst (λ x. SameAt b (WordOfFirst x limit ask origin) (Then (Word p ask origin) (AfterFirst qs limit ask origin))) (sym e) (first_begin p qs limit ask origin b)
 
-pub good_enough : (ps : Plans) (limit : ℕ) (ask : Ask) (origin : Origin) (g : Given) → rank g < limit → (b : ℕ) → SameAt b (AfterFirst ps limit ask origin g) (Gives g)
+pub good_enough : (ps : Plans) (limit : ℕ) (ask : Ask) (origin : Origin) (g : Given) → rank g < limit → (b : ℕ) → SameAt b (AfterFirst ps limit ask origin g) (GivesOnly g)
 good_enough End limit ask origin g lt b calls given = ((λ w. w), (λ w. w))
 good_enough (More p ps) limit ask origin g lt b calls given = (
-  (λ w. MatchBool-at_true (Gives g b calls given) (WordOfFirst (More p ps) limit ask origin b calls given) (lt-ltb (rank g) limit lt) w),
-  (λ w. choice_true (nat_lt (rank g) limit) (Gives g b calls given) (WordOfFirst (More p ps) limit ask origin b calls given) (lt-ltb (rank g) limit lt) w),
+  (λ w. MatchBool-at_true (GivesOnly g b calls given) (WordOfFirst (More p ps) limit ask origin b calls given) (lt-ltb (rank g) limit lt) w),
+  (λ w. choice_true (nat_lt (rank g) limit) (GivesOnly g b calls given) (WordOfFirst (More p ps) limit ask origin b calls given) (lt-ltb (rank g) limit lt) w),
 )
 
-pub none_left_is : (ps : Plans) → ps ≡ End → (limit : ℕ) (ask : Ask) (origin : Origin) (g : Given) (b : ℕ) → SameAt b (AfterFirst ps limit ask origin g) (Gives g)
-none_left_is ps e limit ask origin g b = subst (λ x. SameAt b (AfterFirst x limit ask origin g) (Gives g)) (sym e) (λ calls given. ((λ w. w), (λ w. w)))
+pub none_left_is : (ps : Plans) → ps ≡ End → (limit : ℕ) (ask : Ask) (origin : Origin) (g : Given) (b : ℕ) → SameAt b (AfterFirst ps limit ask origin g) (GivesOnly g)
+none_left_is ps e limit ask origin g b = subst (λ x. SameAt b (AfterFirst x limit ask origin g) (GivesOnly g)) (sym e) (λ calls given. ((λ w. w), (λ w. w)))
 
 goes_to : (p : Plan) (ps : Plans) (limit : ℕ) (ask : Ask) (origin : Origin) (g : Given) → limit ≤ rank g → (b : ℕ) → SameAt b (AfterFirst (More p ps) limit ask origin g) (WordOfFirst (More p ps) limit ask origin)
 goes_to p ps limit ask origin g le b calls given = (
-  (λ w. MatchBool-at_false (Gives g b calls given) (WordOfFirst (More p ps) limit ask origin b calls given) (le-ltb (rank g) limit le) w),
-  (λ w. choice_false (nat_lt (rank g) limit) (Gives g b calls given) (WordOfFirst (More p ps) limit ask origin b calls given) (le-ltb (rank g) limit le) w),
+  (λ w. MatchBool-at_false (GivesOnly g b calls given) (WordOfFirst (More p ps) limit ask origin b calls given) (le-ltb (rank g) limit le) w),
+  (λ w. choice_false (nat_lt (rank g) limit) (GivesOnly g b calls given) (WordOfFirst (More p ps) limit ask origin b calls given) (le-ltb (rank g) limit le) w),
 )
 
 pub next_is : (ps : Plans) (p : Plan) (qs : Plans) → ps ≡ More p qs → (limit : ℕ) (ask : Ask) (origin : Origin) (g : Given) → limit ≤ rank g → (b : ℕ) → SameAt b (AfterFirst ps limit ask origin g) (Then (Word p ask origin) (AfterFirst qs limit ask origin))
@@ -66,9 +66,9 @@ pub chosen_count : (ps : PlanPolicies) (ask : Ask) → count (chosen_plan ask.op
 chosen_count (Otherwise p) ask = omega arith
 chosen_count (Policy o p ps) ask = count_by (same_op o ask.op) p (chosen_plan ask.op ps) (count_of_policies ps) (chosen_count ps ask)
 
-pub no_hit : (ask : Ask) (cold warm : ℕ → List Call → Given → Type 0) (add : Answer → ℕ → ℕ → List Call → Given → Type 0) (first g : Given) (r : ℕ) → (r ≡ 0 → ⊥) → (b : ℕ) → SameAt b (AfterWarm ask cold warm add first g r) (Gives first)
+pub no_hit : (ask : Ask) (cold warm : ℕ → List Call → Given → Type 0) (add : Answer → ℕ → ℕ → List Call → Given → Type 0) (first g : Given) (r : ℕ) → (r ≡ 0 → ⊥) → (b : ℕ) → SameAt b (AfterWarm ask cold warm add first g r) (GivesOnly first)
 no_hit ask cold warm add first g zero isnt b = absurd (isnt refl)
-no_hit ask cold warm add first g (suc r) isnt b = same_refl b (Gives first)
+no_hit ask cold warm add first g (suc r) isnt b = same_refl b (GivesOnly first)
 
 pub goes_warm : (ask : Ask) (cold warm : ℕ → List Call → Given → Type 0) (add : Answer → ℕ → ℕ → List Call → Given → Type 0) (first : Given) (r : ℕ) → (r ≡ 0 → ⊥) → (b : ℕ) → SameAt b (AfterCold ask cold warm add first r) (Then warm (λ g. AfterWarm ask cold warm add first g (rank g)))
 goes_warm ask cold warm add first zero isnt b = absurd (isnt refl)

@@ -11,7 +11,7 @@ use Rattle.route_tree.proofs.PlainTrees.{plan_plain}
 use Rattle.route_tree.specs.At.{plain_for, tree_at}
 use Rattle.route_tree.specs.Route.{Route, IsTree}
 use Rattle.route_tree.specs.Plan.{Plan, Server, IsPlan}
-use Rattle.route_tree.specs.Word.{Given, Gives, Word, given_by}
+use Rattle.route_tree.specs.Word.{Given, GivesOnly, Word, given_by}
 use Rattle.route_job.specs.Given.{given_when_done}
 use Rattle.route_job.specs.Rest.{Comings, ask_under, origin_under}
 use Rattle.route_job.specs.Settling.{IsAtRest, AreSure, FramesLead, pending_work}
@@ -37,7 +37,7 @@ abbrev pub call_in : List Frame → Ask → Pending → Outcome → Call
 call_in fs ask pending outcome = record { server = server_of_pending pending; ask = ask_under fs ask; origin = origin_under fs Client; outcome = outcome }
 
 -- after a call of a server there is nothing more
-server_later : (s : ℕ) (a : Ask) (o : Origin) (b : ℕ) (outcome : Outcome) (g : Given) → g ≡ given_by b outcome → FitsOutcome a outcome → Later b (record { server = s; ask = a; origin = o; outcome = outcome }) (Word (Server s) a o) (Gives g)
+server_later : (s : ℕ) (a : Ask) (o : Origin) (b : ℕ) (outcome : Outcome) (g : Given) → g ≡ given_by b outcome → FitsOutcome a outcome → Later b (record { server = s; ask = a; origin = o; outcome = outcome }) (Word (Server s) a o) (GivesOnly g)
 server_later s a o b outcome g e fits = record { none = empty; same = λ calls given. (there calls given, back calls given) }
   where
     call : Outcome → Call
@@ -55,14 +55,14 @@ server_later s a o b outcome g e fits = record { none = empty; same = λ calls g
     none_left : (c d : Call) (calls : List Call) → c ∷ calls ≡ d ∷ [] → calls ≡ []
     none_left c d calls h = cc
 
-    there : (calls : List Call) (given : Given) → Word (Server s) a o b (record { server = s; ask = a; origin = o; outcome = outcome } ∷ calls) given → Gives g (b + 1) calls given
+    there : (calls : List Call) (given : Given) → Word (Server s) a o b (record { server = s; ask = a; origin = o; outcome = outcome } ∷ calls) given → GivesOnly g (b + 1) calls given
     there calls given w =
         let d : Call = record { server = s; ask = a; origin = o; outcome = w.0 } in
         let c : Call = record { server = s; ask = a; origin = o; outcome = outcome } in
         let is : outcome ≡ w.0 = ap (λ (x : Call). x.outcome) (first_is c d calls w.2) in
         (none_left c d calls w.2, w.3 ∙ ap (given_by b) (sym is) ∙ sym e)
 
-    back : (calls : List Call) (given : Given) → Gives g (b + 1) calls given → Word (Server s) a o b (record { server = s; ask = a; origin = o; outcome = outcome } ∷ calls) given
+    back : (calls : List Call) (given : Given) → GivesOnly g (b + 1) calls given → Word (Server s) a o b (record { server = s; ask = a; origin = o; outcome = outcome } ∷ calls) given
     back calls given w = (outcome, fits, ap (λ l. record { server = s; ask = a; origin = o; outcome = outcome } ∷ l) w.0, w.1 ∙ e)
 
 pub is_reply : (pending : Pending) (done : Done) → pending ≡ Back done → IsReply pending
@@ -91,7 +91,7 @@ module _ (hash : ℕ) (text : List ℕ) where
   take_is fs fs' ask (Back g) pending' made done outcome is e fits sure leads = absurd is
   take_is fs fs' ask (Calling s) pending' made done outcome is e fits sure leads =
       let X : ℕ → List Call → Given → Type 0 = Word (Server s) (ask_under fs ask) (origin_under fs Client) in
-      let Y : ℕ → List Call → Given → Type 0 = Gives (given_when_done done) in
+      let Y : ℕ → List Call → Given → Type 0 = GivesOnly (given_when_done done) in
       let call = call_in fs ask (Calling s) outcome in
       let later = server_later s (ask_under fs ask) (origin_under fs Client) made outcome (given_when_done done) e fits in
       let l = under_later hash text fs ask Client made call X Y later in

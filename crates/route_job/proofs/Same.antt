@@ -6,7 +6,7 @@ use Rattle.mc_types.specs.declared.call.Origin.{Origin}
 use Rattle.mc_types.specs.Rank.{IsWorst, NoneAbove}
 use Rattle.fresh_runs.specs.Calls.{Call}
 use Rattle.route_tree.specs.Plan.{Plan, Plans, End, More, AllSync}
-use Rattle.route_tree.specs.Word.{Given, rank, Gives, Then, Word, WordOfFirst, IsEnd}
+use Rattle.route_tree.specs.Word.{Given, rank, GivesOnly, Then, Word, WordOfFirst, IsEnd}
 use Rattle.route_job.specs.Parts.{SameAt, worse, WorstWith, AfterFirst}
 
 -- ---- one part after another
@@ -47,7 +47,7 @@ then_assoc b X S T calls given = (
       (w.0 ++ v.0, v.1, e, v.3, (w.0, v.0, refl, w.3, w.4, v.4), subst (λ n. T v.3 n v.1 given) (sym (sum_of b (w.0 ++ v.0) w.0 v.0 refl)) v.5)),
 )
 
-pub gives_then : (b : ℕ) (g : Given) (S : Given → ℕ → List Call → Given → Type 0) → SameAt b (Then (Gives g) S) (S g)
+pub gives_then : (b : ℕ) (g : Given) (S : Given → ℕ → List Call → Given → Type 0) → SameAt b (Then (GivesOnly g) S) (S g)
 gives_then b g S calls given = (
   (λ w.
       let s : S g (b + length w.0) w.1 given = subst (λ x. S x (b + length w.0) w.1 given) w.4.1 w.5 in
@@ -92,7 +92,7 @@ worst_of_two v g gs given = ⊎_elim below above (cases_lt (rank v) (rank g))
         back (inl h) = inl (h.0, ((let e = ap rank h.0 in omega (arith, e, le)), h.1))
         back (inr h) = inr (h.0, inr ((let k = h.0 in omega (arith, k, le)), h.1))
 
-pub worst_one : (ask : Ask) (origin : Origin) (g : Given) (b : ℕ) → SameAt b (WorstWith End ask origin g) (Gives g)
+pub worst_one : (ask : Ask) (origin : Origin) (g : Given) (b : ℕ) → SameAt b (WorstWith End ask origin g) (GivesOnly g)
 worst_one ask origin g b calls given = (
   (λ w. (w.1.0, alone (subst (λ all. IsWorst rank (g ∷ all) given) w.1.1 w.2))),
   (λ w. ([], (w.0, refl), inl (sym w.1, tt))),
@@ -140,12 +140,12 @@ first_begin p ps limit ask origin b calls given = (there, back ps)
   where
     done : (qs : Plans) (g : Given) (n : ℕ) → ((rank g < limit) ⊎ IsEnd qs) → AfterFirst qs limit ask origin g n [] g
     done End g n h = (refl, refl)
-    done (More q qs) g n (inl lt) = choice_true (nat_lt (rank g) limit) (Gives g n [] g) (WordOfFirst (More q qs) limit ask origin n [] g) (lt-ltb (rank g) limit lt) (refl, refl)
+    done (More q qs) g n (inl lt) = choice_true (nat_lt (rank g) limit) (GivesOnly g n [] g) (WordOfFirst (More q qs) limit ask origin n [] g) (lt-ltb (rank g) limit lt) (refl, refl)
     done (More q qs) g n (inr h) = absurd h
 
     goes : (qs : Plans) (g : Given) (n : ℕ) (more : List Call) → limit ≤ rank g → WordOfFirst qs limit ask origin n more given → AfterFirst qs limit ask origin g n more given
     goes End g n more le w = absurd w
-    goes (More q qs) g n more le w = choice_false (nat_lt (rank g) limit) (Gives g n more given) (WordOfFirst (More q qs) limit ask origin n more given) (le-ltb (rank g) limit le) w
+    goes (More q qs) g n more le w = choice_false (nat_lt (rank g) limit) (GivesOnly g n more given) (WordOfFirst (More q qs) limit ask origin n more given) (le-ltb (rank g) limit le) w
 
     there : WordOfFirst (More p ps) limit ask origin b calls given → Then (Word p ask origin) (AfterFirst ps limit ask origin) b calls given
     there (inl w) = (calls, [], sym (append_none calls [] refl), given, w.0, done ps given (b + length calls) w.1)
@@ -160,7 +160,7 @@ first_begin p ps limit ask origin b calls given = (there, back ps)
     back (More q qs) w =
         ⊎_elim
         (λ lt.
-        let h = MatchBool-at_true (Gives w.3 (b + length w.0) w.1 given) (WordOfFirst (More q qs) limit ask origin (b + length w.0) w.1 given) (lt-ltb (rank w.3) limit lt) w.5 in
+        let h = MatchBool-at_true (GivesOnly w.3 (b + length w.0) w.1 given) (WordOfFirst (More q qs) limit ask origin (b + length w.0) w.1 given) (lt-ltb (rank w.3) limit lt) w.5 in
         inl (whole w.0 w.1 w.3 w.2 w.4 h, inl (subst (λ (x : Given). rank x < limit) (sym h.1) lt)))
-        (λ le. inr (w.0, w.1, w.2, w.3, w.4, le, MatchBool-at_false (Gives w.3 (b + length w.0) w.1 given) (WordOfFirst (More q qs) limit ask origin (b + length w.0) w.1 given) (le-ltb (rank w.3) limit le) w.5))
+        (λ le. inr (w.0, w.1, w.2, w.3, w.4, le, MatchBool-at_false (GivesOnly w.3 (b + length w.0) w.1 given) (WordOfFirst (More q qs) limit ask origin (b + length w.0) w.1 given) (le-ltb (rank w.3) limit le) w.5))
         (cases_lt (rank w.3) limit)

@@ -6,7 +6,7 @@ use Rattle.mc_types.specs.declared.call.Origin.TheVariants.{Client}
 use Rattle.fresh_runs.specs.Calls.{Call}
 use Rattle.route_tree.specs.At.{plain_for}
 use Rattle.route_tree.specs.Route.{Route}
-use Rattle.route_tree.specs.Word.{Given, Gives, Then, Word}
+use Rattle.route_tree.specs.Word.{Given, GivesOnly, Then, Word}
 use Rattle.route_job.specs.Given.{given_when_done}
 use Rattle.route_job.specs.Parts.{SameAt}
 use Rattle.route_job.specs.Rest.{Under, PendingOf, AdvanceBy, Comings, AfterFrame, ask_in, origin_in, ask_under, origin_under, Sure, NeedsHit}
@@ -46,15 +46,15 @@ module _ (hash : ℕ) (text : List ℕ) where
   went_back fs fs' a A f done fr pending ea ef same sure b s =
       let O = origin_under fs Client in
       let g = given_when_done done in
-      let r = sure_off hash text fs f a Client b (Gives g) s in
+      let r = sure_off hash text fs f a Client b (GivesOnly g) s in
       let need = r.1 [] g (refl, refl) in
-      let Y : ℕ → List Call → Given → Type 0 = Then (Gives g) (AfterFrame hash text f (ask_under fs a) O) in
+      let Y : ℕ → List Call → Given → Type 0 = Then (GivesOnly g) (AfterFrame hash text f (ask_under fs a) O) in
       let same' = subst (λ x. SameAt b (AfterFrame hash text f x O g) (AdvanceBy hash text fr pending x O)) ea (same O b need) in
       let sure' = subst (λ x. IsSureBy hash text fr pending x O b) ea (sure O b) in
       let more = same_trans b Y (AfterFrame hash text f (ask_under fs a) O g) (AdvanceBy hash text fr pending (ask_under fs a) O) (gives_then b g (AfterFrame hash text f (ask_under fs a) O)) same' in
       let e = entered fs a Y fr pending b more sure' r.0 in
       subst (λ l. SameAt b (Comings hash text (fs ++ f ∷ []) a Client (Back done)) (Comings hash text l a Client pending) × AreSure hash text b a l pending) (sym ef)
-      (same_trans b (Comings hash text (fs ++ f ∷ []) a Client (Back done)) (Under hash text fs a Client Y) (Comings hash text (put_down fs fr) a Client pending) (under_put hash text fs f a Client b (Gives g)) e.0, e.1)
+      (same_trans b (Comings hash text (fs ++ f ∷ []) a Client (Back done)) (Under hash text fs a Client Y) (Comings hash text (put_down fs fr) a Client pending) (under_put hash text fs f a Client b (GivesOnly g)) e.0, e.1)
 
   pub leads_on : (b : ℕ) (a : Ask) (fs : List Frame) (t : Pending) (fs1 : List Frame) (t1 : Pending) (fs2 : List Frame) (t2 : Pending) → FramesLead hash text b a fs t fs1 t1 → FramesLead hash text b a fs1 t1 fs2 t2 → FramesLead hash text b a fs t fs2 t2
   leads_on b a fs t fs1 t1 fs2 t2 h k s =

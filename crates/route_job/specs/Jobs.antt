@@ -55,9 +55,9 @@ abbrev pub call_of : Job → Outcome → Call
 call_of job outcome = record { server = server_of_pending job.pending; ask = ask_under job.frames.items job.ask; origin = origin_under job.frames.items Client; outcome = outcome }
 
 -- what is shown: the call with which all begins that may still come, or the reply, where nothing is left to call
-abbrev pub IsNext : Job → JobStep → Type 0
-IsNext job (steps.Call server ask origin) =
+abbrev pub JobShows : Job → JobStep → Type 0
+JobShows job (steps.Call server ask origin) =
     IsCalling job
     × (server ≡ server_of_pending job.pending) × (ask.now ≡ ask_under job.frames.items job.ask) × (origin ≡ origin_under job.frames.items Client)
     × ((calls : List Call) (given : Given) → Comes job calls given → (outcome : Outcome) × (rest : List Call) × (calls ≡ call_of job outcome ∷ rest))
-IsNext job (steps.Done done) = IsDone job × ((calls : List Call) (given : Given) → Comes job calls given ↔ ((calls ≡ []) × (given ≡ given_when_done done.now)))
+JobShows job (steps.Done done) = IsDone job × ((calls : List Call) (given : Given) → Comes job calls given ↔ ((calls ≡ []) × (given ≡ given_when_done done.now)))

@@ -11,7 +11,7 @@ use Rattle.mc_types.specs.declared.answer.Answer.TheVariants.{Hit, ServerError}
 use Rattle.mc_types.specs.declared.error_text.OwnText.TheVariants.{OutOfMemory}
 use Rattle.fresh_runs.specs.Calls.{Call}
 use Rattle.route_tree.specs.Plan.{Plans, End, More}
-use Rattle.route_tree.specs.Word.{Given, rank, Gives, WordOfAll, WordOfFirst}
+use Rattle.route_tree.specs.Word.{Given, rank, GivesOnly, WordOfAll, WordOfFirst}
 
 -- from this call on the same calls may come, and give the same
 abbrev pub SameAt : ℕ → (ℕ → List Call → Given → Type 0) → (ℕ → List Call → Given → Type 0) → Type 0
@@ -32,18 +32,18 @@ AfterAll (Some worst) ps ask origin g b calls given = WorstWith ps ask origin (w
 
 -- this reply, where its rank is below the limit or no child is left, else the other children
 abbrev pub AfterFirst : Plans → ℕ → Ask → Origin → Given → ℕ → List Call → Given → Type 0
-AfterFirst End limit ask origin g b calls given = Gives g b calls given
+AfterFirst End limit ask origin g b calls given = GivesOnly g b calls given
 AfterFirst (More p ps) limit ask origin g b calls given =
-    MatchBool (nat_lt (rank g) limit) (Gives g b calls given) (WordOfFirst (More p ps) limit ask origin b calls given)
+    MatchBool (nat_lt (rank g) limit) (GivesOnly g b calls given) (WordOfFirst (More p ps) limit ask origin b calls given)
 
 -- a reply of rank 0 names the call whose hit it is
 abbrev pub NamesHit : Given → Type 0
 NamesHit given = rank given ≡ 0 → IsSome given.from
 
 -- the data of a hit
-abbrev pub data_of : Answer → List ℕ
-data_of (Hit flags body cas) = body
-data_of _ = []
+abbrev pub hit_data : Answer → List ℕ
+hit_data (Hit flags body cas) = body
+hit_data _ = []
 
 abbrev pub is_get : Op → Bool
 is_get Get = true

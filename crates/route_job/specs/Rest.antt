@@ -7,7 +7,7 @@ use Rattle.mc_types.specs.declared.call.Origin.TheVariants.{CopyOf}
 use Rattle.fresh_runs.specs.Calls.{Call}
 use Rattle.route_tree.specs.At.{plain_for, plain_for_all}
 use Rattle.route_tree.specs.Plan.{Server}
-use Rattle.route_tree.specs.Word.{Given, rank, Gives, Then, Word, plain_get, refill, AfterCold, AfterWarm, AfterRefill}
+use Rattle.route_tree.specs.Word.{Given, rank, GivesOnly, Then, Word, plain_get, refill, AfterCold, AfterWarm, AfterRefill}
 use Rattle.route_job.specs.Given.{given_when_done}
 use Rattle.route_job.specs.Parts.{AfterAll, AfterFirst, NamesHit}
 use Rattle.route_job.specs.declared.frame.Frame.{Frame}
@@ -80,7 +80,7 @@ module _ (hash : ℕ) (text : List ℕ) where
   abbrev pub PendingOf : Pending → Ask → Origin → ℕ → List Call → Given → Type 0
   PendingOf (Enter tree) ask origin = Word (plain_for hash text tree) ask origin
   PendingOf (Calling server) ask origin = Word (Server server) ask origin
-  PendingOf (Back done) ask origin = Gives (given_when_done done)
+  PendingOf (Back done) ask origin = GivesOnly (given_when_done done)
 
   -- what is to be done next, and then what the frame that is put down goes on with
   abbrev pub AdvanceBy : Option Frame → Pending → Ask → Origin → ℕ → List Call → Given → Type 0

@@ -2,7 +2,7 @@
 
 ghost use Rattle.std.specs.Prelude.{◌≤◌, length};
 ghost use Rattle.mc_types.specs.Asks.{data_limit};
-ghost use Rattle.route_job.specs.Parts.{data_of};
+ghost use Rattle.route_job.specs.Parts.{hit_data};
 
 use mc_types::Answer;
 
@@ -12,5 +12,5 @@ use mc_types::Answer;
 pub struct Done {
     pub from: Option<u64>,
     pub reply: Answer,
-    pub ghost short: { length (data_of reply) ≤ data_limit },
+    pub ghost short: { length (hit_data reply) ≤ data_limit },
 }

@@ -53,7 +53,7 @@ pub enum JobStep<'b> {
 }
 
 impl Job {
-    ghost use Rattle.route_job.specs.Jobs.{Comes, IsBroken, call_of, server_of_pending, IsNext, IsCalling, IsDone, work_of};
+    ghost use Rattle.route_job.specs.Jobs.{Comes, IsBroken, call_of, server_of_pending, JobShows, IsCalling, IsDone, work_of};
 
     /// The command on this tree for this ask: what may come of it are the words of the key's plain tree. The only error:
     /// memory was refused.
@@ -105,7 +105,7 @@ impl Job {
 
     /// The next call, or how the command ended. It takes no memory.
     pub fn next(&self) -> JobStep<'_>
-        ensures { IsNext self.now result }
+        ensures { JobShows self.now result }
     {
         match &self.pending {
             Pending::Call(server) => JobStep::Call {

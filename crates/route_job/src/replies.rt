@@ -4,14 +4,14 @@ ghost use Rattle.mc_types.specs.Asks.{data_limit};
 ghost use Rattle.fresh_runs.specs.Single.{reply_of};
 ghost use Rattle.route_tree.specs.Word.{given_by, answer_of_nothing, code_of_nothing, word_of_nothing, failing_reply};
 ghost use Rattle.route_job.specs.Given.{given_when_done};
-ghost use Rattle.route_job.specs.Parts.{worse, broken_reply, data_of};
+ghost use Rattle.route_job.specs.Parts.{worse, broken_reply, hit_data};
 
 use crate::done::Done;
 use mc_types::{Answer, Code, Dialect, ErrorText, Fields, Op, Outcome, OwnText};
 
 /// What the call of this number gives: its answer, or an error where it failed.
 pub(crate) fn done_by(b: u64, outcome: Outcome) -> Done
-    requires { length (data_of (reply_of outcome)) ≤ data_limit }
+    requires { length (hit_data (reply_of outcome)) ≤ data_limit }
     ensures { given_when_done result ≡ given_by b outcome }
 {
     match outcome {

@@ -11,10 +11,10 @@ use Rattle.route_json.specs.ServerTexts.{server_in}
 use Rattle.route_json.specs.ServerNames.{have_epochs}
 use Rattle.route_json.specs.Fault.{Fault}
 use Rattle.route_json.specs.Fields.{only, value_or, list_or, object_or}
-use Rattle.route_json.specs.Servers.{Addresses, numbered_at, numbered, server_or}
+use Rattle.route_json.specs.Servers.{Addresses, numbered_at, address_number, server_or}
 use Rattle.route_json.specs.Names.{limit_fields}
 use Rattle.route_json.specs.Limits.{limits_or}
-use Rattle.route_json.specs.Pools.{server_of, few_slots, servers_in, pool_list, slots_or, pool_object, pool_of, pools_in, Pools, in_epochs, none_over, first_over_in}
+use Rattle.route_json.specs.Pools.{server_named, few_slots, servers_in, pool_list, slots_or, pool_object, pool_of, pools_in, Pools, in_epochs, none_over, first_over_in}
 use Rattle.route_json.specs.Reading.{Reading, then_read, ◌>>=◌, pure, each, named, members, values}
 use Rattle.route_json.specs.Configs.{tree_of, object_after, config_after, read_after}
 
@@ -68,10 +68,10 @@ numbered_adds None pool a = λ known. elim (cases_Bool (nat_lt (length known) 42
 ]
 
 server_adds : (pool text : List ℕ) (o : Option (List ℕ × ℕ)) → Adds (server_or pool text o)
-server_adds pool text (Some s) = then_adds (numbered pool s.0) _ (λ known. numbered_adds (position (bytes_eq s.0) known) pool s.0 known) (λ n. same)
+server_adds pool text (Some s) = then_adds (address_number pool s.0) _ (λ known. numbered_adds (position (bytes_eq s.0) known) pool s.0 known) (λ n. same)
 server_adds pool text None = λ known. tt
 
-server_of_adds : (pool : List ℕ) (d : Data) → Adds (server_of pool d)
+server_of_adds : (pool : List ℕ) (d : Data) → Adds (server_named pool d)
 server_of_adds pool (string text) = server_adds pool text (server_in text)
 server_of_adds pool null = λ known. tt
 server_of_adds pool (boolean b) = λ known. tt
@@ -80,7 +80,7 @@ server_of_adds pool (array ds) = λ known. tt
 server_of_adds pool (object ms) = λ known. tt
 
 servers_add : (pool : List ℕ) (ds : List Data) → Adds (servers_in pool ds)
-servers_add pool ds = then_adds (each (server_of pool) ds) _ (each_adds (server_of pool) (server_of_adds pool) ds) (λ servers. pure_adds (few_slots pool servers))
+servers_add pool ds = then_adds (each (server_named pool) ds) _ (each_adds (server_named pool) (server_of_adds pool) ds) (λ servers. pure_adds (few_slots pool servers))
 
 list_adds : (pool : List ℕ) (ds : List Data) → Adds (pool_list pool ds)
 list_adds pool ds = λ known. elim (cases_Bool (length ds == 0)) [

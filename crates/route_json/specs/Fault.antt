@@ -40,6 +40,6 @@ Fails None read = Unit {0}
 Fails (Some f) read = read ≡ Err f
 
 -- what is answered, seen by `view`, is what reading gives, running out of memory aside
-abbrev pub Gives : {X Y : Type 0} → (X → Y) → Result X ConfigFault → Result Y Fault → Type 0
-Gives view (Ok x) read = read ≡ Ok (view x)
-Gives view (Err e) read = Fails (fault_of e) read
+abbrev pub GivesReading : {X Y : Type 0} → (X → Y) → Result X ConfigFault → Result Y Fault → Type 0
+GivesReading view (Ok x) read = read ≡ Ok (view x)
+GivesReading view (Err e) read = Fails (fault_of e) read

@@ -16,7 +16,7 @@ use Rattle.route_json.specs.Limits.{limits_or}
 use Rattle.route_json.specs.Names.{limit_fields}
 use Rattle.route_json.specs.Reading.{Reading, ◌>>=◌, give, fail, pure, result_of, each, values, members, named}
 use Rattle.route_json.specs.Servers.{Addresses, server_of_text}
-use Rattle.route_json.specs.ServerNames.{have_epochs, is_over}
+use Rattle.route_json.specs.ServerNames.{have_epochs, epoch_is_over}
 
 -- a pool's servers, one for each text, and the server of each of its slots
 pub record Slotted : Type 0 where
@@ -73,9 +73,9 @@ pool_named name [] = None
 pool_named name (p ∷ ps) = if bytes_eq p.0 name then Some p.1 else pool_named name ps
 
 -- the server that a value names, in the list of this pool
-abbrev pub server_of : List ℕ → Data → Reading Addresses WeightedServer
-server_of pool (string text) = server_of_text pool text
-server_of pool _ = fail (BadField (codes "servers"))
+abbrev pub server_named : List ℕ → Data → Reading Addresses WeightedServer
+server_named pool (string text) = server_of_text pool text
+server_named pool _ = fail (BadField (codes "servers"))
 
 -- these servers, if they don't have more than 2,048 slots
 abbrev pub few_slots : List ℕ → List WeightedServer → Result (List WeightedServer) Fault
@@ -84,7 +84,7 @@ few_slots pool servers = if nat_lt SLOT_LIMIT (length (slots_of servers)) then E
 -- the servers of a pool, from texts that are neither none nor too many
 abbrev pub servers_in : List ℕ → List Data → Reading Addresses (List WeightedServer)
 servers_in pool ds = do
-  servers ← each (server_of pool) ds
+  servers ← each (server_named pool) ds
   pure (few_slots pool servers)
 
 -- the servers of a pool, from its list
@@ -145,7 +145,7 @@ pools_in ms = each (named Ok pool_of) (members ms)
 -- the name of the first of these servers whose epoch is over
 abbrev pub first_over : Addresses → List WeightedServer → Option (List ℕ)
 first_over names [] = None
-first_over names (s ∷ servers) = if is_over names s.server then slice_get names s.server else first_over names servers
+first_over names (s ∷ servers) = if epoch_is_over names s.server then slice_get names s.server else first_over names servers
 
 -- the first, or the first of other pools
 abbrev pub or_over : Option (List ℕ) → Option (List ℕ) → Option (List ℕ)

@@ -22,14 +22,14 @@ use Rattle.route_json.specs.Pools.{Pools, Slotted, pool_named}
 use Rattle.route_json.specs.Reading.{Reading, ◌>>=◌, give, fail, pure, each, values, members, named}
 
 -- one route of this weight more, of at most ROUTE_LIMIT
-abbrev pub counts : ℕ → Reading ℕ (Unit {0})
-counts weight count = if nat_le (count + weight) ROUTE_LIMIT then Ok (tt, count + weight) else Err TooManyNodes
+abbrev pub counts_route : ℕ → Reading ℕ (Unit {0})
+counts_route weight count = if nat_le (count + weight) ROUTE_LIMIT then Ok (tt, count + weight) else Err TooManyNodes
 
 -- a route below this many levels that no value stands for
 abbrev pub leaf : ℕ → ℕ → Route → Reading ℕ Route
 leaf zero weight route = fail TooDeep
 leaf (suc levels) weight route = do
-  _ ← counts weight
+  _ ← counts_route weight
   give route
 
 -- the prefix that a policy's name is
@@ -188,5 +188,5 @@ module _ (pools : Pools) where
   unfoldable pub route : (levels weight : ℕ) (field : List ℕ) → Data → Reading ℕ Route
   route zero weight field d = fail TooDeep
   route (suc levels) weight field d = do
-    _ ← counts weight
+    _ ← counts_route weight
     node levels weight (route levels) field d

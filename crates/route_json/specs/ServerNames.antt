@@ -33,8 +33,8 @@ is_over_at None later = false
 is_over_at (Some name) later = is_named (address_in name) later
 
 -- the epoch of the server of this number is over: one of a later number has its address
-abbrev pub is_over : Addresses → ℕ → Bool
-is_over names n = is_over_at (slice_get names n) (drop (n + 1) names)
+abbrev pub epoch_is_over : Addresses → ℕ → Bool
+epoch_is_over names n = is_over_at (slice_get names n) (drop (n + 1) names)
 
 -- an epoch stands behind the last `#`, where there is one
 abbrev pub has_epoch_in : Option (List ℕ × List ℕ) → Bool

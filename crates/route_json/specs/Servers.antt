@@ -14,13 +14,13 @@ numbered_at (Some n) pool a known = Ok (n, known)
 numbered_at None pool a known = if nat_lt (length known) MAX_SERVERS then Ok (length known, known ++ a ∷ []) else Err (TooManyServers pool)
 
 -- the number of an address in the list of this pool
-abbrev pub numbered : List ℕ → List ℕ → Reading Addresses ℕ
-numbered pool a known = numbered_at (position (bytes_eq a) known) pool a known
+abbrev pub address_number : List ℕ → List ℕ → Reading Addresses ℕ
+address_number pool a known = numbered_at (position (bytes_eq a) known) pool a known
 
 -- the server of an address and a weight, if the text says them
 abbrev pub server_or : List ℕ → List ℕ → Option (List ℕ × ℕ) → Reading Addresses WeightedServer
 server_or pool text (Some s) = do
-  n ← numbered pool s.0
+  n ← address_number pool s.0
   give (record { server = n; weight = s.1 })
 server_or pool text None = fail (BadAddress text)
 

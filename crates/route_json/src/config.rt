@@ -4,7 +4,7 @@ ghost use Rattle.std.specs.Prelude.{◌≡◌, IfOk, length};
 ghost use Rattle.serde_json.specs.Read.{read};
 ghost use Rattle.serde_json.specs.View.{view};
 ghost use Rattle.route_json.specs.Configs.{object_after, config_after, read_or, read_after};
-ghost use Rattle.route_json.specs.Fault.{Gives};
+ghost use Rattle.route_json.specs.Fault.{GivesReading};
 ghost use Rattle.route_json.specs.Fits.{IsBelow};
 
 use crate::addresses::Servers;
@@ -82,14 +82,14 @@ impl Config {
 /// server that is over is met after all pools.
 /// `NoMemory` is running out of memory, and nothing else is said then.
 pub fn read_config(alloc: Global, text: &str) -> Result<Config, ConfigFault>
-    ensures { Gives (λ config. (config.tree, config.servers)) result (read_or (read text.now)) }
+    ensures { GivesReading (λ config. (config.tree, config.servers)) result (read_or (read text.now)) }
 {
     read_config_after(alloc, Servers::new(alloc), text)
 }
 
 /// As [`read_config`], but the servers are numbered after these: a server of theirs keeps its number, and new ones come last.
 pub fn read_config_after(alloc: Global, servers: Servers, text: &str) -> Result<Config, ConfigFault>
-    ensures { Gives (λ config. (config.tree, config.servers)) result (read_after servers (read text.now)) }
+    ensures { GivesReading (λ config. (config.tree, config.servers)) result (read_after servers (read text.now)) }
 {
     match Value::from_str(alloc, text) {
         Ok(value) => config_after(alloc, servers, &value),
@@ -109,7 +109,7 @@ fn drop_servers(_servers: Servers) {}
 
 // The servers are numbered after these.
 fn config_after(alloc: Global, servers: Servers, value: &Value) -> Result<Config, ConfigFault>
-    ensures { Gives (λ config. (config.tree, config.servers)) result (config_after (view value.now) servers) }
+    ensures { GivesReading (λ config. (config.tree, config.servers)) result (config_after (view value.now) servers) }
 {
     match value {
         Value::Object(_) => object_after(alloc, servers, value),
@@ -118,7 +118,7 @@ fn config_after(alloc: Global, servers: Servers, value: &Value) -> Result<Config
 }
 
 fn object_after(alloc: Global, servers: Servers, value: &Value) -> Result<Config, ConfigFault>
-    ensures { Gives (λ config. (config.tree, config.servers)) result (object_after (view value.now) servers) }
+    ensures { GivesReading (λ config. (config.tree, config.servers)) result (object_after (view value.now) servers) }
 {
     only(alloc, Holder::Config, value)?;
     value_field(alloc, "pools", value)?;

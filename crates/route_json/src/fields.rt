@@ -3,7 +3,7 @@
 ghost use Rattle.std.specs.Prelude.{codes};
 ghost use Rattle.serde_json.specs.Find.{get};
 ghost use Rattle.serde_json.specs.View.{view, items_view, members_view};
-ghost use Rattle.route_json.specs.Fault.{Gives};
+ghost use Rattle.route_json.specs.Fault.{GivesReading};
 ghost use Rattle.route_json.specs.Fields.{only_members, only, value_or, text_or, list_or, object_or, exptime_or};
 ghost use Rattle.route_json.specs.Reading.{members};
 
@@ -17,7 +17,7 @@ pub const MAX_EXPTIME: u64 = 2_147_483_647;
 
 /// Each member of an object is a field of its kind; `BadField` names the first that isn't.
 pub fn only(alloc: Global, holder: Holder, value: &Value) -> Result<(), ConfigFault>
-    ensures { Gives (λ u. u) result (only holder (view value.now)) }
+    ensures { GivesReading (λ u. u) result (only holder (view value.now)) }
 {
     match value {
         Value::Object(map) => only_members(alloc, holder, map),
@@ -26,7 +26,7 @@ pub fn only(alloc: Global, holder: Holder, value: &Value) -> Result<(), ConfigFa
 }
 
 fn only_members(alloc: Global, holder: Holder, map: &Map<String, Value>) -> Result<(), ConfigFault>
-    ensures { Gives (λ u. u) result (only_members holder (members (members_view map.now.entries))) }
+    ensures { GivesReading (λ u. u) result (only_members holder (members (members_view map.now.entries))) }
 {
     for (name, _) in map.iter() {
         let text = name.as_str();
@@ -43,7 +43,7 @@ pub fn value_field<'a>(
     name: &str,
     value: &'a Value,
 ) -> Result<&'a Value, ConfigFault>
-    ensures { Gives (λ v. view v.now) result (value_or name.now (get name.now (view value.now))) }
+    ensures { GivesReading (λ v. view v.now) result (value_or name.now (get name.now (view value.now))) }
 {
     match value.get(name) {
         Some(found) => Ok(found),
@@ -53,7 +53,7 @@ pub fn value_field<'a>(
 
 /// The text in a field; `BadField` where there is none.
 pub fn text_field<'a>(alloc: Global, name: &str, value: &'a Value) -> Result<&'a str, ConfigFault>
-    ensures { Gives (λ text. text.now) result (text_or name.now (get name.now (view value.now))) }
+    ensures { GivesReading (λ text. text.now) result (text_or name.now (get name.now (view value.now))) }
 {
     match value.get(name) {
         Some(Value::String(text)) => Ok(text.as_str()),
@@ -67,7 +67,7 @@ pub fn list_field<'a>(
     name: &str,
     value: &'a Value,
 ) -> Result<&'a [Value], ConfigFault>
-    ensures { Gives (λ list. items_view list.now) result (list_or name.now (get name.now (view value.now))) }
+    ensures { GivesReading (λ list. items_view list.now) result (list_or name.now (get name.now (view value.now))) }
 {
     match value.get(name) {
         Some(Value::Array(items)) => Ok(items.as_slice()),
@@ -81,7 +81,7 @@ pub fn object_field<'a>(
     name: &str,
     value: &'a Value,
 ) -> Result<&'a Map<String, Value>, ConfigFault>
-    ensures { Gives (λ map. members_view map.now.entries) result (object_or name.now (get name.now (view value.now))) }
+    ensures { GivesReading (λ map. members_view map.now.entries) result (object_or name.now (get name.now (view value.now))) }
 {
     match value.get(name) {
         Some(Value::Object(map)) => Ok(map),
@@ -91,7 +91,7 @@ pub fn object_field<'a>(
 
 /// An exptime in 0..=[`MAX_EXPTIME`], in its field; 0 where it is left out, and `BadField` for any other value.
 pub fn exptime_field(alloc: Global, value: &Value) -> Result<u32, ConfigFault>
-    ensures { Gives (λ n. n) result (exptime_or (get (codes "exptime") (view value.now))) }
+    ensures { GivesReading (λ n. n) result (exptime_or (get (codes "exptime") (view value.now))) }
 {
     match value.get("exptime") {
         None => Ok(0),

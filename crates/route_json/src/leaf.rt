@@ -4,7 +4,7 @@ ghost use Rattle.std.specs.Prelude.{◌≡◌, ℕ, ◌+◌, ◌<◌, ◌≤◌,
 ghost use Rattle.mc_types.specs.KeyText.{IsKey};
 ghost use Rattle.route_tree.specs.Route.{Failing, Server};
 ghost use Rattle.route_tree.specs.Form.{route_of_form, routes_of};
-ghost use Rattle.route_json.specs.Fault.{Gives};
+ghost use Rattle.route_json.specs.Fault.{GivesReading};
 ghost use Rattle.route_json.specs.Names.{kind_of, rest_after};
 ghost use Rattle.route_json.specs.Fits.{IsLeaf, FitsBounds, AllFit, NodeFits};
 ghost use Rattle.route_json.specs.Pools.{slotted, AreWeighted, IsPool, pool_named};
@@ -21,7 +21,7 @@ use std::alloc::Global;
 
 /// A default error route, among the children of a route.
 pub fn error_leaf(alloc: Global, count: &mut RouteCount, below: Below) -> Result<Tree, ConfigFault>
-    ensures gives { Gives (λ t. (t, count.new.routes)) result (leaf below.levels below.weight Failing count.old.routes) }
+    ensures gives { GivesReading (λ t. (t, count.new.routes)) result (leaf below.levels below.weight Failing count.old.routes) }
     ensures fits { IfOk result (λ t. (bound : ℕ) → FitsBounds bound below.levels below.weight count.old.routes t count.new.routes) }
 {
     if below.levels == 0 {
@@ -33,7 +33,7 @@ pub fn error_leaf(alloc: Global, count: &mut RouteCount, below: Below) -> Result
 
 /// The kind of a type; `UnknownType` where there is none.
 pub fn known_kind(alloc: Global, name: &str) -> Result<Kind, ConfigFault>
-    ensures { Gives (λ k. k) result (kind_or name.now (kind_of name.now)) }
+    ensures { GivesReading (λ k. k) result (kind_or name.now (kind_of name.now)) }
 {
     match kind_of(name) {
         Some(kind) => Ok(kind),
@@ -43,7 +43,7 @@ pub fn known_kind(alloc: Global, name: &str) -> Result<Kind, ConfigFault>
 
 /// The operation of a policy; `BadField` where there is none of this name.
 pub fn policy_op(alloc: Global, name: &str) -> Result<Op, ConfigFault>
-    ensures { Gives (λ op. op) result (policy_op name.now) }
+    ensures { GivesReading (λ op. op) result (policy_op name.now) }
 {
     match op_of(name) {
         Some(op) => Ok(op),
@@ -53,7 +53,7 @@ pub fn policy_op(alloc: Global, name: &str) -> Result<Op, ConfigFault>
 
 /// The prefix of a policy; `BadPrefix` where it is no key.
 pub fn policy_prefix(alloc: Global, name: &str) -> Result<Key, ConfigFault>
-    ensures gives { Gives (λ k. k) result (prefix_of name.now) }
+    ensures gives { GivesReading (λ k. k) result (prefix_of name.now) }
     ensures key { IfOk result IsKey }
 {
     match Key::read(name.as_bytes()) {
@@ -74,7 +74,7 @@ pub fn listed(lists: Lists, trees: Vec<Tree>) -> TreeForm
 }
 
 fn known_pool<'a>(alloc: Global, pools: &'a Pools, name: &str) -> Result<&'a Pool, ConfigFault>
-    ensures gives { Gives (λ p. slotted p.now) result (known_pool name.now (pool_named name.now pools.now.0)) }
+    ensures gives { GivesReading (λ p. slotted p.now) result (known_pool name.now (pool_named name.now pools.now.0)) }
     ensures good { IfOk result (λ p. IsPool (length pools.now.1) (slotted p.now)) }
 {
     match pools.pool_named(name) {
@@ -85,7 +85,7 @@ fn known_pool<'a>(alloc: Global, pools: &'a Pools, name: &str) -> Result<&'a Poo
 
 /// The route over a pool's slots; `NoPool` where there is none of this name.
 pub fn pool_route(alloc: Global, pools: &Pools, name: &str) -> Result<TreeForm, ConfigFault>
-    ensures gives { (n : ℕ) → Gives (λ f. (route_of_form f, n)) result (pool_route pools.now.0 name.now n) }
+    ensures gives { (n : ℕ) → GivesReading (λ f. (route_of_form f, n)) result (pool_route pools.now.0 name.now n) }
     ensures leaf { IfOk result (λ f. IsLeaf (length pools.now.1) (route_of_form f)) }
 {
     let pool = known_pool(alloc, pools, name)?;
@@ -100,7 +100,7 @@ pub fn server_routes(
     below: Below,
     name: &str,
 ) -> Result<Vec<Tree>, ConfigFault>
-    ensures gives { Gives (λ v. (v.items, count.new.routes)) result (server_routes pools.now.0 below.levels below.weight name.now count.old.routes) }
+    ensures gives { GivesReading (λ v. (v.items, count.new.routes)) result (server_routes pools.now.0 below.levels below.weight name.now count.old.routes) }
     ensures fits { IfOk result (λ v. AllFit (length pools.now.1) below.levels below.weight count.old.routes v.items count.new.routes) }
     ensures some { IfOk result (λ v. 0 < length v.items) }
 {
@@ -117,7 +117,7 @@ fn each_server(
 ) -> Result<Vec<Tree>, ConfigFault>
     requires some { 0 < length servers.now }
     requires weighted { AreWeighted (length pools.now.1) servers.now }
-    ensures gives { Gives (λ v. (v.items, count.new.routes)) result (each (λ s. leaf below.levels below.weight (Server s.server)) servers.now count.old.routes) }
+    ensures gives { GivesReading (λ v. (v.items, count.new.routes)) result (each (λ s. leaf below.levels below.weight (Server s.server)) servers.now count.old.routes) }
     ensures fits { IfOk result (λ v. AllFit (length pools.now.1) below.levels below.weight count.old.routes v.items count.new.routes) }
     ensures some { IfOk result (λ v. 0 < length v.items) }
 {
@@ -134,7 +134,7 @@ fn server_leaf(
     below: Below,
     server: ServerId,
 ) -> Result<Tree, ConfigFault>
-    ensures gives { Gives (λ t. (t, count.new.routes)) result (leaf below.levels below.weight (Server server) count.old.routes) }
+    ensures gives { GivesReading (λ t. (t, count.new.routes)) result (leaf below.levels below.weight (Server server) count.old.routes) }
     ensures fits { IfOk result (λ t. (bound : ℕ) → server < bound → FitsBounds bound below.levels below.weight count.old.routes t count.new.routes) }
 {
     if below.levels == 0 {
@@ -152,7 +152,7 @@ pub fn short(
     below: Below,
     text: &str,
 ) -> Result<TreeForm, ConfigFault>
-    ensures gives { Gives (λ f. (route_of_form f, count.new.routes)) result (short pools.now.0 below.levels below.weight text.now count.old.routes) }
+    ensures gives { GivesReading (λ f. (route_of_form f, count.new.routes)) result (short pools.now.0 below.levels below.weight text.now count.old.routes) }
     ensures fits { IfOk result (λ f. NodeFits (length pools.now.1) below.levels below.weight count.old.routes (route_of_form f) count.new.routes) }
 {
     if text == "NullRoute" {
@@ -184,7 +184,7 @@ fn short_list(
     lists: Lists,
     name: &str,
 ) -> Result<TreeForm, ConfigFault>
-    ensures gives { Gives (λ f. (route_of_form f, count.new.routes)) result (short_list pools.now.0 lists below.levels below.weight name.now count.old.routes) }
+    ensures gives { GivesReading (λ f. (route_of_form f, count.new.routes)) result (short_list pools.now.0 lists below.levels below.weight name.now count.old.routes) }
     ensures fits { IfOk result (λ f. NodeFits (length pools.now.1) below.levels below.weight count.old.routes (route_of_form f) count.new.routes) }
 {
     let trees = server_routes(alloc, pools, count, below, name)?;
@@ -199,7 +199,7 @@ pub fn text_children(
     below: Below,
     text: &str,
 ) -> Result<Vec<Tree>, ConfigFault>
-    ensures gives { Gives (λ v. (v.items, count.new.routes)) result (text_children pools.now.0 below.levels below.weight (rest_after (codes "Pool|") text.now) count.old.routes) }
+    ensures gives { GivesReading (λ v. (v.items, count.new.routes)) result (text_children pools.now.0 below.levels below.weight (rest_after (codes "Pool|") text.now) count.old.routes) }
     ensures fits { IfOk result (λ v. AllFit (length pools.now.1) below.levels below.weight count.old.routes v.items count.new.routes) }
     ensures some { IfOk result (λ v. 0 < length v.items) }
 {

@@ -4,7 +4,7 @@ ghost use Rattle.std.specs.Prelude.{◌≡◌, Err, MatchOption, Ok, true};
 ghost use Rattle.std.specs.List.{list_any};
 ghost use Rattle.serde_json.specs.Find.{get};
 ghost use Rattle.serde_json.specs.View.{view, items_view, members_view};
-ghost use Rattle.route_json.specs.Fault.{BadField, Gives};
+ghost use Rattle.route_json.specs.Fault.{BadField, GivesReading};
 ghost use Rattle.route_json.specs.Limits.{is_limit, least_limits, lesser_limit, limit_in, limit_of, limits_in, limits_or, limits_said, limits_said_by, lists, names, no_limits, pools_said};
 ghost use Rattle.route_json.specs.Names.{limit_fields};
 ghost use Rattle.route_json.specs.Reading.{members, values};
@@ -129,7 +129,7 @@ fn bad_limit(value: &Value) -> Option<&'static str>
 
 /// Each limit of a pool's object is left out or in 1..=[`MAX_LIMIT`]; `BadField` names the first that isn't.
 pub fn check_limits(alloc: Global, value: &Value) -> Result<(), ConfigFault>
-    ensures { Gives (λ u. u) result (limits_or limit_fields (view value.now)) }
+    ensures { GivesReading (λ u. u) result (limits_or limit_fields (view value.now)) }
 {
     match bad_limit(value) {
         None => Ok(()),

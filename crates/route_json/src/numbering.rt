@@ -1,8 +1,8 @@
 //! The servers that a configuration names, numbered by their addresses.
 
 ghost use Rattle.std.specs.Prelude.{◌≡◌, ◌<◌, ◌≤◌, IfOk, length};
-ghost use Rattle.route_json.specs.Fault.{Gives};
-ghost use Rattle.route_json.specs.Servers.{numbered, server_of_text};
+ghost use Rattle.route_json.specs.Fault.{GivesReading};
+ghost use Rattle.route_json.specs.Servers.{address_number, server_of_text};
 
 use crate::addresses::server_text::MAX_WEIGHT;
 use crate::addresses::servers::MAX_SERVERS;
@@ -20,7 +20,7 @@ pub fn server_of_text(
     pool: &str,
     text: &str,
 ) -> Result<WeightedServer, ConfigFault>
-    ensures gives { Gives (λ s. (s, servers.new)) result (server_of_text pool.now text.now servers.old) }
+    ensures gives { GivesReading (λ s. (s, servers.new)) result (server_of_text pool.now text.now servers.old) }
     ensures below { IfOk result (λ s. s.server < length servers.new) }
     ensures weight { IfOk result (λ s. (0 < s.weight) × (s.weight ≤ MAX_WEIGHT)) }
     ensures more { length servers.old ≤ length servers.new }
@@ -40,7 +40,7 @@ fn number(
     pool: &str,
     address: &str,
 ) -> Result<ServerId, ConfigFault>
-    ensures gives { Gives (λ n. (n, servers.new)) result (numbered pool.now address.now servers.old) }
+    ensures gives { GivesReading (λ n. (n, servers.new)) result (address_number pool.now address.now servers.old) }
     ensures below { IfOk result (λ n. n < length servers.new) }
     ensures more { length servers.old ≤ length servers.new }
 {

@@ -2,8 +2,8 @@
 
 ghost use Rattle.route_tree.specs.declared.limits.TheConstants.{ROUTE_LIMIT, DEPTH_LIMIT};
 ghost use Rattle.std.specs.Prelude.{◌≡◌, ◌+◌, ◌*◌, ◌<◌, ◌≤◌, IfOk};
-ghost use Rattle.route_json.specs.Fault.{Gives};
-ghost use Rattle.route_json.specs.Routes.{counts};
+ghost use Rattle.route_json.specs.Fault.{GivesReading};
+ghost use Rattle.route_json.specs.Routes.{counts_route};
 
 use crate::fault::ConfigFault;
 use route_tree::ROUTE_LIMIT;
@@ -38,7 +38,7 @@ pub struct Below {
 impl RouteCount {
     /// Counts one route more; `TooManyNodes` above [`ROUTE_LIMIT`].
     pub fn add(&mut self, weight: u32) -> Result<(), ConfigFault>
-        ensures gives { Gives (λ u. (u, self.new.routes)) result (counts weight self.old.routes) }
+        ensures gives { GivesReading (λ u. (u, self.new.routes)) result (counts_route weight self.old.routes) }
         ensures more { IfOk result (λ _. self.new.routes ≡ self.old.routes + weight) }
     {
         if weight > ROUTE_LIMIT - self.routes {

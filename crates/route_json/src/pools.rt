@@ -2,8 +2,8 @@
 
 ghost use Rattle.std.specs.Prelude.{◌≡◌, ◌++◌, ℕ, ◌<◌, ◌≤◌, IfOk, IfSome, length, option_map, replicate};
 ghost use Rattle.serde_json.specs.View.{view, items_view, members_view};
-ghost use Rattle.route_json.specs.Fault.{Gives};
-ghost use Rattle.route_json.specs.Pools.{pools_of, slotted, slots_of, AreWeighted, IsServerList, IsPool, ArePools, pool_named, server_of, few_slots, first_over, first_over_in, in_epochs, servers_in, pool_list, pool_object, pool_of, pools_in};
+ghost use Rattle.route_json.specs.Fault.{GivesReading};
+ghost use Rattle.route_json.specs.Pools.{pools_of, slotted, slots_of, AreWeighted, IsServerList, IsPool, ArePools, pool_named, server_named, few_slots, first_over, first_over_in, in_epochs, servers_in, pool_list, pool_object, pool_of, pools_in};
 ghost use Rattle.route_json.specs.Reading.{each, values};
 
 use crate::addresses::Servers;
@@ -68,7 +68,7 @@ impl Pools {
         servers: Servers,
         map: &Map<String, Value>,
     ) -> Result<Pools, ConfigFault>
-        ensures { Gives (λ pools. pools) result (pools_in (members_view map.now.entries) servers) }
+        ensures { GivesReading (λ pools. pools) result (pools_in (members_view map.now.entries) servers) }
     {
         let mut servers = servers;
         let mut list = Vec::new(alloc);
@@ -91,7 +91,7 @@ impl Pools {
 
     /// `BadAddress`, with its name, where a pool names a server whose epoch is over: a later one has its address.
     pub fn keep_epochs(&self, alloc: Global) -> Result<(), ConfigFault>
-        ensures { Gives (λ u. (u, self.now.1)) result (in_epochs self.now.0 self.now.1) }
+        ensures { GivesReading (λ u. (u, self.now.1)) result (in_epochs self.now.0 self.now.1) }
     {
         if !self.servers.have_epochs() {
             return Ok(());
@@ -188,7 +188,7 @@ fn read_pool(
     name: &str,
     value: &Value,
 ) -> Result<Pool, ConfigFault>
-    ensures gives { Gives (λ p. (slotted p, servers.new)) result (pool_of name.now (view value.now) servers.old) }
+    ensures gives { GivesReading (λ p. (slotted p, servers.new)) result (pool_of name.now (view value.now) servers.old) }
     ensures good { IfOk result (λ p. IsPool (length servers.new) (slotted p)) }
     ensures more { length servers.old ≤ length servers.new }
 {
@@ -204,7 +204,7 @@ fn read_pool_object(
     name: &str,
     value: &Value,
 ) -> Result<Pool, ConfigFault>
-    ensures gives { Gives (λ p. (slotted p, servers.new)) result (pool_object name.now (view value.now) servers.old) }
+    ensures gives { GivesReading (λ p. (slotted p, servers.new)) result (pool_object name.now (view value.now) servers.old) }
     ensures good { IfOk result (λ p. IsPool (length servers.new) (slotted p)) }
     ensures more { length servers.old ≤ length servers.new }
 {
@@ -225,7 +225,7 @@ fn read_list(
     name: &str,
     items: &[Value],
 ) -> Result<Vec<WeightedServer>, ConfigFault>
-    ensures gives { Gives (λ v. (v.items, servers.new)) result (pool_list name.now (values (items_view items.now)) servers.old) }
+    ensures gives { GivesReading (λ v. (v.items, servers.new)) result (pool_list name.now (values (items_view items.now)) servers.old) }
     ensures good { IfOk result (λ v. IsServerList (length servers.new) v.items) }
     ensures more { length servers.old ≤ length servers.new }
 {
@@ -246,7 +246,7 @@ fn read_servers(
 ) -> Result<Vec<WeightedServer>, ConfigFault>
     requires some { 0 < length items.now }
     requires few { length items.now ≤ POOL_LIMIT }
-    ensures gives { Gives (λ v. (v.items, servers.new)) result (servers_in name.now (values (items_view items.now)) servers.old) }
+    ensures gives { GivesReading (λ v. (v.items, servers.new)) result (servers_in name.now (values (items_view items.now)) servers.old) }
     ensures good { IfOk result (λ v. IsServerList (length servers.new) v.items) }
     ensures more { length servers.old ≤ length servers.new }
 {
@@ -263,7 +263,7 @@ fn read_each(
     name: &str,
     items: &[Value],
 ) -> Result<Vec<WeightedServer>, ConfigFault>
-    ensures gives { Gives (λ v. (v.items, servers.new)) result (each (server_of name.now) (values (items_view items.now)) servers.old) }
+    ensures gives { GivesReading (λ v. (v.items, servers.new)) result (each (server_named name.now) (values (items_view items.now)) servers.old) }
     ensures many { IfOk result (λ v. length v.items ≡ length items.now) }
     ensures below { IfOk result (λ v. AreWeighted (length servers.new) v.items) }
     ensures more { length servers.old ≤ length servers.new }
@@ -282,7 +282,7 @@ fn read_server(
     name: &str,
     value: &Value,
 ) -> Result<WeightedServer, ConfigFault>
-    ensures gives { Gives (λ s. (s, servers.new)) result (server_of name.now (view value.now) servers.old) }
+    ensures gives { GivesReading (λ s. (s, servers.new)) result (server_named name.now (view value.now) servers.old) }
     ensures below { IfOk result (λ s. s.server < length servers.new) }
     ensures weight { IfOk result (λ s. (0 < s.weight) × (s.weight ≤ MAX_WEIGHT)) }
     ensures more { length servers.old ≤ length servers.new }

@@ -4,7 +4,7 @@ ghost use Rattle.std.specs.Prelude.{◌≡◌, ◌*◌, ◌<◌, ◌≤◌, IfOk
 ghost use Rattle.serde_json.specs.View.{view, items_view};
 ghost use Rattle.serde_json.specs.Find.{get};
 ghost use Rattle.route_tree.specs.Form.{route_of_form};
-ghost use Rattle.route_json.specs.Fault.{Gives};
+ghost use Rattle.route_json.specs.Fault.{GivesReading};
 ghost use Rattle.route_json.specs.Fits.{FitsBounds, AllFit, NodeFits};
 ghost use Rattle.route_json.specs.Reading.{each, values};
 ghost use Rattle.route_json.specs.Routes.{children_of, warm_up, fields, typed, node, route};
@@ -33,7 +33,7 @@ pub fn route(
     field: &str,
     value: &Value,
 ) -> Result<Tree, ConfigFault>
-    ensures gives { Gives (λ r. (r, count.new.routes)) result (route pools.now.0 place.levels place.weight field.now (view value.now) count.old.routes) }
+    ensures gives { GivesReading (λ r. (r, count.new.routes)) result (route pools.now.0 place.levels place.weight field.now (view value.now) count.old.routes) }
     ensures fits { IfOk result (λ r. FitsBounds (length pools.now.1) place.levels place.weight count.old.routes r count.new.routes) }
 {
     if place.levels == 0 {
@@ -59,7 +59,7 @@ fn node(
     field: &str,
     value: &Value,
 ) -> Result<TreeForm, ConfigFault>
-    ensures gives { Gives (λ r. (route_of_form r, count.new.routes)) result (node pools.now.0 below.levels below.weight (route pools.now.0 below.levels) field.now (view value.now) count.old.routes) }
+    ensures gives { GivesReading (λ r. (route_of_form r, count.new.routes)) result (node pools.now.0 below.levels below.weight (route pools.now.0 below.levels) field.now (view value.now) count.old.routes) }
     ensures fits { IfOk result (λ r. NodeFits (length pools.now.1) below.levels below.weight count.old.routes (route_of_form r) count.new.routes) }
 {
     match value {
@@ -77,7 +77,7 @@ fn typed(
     below: Below,
     value: &Value,
 ) -> Result<TreeForm, ConfigFault>
-    ensures gives { Gives (λ r. (route_of_form r, count.new.routes)) result (typed pools.now.0 below.levels below.weight (route pools.now.0 below.levels) (view value.now) count.old.routes) }
+    ensures gives { GivesReading (λ r. (route_of_form r, count.new.routes)) result (typed pools.now.0 below.levels below.weight (route pools.now.0 below.levels) (view value.now) count.old.routes) }
     ensures fits { IfOk result (λ r. NodeFits (length pools.now.1) below.levels below.weight count.old.routes (route_of_form r) count.new.routes) }
 {
     let name = text_field(alloc, "type", value)?;
@@ -95,7 +95,7 @@ fn fields(
     kind: Kind,
     value: &Value,
 ) -> Result<TreeForm, ConfigFault>
-    ensures gives { Gives (λ r. (route_of_form r, count.new.routes)) result (fields pools.now.0 below.levels below.weight (route pools.now.0 below.levels) kind (view value.now) count.old.routes) }
+    ensures gives { GivesReading (λ r. (route_of_form r, count.new.routes)) result (fields pools.now.0 below.levels below.weight (route pools.now.0 below.levels) kind (view value.now) count.old.routes) }
     ensures fits { IfOk result (λ r. NodeFits (length pools.now.1) below.levels below.weight count.old.routes (route_of_form r) count.new.routes) }
 {
     match kind {
@@ -120,7 +120,7 @@ fn warm_up(
     below: Below,
     value: &Value,
 ) -> Result<TreeForm, ConfigFault>
-    ensures gives { Gives (λ r. (route_of_form r, count.new.routes)) result (warm_up pools.now.0 below.levels below.weight (route pools.now.0 below.levels) (view value.now) count.old.routes) }
+    ensures gives { GivesReading (λ r. (route_of_form r, count.new.routes)) result (warm_up pools.now.0 below.levels below.weight (route pools.now.0 below.levels) (view value.now) count.old.routes) }
     ensures fits { IfOk result (λ r. NodeFits (length pools.now.1) below.levels below.weight count.old.routes (route_of_form r) count.new.routes) }
 {
     let cold = value_field(alloc, "cold", value)?;
@@ -153,7 +153,7 @@ fn children(
     below: Below,
     value: &Value,
 ) -> Result<Vec<Tree>, ConfigFault>
-    ensures gives { Gives (λ r. (r.items, count.new.routes)) result (children_of pools.now.0 below.levels below.weight (route pools.now.0 below.levels) (get (codes "children") (view value.now)) count.old.routes) }
+    ensures gives { GivesReading (λ r. (r.items, count.new.routes)) result (children_of pools.now.0 below.levels below.weight (route pools.now.0 below.levels) (get (codes "children") (view value.now)) count.old.routes) }
     ensures fits { IfOk result (λ r. AllFit (length pools.now.1) below.levels below.weight count.old.routes r.items count.new.routes) }
     ensures some { IfOk result (λ r. 0 < length r.items) }
 {
@@ -177,7 +177,7 @@ fn each_child(
     below: Below,
     items: &[Value],
 ) -> Result<Vec<Tree>, ConfigFault>
-    ensures gives { Gives (λ r. (r.items, count.new.routes)) result (each (route pools.now.0 below.levels below.weight (codes "children")) (values (items_view items.now)) count.old.routes) }
+    ensures gives { GivesReading (λ r. (r.items, count.new.routes)) result (each (route pools.now.0 below.levels below.weight (codes "children")) (values (items_view items.now)) count.old.routes) }
     ensures fits { IfOk result (λ r. AllFit (length pools.now.1) below.levels below.weight count.old.routes r.items count.new.routes) }
     ensures many { IfOk result (λ r. length r.items ≡ length items.now) }
 {

@@ -4,7 +4,7 @@ ghost use Rattle.std.specs.Prelude.{◌≡◌, ◌<◌, ◌≤◌, IfOk, length}
 ghost use Rattle.serde_json.specs.View.{view, members_view};
 ghost use Rattle.serde_json.specs.Find.{get};
 ghost use Rattle.route_tree.specs.Form.{route_of_form};
-ghost use Rattle.route_json.specs.Fault.{Gives};
+ghost use Rattle.route_json.specs.Fault.{GivesReading};
 ghost use Rattle.route_json.specs.Fits.{FitsBounds, AllFit, NodeFits, seconds, AreKeys};
 ghost use Rattle.route_json.specs.Reading.{each, members, named};
 ghost use Rattle.route_json.specs.Routes.{policy_op, prefix_of, default_of, by_operation, by_prefix, route};
@@ -29,7 +29,7 @@ pub fn by_operation(
     below: Below,
     value: &Value,
 ) -> Result<TreeForm, ConfigFault>
-    ensures gives { Gives (λ r. (route_of_form r, count.new.routes)) result (by_operation pools.now.0 below.levels below.weight (route pools.now.0 below.levels) (view value.now) count.old.routes) }
+    ensures gives { GivesReading (λ r. (route_of_form r, count.new.routes)) result (by_operation pools.now.0 below.levels below.weight (route pools.now.0 below.levels) (view value.now) count.old.routes) }
     ensures fits { IfOk result (λ r. NodeFits (length pools.now.1) below.levels below.weight count.old.routes (route_of_form r) count.new.routes) }
 {
     let map = object_field(alloc, "operation_policies", value)?;
@@ -48,7 +48,7 @@ pub fn by_prefix(
     below: Below,
     value: &Value,
 ) -> Result<TreeForm, ConfigFault>
-    ensures gives { Gives (λ r. (route_of_form r, count.new.routes)) result (by_prefix pools.now.0 below.levels below.weight (route pools.now.0 below.levels) (view value.now) count.old.routes) }
+    ensures gives { GivesReading (λ r. (route_of_form r, count.new.routes)) result (by_prefix pools.now.0 below.levels below.weight (route pools.now.0 below.levels) (view value.now) count.old.routes) }
     ensures fits { IfOk result (λ r. NodeFits (length pools.now.1) below.levels below.weight count.old.routes (route_of_form r) count.new.routes) }
 {
     let map = object_field(alloc, "policies", value)?;
@@ -68,7 +68,7 @@ fn default_route(
     name: &str,
     value: &Value,
 ) -> Result<Tree, ConfigFault>
-    ensures gives { Gives (λ r. (r, count.new.routes)) result (default_of pools.now.0 below.levels below.weight (route pools.now.0 below.levels) name.now (get name.now (view value.now)) count.old.routes) }
+    ensures gives { GivesReading (λ r. (r, count.new.routes)) result (default_of pools.now.0 below.levels below.weight (route pools.now.0 below.levels) name.now (get name.now (view value.now)) count.old.routes) }
     ensures fits { IfOk result (λ r. FitsBounds (length pools.now.1) below.levels below.weight count.old.routes r count.new.routes) }
 {
     let place = RoutePlace {
@@ -89,7 +89,7 @@ fn operations(
     below: Below,
     map: &Map<String, Value>,
 ) -> Result<Vec<(Op, Tree)>, ConfigFault>
-    ensures gives { Gives (λ r. (r.items, count.new.routes)) result (each (named policy_op (route pools.now.0 below.levels below.weight)) (members (members_view map.now.entries)) count.old.routes) }
+    ensures gives { GivesReading (λ r. (r.items, count.new.routes)) result (each (named policy_op (route pools.now.0 below.levels below.weight)) (members (members_view map.now.entries)) count.old.routes) }
     ensures fits { IfOk result (λ r. AllFit (length pools.now.1) below.levels below.weight count.old.routes (seconds r.items) count.new.routes) }
 {
     let place = RoutePlace {
@@ -114,7 +114,7 @@ fn prefixes(
     below: Below,
     map: &Map<String, Value>,
 ) -> Result<Vec<(Key, Tree)>, ConfigFault>
-    ensures gives { Gives (λ r. (r.items, count.new.routes)) result (each (named prefix_of (route pools.now.0 below.levels below.weight)) (members (members_view map.now.entries)) count.old.routes) }
+    ensures gives { GivesReading (λ r. (r.items, count.new.routes)) result (each (named prefix_of (route pools.now.0 below.levels below.weight)) (members (members_view map.now.entries)) count.old.routes) }
     ensures fits { IfOk result (λ r. AllFit (length pools.now.1) below.levels below.weight count.old.routes (seconds r.items) count.new.routes) }
     ensures keys { IfOk result (λ r. AreKeys r.items) }
 {

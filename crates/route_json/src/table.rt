@@ -3,7 +3,7 @@
 ghost use Rattle.std.specs.Prelude.{◌≡◌, ℕ, ◌<◌, ◌≤◌, ◌||◌, IfOk, IfSome, codes, length, nat_eq, nat_lt, not, option_and_then, slice_get};
 ghost use Rattle.serde_json.specs.Find.{as_number, as_u64, get};
 ghost use Rattle.serde_json.specs.View.{view, items_view};
-ghost use Rattle.route_json.specs.Fault.{Gives};
+ghost use Rattle.route_json.specs.Fault.{GivesReading};
 ghost use Rattle.route_json.specs.Pools.{AllBelow, AreSlots, AreWeighted, IsServerList, are_unweighted, read_slot, slot, slots_or, table};
 ghost use Rattle.route_json.specs.Reading.{each, values};
 ghost use Rattle.route_tree.specs.declared.limits.TheConstants.{SLOT_LIMIT};
@@ -22,7 +22,7 @@ pub fn slots_or(
     servers: &[WeightedServer],
     value: &Value,
 ) -> Result<Vec<ServerId>, ConfigFault>
-    ensures gives { Gives (λ v. v.items) result (slots_or servers.now (get (codes "slots") (view value.now))) }
+    ensures gives { GivesReading (λ v. v.items) result (slots_or servers.now (get (codes "slots") (view value.now))) }
     ensures good { (bound : ℕ) → IsServerList bound servers.now → IfOk result (λ v. AreSlots bound v.items) }
 {
     match value.get("slots") {
@@ -50,7 +50,7 @@ fn read_table(
     servers: &[WeightedServer],
     items: &[Value],
 ) -> Result<Vec<ServerId>, ConfigFault>
-    ensures gives { Gives (λ v. v.items) result (table servers.now (values (items_view items.now))) }
+    ensures gives { GivesReading (λ v. v.items) result (table servers.now (values (items_view items.now))) }
     ensures good { (bound : ℕ) → AreWeighted bound servers.now → IfOk result (λ v. AreSlots bound v.items) }
 {
     if is_no_table(servers, items) {
@@ -64,7 +64,7 @@ fn read_slots(
     servers: &[WeightedServer],
     items: &[Value],
 ) -> Result<Vec<ServerId>, ConfigFault>
-    ensures gives { Gives (λ v. (v.items, tt)) result (each (read_slot servers.now) (values (items_view items.now)) tt) }
+    ensures gives { GivesReading (λ v. (v.items, tt)) result (each (read_slot servers.now) (values (items_view items.now)) tt) }
     ensures many { IfOk result (λ v. length v.items ≡ length items.now) }
     ensures below { (bound : ℕ) → AreWeighted bound servers.now → IfOk result (λ v. AllBelow bound v.items) }
 {
@@ -94,7 +94,7 @@ fn read_place(
     servers: &[WeightedServer],
     value: &Value,
 ) -> Result<ServerId, ConfigFault>
-    ensures gives { Gives (λ s. s) result (slot servers.now (view value.now)) }
+    ensures gives { GivesReading (λ s. s) result (slot servers.now (view value.now)) }
     ensures below { (bound : ℕ) → AreWeighted bound servers.now → IfOk result (λ s. s < bound) }
 {
     match placed(servers, value) {

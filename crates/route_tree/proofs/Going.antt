@@ -11,7 +11,7 @@ use Rattle.fresh_runs.specs.Calls.{Call}
 use Rattle.fresh_runs.specs.Single.{FitsOutcome}
 use Rattle.route_tree.specs.Operation.{same_op}
 use Rattle.route_tree.specs.Plan.{Plan, Plans, PlanPolicies, Server, Null, Failing, AllSync, Failover, MissFailover, WarmUp, ByOperation, End, More, Otherwise, Policy, IsNotEmpty, IsGood, AreGood, ArePoliciesGood}
-use Rattle.route_tree.specs.Word.{Given, rank, given_by, null_reply, failing_reply, plain_get, refill, is_plain_get, Word, WordOfAll, WordOfFirst, WordOfHead, WordOfPolicy, Then, Gives, AfterRefill, Refilled, AfterWarm, AfterCold, WarmUpWord}
+use Rattle.route_tree.specs.Word.{Given, rank, given_by, null_reply, failing_reply, plain_get, refill, is_plain_get, Word, WordOfAll, WordOfFirst, WordOfHead, WordOfPolicy, Then, GivesOnly, AfterRefill, Refilled, AfterWarm, AfterCold, WarmUpWord}
 use Rattle.route_tree.specs.WordLaws.{ended, EachAskHasAWord, EachOutcomeGoesOn}
 use Rattle.route_tree.proofs.Parts.{Replies, HasSome, Rest, GoesOn, split, goes_after, gives_on, gives_some, then_some, then_on, if_on, if_some, match_on, match_some}
 use Rattle.route_tree.proofs.Gets.{NamesHit, get_names_hit}
@@ -47,7 +47,7 @@ module _ (ask : Ask) (cold : ℕ → List Call → Given → Type 0) (warm : ℕ
   sure part b calls given w = tt
 
   pub after_refill_some : (g : Given) → HasSome (AfterRefill ask cold warm add g)
-  after_refill_some g = match_some (is_plain_get ask) (Gives g) cold (gives_some g) cold_some
+  after_refill_some g = match_some (is_plain_get ask) (GivesOnly g) cold (gives_some g) cold_some
 
   pub refilled_some : (g : Given) (from : Option ℕ) → IsSome from → HasSome (Refilled ask cold warm add g from)
   refilled_some g None some = absurd (cc)
@@ -66,7 +66,7 @@ module _ (ask : Ask) (cold : ℕ → List Call → Given → Type 0) (warm : ℕ
 
   module _ (cold_on : GoesOn cold) (warm_on : GoesOn warm) (add_on : (hit : Answer) (w : ℕ) → GoesOn (add hit w)) where
     pub after_refill_on : (g : Given) → GoesOn (AfterRefill ask cold warm add g)
-    after_refill_on g = match_on (is_plain_get ask) (Gives g) cold (gives_on g) cold_on
+    after_refill_on g = match_on (is_plain_get ask) (GivesOnly g) cold (gives_on g) cold_on
 
     pub refilled_on : (g : Given) (from : Option ℕ) → GoesOn (Refilled ask cold warm add g from)
     refilled_on g None b calls front call back given outcome e w fits = absurd w

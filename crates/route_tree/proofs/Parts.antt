@@ -7,7 +7,7 @@ use Rattle.mc_types.specs.Rank.{IsWorst}
 use Rattle.fresh_runs.specs.Calls.{Call}
 use Rattle.fresh_runs.specs.Single.{FitsOutcome}
 use Rattle.route_tree.specs.Each.{Each}
-use Rattle.route_tree.specs.Word.{Given, rank, IfGet, Then, Gives}
+use Rattle.route_tree.specs.Word.{Given, rank, IfGet, Then, GivesOnly}
 use Rattle.route_tree.specs.WordLaws.{ended}
 
 pub each_at : {A : Type 0} (P : A → Type 0) (xs : List A) (i : ℕ) (x : A) → Each P xs → slice_get xs i ≡ Some x → P x
@@ -58,7 +58,7 @@ then_within n m first second f s b calls given w =
     let there = s w.3 (b + length w.0) w.1 given w.5 in
     omega (arith, size, here, there)
 
-pub gives_within : (g : Given) → Within 0 (Gives g)
+pub gives_within : (g : Given) → Within 0 (GivesOnly g)
 gives_within g b calls given w = let e = ap length w.0 in omega (arith, e)
 
 -- ---- each outcome goes on
@@ -93,7 +93,7 @@ split (x ∷ xs) ys (y ∷ front) call back e =
     let rest : xs ++ ys ≡ front ++ call ∷ back = cc in
     subst (λ z. Split (x ∷ xs) ys (z ∷ front) call back) is (split_more x xs ys front call back (split xs ys front call back rest))
 
-pub gives_on : (g : Given) → GoesOn (Gives g)
+pub gives_on : (g : Given) → GoesOn (GivesOnly g)
 gives_on g b calls front call back given outcome e w fits = absurd (none front (sym e ∙ w.0))
   where
     none : (xs : List Call) → xs ++ call ∷ back ≡ [] → ⊥
@@ -145,5 +145,5 @@ pub match_some : (t : Bool) (A B : ℕ → List Call → Given → Type 0) → H
 match_some true A B f g = f
 match_some false A B f g = g
 
-pub gives_some : (g : Given) → HasSome (Gives g)
+pub gives_some : (g : Given) → HasSome (GivesOnly g)
 gives_some g b = ([], g, (refl, refl))

@@ -18,8 +18,8 @@ use Rattle.route_tree.specs.Route as route
 use Rattle.route_tree.specs.Route.{Route, Routes, Policies, Prefixes}
 use Rattle.route_tree.specs.At.{begins, is_longer, plain_for, plain_for_all, plain_for_policies, plain_for_prefixes}
 use Rattle.route_tree.specs.Place.{prefix_text}
-use Rattle.route_tree.specs.Word.{Given, rank, plain_get, refill, is_plain_get, Word, WordOfAll, WordOfFirst, WordOfHead, WordOfPolicy, Gives, AfterRefill, Refilled, AfterWarm, AfterCold, WarmUpWord}
-use Rattle.route_tree.specs.Servers.{servers, servers_of_all, servers_of_policies, tree_servers, tree_servers_of_all, tree_servers_of_policies, tree_servers_of_prefixes, ServersStay, CallsStay}
+use Rattle.route_tree.specs.Word.{Given, rank, plain_get, refill, is_plain_get, Word, WordOfAll, WordOfFirst, WordOfHead, WordOfPolicy, GivesOnly, AfterRefill, Refilled, AfterWarm, AfterCold, WarmUpWord}
+use Rattle.route_tree.specs.Servers.{servers, servers_of_all, servers_of_policies, tree_servers, tree_servers_of_all, tree_servers_of_policies, tree_servers_of_prefixes, ServersStay, TreeCallsStay}
 use Rattle.route_tree.proofs.Parts.{each_weaker, if_get, match_bool}
 use Rattle.route_tree.proofs.Places.{each_append, each_left, each_right}
 
@@ -95,7 +95,7 @@ join : (Q : Call → Type 0) (calls front back : List Call) → calls ≡ front 
 join Q calls front back e h k = subst (Each Q) (sym e) (each_append Q front back h k)
 
 module _ (Q : Call → Type 0) (ask : Ask) (cold : ℕ → List Call → Given → Type 0) (warm : ℕ → List Call → Given → Type 0) (add : Answer → ℕ → ℕ → List Call → Given → Type 0) (in_cold : Calls Q cold) (in_warm : Calls Q warm) (in_add : (hit : Answer) (w : ℕ) → Calls Q (add hit w)) where
-  none : (g : Given) → Calls Q (Gives g)
+  none : (g : Given) → Calls Q (GivesOnly g)
   none g b calls given w = subst (Each Q) (sym w.0) tt
 
   after_refill_calls : (g : Given) → Calls Q (AfterRefill ask cold warm add g)
@@ -168,7 +168,7 @@ pub are_on : (P : ℕ → Type 0) (key : List ℕ) (calls : List Call) → Each 
 are_on P key [] h = tt
 are_on P key (c ∷ calls) h = (h.0.0, are_on P key calls h.1)
 
-pub calls_stay : CallsStay
+pub calls_stay : TreeCallsStay
 calls_stay plain ask origin b calls given w =
     let h = stay (λ s. IsIn s (servers plain)) ask.key plain (each_is_in (servers plain)) ask refl origin b calls given w in
     (are_on (λ s. IsIn s (servers plain)) ask.key calls h, each_weaker (Stays (λ s. IsIn s (servers plain)) ask.key) (λ call. IsIn call.server (servers plain)) calls (λ call x. x.1) h)

@@ -3,17 +3,17 @@ use Rattle.std.specs.Prelude.{◌≡◌, ℕ, zero, suc, Option, Some, None}
 use Rattle.route_tree.specs.Route.{Route, Routes, Pool, Server, Null, Failing, AllSync, Failover, MissFailover, WarmUp, ByOperation, ByPrefix, End, More}
 
 -- the children that a route asks in order
-abbrev pub children_of : Route → Routes
-children_of (Pool servers) = End
-children_of (Server s) = End
-children_of Null = End
-children_of Failing = End
-children_of (AllSync rs) = rs
-children_of (Failover rs) = rs
-children_of (MissFailover rs) = rs
-children_of (WarmUp cold warm e) = End
-children_of (ByOperation ps) = End
-children_of (ByPrefix ps) = End
+abbrev pub child_routes : Route → Routes
+child_routes (Pool servers) = End
+child_routes (Server s) = End
+child_routes Null = End
+child_routes Failing = End
+child_routes (AllSync rs) = rs
+child_routes (Failover rs) = rs
+child_routes (MissFailover rs) = rs
+child_routes (WarmUp cold warm e) = End
+child_routes (ByOperation ps) = End
+child_routes (ByPrefix ps) = End
 
 -- all but so many first ones
 abbrev pub routes_after : ℕ → Routes → Routes

@@ -73,7 +73,7 @@ ServersStay =
     × ((place : Place) → Each (λ s. IsIn s (tree_servers tree)) (servers (tree_at_place tree place)))
 
 -- each call of a word is on the key of the ask and to a server of the plain tree
-abbrev pub CallsStay : Type 0
-CallsStay =
+abbrev pub TreeCallsStay : Type 0
+TreeCallsStay =
     (plain : Plan) (ask : Ask) (origin : Origin) (b : ℕ) (calls : List Call) (given : Given)
     → Word plain ask origin b calls given → AreOn ask.key calls × Each (λ call. IsIn call.server (servers plain)) calls

@@ -3,20 +3,20 @@ use Rattle.std.specs.Prelude.{ℕ, ◌%◌, ◌&&◌, Bool, List, length, nat_lt
 use Rattle.std.specs.List.{before_first, after_first, position_or_len}
 use Rattle.route_tree.specs.Fnv.{fnv1a}
 
-abbrev pub is_open : ℕ → Bool
-is_open b = b == 123
+abbrev pub opens_tag : ℕ → Bool
+opens_tag b = b == 123
 
 abbrev pub is_close : ℕ → Bool
 is_close b = b == 125
 
 -- what stands between the first `{` and the first `}` after it
 abbrev pub tag_of : List ℕ → List ℕ
-tag_of key = before_first is_close (after_first is_open key)
+tag_of key = before_first is_close (after_first opens_tag key)
 
 -- the key has a `{` and a `}` after it, with something between them
 abbrev pub has_tag : List ℕ → Bool
 has_tag key =
-    let after = after_first is_open key in
+    let after = after_first opens_tag key in
     nat_lt 0 (position_or_len is_close after) && nat_lt (position_or_len is_close after) (length after)
 
 -- the tag, or the whole key where there is none

@@ -123,14 +123,14 @@ Then {G} first second b calls given =
     (front back : List Call) × (calls ≡ front ++ back) × (g : G) × first b front g × second g (b + length front) back given
 
 -- nothing more is called, and this is given
-abbrev pub Gives : Given → ℕ → List Call → Given → Type 0
-Gives g b calls given = (calls ≡ []) × (given ≡ g)
+abbrev pub GivesOnly : Given → ℕ → List Call → Given → Type 0
+GivesOnly g b calls given = (calls ≡ []) × (given ≡ g)
 
 -- A get through a cold and a warm side, each run of them a part.
 module _ (ask : Ask) (cold : ℕ → List Call → Given → Type 0) (warm : ℕ → List Call → Given → Type 0) (add : Answer → ℕ → ℕ → List Call → Given → Type 0) where
   -- a classic get is answered from the warm side, another asks the cold side again
   abbrev pub AfterRefill : Given → ℕ → List Call → Given → Type 0
-  AfterRefill from_warm b calls given = MatchBool (is_plain_get ask) (Gives from_warm b calls given) (cold b calls given)
+  AfterRefill from_warm b calls given = MatchBool (is_plain_get ask) (GivesOnly from_warm b calls given) (cold b calls given)
 
   -- a hit of the warm side is added to the cold one
   abbrev pub Refilled : Given → Option ℕ → ℕ → List Call → Given → Type 0
@@ -140,11 +140,11 @@ module _ (ask : Ask) (cold : ℕ → List Call → Given → Type 0) (warm : ℕ
   -- what the warm side gave had this rank
   abbrev pub AfterWarm : Given → Given → ℕ → ℕ → List Call → Given → Type 0
   AfterWarm first from_warm zero b calls given = Refilled from_warm from_warm.from b calls given
-  AfterWarm first from_warm (suc r) b calls given = Gives first b calls given
+  AfterWarm first from_warm (suc r) b calls given = GivesOnly first b calls given
 
   -- what the cold side gave had this rank
   abbrev pub AfterCold : Given → ℕ → ℕ → List Call → Given → Type 0
-  AfterCold first zero b calls given = Gives first b calls given
+  AfterCold first zero b calls given = GivesOnly first b calls given
   AfterCold first (suc r) b calls given = Then warm (λ from_warm. AfterWarm first from_warm (rank from_warm)) b calls given
 
   -- the cold side first, and where it isn't done there the warm side
@@ -156,8 +156,8 @@ abbrev mutual
   pub Word : Plan → Ask → Origin → ℕ → List Call → Given → Type 0
   Word (Server s) ask origin b calls given =
       (outcome : Outcome) × FitsOutcome ask outcome × (calls ≡ record { server = s; ask = ask; origin = origin; outcome = outcome } ∷ []) × (given ≡ given_by b outcome)
-  Word Null ask origin b calls given = Gives (null_reply ask) b calls given
-  Word Failing ask origin b calls given = Gives failing_reply b calls given
+  Word Null ask origin b calls given = GivesOnly (null_reply ask) b calls given
+  Word Failing ask origin b calls given = GivesOnly failing_reply b calls given
   Word (AllSync ps) ask origin b calls given = (all : List Given) × WordOfAll ps ask origin b calls all × IsWorst rank all given
   Word (Failover ps) ask origin b calls given = WordOfFirst ps 4 ask origin b calls given
   Word (MissFailover ps) ask origin b calls given =

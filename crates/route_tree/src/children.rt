@@ -2,7 +2,7 @@
 
 ghost use Rattle.std.specs.Prelude.{◌≡◌, IfOk};
 ghost use Rattle.route_tree.specs.Form.{route_of_form, routes_of};
-ghost use Rattle.route_tree.specs.After.{children_of, PartsAs};
+ghost use Rattle.route_tree.specs.After.{child_routes, PartsAs};
 
 use crate::tree::{Tree, TreeForm};
 use std::alloc::AllocError;
@@ -24,15 +24,15 @@ impl Model for Children {
 
     ghost coded = { routes_code };
 
-    ghost use Rattle.route_tree.specs.After.{children_of, routes_after};
+    ghost use Rattle.route_tree.specs.After.{child_routes, routes_after};
 
-    ghost view = { λ c. routes_after c.from (children_of c.parent) };
+    ghost view = { λ c. routes_after c.from (child_routes c.parent) };
 }
 
 impl Children {
     /// All children of the route that it asks in order; of a route of another form none. It takes no memory.
     pub fn of(parent: Tree) -> Children
-        ensures { result ≡ children_of parent }
+        ensures { result ≡ child_routes parent }
     {
         Children { parent, from: 0 }
     }
@@ -58,7 +58,7 @@ impl Children {
 
 // The children that are asked in order.
 fn list_of(form: &TreeForm) -> &[Tree]
-    ensures { routes_of result.now ≡ children_of (route_of_form form.now) }
+    ensures { routes_of result.now ≡ child_routes (route_of_form form.now) }
 {
     match form {
         TreeForm::AllSync(children)

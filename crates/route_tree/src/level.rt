@@ -6,7 +6,7 @@ ghost use Rattle.route_tree.specs.Route.{IsNotEmpty};
 ghost use Rattle.route_tree.specs.Route as route;
 ghost use Rattle.route_tree.specs.Form.{policies_of};
 ghost use Rattle.route_tree.specs.At.{plain_for, plain_for_policies};
-ghost use Rattle.route_tree.specs.After.{children_of};
+ghost use Rattle.route_tree.specs.After.{child_routes};
 ghost use Rattle.route_tree.specs.Levels.{plan_of_level, chosen_plan};
 
 use crate::at::longest;
@@ -96,8 +96,8 @@ fn level_of<'a>(tree: &'a Tree, hash: u32, text: &[u8]) -> Result<Level<'a>, All
 
 // The first child and the others.
 fn parts_of(tree: &Tree) -> Result<(Tree, Children), AllocError>
-    requires { IsNotEmpty (children_of tree.now) }
-    ensures { IfOk result (λ parts. children_of tree.now ≡ route.More parts.0 parts.1) }
+    requires { IsNotEmpty (child_routes tree.now) }
+    ensures { IfOk result (λ parts. child_routes tree.now ≡ route.More parts.0 parts.1) }
 {
     match Children::of(tree.copy()?).parted()? {
         Some(parts) => Ok(parts),

@@ -9,13 +9,13 @@ use Rattle.fresh_runs.specs.Calls.{Read, Unread, Never}
 use Rattle.fresh_runs.specs.ScriptLog.{Before, After, Junk, Cut}
 use Rattle.cache_server.specs.Contents.{Contents}
 use Rattle.cache_server.specs.Table.{Applies}
-use Rattle.cache_server.specs.Held.{holds, IsCall, lost_by}
-use Rattle.wire_answers.specs.Spelling.{spelling_of}
+use Rattle.cache_server.specs.Held.{holds, IsServerCall, keys_lost_by}
+use Rattle.wire_answers.specs.Spelling.{answer_spelling}
 use Rattle.script_events.specs.Caches.{changed_at}
 use Rattle.script_events.specs.declared.servers.event.Made.{Made}
 use Rattle.script_events.proofs.Places.{is_there}
 use Rattle.script_events.proofs.CacheLosses.{set_is_changed}
-use Rattle.script_events.specs.Calling.{AppliesAt, IsMade, IsRefused, made_of}
+use Rattle.script_events.specs.Calling.{AppliesAt, CallIsMade, IsRefused, made_of}
 
 pub if_both : {A E : Type 0} (r : Result A E) (P Q R : A → Type 0) → ((a : A) → P a → Q a → R a) → IfOk r P → IfOk r Q → IfOk r R
 if_both (Ok a) P Q R on p q = on a p q
@@ -30,7 +30,7 @@ on_ok_both (Ok a) P Q R on p q = on p q
 on_ok_both (Err e) P Q R on p q = tt
 
 pub applied : (moment : ℤ) (stamp : ℕ) (old new : List Contents) (server place : ℕ) (ask : Ask) (x y : Contents) (answer : Answer) (found : Option ℕ) → place ≡ server → server < length old → x ≡ slice_index_or old place x → new ≡ slice_set old place y
-    → Applies moment stamp ask x answer found y → IsCall stamp ask (holds x) (lost_by (nat_abs moment) stamp ask x) answer found (holds y) → AppliesAt stamp moment old server ask answer found new
+    → Applies moment stamp ask x answer found y → IsServerCall stamp ask (holds x) (keys_lost_by (nat_abs moment) stamp ask x) answer found (holds y) → AppliesAt stamp moment old server ask answer found new
 applied moment stamp old new server place ask x y answer found at lt got caches applies call =
     record {
       cache = x;
@@ -46,31 +46,31 @@ changed f old server place x y at lt got is =
     set_is_changed f old place x y (subst (λ p. p < length old) (sym at) lt) got is ∙ ap (λ p. changed_at p f old) at
 
 module _ (stamp : ℕ) (moment : ℤ) (old : List Contents) (server : ℕ) (ask : Ask) (answer : Answer) (found : Option ℕ) (new : List Contents) (a : AppliesAt stamp moment old server ask answer found new) where
-  pub answered : IsMade None stamp moment old server ask (record { outcome = Answered answer; stamp = found }) new
+  pub answered : CallIsMade None stamp moment old server ask (record { outcome = Answered answer; stamp = found }) new
   answered = record { end = Read stamp answer 0; as_named = tt; outcome_is = refl; ends = (refl, refl, a) }
 
-  pub unread_after : (made : Made) → made ≡ record { outcome = Failed; stamp = None } → IsMade (Some After) stamp moment old server ask made new
+  pub unread_after : (made : Made) → made ≡ record { outcome = Failed; stamp = None } → CallIsMade (Some After) stamp moment old server ask made new
   unread_after made is =
-      subst (λ m. IsMade (Some After) stamp moment old server ask m new) (sym is)
+      subst (λ m. CallIsMade (Some After) stamp moment old server ask m new) (sym is)
       (record { end = Unread stamp answer 0; as_named = tt; outcome_is = refl; ends = (refl, refl, refl, found, a) })
 
-  pub unread_junk : (made : Made) → made ≡ record { outcome = Failed; stamp = None } → IsMade (Some Junk) stamp moment old server ask made new
+  pub unread_junk : (made : Made) → made ≡ record { outcome = Failed; stamp = None } → CallIsMade (Some Junk) stamp moment old server ask made new
   unread_junk made is =
-      subst (λ m. IsMade (Some Junk) stamp moment old server ask m new) (sym is)
+      subst (λ m. CallIsMade (Some Junk) stamp moment old server ask m new) (sym is)
       (record { end = Unread stamp answer 0; as_named = tt; outcome_is = refl; ends = (refl, refl, refl, found, a) })
 
-  cut_so : (count : ℕ) (b : Bool) → nat_le (length (spelling_of ask answer)) count ≡ b → IsMade (Some (Cut count)) stamp moment old server ask (made_of found (cond b (Some answer) None)) new
-  cut_so count true e = record { end = Read stamp answer 0; as_named = leb-true (length (spelling_of ask answer)) count e; outcome_is = refl; ends = (refl, refl, a) }
-  cut_so count false e = record { end = Unread stamp answer 0; as_named = leb-false (length (spelling_of ask answer)) count e; outcome_is = refl; ends = (refl, refl, refl, found, a) }
+  cut_so : (count : ℕ) (b : Bool) → nat_le (length (answer_spelling ask answer)) count ≡ b → CallIsMade (Some (Cut count)) stamp moment old server ask (made_of found (cond b (Some answer) None)) new
+  cut_so count true e = record { end = Read stamp answer 0; as_named = leb-true (length (answer_spelling ask answer)) count e; outcome_is = refl; ends = (refl, refl, a) }
+  cut_so count false e = record { end = Unread stamp answer 0; as_named = leb-false (length (answer_spelling ask answer)) count e; outcome_is = refl; ends = (refl, refl, refl, found, a) }
 
-  pub cut : (count : ℕ) (made : Made) (read : Option Answer) → read ≡ cond (nat_le (length (spelling_of ask answer)) count) (Some answer) None → made ≡ made_of found read → IsMade (Some (Cut count)) stamp moment old server ask made new
+  pub cut : (count : ℕ) (made : Made) (read : Option Answer) → read ≡ cond (nat_le (length (answer_spelling ask answer)) count) (Some answer) None → made ≡ made_of found read → CallIsMade (Some (Cut count)) stamp moment old server ask made new
   cut count made read is so =
-      subst (λ m. IsMade (Some (Cut count)) stamp moment old server ask m new) (sym (so ∙ ap (made_of found) is)) (cut_so count (nat_le (length (spelling_of ask answer)) count) refl)
+      subst (λ m. CallIsMade (Some (Cut count)) stamp moment old server ask m new) (sym (so ∙ ap (made_of found) is)) (cut_so count (nat_le (length (answer_spelling ask answer)) count) refl)
 
   pub cut_refused : (count : ℕ) → IsRefused (Some (Cut count)) stamp moment old server ask new
   cut_refused count = inr (count, refl, answer, found, a)
 
-pub unapplied : (stamp : ℕ) (moment : ℤ) (old : List Contents) (server : ℕ) (ask : Ask) (made : Made) → made ≡ record { outcome = Failed; stamp = None } → IsMade (Some Before) stamp moment old server ask made old
+pub unapplied : (stamp : ℕ) (moment : ℤ) (old : List Contents) (server : ℕ) (ask : Ask) (made : Made) → made ≡ record { outcome = Failed; stamp = None } → CallIsMade (Some Before) stamp moment old server ask made old
 unapplied stamp moment old server ask made is =
-    subst (λ m. IsMade (Some Before) stamp moment old server ask m old) (sym is)
+    subst (λ m. CallIsMade (Some Before) stamp moment old server ask m old) (sym is)
     (record { end = Never; as_named = tt; outcome_is = refl; ends = (refl, refl) })

@@ -8,8 +8,8 @@ use Rattle.mc_types.specs.declared.ask.Ask.{Ask}
 use Rattle.mc_types.specs.declared.answer.Answer.{Answer}
 use Rattle.mc_types.specs.declared.token.Token.{Token}
 use Rattle.wire_answers.specs.Fitting.{IsText, AreTexts}
-use Rattle.wire_answers.specs.Spelling.{spelling_of}
-use Rattle.wire_answers.specs.Reading.{Spells, Reads, LiesWithin}
+use Rattle.wire_answers.specs.Spelling.{answer_spelling}
+use Rattle.wire_answers.specs.Reading.{Spells, ReadsAnswer, LiesWithin}
 use Rattle.wire_answers.specs.declared.reader.AnswerRead.{AnswerRead}
 use Rattle.wire_answers.specs.declared.reader.AnswerRead.TheVariants as reads
 use Rattle.wire_answers.proofs.ReadBack.{answers_are_read_back}
@@ -45,19 +45,19 @@ take_drop (suc n) [] = refl
 take_drop (suc n) (x ∷ xs) = ap (λ l. x ∷ l) (take_drop n xs)
 
 module _ (ask : Ask) (answer : Answer) (is : IsAsk ask) (texts : AreTexts ask.tokens) (fits : Fits ask answer) where
-  whole : Spells ask (spelling_of ask answer) answer (length (spelling_of ask answer))
-  whole = subst (λ bytes. Spells ask bytes answer (length (spelling_of ask answer))) (append-nil (spelling_of ask answer)) (answers_are_read_back ask answer [] is texts fits)
+  whole : Spells ask (answer_spelling ask answer) answer (length (answer_spelling ask answer))
+  whole = subst (λ bytes. Spells ask bytes answer (length (answer_spelling ask answer))) (append-nil (answer_spelling ask answer)) (answers_are_read_back ask answer [] is texts fits)
 
   -- all of a spelled answer is read as that answer
-  read_all : (read : AnswerRead) → Reads ask (spelling_of ask answer) read → answer_of read ≡ Some answer
-  read_all (reads.Answer a used) r = ap Some (one_answer ask (spelling_of ask answer) a answer used (length (spelling_of ask answer)) r whole).0
-  read_all reads.More r = absurd (r.1 answer (length (spelling_of ask answer)) whole)
-  read_all reads.Foreign r = absurd (r.1 [] answer (length (spelling_of ask answer)) (answers_are_read_back ask answer [] is texts fits))
+  read_all : (read : AnswerRead) → ReadsAnswer ask (answer_spelling ask answer) read → answer_of read ≡ Some answer
+  read_all (reads.Answer a used) r = ap Some (one_answer ask (answer_spelling ask answer) a answer used (length (answer_spelling ask answer)) r whole).0
+  read_all reads.More r = absurd (r.1 answer (length (answer_spelling ask answer)) whole)
+  read_all reads.Foreign r = absurd (r.1 [] answer (length (answer_spelling ask answer)) (answers_are_read_back ask answer [] is texts fits))
 
   -- less than all of a spelled answer is no answer
-  read_part : (count : ℕ) (read : AnswerRead) → count < length (spelling_of ask answer) → Reads ask (take count (spelling_of ask answer)) read → LiesWithin (take count (spelling_of ask answer)) read → answer_of read ≡ None
+  read_part : (count : ℕ) (read : AnswerRead) → count < length (answer_spelling ask answer) → ReadsAnswer ask (take count (answer_spelling ask answer)) read → LiesWithin (take count (answer_spelling ask answer)) read → answer_of read ≡ None
   read_part count (reads.Answer a used) lt r within =
-      let text = spelling_of ask answer in
+      let text = answer_spelling ask answer in
       let more : Spells ask text a used = subst (λ bytes. Spells ask bytes a used) (take_drop count text) (answers_stay ask (take count text) (drop count text) a used r) in
       let same : used ≡ length text = (one_answer ask text a answer used (length text) more whole).1 in
       let short = take_len count text in
@@ -65,10 +65,10 @@ module _ (ask : Ask) (answer : Answer) (is : IsAsk ask) (texts : AreTexts ask.to
   read_part count reads.More lt r within = refl
   read_part count reads.Foreign lt r within = refl
 
-  read_so : (count : ℕ) (read : AnswerRead) (b : Bool) → nat_le (length (spelling_of ask answer)) count ≡ b → Reads ask (take count (spelling_of ask answer)) read → LiesWithin (take count (spelling_of ask answer)) read → answer_of read ≡ cond b (Some answer) None
+  read_so : (count : ℕ) (read : AnswerRead) (b : Bool) → nat_le (length (answer_spelling ask answer)) count ≡ b → ReadsAnswer ask (take count (answer_spelling ask answer)) read → LiesWithin (take count (answer_spelling ask answer)) read → answer_of read ≡ cond b (Some answer) None
   read_so count read true e r within =
-      read_all read (subst (λ bytes. Reads ask bytes read) (take_short count (spelling_of ask answer) (leb-true (length (spelling_of ask answer)) count e)) r)
-  read_so count read false e r within = read_part count read (leb-false (length (spelling_of ask answer)) count e) r within
+      read_all read (subst (λ bytes. ReadsAnswer ask bytes read) (take_short count (answer_spelling ask answer) (leb-true (length (answer_spelling ask answer)) count e)) r)
+  read_so count read false e r within = read_part count read (leb-false (length (answer_spelling ask answer)) count e) r within
 
-  pub read_cut : (count : ℕ) (read : AnswerRead) → Reads ask (take count (spelling_of ask answer)) read → LiesWithin (take count (spelling_of ask answer)) read → answer_of read ≡ cond (nat_le (length (spelling_of ask answer)) count) (Some answer) None
-  read_cut count read r within = read_so count read (nat_le (length (spelling_of ask answer)) count) refl r within
+  pub read_cut : (count : ℕ) (read : AnswerRead) → ReadsAnswer ask (take count (answer_spelling ask answer)) read → LiesWithin (take count (answer_spelling ask answer)) read → answer_of read ≡ cond (nat_le (length (answer_spelling ask answer)) count) (Some answer) None
+  read_cut count read r within = read_so count read (nat_le (length (answer_spelling ask answer)) count) refl r within

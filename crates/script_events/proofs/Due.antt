@@ -6,7 +6,7 @@ use Rattle.std.proofs.lemmas.Bool.{leb-true, leb-false}
 use Rattle.std.proofs.lemmas.List.{take_more}
 use Rattle.std.proofs.lemmas.Option.{slice_get_within, slice_get-get_or}
 use Rattle.script_events.specs.declared.script.Reload.{Reload}
-use Rattle.script_events.specs.Reloads.{AreInOrder}
+use Rattle.script_events.specs.Reloads.{ReloadsInOrder}
 
 le_or_above : (a b : ℕ) → (a ≤ b) ⊎ (b < a)
 le_or_above a b = by (nat_le a b) refl
@@ -35,25 +35,25 @@ later due reloads loaded next r says none at = elim (le_or_above r.at next) [
   | inr lt ↦ lt
 ]
 
-raised : (end servers place place' : ℕ) (rs : List Reload) → AreInOrder end servers place rs → ((r : Reload) → slice_get rs zero ≡ Some r → place' ≤ r.at) → AreInOrder end servers place' rs
+raised : (end servers place place' : ℕ) (rs : List Reload) → ReloadsInOrder end servers place rs → ((r : Reload) → slice_get rs zero ≡ Some r → place' ≤ r.at) → ReloadsInOrder end servers place' rs
 raised end servers place place' [] h up = tt
 raised end servers place place' (r ∷ rs) h up = (up r refl, h.1, h.2, h.3)
 
 -- the reloads that are left stand in order after one more event
-pub order_on : (end servers loaded next : ℕ) (reloads : List Reload) (due : Bool) → (IsDue reloads loaded next → IsTrue due) → due ≡ false → AreInOrder end servers next (drop loaded reloads) → AreInOrder end servers (next + 1) (drop loaded reloads)
+pub order_on : (end servers loaded next : ℕ) (reloads : List Reload) (due : Bool) → (IsDue reloads loaded next → IsTrue due) → due ≡ false → ReloadsInOrder end servers next (drop loaded reloads) → ReloadsInOrder end servers (next + 1) (drop loaded reloads)
 order_on end servers loaded next reloads due says none h =
     raised end servers next (next + 1) (drop loaded reloads) h (λ r e. let lt = later due reloads loaded next r says none (sym (at_front reloads loaded) ∙ e) in omega (arith, lt))
 
 -- the one that is due, and those after it
-pub order_at : (end servers loaded next : ℕ) (reloads : List Reload) (r : Reload) → loaded < length reloads → r ≡ get_or reloads loaded r → AreInOrder end servers next (drop loaded reloads) → (next ≤ r.at) × (r.at ≤ end) × (length r.config.servers ≤ servers) × AreInOrder end servers r.at (drop (loaded + 1) reloads)
+pub order_at : (end servers loaded next : ℕ) (reloads : List Reload) (r : Reload) → loaded < length reloads → r ≡ get_or reloads loaded r → ReloadsInOrder end servers next (drop loaded reloads) → (next ≤ r.at) × (r.at ≤ end) × (length r.config.servers ≤ servers) × ReloadsInOrder end servers r.at (drop (loaded + 1) reloads)
 order_at end servers loaded next reloads r lt is h =
     let one : suc loaded ≡ loaded + 1 = omega arith in
-    subst (λ (n : ℕ). (next ≤ r.at) × (r.at ≤ end) × (length r.config.servers ≤ servers) × AreInOrder end servers r.at (drop n reloads)) one
-    (subst (λ (x : Reload). (next ≤ x.at) × (x.at ≤ end) × (length x.config.servers ≤ servers) × AreInOrder end servers x.at (drop (suc loaded) reloads)) (sym is)
-    (subst (AreInOrder end servers next) (drop-cons reloads loaded r lt) h))
+    subst (λ (n : ℕ). (next ≤ r.at) × (r.at ≤ end) × (length r.config.servers ≤ servers) × ReloadsInOrder end servers r.at (drop n reloads)) one
+    (subst (λ (x : Reload). (next ≤ x.at) × (x.at ≤ end) × (length x.config.servers ≤ servers) × ReloadsInOrder end servers x.at (drop (suc loaded) reloads)) (sym is)
+    (subst (ReloadsInOrder end servers next) (drop-cons reloads loaded r lt) h))
 
 -- the one that is due comes at this place
-pub due_at : (end servers loaded next : ℕ) (reloads : List Reload) (r : Reload) → IsDue reloads loaded next → r ≡ get_or reloads loaded r → AreInOrder end servers next (drop loaded reloads) → r.at ≡ next
+pub due_at : (end servers loaded next : ℕ) (reloads : List Reload) (r : Reload) → IsDue reloads loaded next → r ≡ get_or reloads loaded r → ReloadsInOrder end servers next (drop loaded reloads) → r.at ≡ next
 due_at end servers loaded next reloads r due is h =
     let at : r.at ≤ next = subst (λ (o : Option Reload). IfSome o (λ x. x.at ≤ next)) (slice_get-get_or reloads loaded r due.0 ∙ ap Some (sym is)) due.1 in
     let from = (order_at end servers loaded next reloads r due.0 is h).0 in

@@ -5,7 +5,7 @@ use Rattle.mc_types.specs.declared.answer.Answer.{Answer}
 use Rattle.mc_types.specs.declared.call.Outcome.{Outcome}
 use Rattle.mc_types.specs.declared.call.Outcome.TheVariants.{Answered, Failed}
 use Rattle.mc_types.specs.Items.{Item}
-use Rattle.mc_types.specs.Agree.{Agrees}
+use Rattle.mc_types.specs.Agree.{AnswerAgrees}
 use Rattle.fresh_runs.specs.Calls.{Call}
 use Rattle.fresh_runs.specs.Cover.{IsAnswerOf}
 use Rattle.fresh_runs.proofs.Finding.{shown_needs_item}
@@ -22,8 +22,8 @@ stamp_of_item : (answer : Answer) (outcome : Outcome) (item : Item) (found : Opt
 stamp_of_item answer (Answered a) item found stamp e f h = h ∙ ap (λ o. option_map (λ (i : Item). i.stamp) o) f
 stamp_of_item answer Failed item found stamp e f h = absurd (cc)
 
-agrees_of : (ask : Ask) (answer : Answer) (outcome : Outcome) (found : Option Item) → outcome ≡ Answered answer → AgreesWith ask outcome found → Agrees ask answer found
-agrees_of ask answer (Answered a) found e h = let is : a ≡ answer = cc in subst (λ x. Agrees ask x found) is h
+agrees_of : (ask : Ask) (answer : Answer) (outcome : Outcome) (found : Option Item) → outcome ≡ Answered answer → AgreesWith ask outcome found → AnswerAgrees ask answer found
+agrees_of ask answer (Answered a) found e h = let is : a ≡ answer = cc in subst (λ x. AnswerAgrees ask x found) is h
 agrees_of ask answer Failed found e h = absurd (cc)
 
 -- what a call found whose answer shows a part of an item, and its stamp

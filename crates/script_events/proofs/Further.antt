@@ -7,7 +7,7 @@ use Rattle.script_events.specs.declared.script.Reload.{Reload}
 use Rattle.script_events.specs.Scripted.{Scripted, scripted_of}
 use Rattle.script_events.specs.declared.text.meaning.Reading.{Reading}
 use Rattle.script_events.specs.Read.{ReadsLines}
-use Rattle.script_events.specs.Told.{Meaning, Nothing, Unreadable, Says, Loads, line_means, used_after, count_after, Numbered, and_then, numbered, or_after, first_unreadable, load_then, loaded, servers_known}
+use Rattle.script_events.specs.Told.{Meaning, Nothing, Unreadable, Says, Loads, line_means, used_after, events_after, Numbered, and_then, numbered, or_after, first_unreadable, load_then, loaded, servers_known}
 use Rattle.script_events.proofs.Loads.{known_push}
 
 abbrev event_in : Numbered → Scripted
@@ -47,8 +47,8 @@ module _ (servers : Addresses) (first : ℕ) (all : List (List ℕ)) where
       said_by : numbered used (number + 1) here ≡ and_then m (number + 1) (numbered (used_after m used) (number + 1 + 1) left)
       said_by = ap (numbered used (number + 1)) at ∙ ap (λ (k : Meaning). and_then k (number + 1) (numbered (used_after k used) (number + 1 + 1) left)) (sym means)
 
-      loads_by : loaded used (length events) here ≡ load_then m (length events) (loaded (used_after m used) (count_after m (length events)) left)
-      loads_by = ap (loaded used (length events)) at ∙ ap (λ (k : Meaning). load_then k (length events) (loaded (used_after k used) (count_after k (length events)) left)) (sym means)
+      loads_by : loaded used (length events) here ≡ load_then m (length events) (loaded (used_after m used) (events_after m (length events)) left)
+      loads_by = ap (loaded used (length events)) at ∙ ap (λ (k : Meaning). load_then k (length events) (loaded (used_after k used) (events_after k (length events)) left)) (sym means)
 
       unreadable_by : first_unreadable used (number + 1) here ≡ or_after m (number + 1) (first_unreadable (used_after m used) (number + 1 + 1) left)
       unreadable_by = ap (first_unreadable used (number + 1)) at ∙ ap (λ (k : Meaning). or_after k (number + 1) (first_unreadable (used_after k used) (number + 1 + 1) left)) (sym means)

@@ -19,7 +19,7 @@ use Rattle.script_events.specs.Events.{nonzero, client_said, server_said, turn_s
 use Rattle.route_json.specs.Configuration.{Configuration}
 use Rattle.route_json.specs.Servers.{Addresses}
 use Rattle.script_events.specs.FirstLine.{WhyNot, first_said}
-use Rattle.script_events.specs.Told.{Meaning, Says, line_means, said_or_not, reload_said, load_or_event, used_after, count_after, Numbered, and_then, numbered, or_after, first_unreadable, load_then, loaded, told_from, told_after, told_by, told}
+use Rattle.script_events.specs.Told.{Meaning, Says, line_means, said_or_not, reload_said, load_or_event, used_after, events_after, Numbered, and_then, numbered, or_after, first_unreadable, load_then, loaded, told_from, told_after, told_by, text_told}
 use Rattle.script_events.specs.ScriptLines.{manner_text, manner_line, loss_line, event_line, script_lines}
 use Rattle.script_events.specs.LineLaws.{AreBytes, CanBeLost, IsTurn, IsManner, HasLine, HaveLines, SaysAll, ScriptsAreReadBack}
 use Rattle.script_events.proofs.ReadBack.{escapes_are_read_back}
@@ -261,7 +261,7 @@ lines_back (event ∷ events) h used n at =
           ∙ ap (λ (m : Meaning). map (λ (x : Numbered). x.event) (and_then m n (numbered (used_after m used) (n + 1) after))) (l.means used)
           ∙ ap (λ (es : List Scripted). event ∷ es) rest.said;
       whole = ap (first_unreadable used n) front ∙ ap (λ (m : Meaning). or_after m n (first_unreadable (used_after m used) (n + 1) after)) (l.means used) ∙ rest.whole;
-      nothing_loaded = ap (loaded used at) front ∙ ap (λ (m : Meaning). load_then m at (loaded (used_after m used) (count_after m at) after)) (l.means used) ∙ rest.nothing_loaded;
+      nothing_loaded = ap (loaded used at) front ∙ ap (λ (m : Meaning). load_then m at (loaded (used_after m used) (events_after m at) after)) (l.means used) ∙ rest.nothing_loaded;
     }
 
 said_again : (events : List Scripted) → HaveLines events → (n : ℕ) (config : Configuration) → SaysAll (told_from n config (lines_of (script_lines events))) config events
@@ -270,7 +270,7 @@ said_again events h n config =
     record { configuration = refl; said = back.said; whole = back.whole; nothing_loaded = back.nothing_loaded }
 
 -- the first line, and those after it
-told_front : (line : List ℕ) (events : List Scripted) (config : Configuration) → All (λ b. is_line_end b ≡ false) line → first_said line ≡ Ok config → told (line ++ 10 ∷ script_lines events) ≡ Ok (told_from 2 config (lines_of (script_lines events)))
+told_front : (line : List ℕ) (events : List Scripted) (config : Configuration) → All (λ b. is_line_end b ≡ false) line → first_said line ≡ Ok config → text_told (line ++ 10 ∷ script_lines events) ≡ Ok (told_from 2 config (lines_of (script_lines events)))
 told_front line events config one said =
     ap told_by (slice_split_at is_line_end line 10 (script_lines events) one refl)
     ∙ ap (λ (r : Result Configuration WhyNot). told_after r (lines_of (script_lines events))) said

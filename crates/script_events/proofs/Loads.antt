@@ -13,14 +13,14 @@ use Rattle.route_json.specs.Servers.{Addresses}
 use Rattle.route_json.proofs.Adding.{Begins, Adds_to, begins_more, read_adds}
 use Rattle.gate_check.specs.Reload.{AreKept}
 use Rattle.script_events.specs.declared.script.Reload.{Reload}
-use Rattle.script_events.specs.Reloads.{AreInOrder}
+use Rattle.script_events.specs.Reloads.{ReloadsInOrder}
 use Rattle.script_events.specs.Scripted.{Scripted, scripted_of}
 use Rattle.script_events.specs.declared.text.configured.ConfiguredScript.{ConfiguredScript}
 use Rattle.script_events.specs.declared.text.meaning.Reading.{Reading}
 use Rattle.script_events.specs.Events.{event_said}
 use Rattle.script_events.specs.FirstLine.{read_or_fault}
 use Rattle.script_events.specs.Read.{ReadsLines}
-use Rattle.script_events.specs.Told.{Meaning, Nothing, Unreadable, Says, Loads, said_or_not, loads_or_not, reload_said, load_or_event, line_means, used_after, count_after, Numbered, and_then, numbered, load_then, loaded, servers_known, AreChainedFrom, first_unreadable, told_from, events_said, lines_said, bad_event_line, either, bad_line, IsUnreadable, IsScriptOf}
+use Rattle.script_events.specs.Told.{Meaning, Nothing, Unreadable, Says, Loads, said_or_not, loads_or_not, reload_said, load_or_event, line_means, used_after, events_after, Numbered, and_then, numbered, load_then, loaded, servers_known, AreChainedFrom, first_unreadable, told_from, events_said, lines_said, bad_event_line, either, bad_line, IsUnreadable, IsScriptOf}
 
 begins_kept : (used new : Addresses) → Begins used new → AreKept used new
 begins_kept used new h = λ i lt.
@@ -65,7 +65,7 @@ pub chained : (used : Addresses) (at : ℕ) (lines : List (List ℕ)) → AreCha
 chained used at [] = tt
 chained used at (line ∷ lines) =
     let m = line_means used line in
-    chained_by m used at (loaded (used_after m used) (count_after m at) lines) (line_keeps used line) (chained (used_after m used) (count_after m at) lines)
+    chained_by m used at (loaded (used_after m used) (events_after m at) lines) (line_keeps used line) (chained (used_after m used) (events_after m at) lines)
 
 more_by : (m : Meaning) (used : Addresses) (at : ℕ) (rs : List Reload) → Keeps used m → length (used_after m used) ≤ length (servers_known (used_after m used) rs) → length used ≤ length (servers_known used (load_then m at rs))
 more_by Nothing used at rs k h = h
@@ -79,13 +79,13 @@ more : (used : Addresses) (at : ℕ) (lines : List (List ℕ)) → length used �
 more used at [] = omega arith
 more used at (line ∷ lines) =
     let m = line_means used line in
-    more_by m used at (loaded (used_after m used) (count_after m at) lines) (line_keeps used line) (more (used_after m used) (count_after m at) lines)
+    more_by m used at (loaded (used_after m used) (events_after m at) lines) (line_keeps used line) (more (used_after m used) (events_after m at) lines)
 
 module _ (end servers : ℕ) where
   order_by : (m : Meaning) (used : Addresses) (at place n : ℕ) (said : List Numbered) (rs : List Reload) → length (used_after m used) ≤ length (servers_known (used_after m used) rs) → place ≤ at
       → at + length (and_then m n said) ≤ end → length (servers_known used (load_then m at rs)) ≤ servers
-      → ((before : ℕ) → before ≤ count_after m at → count_after m at + length said ≤ end → length (servers_known (used_after m used) rs) ≤ servers → AreInOrder end servers before rs)
-      → AreInOrder end servers place (load_then m at rs)
+      → ((before : ℕ) → before ≤ events_after m at → events_after m at + length said ≤ end → length (servers_known (used_after m used) rs) ≤ servers → ReloadsInOrder end servers before rs)
+      → ReloadsInOrder end servers place (load_then m at rs)
   order_by Nothing used at place n said rs k le few fits go = go place le few fits
   order_by Unreadable used at place n said rs k le few fits go = tt
   order_by (Says event) used at place n said rs k le few fits go =
@@ -98,18 +98,18 @@ module _ (end servers : ℕ) where
       (le, omega (arith, here), omega (arith, rest, all), go at (omega arith) few fits)
 
   order : (used : Addresses) (at place n : ℕ) (lines : List (List ℕ)) → place ≤ at → at + length (numbered used n lines) ≤ end → length (servers_known used (loaded used at lines)) ≤ servers
-      → AreInOrder end servers place (loaded used at lines)
+      → ReloadsInOrder end servers place (loaded used at lines)
   order used at place n [] le few fits = tt
   order used at place n (line ∷ lines) le few fits =
       let m = line_means used line in
-      order_by m used at place n (numbered (used_after m used) (n + 1) lines) (loaded (used_after m used) (count_after m at) lines)
-      (more (used_after m used) (count_after m at) lines) le few fits (λ before. order (used_after m used) (count_after m at) before (n + 1) lines)
+      order_by m used at place n (numbered (used_after m used) (n + 1) lines) (loaded (used_after m used) (events_after m at) lines)
+      (more (used_after m used) (events_after m at) lines) le few fits (λ before. order (used_after m used) (events_after m at) before (n + 1) lines)
 
 module _ (first : ℕ) (c : Configuration) (lines : List (List ℕ)) (s : ConfiguredScript) (h : IsScriptOf (told_from first c lines) s) where
   pub script_chained : AreChainedFrom s.config.servers s.reloads.items
   script_chained = rw (h.configuration, h.reloads) (chained c.servers 0 lines)
 
-  pub script_in_order : AreInOrder (length s.script.events.items) (length (servers_known s.config.servers s.reloads.items)) 0 s.reloads.items
+  pub script_in_order : ReloadsInOrder (length s.script.events.items) (length (servers_known s.config.servers s.reloads.items)) 0 s.reloads.items
   script_in_order =
       let many : length s.script.events.items ≡ length (numbered c.servers first lines) =
       sym (length-map s.script.events.items scripted_of) ∙ ap length h.events ∙ length-map (numbered c.servers first lines) (λ (x : Numbered). x.event) in
@@ -162,7 +162,7 @@ module _ (first : ℕ) (c : Configuration) (lines : List (List ℕ)) (r : Readin
   pub read_chained : r.unreadable ≡ None → AreChainedFrom c.servers r.reloads.items
   read_chained none = script_chained first c lines (script_with c r) (script_read none)
 
-  pub read_in_order : r.unreadable ≡ None → AreInOrder (length r.events.items) (length (servers_known c.servers r.reloads.items)) 0 r.reloads.items
+  pub read_in_order : r.unreadable ≡ None → ReloadsInOrder (length r.events.items) (length (servers_known c.servers r.reloads.items)) 0 r.reloads.items
   read_in_order none = script_in_order first c lines (script_with c r) (script_read none)
 
   -- a line couldn't be read, and of the events before it this is the line of the first that can't be

@@ -5,25 +5,25 @@ use Rattle.fresh_runs.specs.Run.{after_event}
 use Rattle.fresh_runs.specs.Fleet.{after_losses}
 use Rattle.fresh_runs.specs.ScriptLog.{lost_by}
 use Rattle.cache_server.specs.Contents.{Contents}
-use Rattle.script_events.specs.Caches.{loss_of, held_at, after_loss, lost_in}
+use Rattle.script_events.specs.Caches.{loss_of, cache_held, after_loss, lost_in}
 use Rattle.script_events.specs.declared.servers.event.Loss.{Loss}
 use Rattle.script_events.specs.declared.servers.event.Loss.TheVariants.{Item as LostItem, Restart}
 use Rattle.script_events.proofs.CacheLosses.{lost_more, lost_len}
-use Rattle.script_events.specs.Losing.{told_of, events_of, AreLost}
+use Rattle.script_events.specs.Losing.{loss_told, events_of, AreLost}
 
 -- a loss, as it is told, leaves the same
-pub same_event : (loss : Loss) (h : ℕ → List ℕ → Option Item) (s : ℕ) (k : List ℕ) → after_event (loss_of loss) h s k ≡ after_event (lost_by (told_of loss)) h s k
+pub same_event : (loss : Loss) (h : ℕ → List ℕ → Option Item) (s : ℕ) (k : List ℕ) → after_event (loss_of loss) h s k ≡ after_event (lost_by (loss_told loss)) h s k
 same_event (LostItem server key) h s k = refl
 same_event (Restart server) h s k = refl
 
 -- what a loss leaves at a place goes by what was held there
-pub same_held : (loss : Loss) (g h : ℕ → List ℕ → Option Item) (s : ℕ) (k : List ℕ) → g s k ≡ h s k → after_event (lost_by (told_of loss)) g s k ≡ after_event (lost_by (told_of loss)) h s k
+pub same_held : (loss : Loss) (g h : ℕ → List ℕ → Option Item) (s : ℕ) (k : List ℕ) → g s k ≡ h s k → after_event (lost_by (loss_told loss)) g s k ≡ after_event (lost_by (loss_told loss)) h s k
 same_held (LostItem server key) g h s k is = ap (λ o. cond (nat_eq server s) (cond (bytes_eq key k) None o) o) is
 same_held (Restart server) g h s k is = ap (λ o. cond (nat_eq server s) None o) is
 
-events_more : (losses : List Loss) (loss : Loss) → events_of (losses ++ loss ∷ []) ≡ lost_by (told_of loss) ∷ events_of losses
+events_more : (losses : List Loss) (loss : Loss) → events_of (losses ++ loss ∷ []) ≡ lost_by (loss_told loss) ∷ events_of losses
 events_more [] loss = refl
-events_more (l ∷ losses) loss = ap (λ es. es ++ lost_by (told_of l) ∷ []) (events_more losses loss)
+events_more (l ∷ losses) loss = ap (λ es. es ++ lost_by (loss_told l) ∷ []) (events_more losses loss)
 
 map_more : (losses : List Loss) (loss : Loss) → map loss_of (losses ++ loss ∷ []) ≡ map loss_of losses ++ loss_of loss ∷ []
 map_more [] loss = refl
@@ -32,13 +32,13 @@ map_more (l ∷ losses) loss = ap (λ es. loss_of l ∷ es) (map_more losses los
 pub none_lost : (caches : List Contents) → AreLost [] caches caches
 none_lost caches = record { contents = refl; holds = λ s k. refl }
 
-pub one_more : (losses : List Loss) (loss : Loss) (old mid new : List Contents) → AreLost losses old mid → new ≡ after_loss (loss_of loss) mid → ((s : ℕ) (k : List ℕ) → held_at new s k ≡ after_event (loss_of loss) (held_at mid) s k) → AreLost (losses ++ loss ∷ []) old new
+pub one_more : (losses : List Loss) (loss : Loss) (old mid new : List Contents) → AreLost losses old mid → new ≡ after_loss (loss_of loss) mid → ((s : ℕ) (k : List ℕ) → cache_held new s k ≡ after_event (loss_of loss) (cache_held mid) s k) → AreLost (losses ++ loss ∷ []) old new
 one_more losses loss old mid new a contents held =
     record {
       contents = contents ∙ ap (after_loss (loss_of loss)) a.contents ∙ sym (lost_more (map loss_of losses) (loss_of loss) old) ∙ ap (λ l. lost_in l old) (sym (map_more losses loss));
       holds = λ s k.
-          held s k ∙ same_event loss (held_at mid) s k ∙ same_held loss (held_at mid) (after_losses (events_of losses) (held_at old)) s k (a.holds s k)
-          ∙ ap (λ es. after_losses es (held_at old) s k) (sym (events_more losses loss));
+          held s k ∙ same_event loss (cache_held mid) s k ∙ same_held loss (cache_held mid) (after_losses (events_of losses) (cache_held old)) s k (a.holds s k)
+          ∙ ap (λ es. after_losses es (cache_held old) s k) (sym (events_more losses loss));
     }
 
 take_suc : (xs : List Loss) (i : ℕ) (x : Loss) → i < length xs → x ≡ get_or xs i x → take (suc i) xs ≡ take i xs ++ x ∷ []

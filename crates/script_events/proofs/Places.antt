@@ -8,16 +8,16 @@ use Rattle.fresh_runs.specs.Fleet.{after_losses}
 use Rattle.script_events.specs.Law.{spills_of}
 use Rattle.cache_server.specs.Contents.{Contents}
 use Rattle.cache_server.specs.Held.{holds, without, IsLoss}
-use Rattle.script_events.specs.Caches.{held_at}
+use Rattle.script_events.specs.Caches.{cache_held}
 
-pub held_set : (caches : List Contents) (s : ℕ) (x : Contents) → s < length caches → (t : ℕ) (k : List ℕ) → held_at (slice_set caches s x) t k ≡ cond (nat_eq s t) (holds x k) (held_at caches t k)
+pub held_set : (caches : List Contents) (s : ℕ) (x : Contents) → s < length caches → (t : ℕ) (k : List ℕ) → cache_held (slice_set caches s x) t k ≡ cond (nat_eq s t) (holds x k) (cache_held caches t k)
 held_set [] s x lt t k = absurd (omega arith)
 held_set (c ∷ caches) zero x lt zero k = refl
-held_set (c ∷ caches) zero x lt (suc t) k = ap (λ b. cond b (holds x k) (held_at caches t k)) (sym (eqb-zero-suc t))
+held_set (c ∷ caches) zero x lt (suc t) k = ap (λ b. cond b (holds x k) (cache_held caches t k)) (sym (eqb-zero-suc t))
 held_set (c ∷ caches) (suc s) x lt zero k = ap (λ b. cond b (holds x k) (holds c k)) (sym (eqb-suc-zero s))
-held_set (c ∷ caches) (suc s) x lt (suc t) k = held_set caches s x (omega arith) t k ∙ ap (λ b. cond b (holds x k) (held_at caches t k)) (sym (eqb-suc-suc s t))
+held_set (c ∷ caches) (suc s) x lt (suc t) k = held_set caches s x (omega arith) t k ∙ ap (λ b. cond b (holds x k) (cache_held caches t k)) (sym (eqb-suc-suc s t))
 
-pub held_there : (caches : List Contents) (s : ℕ) (x : Contents) → s < length caches → x ≡ slice_index_or caches s x → (k : List ℕ) → held_at caches s k ≡ holds x k
+pub held_there : (caches : List Contents) (s : ℕ) (x : Contents) → s < length caches → x ≡ slice_index_or caches s x → (k : List ℕ) → cache_held caches s k ≡ holds x k
 held_there [] s x lt is k = absurd (omega arith)
 held_there (c ∷ caches) zero x lt is k = ap (λ y. holds y k) (sym is)
 held_there (c ∷ caches) (suc s) x lt is k = held_there caches s x (omega arith) is k
@@ -31,12 +31,12 @@ pub same : (s : ℕ) → nat_eq s s ≡ true
 same s = eq-eqb s s refl
 
 -- the changed place
-pub held_here : (caches : List Contents) (s : ℕ) (x : Contents) → s < length caches → (k : List ℕ) → held_at (slice_set caches s x) s k ≡ holds x k
-held_here caches s x lt k = held_set caches s x lt s k ∙ ap (λ b. cond b (holds x k) (held_at caches s k)) (same s)
+pub held_here : (caches : List Contents) (s : ℕ) (x : Contents) → s < length caches → (k : List ℕ) → cache_held (slice_set caches s x) s k ≡ holds x k
+held_here caches s x lt k = held_set caches s x lt s k ∙ ap (λ b. cond b (holds x k) (cache_held caches s k)) (same s)
 
 -- what the other servers hold stays
-pub held_else : (caches : List Contents) (s : ℕ) (x : Contents) → s < length caches → (t : ℕ) (k : List ℕ) → nat_eq s t ≡ false → held_at (slice_set caches s x) t k ≡ held_at caches t k
-held_else caches s x lt t k other = held_set caches s x lt t k ∙ ap (λ b. cond b (holds x k) (held_at caches t k)) other
+pub held_else : (caches : List Contents) (s : ℕ) (x : Contents) → s < length caches → (t : ℕ) (k : List ℕ) → nat_eq s t ≡ false → cache_held (slice_set caches s x) t k ≡ cache_held caches t k
+held_else caches s x lt t k other = held_set caches s x lt t k ∙ ap (λ b. cond b (holds x k) (cache_held caches t k)) other
 
 pub without_same : (lost : List (List ℕ)) (f g : List ℕ → Option Item) → ((k : List ℕ) → f k ≡ g k) → (k : List ℕ) → without lost f k ≡ without lost g k
 without_same [] f g is k = is k
@@ -63,8 +63,8 @@ by_server P server s here there =
     ]) refl
 
 -- one cache lost keys, and the others are the same
-pub loses_at : (caches : List Contents) (server : ℕ) (x y : Contents) (lost : List (List ℕ)) → server < length caches → x ≡ slice_index_or caches server x → IsLoss lost x y → (s : ℕ) (k : List ℕ) → held_at (slice_set caches server y) s k ≡ after_losses (spills_of server lost) (held_at caches) s k
+pub loses_at : (caches : List Contents) (server : ℕ) (x y : Contents) (lost : List (List ℕ)) → server < length caches → x ≡ slice_index_or caches server x → IsLoss lost x y → (s : ℕ) (k : List ℕ) → cache_held (slice_set caches server y) s k ≡ after_losses (spills_of server lost) (cache_held caches) s k
 loses_at caches server x y lost lt is loss s k =
-    by_server (λ t. held_at (slice_set caches server y) t k ≡ after_losses (spills_of server lost) (held_at caches) t k) server s
-    (held_here caches server y lt k ∙ loss k ∙ without_same lost (holds x) (held_at caches server) (λ q. sym (held_there caches server x lt is q)) k ∙ sym (lost_here server lost (held_at caches) k))
-    (λ other. held_else caches server y lt s k other ∙ sym (lost_else server lost (held_at caches) s k other))
+    by_server (λ t. cache_held (slice_set caches server y) t k ≡ after_losses (spills_of server lost) (cache_held caches) t k) server s
+    (held_here caches server y lt k ∙ loss k ∙ without_same lost (holds x) (cache_held caches server) (λ q. sym (held_there caches server x lt is q)) k ∙ sym (lost_here server lost (cache_held caches) k))
+    (λ other. held_else caches server y lt s k other ∙ sym (lost_else server lost (cache_held caches) s k other))

@@ -6,7 +6,7 @@ use Rattle.mc_types.specs.declared.answer.Answer.{Answer}
 use Rattle.mc_types.specs.declared.call.Origin.{Origin}
 use Rattle.mc_types.specs.declared.call.Outcome.TheVariants.{Answered, Failed}
 use Rattle.mc_types.specs.Items.{Item, after_call}
-use Rattle.mc_types.specs.Agree.{Agrees}
+use Rattle.mc_types.specs.Agree.{AnswerAgrees}
 use Rattle.fresh_runs.specs.Calls.{End, Read, Unread, Never, outcome_of}
 use Rattle.fresh_runs.specs.Fleet.{StampIn, Fleet, after_losses, AreLosses}
 use Rattle.fresh_runs.specs.Single.{FitsOutcome}
@@ -18,14 +18,14 @@ use Rattle.cache_server.specs.Held as cache
 use Rattle.cache_server.specs.Held.{holds, without}
 use Rattle.script_events.specs.Found.{IsStamp}
 use Rattle.script_events.specs.Found.{AgreesWith}
-use Rattle.script_events.specs.Caches.{held_at}
+use Rattle.script_events.specs.Caches.{cache_held}
 use Rattle.script_events.specs.declared.servers.event.Loss.{Loss}
 use Rattle.script_events.specs.declared.servers.event.Loss.TheVariants.{Item as LostItem, Restart}
 use Rattle.script_events.specs.declared.servers.event.Made.{Made}
 use Rattle.script_events.proofs.Places.{held_here, held_else, without_same, by_server, same, lost_else, lost_here}
-use Rattle.script_events.specs.Losing.{told_of, events_of, AreLost}
-use Rattle.script_events.specs.Calling.{EndsAs, AppliesAt, Ends}
-use Rattle.script_events.specs.Servers.{caches_of, turn_of, moment_of, named_of, lost_of}
+use Rattle.script_events.specs.Losing.{loss_told, events_of, AreLost}
+use Rattle.script_events.specs.Calling.{EndsByScript, AppliesAt, CallEndsAs}
+use Rattle.script_events.specs.Servers.{caches_of, turn_of, moment_now, named_of, lost_of}
 use Rattle.script_events.specs.Law.{spills_of, caches_before, IsStep, AnswersAreSteps}
 use Rattle.script_events.specs.declared.servers.servers.ScriptServers.{ScriptServers}
 
@@ -77,7 +77,7 @@ in_any_order xs ys lx ly h s k =
 
 -- ---- losses of a script, and what a server drops by itself
 
-losses_more : (es : List Event) (loss : Loss) → AreLosses es → AreLosses (es ++ lost_by (told_of loss) ∷ [])
+losses_more : (es : List Event) (loss : Loss) → AreLosses es → AreLosses (es ++ lost_by (loss_told loss) ∷ [])
 losses_more [] (LostItem server key) l = (refl, tt)
 losses_more [] (Restart server) l = tt
 losses_more (Turns server key turned ∷ es) loss l = (l.0, losses_more es loss l.1)
@@ -97,7 +97,7 @@ are_spills server (key ∷ keys) = (refl, are_spills server keys)
 
 -- ---- the cache at a place
 
-held_got : (caches : List Contents) (s : ℕ) (x : Contents) → slice_get caches s ≡ Some x → (k : List ℕ) → held_at caches s k ≡ holds x k
+held_got : (caches : List Contents) (s : ℕ) (x : Contents) → slice_get caches s ≡ Some x → (k : List ℕ) → cache_held caches s k ≡ holds x k
 held_got [] s x is k = absurd (cc)
 held_got (c ∷ caches) zero x is k = let one : c ≡ x = cc in ap (λ y. holds y k) one
 held_got (c ∷ caches) (suc s) x is k = held_got caches s x is k
@@ -115,7 +115,7 @@ same_twice false b x = refl
 -- ---- a step
 
 module _ (number stamp : ℕ) (origin : Origin) (old : ScriptServers) (server : ℕ) (ask : Ask) (made : Made) (new : ScriptServers) (before : Fleet) (mid : List Contents)
-    (lost : AreLost (lost_of old (turn_of old + 1)) (caches_of old) mid) (holds_is : (s : ℕ) (k : List ℕ) → before.holds s k ≡ held_at (caches_of old) s k) (given : StampIn (before.found number) number origin stamp) where
+    (lost : AreLost (lost_of old (turn_of old + 1)) (caches_of old) mid) (holds_is : (s : ℕ) (k : List ℕ) → before.holds s k ≡ cache_held (caches_of old) s k) (given : StampIn (before.found number) number origin stamp) where
   abbrev losses : List Event
   losses = events_of (lost_of old (turn_of old + 1))
 
@@ -126,40 +126,40 @@ module _ (number stamp : ℕ) (origin : Origin) (old : ScriptServers) (server : 
   abbrev met : List (List ℕ) → ℕ → List ℕ → Option Item
   met keys s k = after_losses losses (after_losses (spills_of server keys) before.holds) s k
 
-  met_is : (keys : List (List ℕ)) (s : ℕ) (k : List ℕ) → met keys s k ≡ after_losses (spills_of server keys) (held_at mid) s k
+  met_is : (keys : List (List ℕ)) (s : ℕ) (k : List ℕ) → met keys s k ≡ after_losses (spills_of server keys) (cache_held mid) s k
   met_is keys s k =
       in_any_order losses (spills_of server keys) are_lost (are_spills server keys) before.holds s k
-      ∙ left_same (spills_of server keys) (are_spills server keys) (after_losses losses before.holds) (held_at mid) s k (left_same losses are_lost before.holds (held_at (caches_of old)) s k (holds_is s k) ∙ sym (lost.holds s k))
+      ∙ left_same (spills_of server keys) (are_spills server keys) (after_losses losses before.holds) (cache_held mid) s k (left_same losses are_lost before.holds (cache_held (caches_of old)) s k (holds_is s k) ∙ sym (lost.holds s k))
 
   -- the fleet after it
   abbrev after : Option Item → Fleet
-  after item = record { holds = λ s k. held_at (caches_of new) s k; found = λ n. cond (nat_eq number n) (before.found n ++ item ∷ []) (before.found n) }
+  after item = record { holds = λ s k. cache_held (caches_of new) s k; found = λ n. cond (nat_eq number n) (before.found n ++ item ∷ []) (before.found n) }
 
   found_here : (item : Option Item) → (after item).found number ≡ before.found number ++ item ∷ []
   found_here item = ap (λ b. cond b (before.found number ++ item ∷ []) (before.found number)) (same number)
 
-  module _ (answer : Answer) (found : Option ℕ) (a : AppliesAt stamp (moment_of old) mid server ask answer found (caches_of new)) where
+  module _ (answer : Answer) (found : Option ℕ) (a : AppliesAt stamp (moment_now old) mid server ask answer found (caches_of new)) where
     abbrev keys : List (List ℕ)
-    keys = cache.lost_by (nat_abs (moment_of old)) stamp ask a.cache
+    keys = cache.keys_lost_by (nat_abs (moment_now old)) stamp ask a.cache
 
     met_here : (k : List ℕ) → met keys server k ≡ without keys (holds a.cache) k
-    met_here k = met_is keys server k ∙ lost_here server keys (held_at mid) k ∙ without_same keys (held_at mid server) (holds a.cache) (λ q. held_got mid server a.cache a.is_there q) k
+    met_here k = met_is keys server k ∙ lost_here server keys (cache_held mid) k ∙ without_same keys (cache_held mid server) (holds a.cache) (λ q. held_got mid server a.cache a.is_there q) k
 
-    met_else : (s : ℕ) (k : List ℕ) → nat_eq server s ≡ false → met keys s k ≡ held_at mid s k
-    met_else s k other = met_is keys s k ∙ lost_else server keys (held_at mid) s k other
+    met_else : (s : ℕ) (k : List ℕ) → nat_eq server s ≡ false → met keys s k ≡ cache_held mid s k
+    met_else s k other = met_is keys s k ∙ lost_else server keys (cache_held mid) s k other
 
-    held_now : (s : ℕ) (k : List ℕ) → held_at (caches_of new) s k ≡ cond (nat_eq server s) (cond (bytes_eq ask.key k) (after_call ask stamp answer 0 (met keys s k)) (met keys s k)) (met keys s k)
+    held_now : (s : ℕ) (k : List ℕ) → cache_held (caches_of new) s k ≡ cond (nat_eq server s) (cond (bytes_eq ask.key k) (after_call ask stamp answer 0 (met keys s k)) (met keys s k)) (met keys s k)
     held_now s k =
-        ap (λ l. held_at l s k) a.caches_are
-        ∙ by_server (λ t. held_at (slice_set mid server a.after) t k ≡ cond (nat_eq server t) (cond (bytes_eq ask.key k) (after_call ask stamp answer 0 (met keys t k)) (met keys t k)) (met keys t k)) server s
+        ap (λ l. cache_held l s k) a.caches_are
+        ∙ by_server (λ t. cache_held (slice_set mid server a.after) t k ≡ cond (nat_eq server t) (cond (bytes_eq ask.key k) (after_call ask stamp answer 0 (met keys t k)) (met keys t k)) (met keys t k)) server s
         (held_here mid server a.after (there mid server a.cache a.is_there) k ∙ a.call.after k
         ∙ ap (λ o. cond (bytes_eq ask.key k) (after_call ask stamp answer 0 o) o) (sym (met_here k))
         ∙ ap (λ b. cond b (cond (bytes_eq ask.key k) (after_call ask stamp answer 0 (met keys server k)) (met keys server k)) (met keys server k)) (sym (same server)))
         (λ other. held_else mid server a.after (there mid server a.cache a.is_there) s k other ∙ sym (met_else s k other)
         ∙ ap (λ b. cond b (cond (bytes_eq ask.key k) (after_call ask stamp answer 0 (met keys s k)) (met keys s k)) (met keys s k)) (sym other))
 
-    agrees : Agrees ask answer (met keys server ask.key)
-    agrees = subst (Agrees ask answer) (sym (met_here ask.key)) a.call.agrees
+    agrees : AnswerAgrees ask answer (met keys server ask.key)
+    agrees = subst (AnswerAgrees ask answer) (sym (met_here ask.key)) a.call.agrees
 
     found_is : found ≡ option_map (λ (item : Item). item.stamp) (met keys server ask.key)
     found_is = a.call.found_is ∙ ap (λ o. option_map (λ (item : Item). item.stamp) o) (sym (met_here ask.key))
@@ -167,7 +167,7 @@ module _ (number stamp : ℕ) (origin : Origin) (old : ScriptServers) (server : 
     at_caches : slice_get (caches_before old) server ≡ Some a.cache
     at_caches = ap (λ l. slice_get l server) (sym lost.contents) ∙ a.is_there
 
-    read_step : made.outcome ≡ Answered answer → found ≡ made.stamp → EndsAs ask (named_of old (turn_of old + 1)) (Read stamp answer 0) → IsStep number origin old server ask made new before (after (met keys server ask.key))
+    read_step : made.outcome ≡ Answered answer → found ≡ made.stamp → EndsByScript ask (named_of old (turn_of old + 1)) (Read stamp answer 0) → IsStep number origin old server ask made new before (after (met keys server ask.key))
     read_step is stamp_is named =
         record {
           spilled = keys;
@@ -190,7 +190,7 @@ module _ (number stamp : ℕ) (origin : Origin) (old : ScriptServers) (server : 
           holds = λ s k. refl;
         }
 
-    unread_step : made.outcome ≡ Failed → made.stamp ≡ None → EndsAs ask (named_of old (turn_of old + 1)) (Unread stamp answer 0) → IsStep number origin old server ask made new before (after (met keys server ask.key))
+    unread_step : made.outcome ≡ Failed → made.stamp ≡ None → EndsByScript ask (named_of old (turn_of old + 1)) (Unread stamp answer 0) → IsStep number origin old server ask made new before (after (met keys server ask.key))
     unread_step is stamp_is named =
         record {
           spilled = keys;
@@ -213,7 +213,7 @@ module _ (number stamp : ℕ) (origin : Origin) (old : ScriptServers) (server : 
           holds = λ s k. refl;
         }
 
-  never_step : made.outcome ≡ Failed → made.stamp ≡ None → caches_of new ≡ mid → EndsAs ask (named_of old (turn_of old + 1)) Never → IsStep number origin old server ask made new before (after (met [] server ask.key))
+  never_step : made.outcome ≡ Failed → made.stamp ≡ None → caches_of new ≡ mid → EndsByScript ask (named_of old (turn_of old + 1)) Never → IsStep number origin old server ask made new before (after (met [] server ask.key))
   never_step is stamp_is caches named =
       record {
         spilled = [];
@@ -223,7 +223,7 @@ module _ (number stamp : ℕ) (origin : Origin) (old : ScriptServers) (server : 
           end = Never;
           outcome = is;
           ends = tt;
-          holds = λ s k. ap (λ l. held_at l s k) caches ∙ sym (met_is [] s k) ∙ same_twice (nat_eq server s) (bytes_eq ask.key k) (met [] s k);
+          holds = λ s k. ap (λ l. cache_held l s k) caches ∙ sym (met_is [] s k) ∙ same_twice (nat_eq server s) (bytes_eq ask.key k) (met [] s k);
           found = λ n. refl;
         };
         losses_are = refl;
@@ -236,14 +236,14 @@ module _ (number stamp : ℕ) (origin : Origin) (old : ScriptServers) (server : 
         holds = λ s k. refl;
       }
 
-  step : (end : End) → EndsAs ask (named_of old (turn_of old + 1)) end → made.outcome ≡ outcome_of end → Ends stamp (moment_of old) mid server ask end made.stamp (caches_of new) → (next : Fleet) × IsStep number origin old server ask made new before next
+  step : (end : End) → EndsByScript ask (named_of old (turn_of old + 1)) end → made.outcome ≡ outcome_of end → CallEndsAs stamp (moment_now old) mid server ask end made.stamp (caches_of new) → (next : Fleet) × IsStep number origin old server ask made new before next
   step (Read s answer spaces) named is e = (
     after (met (keys answer made.stamp e.2) server ask.key),
-    read_step answer made.stamp e.2 is refl (subst (λ n. EndsAs ask (named_of old (turn_of old + 1)) (Read stamp answer n)) e.1 (subst (λ n. EndsAs ask (named_of old (turn_of old + 1)) (Read n answer spaces)) e.0 named)),
+    read_step answer made.stamp e.2 is refl (subst (λ n. EndsByScript ask (named_of old (turn_of old + 1)) (Read stamp answer n)) e.1 (subst (λ n. EndsByScript ask (named_of old (turn_of old + 1)) (Read n answer spaces)) e.0 named)),
   )
   step (Unread s answer spaces) named is e = (
     after (met (keys answer e.3 e.4) server ask.key),
-    unread_step answer e.3 e.4 is e.2 (subst (λ n. EndsAs ask (named_of old (turn_of old + 1)) (Unread stamp answer n)) e.1 (subst (λ n. EndsAs ask (named_of old (turn_of old + 1)) (Unread n answer spaces)) e.0 named)),
+    unread_step answer e.3 e.4 is e.2 (subst (λ n. EndsByScript ask (named_of old (turn_of old + 1)) (Unread stamp answer n)) e.1 (subst (λ n. EndsByScript ask (named_of old (turn_of old + 1)) (Unread n answer spaces)) e.0 named)),
   )
   step Never named is e = (after (met [] server ask.key), never_step is e.0 e.1 named)
 

@@ -16,15 +16,15 @@ loss_of (losses.Item server key) = Turns server key None
 loss_of (losses.Restart server) = Restarts server
 
 -- the server of a loss
-abbrev pub server_of : Loss → ℕ
-server_of (losses.Item server key) = server
-server_of (losses.Restart server) = server
+abbrev pub loss_server : Loss → ℕ
+loss_server (losses.Item server key) = server
+loss_server (losses.Restart server) = server
 
 -- what the cache at a place holds of a key
-abbrev pub held_at : List Contents → ℕ → List ℕ → Option Item
-held_at [] s k = None
-held_at (c ∷ caches) zero k = cache.holds c k
-held_at (c ∷ caches) (suc s) k = held_at caches s k
+abbrev pub cache_held : List Contents → ℕ → List ℕ → Option Item
+cache_held [] s k = None
+cache_held (c ∷ caches) zero k = cache.holds c k
+cache_held (c ∷ caches) (suc s) k = cache_held caches s k
 
 -- what a loss leaves of the cache of its server
 abbrev pub plain_for : Event → Contents → Contents
@@ -33,10 +33,10 @@ plain_for (Restarts server) c = restarted c
 plain_for _ c = c
 
 -- the server of a loss
-abbrev pub place_of : Event → ℕ
-place_of (Turns server key turned) = server
-place_of (Restarts server) = server
-place_of _ = 0
+abbrev pub event_server : Event → ℕ
+event_server (Turns server key turned) = server
+event_server (Restarts server) = server
+event_server _ = 0
 
 -- the cache at a place is changed, where there is one
 abbrev pub changed_at : ℕ → (Contents → Contents) → List Contents → List Contents
@@ -46,7 +46,7 @@ changed_at (suc s) change (c ∷ caches) = c ∷ changed_at s change caches
 
 -- what a loss leaves of the caches
 abbrev pub after_loss : Event → List Contents → List Contents
-after_loss loss caches = changed_at (place_of loss) (plain_for loss) caches
+after_loss loss caches = changed_at (event_server loss) (plain_for loss) caches
 
 -- what losses leave of the caches, the first loss first
 abbrev pub lost_in : List Event → List Contents → List Contents
@@ -54,10 +54,10 @@ lost_in [] caches = caches
 lost_in (loss ∷ more) caches = lost_in more (after_loss loss caches)
 
 -- the losses of an entry
-abbrev pub losses_of : Option (Vec Loss Global) → List Loss
-losses_of None = []
-losses_of (Some named) = named.items
+abbrev pub entry_losses : Option (Vec Loss Global) → List Loss
+entry_losses None = []
+entry_losses (Some named) = named.items
 
 -- the losses that are named for the call of this number, in order
-abbrev pub listed : BTreeMap ℕ (Vec Loss Global) → ℕ → List Loss
-listed named t = losses_of (get nat_cmp named t)
+abbrev pub losses_named : BTreeMap ℕ (Vec Loss Global) → ℕ → List Loss
+losses_named named t = entry_losses (get nat_cmp named t)

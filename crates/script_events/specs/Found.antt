@@ -6,7 +6,7 @@ use Rattle.mc_types.specs.declared.call.Outcome.{Outcome}
 use Rattle.mc_types.specs.declared.call.Outcome.TheVariants.{Answered, Failed}
 use Rattle.mc_types.specs.declared.ask.Ask.{Ask}
 use Rattle.mc_types.specs.Items.{Item}
-use Rattle.mc_types.specs.Agree.{Agrees}
+use Rattle.mc_types.specs.Agree.{AnswerAgrees}
 use Rattle.fresh_runs.specs.Calls.{Call}
 
 abbrev pub stamp_in : Option (Option ℕ) → Option ℕ
@@ -29,7 +29,7 @@ IsStamp Failed before stamp = stamp ≡ None
 
 -- an answer agrees with what was found
 abbrev pub AgreesWith : Ask → Outcome → Option Item → Type 0
-AgreesWith ask (Answered answer) found = Agrees ask answer found
+AgreesWith ask (Answered answer) found = AnswerAgrees ask answer found
 AgreesWith ask Failed found = Unit {0}
 
 -- what a call found, and what is known of its stamp

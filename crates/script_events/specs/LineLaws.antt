@@ -5,7 +5,7 @@ use Rattle.script_events.specs.Scripted.{Scripted, Piece, Add, Result, Hold, Fai
 use Rattle.route_json.specs.Configuration.{Configuration}
 use Rattle.script_events.specs.Lines.{is_line_end}
 use Rattle.script_events.specs.FirstLine.{first_said}
-use Rattle.script_events.specs.Told.{Told, events_said, told, told_over}
+use Rattle.script_events.specs.Told.{Told, events_said, text_told, told_over}
 use Rattle.script_events.specs.ScriptLines.{script_lines}
 
 -- bytes are below 256
@@ -76,7 +76,7 @@ pub record SaysAll (t : Told) (config : Configuration) (events : List Scripted) 
 pub record AreReadBack (events : List Scripted) : Type 0 where
   pub over : (config : Configuration) → SaysAll (told_over config (script_lines events)) config events
   pub after : (line : List ℕ) (config : Configuration) → All (λ b. is_line_end b ≡ false) line → first_said line ≡ Ok config
-      → (t : Told) × (told (line ++ 10 ∷ script_lines events) ≡ Ok t) × SaysAll t config events
+      → (t : Told) × (text_told (line ++ 10 ∷ script_lines events) ≡ Ok t) × SaysAll t config events
 
 -- what is written of a script is read as that script
 abbrev pub ScriptsAreReadBack : Type 0

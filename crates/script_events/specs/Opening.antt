@@ -1,14 +1,14 @@
 -- What servers hold before the run of a script: what the script puts there. Source: mcgate's own.
 use Rattle.std.specs.Prelude.{ℕ, List, [], ◌∷◌, Option, if◌then◌else◌, nat_eq}
 use Rattle.mc_types.specs.Items.{Item}
-use Rattle.cache_server.specs.Contents.{Contents, empty, storing, opening}
+use Rattle.cache_server.specs.Contents.{Contents, empty, storing_item, opening}
 use Rattle.cache_server.specs.Held.{holds}
 use Rattle.script_events.specs.Limits.{capacity}
 use Rattle.script_events.specs.Scripted.{Scripted, Piece, Add, Result, Fail, Hold, At, Now, Moment}
 
 -- what an event puts into the cache of a server: of a full cache the least recently used is pushed out
 abbrev pub put_by : ℕ → Contents → Scripted → Contents
-put_by s cache (Hold server key content) = if nat_eq server s then storing cache key (opening content) else cache
+put_by s cache (Hold server key content) = if nat_eq server s then storing_item cache key (opening content) else cache
 put_by s cache (Piece client bytes) = cache
 put_by s cache (Add client bytes) = cache
 put_by s cache (Result server) = cache

@@ -8,11 +8,11 @@ use Rattle.script_events.specs.declared.text.meaning.Meaning.TheVariants as m
 use Rattle.script_events.specs.declared.text.meaning.Reading.{Reading}
 
 -- what a line was read as
-abbrev pub meaning_of : read.Meaning → Meaning
-meaning_of m.Nothing = Nothing
-meaning_of (m.Says event) = Says (scripted_of event)
-meaning_of m.Unreadable = Unreadable
-meaning_of (m.Loads config) = Loads config
+abbrev pub line_meaning : read.Meaning → Meaning
+line_meaning m.Nothing = Nothing
+line_meaning (m.Says event) = Says (scripted_of event)
+line_meaning m.Unreadable = Unreadable
+line_meaning (m.Loads config) = Loads config
 
 -- what was read of lines over the servers known, of which the first has this number
 pub record ReadsLines (used : Addresses) (first : ℕ) (lines : List (List ℕ)) (r : Reading) : Type 0 where

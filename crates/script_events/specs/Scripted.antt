@@ -29,13 +29,13 @@ scripted_of (events.At turn loss) = At turn (loss_of loss)
 scripted_of (events.Now loss) = Now (loss_of loss)
 scripted_of (events.Moment moment) = Moment moment
 
-abbrev pub shown_by : Output → Shown
-shown_by output = record { client = output.client; bytes = output.bytes.items }
+abbrev pub output_shown : Output → Shown
+output_shown output = record { client = output.client; bytes = output.bytes.items }
 
 abbrev pub transcript_of : Transcript → List Shown
-transcript_of transcript = map shown_by transcript.shown.items
+transcript_of transcript = map output_shown transcript.shown.items
 
 -- what a fault of the servers is to the script
-abbrev pub fault_of : FleetFault → DriveFault
-fault_of fleet_faults.NoMemory = NoMemory
-fault_of fleet_faults.Spent = Spent
+abbrev pub drive_fault_of : FleetFault → DriveFault
+drive_fault_of fleet_faults.NoMemory = NoMemory
+drive_fault_of fleet_faults.Spent = Spent

@@ -54,11 +54,11 @@ used_after (Says event) used = used
 used_after (Loads c) used = c.servers
 
 -- how many events there are after a line
-abbrev pub count_after : Meaning → ℕ → ℕ
-count_after Nothing at = at
-count_after Unreadable at = at
-count_after (Says event) at = at + 1
-count_after (Loads c) at = at
+abbrev pub events_after : Meaning → ℕ → ℕ
+events_after Nothing at = at
+events_after Unreadable at = at
+events_after (Says event) at = at + 1
+events_after (Loads c) at = at
 
 -- an event, and the number of its line
 pub record Numbered : Type 0 where
@@ -99,7 +99,7 @@ load_then (Loads c) at after = record { at = at; config = c } ∷ after
 -- what lines load, up to the first that can't be read, each after the events before it; so many events came before the lines
 abbrev pub loaded : Addresses → ℕ → List (List ℕ) → List Reload
 loaded used at [] = []
-loaded used at (line ∷ lines) = load_then (line_means used line) at (loaded (used_after (line_means used line) used) (count_after (line_means used line) at) lines)
+loaded used at (line ∷ lines) = load_then (line_means used line) at (loaded (used_after (line_means used line) used) (events_after (line_means used line) at) lines)
 
 -- the servers known after all that was loaded
 abbrev pub servers_known : Addresses → List Reload → Addresses
@@ -133,8 +133,8 @@ told_by [] = Err BadFirstLine
 told_by (first ∷ further) = told_after (first_said first) further
 
 -- what a text says
-abbrev pub told : List ℕ → Result Told WhyNot
-told text = told_by (lines_of text)
+abbrev pub text_told : List ℕ → Result Told WhyNot
+text_told text = told_by (lines_of text)
 
 -- what a text says of which each line is a further line, over a configuration from elsewhere
 abbrev pub told_over : Configuration → List ℕ → Told

@@ -1,7 +1,7 @@
 //! Which events of a script can't be.
 
 ghost use Rattle.std.specs.Prelude.{◌≡◌, ◌<◌, List, length, map, replicate, IfSome};
-ghost use Rattle.script_events.specs.Caches.{server_of};
+ghost use Rattle.script_events.specs.Caches.{loss_server};
 ghost use Rattle.script_events.specs.Scripted.{Scripted, scripted_of};
 ghost use Rattle.script_events.specs.Bad.{bad_in, first_bad, IsBefore, HasRoom, IsOneMore};
 
@@ -25,7 +25,7 @@ struct Before {
 }
 
 fn server_of(loss: &Loss) -> u32
-    ensures { result ≡ server_of loss.now }
+    ensures { result ≡ loss_server loss.now }
 {
     match loss {
         Loss::Item(server, _) => server.number(),

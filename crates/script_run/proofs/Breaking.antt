@@ -6,7 +6,7 @@ use Rattle.script_events.specs.declared.servers.event.FleetFault.{FleetFault}
 use Rattle.script_events.specs.declared.servers.event.FleetFault.TheVariants.{NoMemory, Spent}
 use Rattle.core_proxy.specs.declared.proxy.Core.{Core}
 use Rattle.script_events.specs.declared.servers.servers.ScriptServers.{ScriptServers}
-use Rattle.script_run.specs.Breaking.{IsLastBegun, AreGivenAll, AreSpent, StopsAt, StopsFed, StopsGiving, StopsAfter}
+use Rattle.script_run.specs.Breaking.{IsLastBegun, AreGivenAll, AreSpent, StopsAt, StopsFed, StopsGiving, BreaksOffAfter}
 use Rattle.script_run.specs.Running.{Moves, MovesFed, MovesAt, MovesByResults, AreAskedYet}
 use Rattle.script_run.specs.declared.driver.runner.Runner.{Runner}
 use Rattle.script_run.proofs.DriverRunning.{stays, then, fed_then, none_by, by_none, by_then, at_then}
@@ -51,21 +51,21 @@ fed_all client bytes a b fault m h =
 -- ---- results
 
 -- a result wasn't taken, after others
-pub results_then : (a b : Runner) (s t u : ScriptServers) (fault : FleetFault) → MovesByResults a s b t → StopsGiving fault t u → StopsAfter (λ results. Unit {0}) a s fault u
+pub results_then : (a b : Runner) (s t u : ScriptServers) (fault : FleetFault) → MovesByResults a s b t → StopsGiving fault t u → BreaksOffAfter (λ results. Unit {0}) a s fault u
 results_then a b s t u fault m h = record { mid = b; at = t; results = m.0; fit = tt; moves = m.1; within = h.within; spent = given_spent fault b.core t h.all }
 
 -- nothing more could be done, after results
-pub results_here : (a b : Runner) (s t : ScriptServers) (fault : FleetFault) → MovesByResults a s b t → IsLastBegun fault b.core → StopsAfter (λ results. Unit {0}) a s fault t
+pub results_here : (a b : Runner) (s t : ScriptServers) (fault : FleetFault) → MovesByResults a s b t → IsLastBegun fault b.core → BreaksOffAfter (λ results. Unit {0}) a s fault t
 results_here a b s t fault m h = record { mid = b; at = t; results = m.0; fit = tt; moves = m.1; within = inl refl; spent = begun_spent fault b.core t h }
 
-pub results_stop : (a b : Runner) (s t : ScriptServers) (fault : FleetFault) → MovesByResults a s b t → StopsAt b fault → StopsAfter (λ results. Unit {0}) a s fault t
+pub results_stop : (a b : Runner) (s t : ScriptServers) (fault : FleetFault) → MovesByResults a s b t → StopsAt b fault → BreaksOffAfter (λ results. Unit {0}) a s fault t
 results_stop a b s t fault m h = results_here a h.mid s t fault (by_then a b h.mid s t t m (by_none b h.mid t (h.moves t))) h.spent
 
 -- nothing more could be done, after none of the results that are asked of one server
-pub none_at : (server : ℕ) (a : Runner) (s u : ScriptServers) (fault : FleetFault) → StopsGiving fault s u → StopsAfter (AreAskedYet server a s) a s fault u
+pub none_at : (server : ℕ) (a : Runner) (s u : ScriptServers) (fault : FleetFault) → StopsGiving fault s u → BreaksOffAfter (AreAskedYet server a s) a s fault u
 none_at server a s u fault h = record { mid = a; at = s; results = []; fit = inl refl; moves = none_by a a s (stays a s); within = h.within; spent = given_spent fault a.core s h.all }
 
-pub at_stop : (server : ℕ) (a b : Runner) (s t : ScriptServers) (fault : FleetFault) → MovesAt server a s b t → StopsAt b fault → StopsAfter (AreAskedYet server a s) a s fault t
+pub at_stop : (server : ℕ) (a b : Runner) (s t : ScriptServers) (fault : FleetFault) → MovesAt server a s b t → StopsAt b fault → BreaksOffAfter (AreAskedYet server a s) a s fault t
 at_stop server a b s t fault m h =
     let n = at_then server a b h.mid s t m (h.moves t) in
     record { mid = h.mid; at = t; results = n.0; fit = inr n.1; moves = n.2; within = inl refl; spent = begun_spent fault h.mid.core t h.spent }

@@ -22,14 +22,14 @@ use Rattle.route_tree.specs.Word.{tree_words}
 use Rattle.script_events.specs.declared.script.Reload.{Reload}
 use Rattle.script_events.specs.declared.script.Transcript.{Transcript}
 use Rattle.script_events.specs.Opening.{opening_of}
-use Rattle.script_events.specs.Scripted.{Scripted, Piece, Add, Result as Results, shown_by, transcript_of, fault_of}
+use Rattle.script_events.specs.Scripted.{Scripted, Piece, Add, Result as Results, output_shown, transcript_of, drive_fault_of}
 use Rattle.script_events.specs.Servers.{turn_of, AreNewServers}
 use Rattle.script_events.specs.declared.servers.servers.ScriptServers.{ScriptServers}
 use Rattle.script_run.specs.Laws.{StandingSays}
 use Rattle.script_run.specs.Results.{CallResult, ResultsAreTold}
-use Rattle.script_run.specs.Standing.{Kept, story_of, GoesOn, GoesOnFed, tree_by}
+use Rattle.script_run.specs.Standing.{Kept, story_of, LogGoesOn, GoesOnFed, tree_by}
 use Rattle.script_run.proofs.Told.{has_calls, has_calls_by, no_result, none_told}
-use Rattle.script_run.specs.Breaking.{AreSpent, IsWithinOne, StopsAfter, StopsFed}
+use Rattle.script_run.specs.Breaking.{AreSpent, IsWithinOne, BreaksOffAfter, StopsFed}
 use Rattle.script_run.specs.Running.{kept_of, AreOfOne, AreAskedYet, Stays, MovesFed, MovesByResults}
 use Rattle.script_run.specs.declared.driver.runner.Runner.{Runner}
 use Rattle.script_run.proofs.Breaking.{begun_spent}
@@ -82,7 +82,7 @@ pub none_in_part : (client : ℕ) (bytes : List ℕ) (a : Runner) (s : ScriptSer
 none_in_part client bytes a s fault is =
     record { mid = a; at = s; said = []; unsaid = bytes; cut = refl; fed = nothing_fed client a a s (λ opening tree log stands. stands); within = inl refl; spent = none_spent fault a.core s is }
 
-pub all_in_part : (client : ℕ) (bytes : List ℕ) (a b : Runner) (s t : ScriptServers) (fault : FleetFault) → MovesFed client bytes a s b s → StopsAfter (λ results. Unit {0}) b s fault t → FedInPart client bytes a s fault t
+pub all_in_part : (client : ℕ) (bytes : List ℕ) (a b : Runner) (s t : ScriptServers) (fault : FleetFault) → MovesFed client bytes a s b s → BreaksOffAfter (λ results. Unit {0}) b s fault t → FedInPart client bytes a s fault t
 all_in_part client bytes a b s t fault m h =
     record { mid = h.mid; at = h.at; said = bytes; unsaid = []; cut = sym (append-nil bytes); fed = fed_results client bytes a b h.mid s h.at m (h.results, h.moves); within = h.within; spent = h.spent }
 
@@ -145,11 +145,11 @@ add_breaks client bytes a s fault h =
 
 -- nothing was to be said
 abbrev in_quiet :
-    (event : Scripted) → ((c : ℕ) → event_bytes event c ≡ []) → (opening : ℕ → List ℕ → Option Item) (tree : ℕ → Route) (log : List (Entry dialect)) (k : Kept) → (g : GoesOn opening tree log k) → GoesOnInPart opening tree log event k
+    (event : Scripted) → ((c : ℕ) → event_bytes event c ≡ []) → (opening : ℕ → List ℕ → Option Item) (tree : ℕ → Route) (log : List (Entry dialect)) (k : Kept) → (g : LogGoesOn opening tree log k) → GoesOnInPart opening tree log event k
 in_quiet event says opening tree log k g =
     record { more = g.more; stands = g.stands; said = λ c. []; unsaid = λ c. []; cut = says; streams = λ c. g.streams c ∙ sym (append-nil (stream_of log c)); given = g.given }
 
-pub result_breaks : (server : ℕ) (a : Runner) (s t : ScriptServers) (fault : FleetFault) → StopsAfter (AreAskedYet server a s) a s fault t → BreaksOff (Results server) a s fault t
+pub result_breaks : (server : ℕ) (a : Runner) (s t : ScriptServers) (fault : FleetFault) → BreaksOffAfter (AreAskedYet server a s) a s fault t → BreaksOff (Results server) a s fault t
 result_breaks server a s t fault h =
     record {
       mid = h.mid;
@@ -366,7 +366,7 @@ module _ (first : Route) (refused : List Bool) (reloads : List Reload) (events :
 
   -- what is still out had some results
   pub stops_ending :
-      (given : List Shown) (marks : List ℕ) (a : Runner) (s t : ScriptServers) (fault : FleetFault) → StopsAfter (λ results. Unit {0}) a s fault t
+      (given : List Shown) (marks : List ℕ) (a : Runner) (s t : ScriptServers) (fault : FleetFault) → BreaksOffAfter (λ results. Unit {0}) a s fault t
       → HasStood first refused reloads events (length reloads) [] given marks a.clients (kept_of a s) → StopsPart first refused reloads events given marks t fault
   stops_ending given marks a s t fault m h =
       let opening = opening_of events in
@@ -447,7 +447,7 @@ nothing_done first refused reloads events t marks count s u fault none unmarked 
         order = handed_none t none;
         outputs = [];
         last = [];
-        by_event = outputs_none (transcript_of t) (ap (map shown_by) none);
+        by_event = outputs_none (transcript_of t) (ap (map output_shown) none);
         through = inl refl;
         steps = λ n event lt at. absurd (omega (arith, lt));
         begun = λ event e. absurd (none_next event e);
@@ -469,6 +469,6 @@ nothing_done first refused reloads events t marks count s u fault none unmarked 
 
 pub ends_so :
     (fault : FleetFault) (first : Route) (refused : List Bool) (reloads : List Reload) (events : List Scripted) (t : Transcript) (marks : List ℕ) (old new : ScriptServers) → StopsPart first refused reloads events (transcript_of t) marks new fault
-    → EndsStepped first refused reloads events t marks old new (fault_of fault)
+    → EndsStepped first refused reloads events t marks old new (drive_fault_of fault)
 ends_so faults.NoMemory first refused reloads events t marks old new h = h.part
 ends_so faults.Spent first refused reloads events t marks old new h = (h.part, h.spent refl)

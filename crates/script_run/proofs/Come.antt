@@ -10,7 +10,7 @@ use Rattle.fresh_runs.specs.Overlap.{Entry}
 use Rattle.fresh_runs.specs.OverlapStream.{stream_of}
 use Rattle.cache_server.specs.Contents.{empty}
 use Rattle.script_events.specs.Limits.{capacity}
-use Rattle.script_events.specs.Caches.{held_at}
+use Rattle.script_events.specs.Caches.{cache_held}
 use Rattle.core_proxy.specs.CoreState.{dialect}
 use Rattle.route_tree.specs.Route.{Route}
 use Rattle.script_events.specs.declared.script.Event.{Event}
@@ -19,11 +19,11 @@ use Rattle.script_events.specs.declared.script.Reload.{Reload}
 use Rattle.script_events.specs.declared.script.Transcript.{Transcript}
 use Rattle.script_events.specs.Bad.{first_bad}
 use Rattle.script_events.specs.Opening.{opening_of}
-use Rattle.script_events.specs.Reloads.{is_refused, AreInOrder}
-use Rattle.script_events.specs.Scripted.{Scripted, scripted_of, shown_by, transcript_of}
-use Rattle.script_events.specs.Servers.{caches_of, turn_of, moment_of, named_of, lost_of, AreNewServers}
+use Rattle.script_events.specs.Reloads.{is_refused, ReloadsInOrder}
+use Rattle.script_events.specs.Scripted.{Scripted, scripted_of, output_shown, transcript_of}
+use Rattle.script_events.specs.Servers.{caches_of, turn_of, moment_now, named_of, lost_of, AreNewServers}
 use Rattle.script_events.specs.declared.servers.servers.ScriptServers.{ScriptServers}
-use Rattle.script_run.specs.Standing.{Kept, Stands, tree_by}
+use Rattle.script_run.specs.Standing.{Kept, LogStands, tree_by}
 use Rattle.script_run.specs.Laws.{NothingStands, IsBegin}
 use Rattle.script_run.specs.Running.{kept_of, MovesByResults}
 use Rattle.script_run.specs.declared.driver.runner.Runner.{Runner}
@@ -157,12 +157,12 @@ next_left xs i x lt is =
     ap (map scripted_of) (drop-cons xs i x lt) ∙ ap (λ (y : Event). scripted_of y ∷ map scripted_of (drop (suc i) xs)) (sym is) ∙ ap (λ (n : ℕ). scripted_of x ∷ map scripted_of (drop n xs)) one
 
 -- after the last place each reload has come
-order_get : (end servers place : ℕ) (rs : List Reload) (i : ℕ) → i < length rs → AreInOrder end servers place rs → IfSome (slice_get rs i) (λ r. r.at ≤ end)
+order_get : (end servers place : ℕ) (rs : List Reload) (i : ℕ) → i < length rs → ReloadsInOrder end servers place rs → IfSome (slice_get rs i) (λ r. r.at ≤ end)
 order_get end servers place [] i lt h = absurd (omega (arith, lt))
 order_get end servers place (r ∷ rs) zero lt h = h.1
 order_get end servers place (r ∷ rs) (suc i) lt h = order_get end servers r.at rs i (omega (arith, lt)) h.3
 
-pub all_came : (end servers place : ℕ) (reloads : List Reload) (loaded : ℕ) → AreInOrder end servers place reloads → loaded ≤ length reloads → (IsDue reloads loaded end → ⊥) → loaded ≡ length reloads
+pub all_came : (end servers place : ℕ) (reloads : List Reload) (loaded : ℕ) → ReloadsInOrder end servers place reloads → loaded ≤ length reloads → (IsDue reloads loaded end → ⊥) → loaded ≡ length reloads
 all_came end servers place reloads loaded order within none = elim (cases_lt loaded (length reloads)) [
   | inl lt ↦ absurd (none (lt, order_get end servers place reloads loaded lt order))
   | inr le ↦ omega (arith, le, within)
@@ -200,10 +200,10 @@ at_place reloads i r lt is = slice_get-get_or reloads i r lt ∙ ap (λ (x : Rel
 -- ---- the begin
 
 pub given_none : (t : Transcript) → t.shown.items ≡ [] → (c : ℕ) → [] ≡ shown_to (transcript_of t) c
-given_none t none c = ap (λ (l : List Output). shown_to (map shown_by l) c) (sym none)
+given_none t none c = ap (λ (l : List Output). shown_to (map output_shown l) c) (sym none)
 
 pub handed_none : (t : Transcript) → t.shown.items ≡ [] → AreHandedInTurn (transcript_of t) []
-handed_none t none = subst (λ (l : List Output). AreHandedInTurn (map shown_by l) []) (sym none) none_handed
+handed_none t none = subst (λ (l : List Output). AreHandedInTurn (map output_shown l) []) (sym none) none_handed
   where
     none_handed : AreHandedInTurn [] []
     none_handed zero le = record { newer = []; older = []; log_is = refl; given = λ c. refl }
@@ -216,14 +216,14 @@ abbrev pub begins :
     → HasCome first refused reloads (map scripted_of events) 0 (map scripted_of events) (transcript_of x) (kept_of a t)
 begins law first refused reloads events n a s t x begin new put rest good none =
     let puts : caches_of t ≡ put_all_on events (replicate n (empty capacity)) = put ∙ ap (put_all_on events) new.caches in
-    let each : (i : ℕ) (key : List ℕ) → held_at (caches_of t) i key ≡ opening_of (map scripted_of events) i key = λ i key. ap (λ l. held_at l i key) puts ∙ held_new n events good i key in
-    let held : held_at (caches_of t) ≡ opening_of (map scripted_of events) = both each in
+    let each : (i : ℕ) (key : List ℕ) → cache_held (caches_of t) i key ≡ opening_of (map scripted_of events) i key = λ i key. ap (λ l. cache_held l i key) puts ∙ held_new n events good i key in
+    let held : cache_held (caches_of t) ≡ opening_of (map scripted_of events) = both each in
     record {
       log = [];
       loads = [];
       loads_are = refl;
       in_turn = refl;
-      stands = subst (λ o. Stands o (tree_by first []) [] (kept_of a t)) held (law first (kept_of a t) (begin t (ap turn_of rest ∙ new.turn)));
+      stands = subst (λ o. LogStands o (tree_by first []) [] (kept_of a t)) held (law first (kept_of a t) (begin t (ap turn_of rest ∙ new.turn)));
       streams = λ c. refl;
       given_is = given_none x none;
       order = handed_none x none;
@@ -237,7 +237,7 @@ begins law first refused reloads events n a s t x begin new put rest good none =
           record {
             caches = λ i cache at. opened_new n events i cache (ap (λ l. slice_get l i) (sym puts) ∙ at);
             turn = ap turn_of rest ∙ new.turn;
-            moment = ap moment_of rest ∙ new.moment;
+            moment = ap moment_now rest ∙ new.moment;
             named = λ i. ap (λ y. named_of y i) rest ∙ new.named i;
             lost = λ i. ap (λ y. lost_of y i) rest ∙ new.lost i;
           },
@@ -247,5 +247,5 @@ begins law first refused reloads events n a s t x begin new put rest good none =
       };
     }
   where
-    both : ((i : ℕ) (key : List ℕ) → held_at (caches_of t) i key ≡ opening_of (map scripted_of events) i key) → held_at (caches_of t) ≡ opening_of (map scripted_of events)
+    both : ((i : ℕ) (key : List ℕ) → cache_held (caches_of t) i key ≡ opening_of (map scripted_of events) i key) → cache_held (caches_of t) ≡ opening_of (map scripted_of events)
     both each i s key = each s key i

@@ -24,7 +24,7 @@ use Rattle.core_commands.specs.declared.sharing.Sharing.TheVariants.{Alone}
 use Rattle.script_events.specs.declared.script.Reload.{Reload}
 use Rattle.script_events.specs.Opening.{opening_of}
 use Rattle.script_events.specs.Scripted.{Scripted}
-use Rattle.script_run.specs.Laws.{Says}
+use Rattle.script_run.specs.Laws.{LogSays}
 use Rattle.script_run.specs.Standing.{Kept, tree_by}
 use Rattle.script_run.specs.Driving.{CameInTurn, RunsBy, IsFreshIfDirect}
 
@@ -47,14 +47,14 @@ covered_where_direct law tree direct =
 -- a log that stands by one direct tree is fresh, and no reply is stale
 pub fresh_where_direct :
     DirectIsOneServer → (opening : ℕ → List ℕ → Option Item) (tree : Route) (log : List (Entry dialect)) (k : Kept) → is_direct tree ≡ true
-    → Says opening (tree_by tree []) log k → IsFreshByNumber opening (run_of log) × (k.stale ≡ 0)
+    → LogSays opening (tree_by tree []) log k → IsFreshByNumber opening (run_of log) × (k.stale ≡ 0)
 fresh_where_direct law opening tree log k direct says = says.fresh (covered_where_direct law tree direct)
 
 -- a log is fresh, and no reply is stale, where the first tree is direct and no tree was loaded later
 pub fresh_unloaded :
     DirectIsOneServer → (opening : ℕ → List ℕ → Option Item) (tree : Route) (loads : List (ℕ × Route)) (log : List (Entry dialect)) (k : Kept) → is_direct tree ≡ true → loads ≡ []
-    → Says opening (tree_by tree loads) log k → IsFreshByNumber opening (run_of log) × (k.stale ≡ 0)
-fresh_unloaded law opening tree loads log k direct none says = fresh_where_direct law opening tree log k direct (subst (λ (l : List (ℕ × Route)). Says opening (tree_by tree l) log k) none says)
+    → LogSays opening (tree_by tree loads) log k → IsFreshByNumber opening (run_of log) × (k.stale ≡ 0)
+fresh_unloaded law opening tree loads log k direct none says = fresh_where_direct law opening tree log k direct (subst (λ (l : List (ℕ × Route)). LogSays opening (tree_by tree l) log k) none says)
 
 -- ---- scripts without reloads
 

@@ -21,10 +21,10 @@ use Rattle.script_events.specs.Found.{stamp_given}
 use Rattle.route_tree.specs.Route.{Route}
 use Rattle.cache_server.specs.Contents.{Contents}
 use Rattle.script_events.specs.declared.servers.event.Made.{Made}
-use Rattle.script_events.specs.Calling.{Ends}
+use Rattle.script_events.specs.Calling.{CallEndsAs}
 use Rattle.script_events.specs.Servers.{Answers}
 use Rattle.script_events.specs.declared.servers.servers.ScriptServers.{ScriptServers}
-use Rattle.script_run.specs.Standing.{Kept, log_calls_at, story_of, Stands, GoesOn, GoesOnFed, IsBesides}
+use Rattle.script_run.specs.Standing.{Kept, log_calls_at, story_of, LogStands, LogGoesOn, GoesOnFed, IsBesides}
 use Rattle.script_run.specs.Results.{CallResult, AreOfFirst, NumberedCall, call_of_result, calls_of, AreGiven, GoesOnWith}
 use Rattle.script_run.proofs.Told.{has_calls, none_told, same_then, story_then, story_before}
 use Rattle.script_run.proofs.Outs.{called_is_out}
@@ -42,8 +42,8 @@ pub stays : (a : Runner) (s : ScriptServers) → Moves a s a s
 stays a s opening tree log stands = (record { more = []; stands = stands; streams = λ c. refl; given = λ c. refl }, refl)
 
 module _ (opening : ℕ → List ℕ → Option Item) (tree : ℕ → Route) (log : List (Entry dialect)) where
-  longer : (more first : List (Entry dialect)) (k : Kept) → Stands opening tree (more ++ (first ++ log)) k → Stands opening tree ((more ++ first) ++ log) k
-  longer more first k stands = subst (λ l. Stands opening tree l k) (sym (append_assoc more first log)) stands
+  longer : (more first : List (Entry dialect)) (k : Kept) → LogStands opening tree (more ++ (first ++ log)) k → LogStands opening tree ((more ++ first) ++ log) k
+  longer more first k stands = subst (λ l. LogStands opening tree l k) (sym (append_assoc more first log)) stands
 
   streams_on : (more first : List (Entry dialect)) (c : ℕ) → stream_of (more ++ (first ++ log)) c ≡ stream_of (first ++ log) c → stream_of ((more ++ first) ++ log) c ≡ stream_of (first ++ log) c
   streams_on more first c e = ap (λ l. stream_of l c) (append_assoc more first log) ∙ e
@@ -51,7 +51,7 @@ module _ (opening : ℕ → List ℕ → Option Item) (tree : ℕ → Route) (lo
   given_on : (more first : List (Entry dialect)) (c : ℕ) → given_of (more ++ (first ++ log)) c ≡ given_of (first ++ log) c → given_of ((more ++ first) ++ log) c ≡ given_of (first ++ log) c
   given_on more first c e = ap (λ l. given_of l c) (append_assoc more first log) ∙ e
 
-  abbrev goes_then : (k l : Kept) (g : GoesOn opening tree log k) → GoesOn opening tree (g.more ++ log) l → GoesOn opening tree log l
+  abbrev goes_then : (k l : Kept) (g : LogGoesOn opening tree log k) → LogGoesOn opening tree (g.more ++ log) l → LogGoesOn opening tree log l
   goes_then k l g h =
       record {
         more = h.more ++ g.more;
@@ -60,7 +60,7 @@ module _ (opening : ℕ → List ℕ → Option Item) (tree : ℕ → Route) (lo
         given = λ c. given_on h.more g.more c (h.given c) ∙ g.given c;
       }
 
-  abbrev fed_goes_then : (client : ℕ) (bytes : List ℕ) (k l : Kept) (g : GoesOnFed opening tree log client bytes k) → GoesOn opening tree (g.more ++ log) l → GoesOnFed opening tree log client bytes l
+  abbrev fed_goes_then : (client : ℕ) (bytes : List ℕ) (k l : Kept) (g : GoesOnFed opening tree log client bytes k) → LogGoesOn opening tree (g.more ++ log) l → GoesOnFed opening tree log client bytes l
   fed_goes_then client bytes k l g h =
       record {
         more = h.more ++ g.more;
@@ -146,7 +146,7 @@ besides k l same =
     }
 
 -- a call that was made has an outcome that fits its ask
-fits_by : (end : End) (stamp : ℕ) (moment : ℤ) (old : List Contents) (server : ℕ) (ask : Ask) (found : Option ℕ) (new : List Contents) → Ends stamp moment old server ask end found new → FitsOutcome ask (outcome_of end)
+fits_by : (end : End) (stamp : ℕ) (moment : ℤ) (old : List Contents) (server : ℕ) (ask : Ask) (found : Option ℕ) (new : List Contents) → CallEndsAs stamp moment old server ask end found new → FitsOutcome ask (outcome_of end)
 fits_by (Read s answer spaces) stamp moment old server ask found new e = e.2.call.fits
 fits_by (Unread s answer spaces) stamp moment old server ask found new e = tt
 fits_by Never stamp moment old server ask found new e = tt
@@ -316,7 +316,7 @@ pub turns_given : (server : ℕ) (a b : Runner) (s t : ScriptServers) → IsLeas
 turns_given server a b s t least m = record { results = m.0; moves = m.2; in_turn = λ opening tree log stands. by opening tree log stands (m.2.goes opening tree log stands).goes.more (out_of log server) refl (m.1.first opening tree log stands) }
   where
     by :
-        (opening : ℕ → List ℕ → Option Item) (tree : ℕ → Route) (log : List (Entry dialect)) → Stands opening tree log (kept_of a s) → (more : List (Entry dialect)) (calls : List LogTicket) → out_of log server ≡ calls → AreOfFirst server calls m.0
+        (opening : ℕ → List ℕ → Option Item) (tree : ℕ → Route) (log : List (Entry dialect)) → LogStands opening tree log (kept_of a s) → (more : List (Entry dialect)) (calls : List LogTicket) → out_of log server ≡ calls → AreOfFirst server calls m.0
         → AreNextResults m.0 more log
     by opening tree log stands more [] is of = absurd (is_there_one server a.out.items least.0 (sym (stands.out server) ∙ is))
     by opening tree log stands more (call ∷ calls) is of =

@@ -10,7 +10,7 @@ use Rattle.fresh_runs.proofs.OverlapRuns.{runs}
 use Rattle.fresh_runs.proofs.Fresh.{fresh_by_number}
 use Rattle.fresh_runs.proofs.Stale.{counts_stale}
 use Rattle.script_events.specs.Found.{AreFound}
-use Rattle.script_events.specs.Caches.{held_at}
+use Rattle.script_events.specs.Caches.{cache_held}
 use Rattle.route_tree.specs.At.{tree_at}
 use Rattle.route_tree.specs.Plan.{Plan}
 use Rattle.route_tree.specs.Route.{Route}
@@ -20,21 +20,21 @@ use Rattle.core_proxy.specs.CoreState.{dialect, nothing_beside, state_of, IsTake
 use Rattle.core_proxy.specs.Faults.{script_limits}
 use Rattle.core_proxy.specs.declared.limits.CoreLimits.{CoreLimits}
 use Rattle.core_commands.specs.declared.sharing.Sharing.TheVariants.{Alone}
-use Rattle.script_run.specs.Standing.{Kept, tree_by, log_calls_at, Stands, IsBesides}
-use Rattle.script_run.specs.Laws.{IsBegin, Says}
+use Rattle.script_run.specs.Standing.{Kept, tree_by, log_calls_at, LogStands, IsBesides}
+use Rattle.script_run.specs.Laws.{IsBegin, LogSays}
 use Rattle.wire_stream.specs.Version.{default_version}
 
 -- ---- the begin
 
-pub stands_new : (tree : Route) (k : Kept) → IsBegin tree k → Stands (held_at k.caches) (tree_by tree []) [] k
+pub stands_new : (tree : Route) (k : Kept) → IsBegin tree k → LogStands (cache_held k.caches) (tree_by tree []) [] k
 stands_new tree k begin =
     let plans : ℕ → List ℕ → Plan = λ n key. tree_at tree key in
     record {
-      beside = nothing_beside plans (held_at k.caches);
+      beside = nothing_beside plans (cache_held k.caches);
       plain = refl;
-      fits = begin.fresh.fits plans (held_at k.caches) (λ n key lt. refl);
+      fits = begin.fresh.fits plans (cache_held k.caches) (λ n key lt. refl);
       leads =
-          subst (λ (l : CoreLimits). LeadsTo (tree_words plans) (bars_by l.sharing plans) (held_at k.caches) [] (state_of k.core (nothing_beside plans (held_at k.caches)))) (sym begin.fresh.limits_are) (begin.fresh.leads plans (held_at k.caches));
+          subst (λ (l : CoreLimits). LeadsTo (tree_words plans) (bars_by l.sharing plans) (cache_held k.caches) [] (state_of k.core (nothing_beside plans (cache_held k.caches)))) (sym begin.fresh.limits_are) (begin.fresh.leads plans (cache_held k.caches));
       limits = begin.fresh.limits_are;
       served = λ c. refl;
       unbroken = refl;
@@ -68,8 +68,8 @@ coming_by first loads number tree n lt = ap (λ b. cond b tree (tree_by first lo
 
 pub stands_loaded :
     (opening : ℕ → List ℕ → Option Item) (first : Route) (loads : List (ℕ × Route)) (log : List (Entry dialect)) (tree : Route) (old new : Kept)
-    → Stands opening (tree_by first loads) log old → Reloads old.core tree new.core → IsBesides old new
-    → Stands opening (tree_by first ((old.core.number, tree) ∷ loads)) log new
+    → LogStands opening (tree_by first loads) log old → Reloads old.core tree new.core → IsBesides old new
+    → LogStands opening (tree_by first ((old.core.number, tree) ∷ loads)) log new
 stands_loaded opening first loads log tree old new s step rest =
     let number = old.core.number in
     let trees = tree_by first ((number, tree) ∷ loads) in
@@ -87,7 +87,7 @@ stands_loaded opening first loads log tree old new s step rest =
       served = s.served;
       unbroken = s.unbroken;
       loses = s.loses;
-      holds = λ a key. s.holds a key ∙ ap (λ c. held_at c a key) (sym rest.servers.caches);
+      holds = λ a key. s.holds a key ∙ ap (λ c. cache_held c a key) (sym rest.servers.caches);
       turn = s.turn ∙ sym rest.servers.turn;
       out = λ a. s.out a ∙ ap (log_calls_at a) (sym rest.out);
       known = λ n o own. subst (λ st. AreFound (calls_so_far (run_of log) n) (s.beside.found n) st) (sym (rest.found n)) (s.known n o own);
@@ -111,7 +111,7 @@ follows_alone opening at plans limits log same is f =
     subst (λ (p : ℕ → List ℕ → Plan). Follows (tree_words p) (bars_by Alone p) opening default_version log) same
     (subst (λ (l : CoreLimits). Follows (tree_words at) (bars_by l.sharing at) opening (version_by l) log) is f)
 
-pub says : (opening : ℕ → List ℕ → Option Item) (tree : ℕ → Route) (log : List (Entry dialect)) (k : Kept) → Stands opening tree log k → Says opening tree log k
+pub says : (opening : ℕ → List ℕ → Option Item) (tree : ℕ → Route) (log : List (Entry dialect)) (k : Kept) → LogStands opening tree log k → LogSays opening tree log k
 says opening tree log k s =
     let plans : ℕ → List ℕ → Plan = λ n key. tree_at (tree n) key in
     let words = tree_words plans in

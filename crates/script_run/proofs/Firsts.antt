@@ -4,7 +4,7 @@ use Rattle.std.specs.List.{All, position, position_or_len, remove}
 use Rattle.std.proofs.lemmas.Bool.{eqb-true, ltb-false, ne_eqb}
 use Rattle.std.proofs.lemmas.List.Quantifiers.{position-Some}
 use Rattle.std.proofs.lemmas.List.Sums.{fails_before_first}
-use Rattle.fresh_runs.specs.Overlap.{Ticket as LogTicket, without}
+use Rattle.fresh_runs.specs.Overlap.{Ticket as LogTicket, without_ticket}
 use Rattle.script_events.proofs.Places.{same}
 use Rattle.core_commands.specs.declared.ticket.Ticket.{Ticket}
 use Rattle.script_run.specs.Standing.{log_calls_at}
@@ -63,15 +63,15 @@ module _ (server : ℕ) where
       }
 
 -- what is out after the first call of a server had its result, as a log has it
-pub left_out : (server : ℕ) (t : Ticket) (a b : Runner) → TakesFirst server t a b → (s : ℕ) → log_calls_at s b.out.items ≡ cond (nat_eq server s) (without t.number (log_calls_at s a.out.items)) (log_calls_at s a.out.items)
+pub left_out : (server : ℕ) (t : Ticket) (a b : Runner) → TakesFirst server t a b → (s : ℕ) → log_calls_at s b.out.items ≡ cond (nat_eq server s) (without_ticket t.number (log_calls_at s a.out.items)) (log_calls_at s a.out.items)
 left_out server t a b takes s = by (nat_eq server s) refl
   where
-    here : log_calls_at server b.out.items ≡ without t.number (log_calls_at server a.out.items)
+    here : log_calls_at server b.out.items ≡ without_ticket t.number (log_calls_at server a.out.items)
     here =
-        sym (ap (without t.number) takes.first ∙ ap (λ (x : Bool). cond x (log_calls_at server b.out.items) (out_call t ∷ without t.number (log_calls_at server b.out.items))) (same t.number))
+        sym (ap (without_ticket t.number) takes.first ∙ ap (λ (x : Bool). cond x (log_calls_at server b.out.items) (out_call t ∷ without_ticket t.number (log_calls_at server b.out.items))) (same t.number))
 
-    by : (x : Bool) → nat_eq server s ≡ x → log_calls_at s b.out.items ≡ cond x (without t.number (log_calls_at s a.out.items)) (log_calls_at s a.out.items)
-    by true e = subst (λ (n : ℕ). log_calls_at n b.out.items ≡ without t.number (log_calls_at n a.out.items)) (eqb-true server s e) here
+    by : (x : Bool) → nat_eq server s ≡ x → log_calls_at s b.out.items ≡ cond x (without_ticket t.number (log_calls_at s a.out.items)) (log_calls_at s a.out.items)
+    by true e = subst (λ (n : ℕ). log_calls_at n b.out.items ≡ without_ticket t.number (log_calls_at n a.out.items)) (eqb-true server s e) here
     by false e = takes.others s e
 
 -- ---- the least server

@@ -5,7 +5,7 @@ use Rattle.fresh_runs.specs.Run.{calls_so_far}
 use Rattle.fresh_runs.specs.Overlap.{Entry, Gives, run_of, output_of, given_of}
 use Rattle.fresh_runs.specs.OverlapState.{LeadsTo}
 use Rattle.script_events.specs.Found.{AreFound}
-use Rattle.script_events.specs.Caches.{held_at}
+use Rattle.script_events.specs.Caches.{cache_held}
 use Rattle.route_tree.specs.Word.{tree_words}
 use Rattle.core_proxy.specs.CoreState.{dialect, bars_of, state_of, version_by}
 use Rattle.core_proxy.specs.declared.limits.CoreLimits.{CoreLimits}
@@ -32,7 +32,7 @@ gives_go_on opening tree log client bytes old new stands step rest =
         served = stands.served;
         unbroken = stands.unbroken;
         loses = stands.loses;
-        holds = λ s key. ap (λ h. h s key) same.holds ∙ stands.holds s key ∙ sym (ap (λ c. held_at c s key) rest.servers.caches);
+        holds = λ s key. ap (λ h. h s key) same.holds ∙ stands.holds s key ∙ sym (ap (λ c. cache_held c s key) rest.servers.caches);
         turn = same.turn ∙ stands.turn ∙ sym rest.servers.turn;
         out = λ s. stands.out s ∙ ap (log_calls_at s) (sym rest.out);
         known = λ n o e.

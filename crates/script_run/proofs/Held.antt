@@ -4,10 +4,10 @@ use Rattle.std.specs.Prelude.{option_map, replicate}
 use Rattle.std.proofs.Math.Dec.{eqb-zero-suc, eqb-suc-zero, eqb-suc-suc}
 use Rattle.std.proofs.lemmas.Bool.{ne_eqb, leb-false}
 use Rattle.mc_types.specs.Items.{Item}
-use Rattle.cache_server.specs.Contents.{Contents, empty, storing, opening}
+use Rattle.cache_server.specs.Contents.{Contents, empty, storing_item, opening}
 use Rattle.cache_server.specs.Held as cache
 use Rattle.script_events.specs.Limits.{capacity}
-use Rattle.script_events.specs.Caches.{held_at, changed_at}
+use Rattle.script_events.specs.Caches.{cache_held, changed_at}
 use Rattle.script_events.specs.declared.script.Event.{Event}
 use Rattle.script_events.specs.Bad.{bad_in, first_from, first_bad}
 use Rattle.script_events.specs.Opening.{put_by, put_by_all, opening_cache, opening_of}
@@ -31,7 +31,7 @@ changed_get (suc server) zero change (c ∷ caches) = ap (λ b. Some (cond b (ch
 changed_get (suc server) (suc s) change (c ∷ caches) = changed_get server s change caches ∙ ap (λ b. option_map (λ c. cond b (change c) c) (slice_get caches s)) (sym (eqb-suc-suc server s))
 
 put_get : (event : Scripted) (caches : List Contents) (s : ℕ) → slice_get (put_on event caches) s ≡ option_map (λ c. put_by s c event) (slice_get caches s)
-put_get (Hold server key content) caches s = changed_get server s (λ c. storing c key (opening content)) caches
+put_get (Hold server key content) caches s = changed_get server s (λ c. storing_item c key (opening content)) caches
 put_get (Piece client bytes) caches s = same_option (slice_get caches s)
 put_get (Add client bytes) caches s = same_option (slice_get caches s)
 put_get (Result server) caches s = same_option (slice_get caches s)
@@ -68,7 +68,7 @@ good_first servers before event events none = by (bad_in servers before event) n
 put_elsewhere : (servers s : ℕ) (before : List Scripted) (event : Scripted) (c : Contents) → servers ≤ s → bad_in servers before event ≡ false → put_by s c event ≡ c
 put_elsewhere servers s before (Hold server key content) c le good =
     let lt = leb-false servers server (left_false _ _ (left_false _ _ good)) in
-    ap (λ b. cond b (storing c key (opening content)) c) (ne_eqb server s (λ same. absurd (omega (arith, le, lt, same))))
+    ap (λ b. cond b (storing_item c key (opening content)) c) (ne_eqb server s (λ same. absurd (omega (arith, le, lt, same))))
 put_elsewhere servers s before (Piece client bytes) c le good = refl
 put_elsewhere servers s before (Add client bytes) c le good = refl
 put_elsewhere servers s before (Result server) c le good = refl
@@ -89,7 +89,7 @@ abbrev held_opt : Option Contents → List ℕ → Option Item
 held_opt None k = None
 held_opt (Some c) k = cache.holds c k
 
-held_get : (caches : List Contents) (s : ℕ) (k : List ℕ) → held_at caches s k ≡ held_opt (slice_get caches s) k
+held_get : (caches : List Contents) (s : ℕ) (k : List ℕ) → cache_held caches s k ≡ held_opt (slice_get caches s) k
 held_get [] s k = refl
 held_get (c ∷ caches) zero k = refl
 held_get (c ∷ caches) (suc s) k = held_get caches s k
@@ -107,7 +107,7 @@ is_there (suc n) (suc s) = elim (is_there n s) [
 ]
 
 -- new servers hold what the script puts there
-pub held_new : (n : ℕ) (events : List Event) → first_bad n (map scripted_of events) ≡ None → (s : ℕ) (key : List ℕ) → held_at (put_all_on events (replicate n (empty capacity))) s key ≡ opening_of (map scripted_of events) s key
+pub held_new : (n : ℕ) (events : List Event) → first_bad n (map scripted_of events) ≡ None → (s : ℕ) (key : List ℕ) → cache_held (put_all_on events (replicate n (empty capacity))) s key ≡ opening_of (map scripted_of events) s key
 held_new n events good s key =
     held_get (put_all_on events (replicate n (empty capacity))) s key ∙ ap (λ o. held_opt o key) (all_get events (replicate n (empty capacity)) s) ∙ by (is_there n s)
   where

@@ -51,6 +51,6 @@ pub after_none : (t : Route) (k : ℕ) → tree_after t [] [] k ≡ t
 after_none t zero = refl
 after_none t (suc k) = after_none t k
 
-pub after_one : (t : Route) (x : Bool) (refused : List Bool) (r : Reload) (rs : List Reload) (k : ℕ) → tree_after t (x ∷ refused) (r ∷ rs) (suc k) ≡ tree_after (reloads.one_more x (Some r) t) refused rs k
+pub after_one : (t : Route) (x : Bool) (refused : List Bool) (r : Reload) (rs : List Reload) (k : ℕ) → tree_after t (x ∷ refused) (r ∷ rs) (suc k) ≡ tree_after (reloads.tree_after_reload x (Some r) t) refused rs k
 after_one t x refused r rs zero = refl
-after_one t x refused r rs (suc k) = ap (reloads.one_more (reloads.is_refused (slice_get refused k)) (slice_get rs k)) (after_one t x refused r rs k)
+after_one t x refused r rs (suc k) = ap (reloads.tree_after_reload (reloads.is_refused (slice_get refused k)) (slice_get rs k)) (after_one t x refused r rs k)

@@ -6,7 +6,7 @@ use Rattle.mc_types.specs.Items.{Item}
 use Rattle.fresh_runs.specs.Calls.{Words}
 use Rattle.fresh_runs.specs.Protocol.{IsStuck}
 use Rattle.fresh_runs.specs.Overlap as overlap
-use Rattle.fresh_runs.specs.Overlap.{Front, Slot, Entry, Feeds, Starts, Sends, Happens, Ends, Shows, Passes, Gives, Drops, Frees, Resets, is_last_slot, start_front, fed_front, after_start, after_end, slot_of, slot_in, answered_in, behind_head, front_of, queue_of, output_of, given_of, Follows}
+use Rattle.fresh_runs.specs.Overlap.{Front, Slot, Entry, Feeds, Starts, Sends, Happens, Ends, Shows, Passes, Gives, Drops, Frees, Resets, is_last_slot, start_front, fed_front, after_start, after_end, part_slot, slot_in, answered_in, behind_head, front_of, queue_of, output_of, given_of, Follows}
 use Rattle.fresh_runs.specs.OverlapStream.{EndsWithLast, stream_of}
 use Rattle.fresh_runs.specs.OverlapLaws.{WritesAll}
 use Rattle.fresh_runs.proofs.OverlapMessages.{all_written}
@@ -16,7 +16,7 @@ use Rattle.wire_stream.specs.Version.{default_version}
 use Rattle.core_proxy.specs.CoreState.{dialect}
 use Rattle.script_events.specs.Scripted.{Scripted}
 use Rattle.script_events.proofs.Quiet.{quiet_start}
-use Rattle.script_run.specs.Driving.{said_in, IsDoneFor, IsSettled}
+use Rattle.script_run.specs.Driving.{said_in, IsDoneFor, EventsAreSettled}
 
 nothing_left : (xs ys : List ℕ) → xs ++ ys ≡ [] → (xs ≡ []) × (ys ≡ [])
 nothing_left [] ys e = (refl, e)
@@ -61,7 +61,7 @@ module _ (words : Words) (Bars : ℕ → Ask → ℕ → Ask → Type 0) (openin
       let front = front_of log c in
       let queue = queue_of log c in
       let s = silent log f.1 c none in
-      (elim (nat_eq client c) as (λ b. nat_eq client c ≡ b → IsSilent (cond b (after_start front part) front) (cond b (queue ++ slot_of number part ∷ []) queue) (output_of default_version log c) (given_of log c)) [
+      (elim (nat_eq client c) as (λ b. nat_eq client c ≡ b → IsSilent (cond b (after_start front part) front) (cond b (queue ++ part_slot number part ∷ []) queue) (output_of default_version log c) (given_of log c)) [
         | true ↦ λ same. absurd (quiet_start part.message part.next (subst (λ p. dialect.Reads p part.message part.next) (ap (λ d. (front_of log d).place) (eqb-true client c same) ∙ s.place) f.0.1.reads))
         | false ↦ λ _. s
       ]) refl
@@ -72,7 +72,7 @@ module _ (words : Words) (Bars : ℕ → Ask → ℕ → Ask → Type 0) (openin
       let queue = queue_of log c in
       let s = silent log f.1 c none in
       (elim (nat_eq client c) as (λ b. nat_eq client c ≡ b → IsSilent (cond b (after_end front part reply) front) (cond b (answered_in number reply queue) queue) (output_of default_version log c) (given_of log c)) [
-        | true ↦ λ same. no_slot (slot_of number part) (ap (λ q. slot_in q number) (sym (ap (queue_of log) (eqb-true client c same) ∙ s.queue_is)) ∙ f.0.2)
+        | true ↦ λ same. no_slot (part_slot number part) (ap (λ q. slot_in q number) (sym (ap (queue_of log) (eqb-true client c same) ∙ s.queue_is)) ∙ f.0.2)
         | false ↦ λ _. s
       ]) refl
   silent (Shows client slot reply ∷ log) f c none =
@@ -113,18 +113,18 @@ module _ (words : Words) (Bars : ℕ → Ask → ℕ → Ask → Type 0) (openin
       let s = silent log f c none in
       record { stuck = subst (IsStuck dialect) (sym s.place) quiet_start; shown = s.queue_is; given = s.given_is ∙ sym s.output_is }
 
-  each_done : (events : List Scripted) (log : List (Entry dialect)) → Follows words Bars opening default_version log → ((c : ℕ) → stream_of log c ≡ said_in events c) → IsSettled events log → (c : ℕ) → IsDoneFor log c
+  each_done : (events : List Scripted) (log : List (Entry dialect)) → Follows words Bars opening default_version log → ((c : ℕ) → stream_of log c ≡ said_in events c) → EventsAreSettled events log → (c : ℕ) → IsDoneFor log c
   each_done events log f said settled c = elim (settled.clients c) [
     | inl none ↦ done_for log f c (said c ∙ none)
     | inr done ↦ done
   ]
 
   -- nothing is left to do for any client, whether it said anything or not
-  pub all_settled : (events : List Scripted) (log : List (Entry dialect)) → Follows words Bars opening default_version log → ((c : ℕ) → stream_of log c ≡ said_in events c) → IsSettled events log → overlap.IsSettled default_version log
+  pub all_settled : (events : List Scripted) (log : List (Entry dialect)) → Follows words Bars opening default_version log → ((c : ℕ) → stream_of log c ≡ said_in events c) → EventsAreSettled events log → overlap.NothingIsLeft default_version log
   all_settled events log f said settled =
       let each = each_done events log f said settled in
       record { stuck = λ c. (each c).stuck; shown = λ c. (each c).shown; given = λ c. (each c).given; free = settled.free }
 
   -- each client's stream is its messages, and the client was given what these show
-  pub each_written : (events : List Scripted) (log : List (Entry dialect)) → Follows words Bars opening default_version log → ((c : ℕ) → stream_of log c ≡ said_in events c) → IsSettled events log → (c : ℕ) → WritesAll dialect words Bars opening default_version log c
+  pub each_written : (events : List Scripted) (log : List (Entry dialect)) → Follows words Bars opening default_version log → ((c : ℕ) → stream_of log c ≡ said_in events c) → EventsAreSettled events log → (c : ℕ) → WritesAll dialect words Bars opening default_version log c
   each_written events log f said settled c = all_written dialect reader_is ends_with_last words Bars opening default_version log f (all_settled events log f said settled) c

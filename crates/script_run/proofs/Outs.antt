@@ -12,7 +12,7 @@ use Rattle.route_job.specs.Rest.{ask_under, origin_under}
 use Rattle.core_commands.specs.declared.command.Command.{Command}
 use Rattle.core_proxy.specs.CoreState.{dialect, has_call_out, ticket_by}
 use Rattle.core_proxy.specs.Settles.{IsCalled}
-use Rattle.script_run.specs.Standing.{Kept, Stands}
+use Rattle.script_run.specs.Standing.{Kept, LogStands}
 
 -- the ticket of a command at the server of its call
 ticket_is :
@@ -27,7 +27,7 @@ ticket_is a number server ask origin out server_is ask_is origin_is =
     ∙ ap (λ (o : Origin). Some (record { number = number; ask = ask; origin = o })) (sym origin_is)
 
 pub called_is_out :
-    (opening : ℕ → List ℕ → Option Item) (tree : ℕ → Route) (log : List (Entry dialect)) (k : Kept) → Stands opening tree log k → (number server : ℕ) (ask : Ask) (origin : Origin) → IsCalled k.core number server ask origin
+    (opening : ℕ → List ℕ → Option Item) (tree : ℕ → Route) (log : List (Entry dialect)) (k : Kept) → LogStands opening tree log k → (number server : ℕ) (ask : Ask) (origin : Origin) → IsCalled k.core number server ask origin
     → ticket_in (out_of log server) number ≡ Some (record { number = number; ask = ask; origin = origin })
 called_is_out opening tree log k s number server ask origin c =
     ap (λ (ts : List LogTicket). ticket_in ts number) (sym (s.leads.out server)) ∙ s.fits.tickets server number ∙ ap (λ (o : Option Command). ticket_by o number server) c.was

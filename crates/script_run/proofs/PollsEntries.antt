@@ -8,22 +8,22 @@ use Rattle.fresh_runs.specs.Run.{calls_so_far, commands_in}
 use Rattle.fresh_runs.specs.Overlap.{Slot, Entry, Ends, Shows, Passes, run_of, Follows}
 use Rattle.fresh_runs.specs.OverlapState.{LeadsTo}
 use Rattle.script_events.specs.Found.{AreFound}
-use Rattle.script_events.specs.Caches.{held_at}
+use Rattle.script_events.specs.Caches.{cache_held}
 use Rattle.route_tree.specs.Plan.{Plan}
 use Rattle.route_tree.specs.Word.{tree_words}
 use Rattle.core_proxy.specs.Claims.{bars_by}
-use Rattle.core_proxy.specs.CoreState.{dialect, Message, Beside, bars_of, state_of, version_by}
+use Rattle.core_proxy.specs.CoreState.{dialect, ClientMessage, Beside, bars_of, state_of, version_by}
 use Rattle.core_proxy.specs.Polls.{IsPolled, Perhaps, BeginsBelow}
 use Rattle.core_proxy.specs.declared.limits.CoreLimits.{CoreLimits}
 use Rattle.core_proxy.specs.declared.note.Poll.{Poll}
 use Rattle.core_proxy.specs.declared.note.Poll.TheVariants as polls
 use Rattle.core_proxy.specs.declared.proxy.Core.{Core}
-use Rattle.script_run.specs.Standing.{Kept, GoesOn, HasServers}
+use Rattle.script_run.specs.Standing.{Kept, LogGoesOn, HasServersStill}
 use Rattle.script_run.specs.Laws.{CountsPoll, PollsGoOn}
 use Rattle.script_run.proofs.PollsTells.{Tells, besides, sends, begins, shown_more, ends}
 
 -- the servers are as they were, whatever a poll answers
-servers_stay : (poll : Poll) (old new : Kept) → CountsPoll poll old new → HasServers old new
+servers_stay : (poll : Poll) (old new : Kept) → CountsPoll poll old new → HasServersStill old new
 servers_stay (polls.Did note) old new counts = counts.servers
 servers_stay polls.Idle old new counts = counts.servers
 servers_stay polls.Own old new counts = counts.servers
@@ -57,7 +57,7 @@ module _ (at : ℕ → List ℕ → Plan) (Bars : ℕ → Ask → ℕ → Ask �
 
   module _ (base : List (Entry dialect)) (found : ℕ → List (Option Item)) where
     -- a message that asks no server was passed
-    passed : (log : List (Entry dialect)) (client : ℕ) (message : Message) (next : dialect.Place) (second : List (Entry dialect)) (k : Kept) → second ≡ Passes client message next ∷ [] → Tells opening base found log k → Tells opening base found (second ++ log) k
+    passed : (log : List (Entry dialect)) (client : ℕ) (message : ClientMessage) (next : dialect.Place) (second : List (Entry dialect)) (k : Kept) → second ≡ Passes client message next ∷ [] → Tells opening base found log k → Tells opening base found (second ++ log) k
     passed log client message next second k is t =
         subst (λ l. Tells opening base found (l ++ log) k) (sym is)
         (record { served = t.served; unbroken = t.unbroken; loses = t.loses; out = t.out; known = t.known; items = t.items; commands = t.commands; stale = t.stale; last = t.last; later = t.later; streams = t.streams; given = t.given; story = t.story })
@@ -138,7 +138,7 @@ polls_go_on opening tree log client poll old new stands p counts =
     let began = begun beside.at bars opening version log beside.found old.core client first old kind.2 (λ n high. stands.fits.unseen n (omega (arith, count, high))) (λ n high. stands.unknown n (omega (arith, count, high))) (behind beside.at bars opening version second (first ++ log) follows) told in
     let t : Tells opening log beside.found (g.1 ++ log) new = subst (λ l. Tells opening log beside.found l new) (sym whole) (polled beside.at bars opening version log beside.found (first ++ log) client poll second old new follows kind.3 counts began) in
     let servers = servers_stay poll old new counts in
-    let goes : GoesOn opening tree log new = record {
+    let goes : LogGoesOn opening tree log new = record {
       more = g.1;
       stands = record {
         beside = g.0;
@@ -149,7 +149,7 @@ polls_go_on opening tree log client poll old new stands p counts =
         served = t.served;
         unbroken = t.unbroken;
         loses = t.loses;
-        holds = λ s key. ap (λ h. h s key) same.holds ∙ stands.holds s key ∙ sym (ap (λ c. held_at c s key) servers.caches);
+        holds = λ s key. ap (λ h. h s key) same.holds ∙ stands.holds s key ∙ sym (ap (λ c. cache_held c s key) servers.caches);
         turn = same.turn ∙ stands.turn ∙ sym servers.turn;
         out = t.out;
         known = λ n o e. subst (λ f. AreFound (calls_so_far (run_of (g.1 ++ log)) n) (f n) (new.stamps n)) (sym same.found) (t.known n o e);

@@ -5,7 +5,7 @@ use Rattle.core_proxy.specs.Polls.{Polls, IsWhy, IsBusy, NoCommandGoesOn, IsStal
 use Rattle.core_proxy.specs.declared.note.Poll.{Poll}
 use Rattle.core_proxy.specs.declared.proxy.Core.{Core}
 use Rattle.script_run.specs.Progressing.{both_gave, TakesSo, LeavesSo, AreStillBelow}
-use Rattle.script_run.specs.Running.{IsIdle, AllAreIdle, AreStalled}
+use Rattle.script_run.specs.Running.{ClientIsIdle, AllAreIdle, AreStalled}
 use Rattle.script_run.specs.declared.driver.runner.Progress.{Progress}
 use Rattle.script_run.specs.declared.driver.runner.Progress.TheVariants.{Idle, Waits, Moved}
 use Rattle.script_run.specs.declared.driver.runner.Runner.{Runner}
@@ -38,7 +38,7 @@ next_too Holds client a b before now same c lt =
     ])
 
 pub one_more : (progress next : Progress) (client : ℕ) (a b : Runner) → AreStillBelow progress client a.core → LeavesSo next client a b → AreStillBelow (both_gave progress next) (client + 1) b.core
-one_more Idle Idle client a b before now = next_too IsIdle client a b before now.1 now.0
+one_more Idle Idle client a b before now = next_too ClientIsIdle client a b before now.1 now.0
 one_more Idle Waits client a b before now = next_too IsStalled client a b (λ c lt. inl (before c lt)) now.1 now.0
 one_more Idle Moved client a b before now = tt
 one_more Waits Idle client a b before now = next_too IsStalled client a b before (inl now.1) now.0

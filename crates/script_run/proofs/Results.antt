@@ -9,11 +9,11 @@ use Rattle.mc_types.specs.Items.{Item}
 use Rattle.fresh_runs.specs.Calls.{Call, End, outcome_of}
 use Rattle.fresh_runs.specs.Fleet.{StampIn, Fleet}
 use Rattle.fresh_runs.specs.Run.{Event, calls_so_far}
-use Rattle.fresh_runs.specs.Overlap.{Entry, Happens, Frees, Ticket as LogTicket, without, run_of, out_of, given_of}
+use Rattle.fresh_runs.specs.Overlap.{Entry, Happens, Frees, Ticket as LogTicket, without_ticket, run_of, out_of, given_of}
 use Rattle.fresh_runs.specs.OverlapState.{OverlapState, LeadsTo, found_after}
 use Rattle.fresh_runs.specs.OverlapStream.{stream_of}
 use Rattle.script_events.specs.Found.{stamp_given, AreFound, IsFound}
-use Rattle.script_events.specs.Caches.{held_at}
+use Rattle.script_events.specs.Caches.{cache_held}
 use Rattle.script_events.specs.declared.servers.event.Made.{Made}
 use Rattle.script_events.proofs.Places.{same}
 use Rattle.script_events.specs.Law.{spills_of, IsStep}
@@ -33,8 +33,8 @@ use Rattle.core_commands.specs.declared.command.Command.{Command}
 use Rattle.core_proxy.specs.declared.limits.CoreLimits.{CoreLimits}
 use Rattle.core_proxy.specs.declared.proxy.Core.{Core}
 use Rattle.core_commands.proofs.Commands.{some_command, no_command}
-use Rattle.script_run.specs.Standing.{Kept, log_calls_at, story_of, Stands, GoesOn, CountsAsMany}
-use Rattle.script_run.specs.Results.{CallResult, IsTold}
+use Rattle.script_run.specs.Standing.{Kept, log_calls_at, story_of, LogStands, LogGoesOn, CountsAsMany}
+use Rattle.script_run.specs.Results.{CallResult, ResultIsTold}
 use Rattle.script_run.specs.Laws.{ResultsGoOn}
 use Rattle.script_run.proofs.ResultsLosses.{bereft, happened, still_fits, losses_lead, IsAlike, alike_then, call_alike, losses_alike, calls_same, out_same, losses_told}
 use Rattle.script_run.proofs.Told.{are_spills}
@@ -49,11 +49,11 @@ led_there old new opening at plans log now same limits leads =
     (subst (λ (p : ℕ → List ℕ → Plan). LeadsTo (tree_words p) (bars_by old.limits.sharing p) opening log now) (sym same) leads)
 
 -- a log that is like another, and stands, goes on from that one
-goes_on_as : (opening : ℕ → List ℕ → Option Item) (tree : ℕ → Route) (more log new : List (Entry dialect)) (k : Kept) → more ++ log ≡ new → IsAlike opening new log → Stands opening tree new k → GoesOn opening tree log k
+goes_on_as : (opening : ℕ → List ℕ → Option Item) (tree : ℕ → Route) (more log new : List (Entry dialect)) (k : Kept) → more ++ log ≡ new → IsAlike opening new log → LogStands opening tree new k → LogGoesOn opening tree log k
 goes_on_as opening tree more log new k is alike stands =
     record {
       more = more;
-      stands = subst (λ (l : List (Entry dialect)). Stands opening tree l k) (sym is) stands;
+      stands = subst (λ (l : List (Entry dialect)). LogStands opening tree l k) (sym is) stands;
       streams = λ c. ap (λ (l : List (Entry dialect)). stream_of l c) is ∙ alike.stream c;
       given = λ c. ap (λ (l : List (Entry dialect)). given_of l c) is ∙ alike.given c;
     }
@@ -66,7 +66,7 @@ has_begun core beside fits number a was n lt =
       | false ↦ λ _. refl
     ]) refl
 
-module _ (opening : ℕ → List ℕ → Option Item) (tree : ℕ → Route) (log : List (Entry dialect)) (number : ℕ) (made : Made) (before after : ScriptServers) (old new : Kept) (stands : Stands opening tree log old) (settles : Settles old.core number made.outcome new.core) where
+module _ (opening : ℕ → List ℕ → Option Item) (tree : ℕ → Route) (log : List (Entry dialect)) (number : ℕ) (made : Made) (before after : ScriptServers) (old new : Kept) (stands : LogStands opening tree log old) (settles : Settles old.core number made.outcome new.core) where
   abbrev a : Command
   a = settles.command
 
@@ -154,7 +154,7 @@ module _ (opening : ℕ → List ℕ → Option Item) (tree : ℕ → Route) (lo
       number_is = leads_there.count ∙ alike.begun ∙ sym stands.leads.count
 
       module _ (caches : new.caches ≡ caches_of after) (turn : new.turn ≡ old.turn + 1) (stamps : (n : ℕ) → new.stamps n ≡ cond (nat_eq number n) (old.stamps n ++ made.stamp ∷ []) (old.stamps n)) (counts : CountsAsMany old new)
-          (out : (s : ℕ) → log_calls_at s new.out ≡ cond (nat_eq server s) (without number (log_calls_at s old.out)) (log_calls_at s old.out)) where
+          (out : (s : ℕ) → log_calls_at s new.out ≡ cond (nat_eq server s) (without_ticket number (log_calls_at s old.out)) (log_calls_at s old.out)) where
         known_then : (n : ℕ) → AreFound (calls_so_far (run_of log) n) (stands.beside.found n) (old.stamps n) → AreFound (calls_so_far (run_of (Happens event ∷ past)) n) (now.found n) (new.stamps n)
         known_then n known =
             subst (λ (found : ℕ → List (Option Item)). AreFound (calls_so_far (run_of (Happens event ∷ past)) n) (found n) (new.stamps n)) (sym is.found)
@@ -168,9 +168,9 @@ module _ (opening : ℕ → List ℕ → Option Item) (tree : ℕ → Route) (lo
 
         out_then : (s : ℕ) → out_of (Happens event ∷ past) s ≡ log_calls_at s new.out
         out_then s =
-            ap (λ (ts : List LogTicket). cond (nat_eq server s) (without number ts) ts) (out_same (happened spills ++ log) step.call.lost step.call.losses s ∙ out_same log spills (are_spills server step.spilled) s ∙ stands.out s) ∙ sym (out s)
+            ap (λ (ts : List LogTicket). cond (nat_eq server s) (without_ticket number ts) ts) (out_same (happened spills ++ log) step.call.lost step.call.losses s ∙ out_same log spills (are_spills server step.spilled) s ∙ stands.out s) ∙ sym (out s)
 
-        stands_then : Stands opening tree (Happens event ∷ past) new
+        stands_then : LogStands opening tree (Happens event ∷ past) new
         stands_then =
             record {
               beside = now;
@@ -182,7 +182,7 @@ module _ (opening : ℕ → List ℕ → Option Item) (tree : ℕ → Route) (lo
               unbroken = alike.broken ∙ stands.unbroken;
               loses = alike.loses stands.loses;
               holds = λ s key.
-                  ap (λ (h : ℕ → List ℕ → Option Item). h s key) is.holds ∙ sym (step.call.holds s key) ∙ step.holds s key ∙ ap (λ l. held_at l s key) (sym caches);
+                  ap (λ (h : ℕ → List ℕ → Option Item). h s key) is.holds ∙ sym (step.call.holds s key) ∙ step.holds s key ∙ ap (λ l. cache_held l s key) (sym caches);
               turn = is.turn ∙ ap (λ t. t + 1) stands.turn ∙ sym turn;
               out = out_then;
               known = λ n o e. known_then n (stands.known n o (sym (alike.owner n) ∙ e));
@@ -200,7 +200,7 @@ module _ (opening : ℕ → List ℕ → Option Item) (tree : ℕ → Route) (lo
     abbrev result : CallResult
     result = record { number = number; server = server; ask = ask; origin = origin; stamp = stamp_given (old.stamps number) number origin; made = made }
 
-    told : IsTold result before (story_of (run_of log)) (story_of (run_of (entries ++ log)))
+    told : ResultIsTold result before (story_of (run_of log)) (story_of (run_of (entries ++ log)))
     told =
         record {
           end = end;
@@ -216,7 +216,7 @@ module _ (opening : ℕ → List ℕ → Option Item) (tree : ℕ → Route) (lo
         }
 
     -- the losses named for the call and what its server dropped, and then its result
-    goes : new.caches ≡ caches_of after → new.turn ≡ old.turn + 1 → ((n : ℕ) → new.stamps n ≡ cond (nat_eq number n) (old.stamps n ++ made.stamp ∷ []) (old.stamps n)) → CountsAsMany old new → ((s : ℕ) → log_calls_at s new.out ≡ cond (nat_eq server s) (without number (log_calls_at s old.out)) (log_calls_at s old.out)) → (g : GoesOn opening tree log new) × IsTold result before (story_of (run_of log)) (story_of (run_of (g.more ++ log)))
+    goes : new.caches ≡ caches_of after → new.turn ≡ old.turn + 1 → ((n : ℕ) → new.stamps n ≡ cond (nat_eq number n) (old.stamps n ++ made.stamp ∷ []) (old.stamps n)) → CountsAsMany old new → ((s : ℕ) → log_calls_at s new.out ≡ cond (nat_eq server s) (without_ticket number (log_calls_at s old.out)) (log_calls_at s old.out)) → (g : LogGoesOn opening tree log new) × ResultIsTold result before (story_of (run_of log)) (story_of (run_of (g.more ++ log)))
     unfolding goes_on_as
     goes caches turn stamps counts out =
         let t = settles.goes met end (still_fits old.core spilled step.call.lost (still_fits old.core stands.beside spills stands.fits)) step.call.outcome step.call.ends in
@@ -249,10 +249,10 @@ results_go_on opening tree log number server ask origin made before after old ne
     (subst (λ s. Answers (stamp_given (old.stamps number) number origin) before s ask made after) server_is h.answers)) in
     let step =
     answers_are_steps number (stamp_given (old.stamps number) number (origin_under a.job.frames.items OfClient)) (origin_under a.job.frames.items OfClient) before (server_of_pending a.job.pending) (ask_under a.job.frames.items a.job.ask) made after
-    (record { holds = stands.beside.holds; found = stands.beside.found }) answers (λ s k. stands.holds s k ∙ ap (λ l. held_at l s k) h.caches_were) (given opening tree log number made before after old new stands h.settles) in
+    (record { holds = stands.beside.holds; found = stands.beside.found }) answers (λ s k. stands.holds s k ∙ ap (λ l. cache_held l s k) h.caches_were) (given opening tree log number made before after old new stands h.settles) in
     let g = goes opening tree log number made before after old new stands h.settles step.0 step.1 h.caches_are (h.turn_is ∙ answers.turn_is ∙ ap (λ t. t + 1) (sym h.turn_was)) h.stamps h.counts
-    (λ s. h.out s ∙ ap (λ (t : ℕ). cond (nat_eq t s) (without number (log_calls_at s old.out)) (log_calls_at s old.out)) server_is) in (
+    (λ s. h.out s ∙ ap (λ (t : ℕ). cond (nat_eq t s) (without_ticket number (log_calls_at s old.out)) (log_calls_at s old.out)) server_is) in (
       g.0,
-      subst (λ (r : CallResult). IsTold r before (story_of (run_of log)) (story_of (run_of (g.0.more ++ log))))
+      subst (λ (r : CallResult). ResultIsTold r before (story_of (run_of log)) (story_of (run_of (g.0.more ++ log))))
           (sym (same_result number server (server_of_pending a.job.pending) ask (ask_under a.job.frames.items a.job.ask) origin (origin_under a.job.frames.items OfClient) (old.stamps number) made server_is ask_is origin_is)) g.1,
     )

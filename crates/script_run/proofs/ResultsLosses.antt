@@ -13,15 +13,15 @@ use Rattle.fresh_runs.specs.OverlapState.{LeadsTo, Leads, IsLike, MayHappenNow, 
 use Rattle.fresh_runs.specs.OverlapStream.{stream_of}
 use Rattle.fresh_runs.proofs.OverlapSteps.{walks_lead, leads_on}
 use Rattle.script_events.specs.Found.{AreFound}
-use Rattle.script_events.specs.Caches.{held_at}
+use Rattle.script_events.specs.Caches.{cache_held}
 use Rattle.script_events.specs.declared.servers.event.Loss.{Loss}
 use Rattle.script_events.specs.declared.servers.event.Loss.TheVariants.{Item as LostItem, Restart}
-use Rattle.script_events.specs.Losing.{told_of}
+use Rattle.script_events.specs.Losing.{loss_told}
 use Rattle.script_events.proofs.Losses.{same_event, same_held}
 use Rattle.route_tree.specs.Word.{tree_words}
 use Rattle.core_proxy.specs.declared.proxy.Core.{Core}
 use Rattle.core_proxy.specs.CoreState.{dialect, bars_of, Beside, FitsBeside, state_of}
-use Rattle.script_run.specs.Standing.{log_calls_at, replies_in_run, broken_in, story_of, GoesOn}
+use Rattle.script_run.specs.Standing.{log_calls_at, replies_in_run, broken_in, story_of, LogGoesOn}
 use Rattle.script_run.specs.Laws.{LossesGoOn}
 
 -- what stands beside the core after losses
@@ -137,12 +137,12 @@ out_same log (Replies number key reply from ∷ es) are s = absurd are
 out_same log (Breaks number ∷ es) are s = absurd are
 
 -- what is named to be lost is a loss
-one_loss : (loss : Loss) → AreLosses (lost_by (told_of loss) ∷ [])
+one_loss : (loss : Loss) → AreLosses (lost_by (loss_told loss) ∷ [])
 one_loss (LostItem server key) = (refl, tt)
 one_loss (Restart server) = tt
 
 -- what is lost is told
-told : (loss : Loss) (log : List (Entry dialect)) → story_of (lost_by (told_of loss) ∷ run_of log) ≡ lost_by (told_of loss) ∷ story_of (run_of log)
+told : (loss : Loss) (log : List (Entry dialect)) → story_of (lost_by (loss_told loss) ∷ run_of log) ≡ lost_by (loss_told loss) ∷ story_of (run_of log)
 told (LostItem server key) log = refl
 told (Restart server) log = refl
 
@@ -159,11 +159,11 @@ losses_told (Breaks number ∷ es) log are = absurd are
 -- what a server loses goes on with the log
 pub losses_go_on : LossesGoOn
 losses_go_on opening tree log loss old new stands lost =
-    let event : Event = lost_by (told_of loss) in
+    let event : Event = lost_by (loss_told loss) in
     let are : AreLosses (event ∷ []) = one_loss loss in
     let beside : Beside = bereft (event ∷ []) stands.beside in
     let alike : IsAlike opening (Happens event ∷ log) log = losses_alike opening log (event ∷ []) are in
-    let goes : GoesOn opening tree log new = record {
+    let goes : LogGoesOn opening tree log new = record {
       more = Happens event ∷ [];
       stands = record {
         beside = beside;
@@ -174,7 +174,7 @@ losses_go_on opening tree log loss old new stands lost =
         served = λ c. alike.dropped c ∙ stands.served c;
         unbroken = alike.broken ∙ stands.unbroken;
         loses = alike.loses stands.loses;
-        holds = λ s key. same_held loss stands.beside.holds (held_at old.caches) s key (stands.holds s key) ∙ sym (same_event loss (held_at old.caches) s key) ∙ sym (lost.held s key);
+        holds = λ s key. same_held loss stands.beside.holds (cache_held old.caches) s key (stands.holds s key) ∙ sym (same_event loss (cache_held old.caches) s key) ∙ sym (lost.held s key);
         turn = stands.turn ∙ sym lost.turn;
         out = λ s. out_same log (event ∷ []) are s ∙ stands.out s ∙ ap (log_calls_at s) (sym lost.out);
         known = λ n o e.

@@ -16,10 +16,10 @@ use Rattle.core_proxy.specs.declared.proxy.Core.{Core}
 use Rattle.core_commands.specs.declared.command.Command.{Command}
 use Rattle.script_events.specs.Scripted.{Scripted, Piece, Add, Result, Fail, Hold, At, Now, Moment}
 use Rattle.script_events.specs.declared.servers.servers.ScriptServers.{ScriptServers}
-use Rattle.script_run.specs.Standing.{Kept, Stands}
-use Rattle.script_run.specs.Running.{kept_of, IsIdle, IsAtRest}
+use Rattle.script_run.specs.Standing.{Kept, LogStands}
+use Rattle.script_run.specs.Running.{kept_of, ClientIsIdle, RunnerRests}
 use Rattle.script_run.specs.declared.driver.runner.Runner.{Runner}
-use Rattle.script_run.specs.Driving.{said_in, IsServedFor, IsServed, CutsCome, ComesSo}
+use Rattle.script_run.specs.Driving.{said_in, IsServedFor, EventsAreServed, CutsCome, ComesSo}
 use Rattle.script_run.specs.Stepping.{IsServedBelow, CutsBy}
 
 none_in : (slots : List (Slot dialect)) (items : List Pending) → items ≡ [] → ArePendingSlots items slots → slots ≡ []
@@ -30,7 +30,7 @@ differ : (b : Bool) → b ≡ true → b ≡ false → ⊥
 differ b on off = cc
 
 -- the core has nothing left to do for a client: so it is in the log
-pub idle_for : (opening : ℕ → List ℕ → Option Item) (tree : ℕ → Route) (log : List (Entry dialect)) (k : Kept) → Stands opening tree log k → (c : ℕ) → IsIdle k.core c → IsServedFor log c
+pub idle_for : (opening : ℕ → List ℕ → Option Item) (tree : ℕ → Route) (log : List (Entry dialect)) (k : Kept) → LogStands opening tree log k → (c : ℕ) → ClientIsIdle k.core c → IsServedFor log c
 idle_for opening tree log k s c idle = by (client_at k.core c) refl idle
   where
     of : (x : Client) → client_at k.core c ≡ Some x → ClientIsDone x → IsServedFor log c
@@ -53,11 +53,11 @@ not_there : (core : Core) → (IsOut core → ⊥) → (n : ℕ) → command_at 
 not_there core none n = ap (λ (es : List (ℕ × Command)). lookup (λ k. nat_eq n k) es) (none_left core.commands.entries none)
 
 -- no command is under way
-pub free_all : (opening : ℕ → List ℕ → Option Item) (tree : ℕ → Route) (log : List (Entry dialect)) (k : Kept) → Stands opening tree log k → (IsOut k.core → ⊥) → (n : ℕ) → owner_of log n ≡ None
+pub free_all : (opening : ℕ → List ℕ → Option Item) (tree : ℕ → Route) (log : List (Entry dialect)) (k : Kept) → LogStands opening tree log k → (IsOut k.core → ⊥) → (n : ℕ) → owner_of log n ≡ None
 free_all opening tree log k s none n = sym (s.leads.owner n) ∙ ap (option_map owner_by) (not_there k.core none n)
 
 -- a runner that is at rest has served its clients
-pub served_below : (opening : ℕ → List ℕ → Option Item) (tree : ℕ → Route) (log : List (Entry dialect)) (b : Runner) (t : ScriptServers) → Stands opening tree log (kept_of b t) → IsAtRest b → IsServedBelow b.clients log
+pub served_below : (opening : ℕ → List ℕ → Option Item) (tree : ℕ → Route) (log : List (Entry dialect)) (b : Runner) (t : ScriptServers) → LogStands opening tree log (kept_of b t) → RunnerRests b → IsServedBelow b.clients log
 served_below opening tree log b t stands rest =
     record { clients = λ c lt. idle_for opening tree log (kept_of b t) stands c (rest.idle c lt); free = free_all opening tree log (kept_of b t) stands rest.none }
 
@@ -71,7 +71,7 @@ cuts_weaker client P Q f (cut ∷ cuts) before after h =
     (h.0, cuts_weaker client P Q f cuts before h.0 h.1, record { more = h.2.more; goes = h.2.goes; alone = h.2.alone; rests = f after h.2.rests })
 
 -- clients that weren't opened said nothing
-served_all : (done : List Scripted) (count : ℕ) → ((c : ℕ) → count ≤ c → said_in done c ≡ []) → (log : List (Entry dialect)) → IsServedBelow count log → IsServed done log
+served_all : (done : List Scripted) (count : ℕ) → ((c : ℕ) → count ≤ c → said_in done c ≡ []) → (log : List (Entry dialect)) → IsServedBelow count log → EventsAreServed done log
 served_all done count unheard log h = record { clients = each; free = h.free }
   where
     each : (c : ℕ) → (said_in done c ≡ []) ⊎ IsServedFor log c
@@ -90,7 +90,7 @@ comes_so (Piece client bytes) done count before mid newer unheard h =
       served = mid;
       newer = newer;
       goes = refl;
-      come = cuts_weaker client (IsServedBelow count) (IsServed done) (served_all done count unheard) (h.last ∷ h.cuts) before mid h.come;
+      come = cuts_weaker client (IsServedBelow count) (EventsAreServed done) (served_all done count unheard) (h.last ∷ h.cuts) before mid h.come;
     }
 comes_so (Add client bytes) done count before mid newer unheard h = tt
 comes_so (Result server) done count before mid newer unheard h = tt

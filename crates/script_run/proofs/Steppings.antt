@@ -7,7 +7,7 @@ use Rattle.route_tree.specs.Route.{Route}
 use Rattle.core_proxy.specs.Claims.{bars_by}
 use Rattle.core_commands.specs.declared.sharing.Sharing.TheVariants.{Alone}
 use Rattle.script_events.specs.declared.script.Reload.{Reload}
-use Rattle.script_events.specs.Reloads.{one_more, tree_after}
+use Rattle.script_events.specs.Reloads.{tree_after_reload, tree_after}
 use Rattle.script_events.specs.Reloads as reloads
 use Rattle.script_run.specs.Standing.{tree_by}
 use Rattle.script_run.specs.Driving.{one_loaded, trees_loaded, loaded_trees}
@@ -76,7 +76,7 @@ module _ (first : Route) (refused : List Bool) (rs : List Reload) where
       by before false eb (Some r) eo (load ∷ ls) is =
           come_loaded load ls many
           (same_head load.1 r.config.tree (loaded_trees ls) (trees_loaded refused rs many) is
-          ∙ sym (ap (λ b. one_more b (slice_get rs many) (tree_after first refused rs many)) eb ∙ ap (λ o. one_more false o (tree_after first refused rs many)) eo))
+          ∙ sym (ap (λ b. tree_after_reload b (slice_get rs many) (tree_after first refused rs many)) eb ∙ ap (λ o. tree_after_reload false o (tree_after first refused rs many)) eo))
           (before ls (same_tail load.1 r.config.tree (loaded_trees ls) (trees_loaded refused rs many) is))
 
 -- each command has its key alone

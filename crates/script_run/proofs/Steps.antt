@@ -9,22 +9,22 @@ use Rattle.fresh_runs.specs.Overlap.{Entry, Feeds, given_of, output_of, run_of}
 use Rattle.fresh_runs.specs.OverlapStream.{stream_of}
 use Rattle.core_proxy.specs.CoreState.{dialect}
 use Rattle.route_tree.specs.Route.{Route}
-use Rattle.script_events.specs.Caches.{held_at, after_loss}
+use Rattle.script_events.specs.Caches.{cache_held, after_loss}
 use Rattle.script_events.specs.Caches as losing
 use Rattle.script_events.specs.declared.servers.event.Loss.{Loss}
 use Rattle.script_events.specs.declared.servers.event.Loss.TheVariants.{Item as LostItem, Restart}
-use Rattle.script_events.specs.Losing.{told_of}
+use Rattle.script_events.specs.Losing.{loss_told}
 use Rattle.fresh_runs.specs.ScriptLog.{lost_by}
 use Rattle.fresh_runs.specs.Run.{Event as Past, after_event}
 use Rattle.script_events.specs.declared.script.Output.{Output}
-use Rattle.script_events.specs.Scripted.{Scripted, Manner, Piece, Add, Result, Fail, Hold, At, Now, Moment, loss_of, shown_by}
-use Rattle.script_events.specs.Servers.{caches_of, turn_of, moment_of, named_of, lost_of}
+use Rattle.script_events.specs.Scripted.{Scripted, Manner, Piece, Add, Result, Fail, Hold, At, Now, Moment, loss_of, output_shown}
+use Rattle.script_events.specs.Servers.{caches_of, turn_of, moment_now, named_of, lost_of}
 use Rattle.script_run.specs.Laws.{LossesGoOn}
 use Rattle.script_events.specs.declared.servers.servers.ScriptServers.{ScriptServers}
 use Rattle.script_run.specs.Results.{CallResult}
-use Rattle.script_run.specs.Standing.{Kept, story_of, Stands, GoesOn, GoesOnFed, GoesOnGiven, LeavesAsMuch}
+use Rattle.script_run.specs.Standing.{Kept, story_of, LogStands, LogGoesOn, GoesOnFed, GoesOnGiven, LeavesAsMuch}
 use Rattle.script_run.proofs.Told.{has_calls, no_result, none_told, same_then, story_then, story_after}
-use Rattle.script_run.specs.Running.{kept_of, Stays, MovesAt, MovesByResults, MovesFed, MovesFedAtOnce, MovesGiven, IsAtRest}
+use Rattle.script_run.specs.Running.{kept_of, Stays, MovesAt, MovesByResults, MovesFed, MovesFedAtOnce, MovesGiven, RunnerRests}
 use Rattle.script_run.specs.Turns.{AreNextResults, MovesInTurn}
 use Rattle.script_run.proofs.DriverRunning.{given_then, in_turn_then}
 use Rattle.script_run.proofs.Served.{served_below}
@@ -78,7 +78,7 @@ fed_more client first second a b d s t u m n =
           let joined_cuts = append_assoc h.more g.more log in (
             record {
               more = h.more ++ g.more;
-              stands = subst (λ l. Stands opening tree l (kept_of d u)) (sym joined_cuts) h.stands;
+              stands = subst (λ l. LogStands opening tree l (kept_of d u)) (sym joined_cuts) h.stands;
               streams = λ c. ap (λ l. stream_of l c) joined_cuts ∙ h.streams c ∙ ap (λ xs. cond (nat_eq client c) (xs ++ second) xs) (g.streams c) ∙ one_then (nat_eq client c) (stream_of log c) first second;
               given = λ c. ap (λ l. given_of l c) joined_cuts ∙ h.given c ∙ g.given c;
             },
@@ -104,7 +104,7 @@ fed_results client bytes a b d s t m n =
           let joined_cuts = append_assoc h.more g.more log in (
             record {
               more = h.more ++ g.more;
-              stands = subst (λ l. Stands opening tree l (kept_of d t)) (sym joined_cuts) h.stands;
+              stands = subst (λ l. LogStands opening tree l (kept_of d t)) (sym joined_cuts) h.stands;
               streams = λ c. ap (λ l. stream_of l c) joined_cuts ∙ h.streams c ∙ g.streams c;
               given = λ c. ap (λ l. given_of l c) joined_cuts ∙ h.given c ∙ g.given c;
             },
@@ -168,7 +168,7 @@ cuts_none client a b s stays = record { turn = turn_nothing client a b s stays; 
 
 -- one cut more
 pub cuts_more :
-    (client : ℕ) (cuts : List (List ℕ)) (cut : List ℕ) (a b d : Runner) (s t u : ScriptServers) → FedInCuts client cuts a s b t → FedAtOnce client cut b t d u → d.clients ≡ b.clients → IsAtRest d
+    (client : ℕ) (cuts : List (List ℕ)) (cut : List ℕ) (a b d : Runner) (s t u : ScriptServers) → FedInCuts client cuts a s b t → FedAtOnce client cut b t d u → d.clients ≡ b.clients → RunnerRests d
     → FedInCuts client (cut ∷ cuts) a s d u
 unfolding turn_more fed_more
 cuts_more client cuts cut a b d s t u m n same rest =
@@ -238,7 +238,7 @@ add_said client bytes a b s m =
     }
 
 -- an event that says nothing
-quiet : (event : Scripted) → ((c : ℕ) → event_bytes event c ≡ []) → (opening : ℕ → List ℕ → Option Item) (tree : ℕ → Route) (log : List (Entry dialect)) (k : Kept) → (g : GoesOn opening tree log k) → LeavesBy event log (g.more ++ log) → GoesOnSaid opening tree log event k
+quiet : (event : Scripted) → ((c : ℕ) → event_bytes event c ≡ []) → (opening : ℕ → List ℕ → Option Item) (tree : ℕ → Route) (log : List (Entry dialect)) (k : Kept) → (g : LogGoesOn opening tree log k) → LeavesBy event log (g.more ++ log) → GoesOnSaid opening tree log event k
 quiet event says opening tree log k g left =
     record { more = g.more; stands = g.stands; streams = λ c. g.streams c ∙ sym (append-nil (stream_of log c)) ∙ ap (λ xs. stream_of log c ++ xs) (sym (says c)); given = g.given; left = left }
 
@@ -261,8 +261,8 @@ result_asked server a b s t m =
 -- each log goes on, and clients have as much to do as the event leaves them; what befell the servers is what it loses
 abbrev MovesQuietly : Scripted → Runner → ScriptServers → ScriptServers → Type 0
 MovesQuietly event a s t =
-    (opening : ℕ → List ℕ → Option Item) (tree : ℕ → Route) (log : List (Entry dialect)) → Stands opening tree log (kept_of a s)
-    → (g : GoesOn opening tree log (kept_of a t)) × LeavesBy event log (g.more ++ log) × (story_of (run_of (g.more ++ log)) ≡ lost_now event ++ story_of (run_of log))
+    (opening : ℕ → List ℕ → Option Item) (tree : ℕ → Route) (log : List (Entry dialect)) → LogStands opening tree log (kept_of a s)
+    → (g : LogGoesOn opening tree log (kept_of a t)) × LeavesBy event log (g.more ++ log) × (story_of (run_of (g.more ++ log)) ≡ lost_now event ++ story_of (run_of log))
 
 -- none comes in no turn
 no_turns : (event : Scripted) (more log : List (Entry dialect)) → TakesTurns event [] more log
@@ -295,7 +295,7 @@ changed event says fit cuts a s t asked changes m =
     }
 
 -- a log stands whatever servers that hold the same are kept
-stands_as : (opening : ℕ → List ℕ → Option Item) (tree : ℕ → Route) (log : List (Entry dialect)) (k : Kept) (servers : ScriptServers) → Stands opening tree log k → Stands opening tree log (record k { servers = servers })
+stands_as : (opening : ℕ → List ℕ → Option Item) (tree : ℕ → Route) (log : List (Entry dialect)) (k : Kept) (servers : ScriptServers) → LogStands opening tree log k → LogStands opening tree log (record k { servers = servers })
 stands_as opening tree log k servers st =
     record {
       beside = st.beside;
@@ -329,7 +329,7 @@ leaves_same (Moment moment) log = record { front = λ c. refl; queue = λ c. ref
 
 stays_as : (event : Scripted) → lost_now event ≡ [] → (a : Runner) (s t : ScriptServers) → kept_of a t ≡ record (kept_of a s) { servers = t } → MovesQuietly event a s t
 stays_as event none a s t same opening tree log stands = (
-  record { more = []; stands = subst (λ k. Stands opening tree log k) (sym same) (stands_as opening tree log (kept_of a s) t stands); streams = λ c. refl; given = λ c. refl },
+  record { more = []; stands = subst (λ k. LogStands opening tree log k) (sym same) (stands_as opening tree log (kept_of a s) t stands); streams = λ c. refl; given = λ c. refl },
   leaves_same event log,
   ap (λ (l : List Past). l ++ story_of (run_of log)) (sym none),
 )
@@ -355,18 +355,18 @@ loss_named turn loss a s t losses rest =
     changed (At turn (loss_of loss)) (λ c. refl) refl (λ count before after. tt) a s t tt ((λ n. ap (map loss_of) (losses n) ∙ map_if (nat_eq (turn_of s + turn) n) (lost_of s n) loss), rest) (stays_as (At turn (loss_of loss)) refl a s t (ap (λ x. record (kept_of a x) { servers = t }) rest))
 
 -- the time changes
-pub timed : (moment : ℤ) (a : Runner) (s t : ScriptServers) → moment_of t ≡ moment → t ≡ record s { moment = t.moment } → Befalls (Moment moment) a s a t
+pub timed : (moment : ℤ) (a : Runner) (s t : ScriptServers) → moment_now t ≡ moment → t ≡ record s { moment = t.moment } → Befalls (Moment moment) a s a t
 timed moment a s t now rest = changed (Moment moment) (λ c. refl) refl (λ count before after. tt) a s t tt (now, rest) (stays_as (Moment moment) refl a s t (ap (λ x. record (kept_of a x) { servers = t }) rest))
 
 -- a loss is told as the script says it
-same_loss : (loss : Loss) → told_of loss ≡ loss_of loss
+same_loss : (loss : Loss) → loss_told loss ≡ loss_of loss
 same_loss (LostItem server key) = refl
 same_loss (Restart server) = refl
 
 -- something is lost
 pub lost :
     LossesGoOn → (a : Runner) (s t : ScriptServers) (loss : Loss) → caches_of t ≡ after_loss (losing.loss_of loss) (caches_of s)
-    → ((i : ℕ) (key : List ℕ) → held_at (caches_of t) i key ≡ after_event (losing.loss_of loss) (held_at (caches_of s)) i key) → t ≡ record s { caches = t.caches } → Befalls (Now (loss_of loss)) a s a t
+    → ((i : ℕ) (key : List ℕ) → cache_held (caches_of t) i key ≡ after_event (losing.loss_of loss) (cache_held (caches_of s)) i key) → t ≡ record s { caches = t.caches } → Befalls (Now (loss_of loss)) a s a t
 lost law a s t loss caches held rest =
     changed (Now (loss_of loss)) (λ c. refl) refl (λ count before after. tt) a s t tt ((loss, refl, caches), rest)
     (λ opening tree log stands.
@@ -441,7 +441,7 @@ hands_then First Then All each x y z a b d m n s opening tree log stands =
     in
     record {
       more = h.more ++ g.more;
-      stands = subst (λ l. Stands opening tree l (kept_of d s)) (sym joined_cuts) h.stands;
+      stands = subst (λ l. LogStands opening tree l (kept_of d s)) (sym joined_cuts) h.stands;
       streams = λ c. ap (λ l. stream_of l c) joined_cuts ∙ h.streams c ∙ g.streams c;
       given = λ is c. ap (λ l. given_of l c) joined_cuts ∙ h.given (g.given is) c;
       order = λ is o. subst (AreHandedInTurn z) (sym joined_cuts) (h.order (g.given is) (g.order is o));
@@ -507,8 +507,8 @@ hands_some AreGiven before after a b m s opening tree log stands =
     let g = m s opening tree log stands in
     (b, record { more = g.more; stands = g.stands; streams = g.streams; given = g.given; order = g.order; left = g.left; kept = g.kept; all = λ c none. absurd none; longer = g.longer; story = g.story })
 
-pub one_more_shown : (xs ys : List Output) (client : ℕ) (o : Output) → ys ≡ xs ++ o ∷ [] → map shown_by ys ≡ map shown_by xs ++ shown_by o ∷ []
-one_more_shown xs ys client o is = ap (map shown_by) is ∙ map-append shown_by xs (o ∷ [])
+pub one_more_shown : (xs ys : List Output) (client : ℕ) (o : Output) → ys ≡ xs ++ o ∷ [] → map output_shown ys ≡ map output_shown xs ++ output_shown o ∷ []
+one_more_shown xs ys client o is = ap (map output_shown) is ∙ map-append output_shown xs (o ∷ [])
 
 pub nothing_new : (xs bytes : List ℕ) (b : Bool) → xs ≡ bytes → b ≡ nat_eq (length xs) 0 → b ≡ true → bytes ≡ []
 nothing_new xs bytes b same is none = nil_from_length bytes (ap length (sym same) ∙ eqb-true (length xs) 0 (sym is ∙ none))

@@ -27,14 +27,14 @@ use Rattle.script_events.specs.declared.script.Transcript.{Transcript}
 use Rattle.script_events.specs.Bad.{first_bad}
 use Rattle.script_events.specs.Opening.{opening_of}
 use Rattle.script_events.specs.Reloads.{is_refused}
-use Rattle.script_events.specs.Scripted.{Scripted, Piece, Add, Result, Fail, Hold, At, Now, Moment, scripted_of, shown_by, transcript_of}
+use Rattle.script_events.specs.Scripted.{Scripted, Piece, Add, Result, Fail, Hold, At, Now, Moment, scripted_of, output_shown, transcript_of}
 use Rattle.script_events.specs.Servers.{caches_of, turn_of, AreNewServers}
 use Rattle.script_events.specs.declared.servers.servers.ScriptServers.{ScriptServers}
-use Rattle.script_run.specs.Standing.{Kept, Stands, LeavesAsMuch, tree_by}
+use Rattle.script_run.specs.Standing.{Kept, LogStands, LeavesAsMuch, tree_by}
 use Rattle.script_run.specs.Laws.{StandingSays, NothingStands, IsBegin}
-use Rattle.script_run.specs.Running.{kept_of, MovesByResults, AreStalled, KeepStalled, IsAtRest}
+use Rattle.script_run.specs.Running.{kept_of, MovesByResults, AreStalled, KeepStalled, RunnerRests}
 use Rattle.script_run.specs.declared.driver.runner.Runner.{Runner}
-use Rattle.script_run.specs.Driving.{event_bytes, said_in, shown_to, handed, may_be_out, leaves_out, IsDoneFor, IsSettled, HaveAllOutput, IsThrough, AreThrough, IsStepThrough, AreSteps, AreOutputs, IsMarked, AreMarked, one_loaded, trees_loaded, IsReached, CameSo, CameInTurn, RunsBy, DrivesStepped}
+use Rattle.script_run.specs.Driving.{event_bytes, said_in, shown_to, handed, may_be_out, leaves_out, IsDoneFor, EventsAreSettled, HaveAllOutput, IsThrough, AreThrough, IsStepThrough, AreSteps, AreOutputs, IsMarked, AreMarked, one_loaded, trees_loaded, IsReached, CameSo, CameInTurn, RunsBy, DrivesStepped}
 use Rattle.script_run.specs.Holding.{put_all_on}
 use Rattle.script_run.specs.Stepping.{Befalls, LeavesBy, IsHeard, RestsAfter, IsGivenAll, HandsOutAll, AddsRising, HasCome, HasStood, TakesUp, Loads}
 use Rattle.script_run.specs.World.{World}
@@ -161,8 +161,8 @@ no_marks events log given (r ∷ reloads) = tt
 
 -- all that there was is handed out
 piece_settled :
-    (done : List Scripted) (opening : ℕ → List ℕ → Option Item) (tree : ℕ → Route) (log after : List (Entry dialect)) (b : Runner) (t : ScriptServers) → Stands opening tree log (kept_of b t) → IsAtRest b
-    → LeavesAsMuch log after → ((c : ℕ) → c < b.clients → IsGivenAll after c) → ((c : ℕ) → b.clients ≤ c → said_in done c ≡ []) → IsSettled done after
+    (done : List Scripted) (opening : ℕ → List ℕ → Option Item) (tree : ℕ → Route) (log after : List (Entry dialect)) (b : Runner) (t : ScriptServers) → LogStands opening tree log (kept_of b t) → RunnerRests b
+    → LeavesAsMuch log after → ((c : ℕ) → c < b.clients → IsGivenAll after c) → ((c : ℕ) → b.clients ≤ c → said_in done c ≡ []) → EventsAreSettled done after
 piece_settled done opening tree log after b t stands rest left all heard = record { clients = each; free = λ n. left.owner n ∙ free_all opening tree log (kept_of b t) stands rest.none n }
   where
     there : (c : ℕ) → c < b.clients → IsDoneFor after c
@@ -179,7 +179,7 @@ piece_settled done opening tree log after b t stands rest left all heard = recor
 -- an event that asks clients nothing leaves nothing to do where nothing was left
 quiet_settled :
     (done : List Scripted) (event : Scripted) (log mid after : List (Entry dialect)) → ((c : ℕ) → event_bytes event c ≡ []) → LeavesAsMuch log mid → LeavesAsMuch mid after → ((c : ℕ) → given_of mid c ≡ given_of log c)
-    → ((c : ℕ) → IsGivenAll mid c → IsGivenAll after c) → IsSettled done log → IsSettled (done ++ event ∷ []) after
+    → ((c : ℕ) → IsGivenAll mid c → IsGivenAll after c) → EventsAreSettled done log → EventsAreSettled (done ++ event ∷ []) after
 quiet_settled done event log mid after quiet first then given kept s = record { clients = each; free = λ n. then.owner n ∙ first.owner n ∙ s.free n }
   where
     each : (c : ℕ) → (said_in (done ++ event ∷ []) c ≡ []) ⊎ IsDoneFor after c
@@ -198,10 +198,10 @@ not_so e = absurd cc
 
 -- after any event, and what is handed out after it
 event_settled :
-    (done : List Scripted) (event : Scripted) (opening : ℕ → List ℕ → Option Item) (tree : ℕ → Route) (log mid after : List (Entry dialect)) (a b : Runner) (t : ScriptServers) → Stands opening tree mid (kept_of b t)
+    (done : List Scripted) (event : Scripted) (opening : ℕ → List ℕ → Option Item) (tree : ℕ → Route) (log mid after : List (Entry dialect)) (a b : Runner) (t : ScriptServers) → LogStands opening tree mid (kept_of b t)
     → LeavesBy event log mid → RestsAfter event a b → LeavesAsMuch mid after → ((c : ℕ) → given_of mid c ≡ given_of log c) → ((c : ℕ) → IsGivenAll mid c → IsGivenAll after c)
     → ((c : ℕ) → c < b.clients → IsGivenAll after c) → ((c : ℕ) → b.clients ≤ c → said_in (done ++ event ∷ []) c ≡ [])
-    → (leaves_out false done ≡ false → IsSettled done log) → may_be_out event (leaves_out false done) ≡ false → IsSettled (done ++ event ∷ []) after
+    → (leaves_out false done ≡ false → EventsAreSettled done log) → may_be_out event (leaves_out false done) ≡ false → EventsAreSettled (done ++ event ∷ []) after
 event_settled done (Piece client bytes) opening tree log mid after a b t stands by rest left given kept all heard before out = piece_settled (done ++ Piece client bytes ∷ []) opening tree mid after b t stands rest left all heard
 event_settled done (Add client bytes) opening tree log mid after a b t stands by rest left given kept all heard before out = not_so out
 event_settled done (Result server) opening tree log mid after a b t stands by rest left given kept all heard before out = not_so out
@@ -244,7 +244,7 @@ module _ (first : Route) (refused : List Bool) (reloads : List Reload) (events l
         within = omega (arith, all);
         streams = λ c. said_before c ∙ ap (λ (m : ℕ). said_in (take m events) c) (sym place);
         given_is = λ c. h.come.given_is c ∙ ap (λ l. shown_to l c) (sym (take-length given)) ∙ ap (λ (m : ℕ). shown_to (take m given) c) (sym all);
-        settled = subst (λ (l : List Scripted). leaves_out false l ≡ false → IsSettled l h.come.log) (sym done_before ∙ ap (λ (m : ℕ). take m events) (sym place)) h.settled;
+        settled = subst (λ (l : List Scripted). leaves_out false l ≡ false → EventsAreSettled l h.come.log) (sym done_before ∙ ap (λ (m : ℕ). take m events) (sym place)) h.settled;
       })
       h.marked)
 
@@ -288,7 +288,7 @@ loads_one law refused reloads next shown n marks marks' r is a b place at same m
             loads = come.loads;
             loads_are = come.loads_are ∙ trees true e;
             in_turn = turn true come.loads e come.in_turn;
-            stands = subst (λ x. Stands (opening_of events) (tree_by first come.loads) come.log (kept_of x s)) (sym stays) come.stands;
+            stands = subst (λ x. LogStands (opening_of events) (tree_by first come.loads) come.log (kept_of x s)) (sym stays) come.stands;
             streams = come.streams;
             given_is = come.given_is;
             order = come.order;
@@ -364,7 +364,7 @@ given_or_unheard done count log unheard all c = elim (cases_lt c count) [
 module _ (first : Route) (refused : List Bool) (reloads : List Reload) (events : List Scripted) where
   -- the part of the log that is all of it
   abbrev pub here :
-      (loaded : ℕ) (left : List Scripted) (given : List Shown) (k : Kept) (h : HasCome first refused reloads events loaded left given k) → ((c : ℕ) → (said_in h.done c ≡ []) ⊎ IsStalled k.core c) → HaveAllOutput h.done h.log → (leaves_out false h.done ≡ false → IsSettled h.done h.log)
+      (loaded : ℕ) (left : List Scripted) (given : List Shown) (k : Kept) (h : HasCome first refused reloads events loaded left given k) → ((c : ℕ) → (said_in h.done c ≡ []) ⊎ IsStalled k.core c) → HaveAllOutput h.done h.log → (leaves_out false h.done ≡ false → EventsAreSettled h.done h.log)
       → IsThrough events h.done h.log given
   here loaded left given k h stalled all settled =
       record {
@@ -450,7 +450,7 @@ module _ (first : Route) (refused : List Bool) (reloads : List Reload) (events :
       let g = (m.goes opening tree log h.come.stands).0 in
       let o = hands t opening tree (g.more ++ log) g.stands in
       let unheard : (c : ℕ) → b.clients ≤ c → said_in (done ++ event ∷ []) c ≡ [] = λ c le. none_said done event c (h.heard c (heard.unheard c le).0) (heard.unheard c le).1 in
-      let settled : leaves_out false (done ++ event ∷ []) ≡ false → IsSettled (done ++ event ∷ []) (o.more ++ (g.more ++ log)) = λ out.
+      let settled : leaves_out false (done ++ event ∷ []) ≡ false → EventsAreSettled (done ++ event ∷ []) (o.more ++ (g.more ++ log)) = λ out.
       event_settled done event opening tree log (g.more ++ log) (o.more ++ (g.more ++ log)) a b t g.stands g.left rest o.left g.given o.kept o.all unheard h.settled (sym (out_append false done event) ∙ out) in
       let stalled : (c : ℕ) → c < d.clients → IsStalled d.core c = λ c lt. keeps c (stalled_after event a b rest h.stalled c (subst (λ (n : ℕ). c < n) same lt)) in
       let all : HaveAllOutput (done ++ event ∷ []) (o.more ++ (g.more ++ log)) = given_or_unheard (done ++ event ∷ []) b.clients (o.more ++ (g.more ++ log)) unheard o.all in
@@ -491,7 +491,7 @@ module _ (first : Route) (refused : List Bool) (reloads : List Reload) (events :
 
   -- all was done, and nothing is left to do
   pub stood_ended :
-      StandingSays → (given after : List Shown) (marks : List ℕ) (report : Report) (a b d : Runner) (s t : ScriptServers) → MovesByResults a s b t → b.clients ≡ a.clients → IsAtRest b → HandsOutAll given after b d → AddsRising given after
+      StandingSays → (given after : List Shown) (marks : List ℕ) (report : Report) (a b d : Runner) (s t : ScriptServers) → MovesByResults a s b t → b.clients ≡ a.clients → RunnerRests b → HandsOutAll given after b d → AddsRising given after
       → report.commands ≡ (kept_of d t).commands → report.calls ≡ (kept_of d t).turn → report.stale ≡ (kept_of d t).stale
       → HasStood first refused reloads events (length reloads) [] given marks a.clients (kept_of a s) → DrivesStepped first refused reloads events after marks report
   stood_ended law given after marks report a b d s t m same rest hands adds commands calls stale h =
@@ -507,7 +507,7 @@ module _ (first : Route) (refused : List Bool) (reloads : List Reload) (events :
       let plans : ℕ → List ℕ → Plan = λ n key. tree_at (tree n) key in
       let says = law opening tree end.log (kept_of d t) end.stands in
       let said : (c : ℕ) → stream_of end.log c ≡ said_in events c = λ c. sym (end.streams c ∙ append-nil (stream_of end.log c)) in
-      let settled : IsSettled events end.log = subst (λ (l : List Scripted). IsSettled l end.log) all (piece_settled done opening tree (g.more ++ log) end.log b t g.stands rest o.left o.all (λ c le. h.heard c (subst (λ (n : ℕ). n ≤ c) same le))) in
+      let settled : EventsAreSettled events end.log = subst (λ (l : List Scripted). EventsAreSettled l end.log) all (piece_settled done opening tree (g.more ++ log) end.log b t g.stands rest o.left o.all (λ c le. h.heard c (subst (λ (n : ℕ). n ≤ c) same le))) in
       let replied = sym (replied_unbroken (tree_words plans) (bars_by Alone plans) opening default_version end.log says.follows says.unbroken settled.free) in
       let run : RunsBy first end.loads events end.log = runs dialect (tree_words plans) (bars_by Alone plans) opening default_version end.log says.follows in
       record {
@@ -585,14 +585,14 @@ pub begins_stood :
     → HasStood first refused reloads (map scripted_of events) 0 (map scripted_of events) (transcript_of x) marks a.clients (kept_of a t)
 begins_stood law first refused reloads events n a s t x marks begin nobody new put rest good none unmarked =
     let come = begins law first refused reloads events n a s t x begin new put rest good none in
-    let settled : IsSettled [] [] = record { clients = λ c. inl refl; free = λ n. refl } in
+    let settled : EventsAreSettled [] [] = record { clients = λ c. inl refl; free = λ n. refl } in
     record {
       come = come;
       outputs = [];
-      by_event = outputs_none (transcript_of x) (ap (map shown_by) none);
+      by_event = outputs_none (transcript_of x) (ap (map output_shown) none);
       all = λ c. inl refl;
       through = λ m le. subst (λ (l : List Scripted). IsThrough (map scripted_of events) l [] (handed (take m []))) (none_of m (map scripted_of events) le)
-          (through_as (map scripted_of events) [] [] (transcript_of x) (handed (take m [])) (ap (map shown_by) none ∙ ap handed (no_outputs m le))
+          (through_as (map scripted_of events) [] [] (transcript_of x) (handed (take m [])) (ap (map output_shown) none ∙ ap handed (no_outputs m le))
           (here first refused reloads (map scripted_of events) 0 (map scripted_of events) (transcript_of x) (kept_of a t) come (λ c. inl refl) (λ c. inl refl) (λ out. settled)));
       steps = λ m event lt at. absurd (omega (arith, lt));
       settled = λ out. settled;

@@ -9,20 +9,20 @@ use Rattle.fresh_runs.specs.Overlap.{Entry, run_of}
 use Rattle.core_proxy.specs.CoreState.{dialect}
 use Rattle.script_events.specs.declared.servers.event.Loss.{Loss}
 use Rattle.script_events.specs.declared.servers.event.Loss.TheVariants.{Item as LostItem, Restart}
-use Rattle.script_events.specs.Losing.{told_of, events_of}
+use Rattle.script_events.specs.Losing.{loss_told, events_of}
 use Rattle.script_events.specs.Law.{spills_of}
 use Rattle.script_events.specs.Scripted.{Scripted, Piece, Add, Result, Fail, Hold, At, Now, Moment, Lose}
 use Rattle.script_events.specs.Scripted as scripted
 use Rattle.script_events.specs.Servers.{turn_of, lost_of}
 use Rattle.script_events.specs.declared.servers.servers.ScriptServers.{ScriptServers}
 use Rattle.script_run.specs.Standing.{story_of, HasSameStory}
-use Rattle.script_run.specs.Results.{CallResult, NumberedCall, ResultsAreTold, IsTold, call_of_result, calls_of}
+use Rattle.script_run.specs.Results.{CallResult, NumberedCall, ResultsAreTold, ResultIsTold, call_of_result, calls_of}
 use Rattle.script_run.specs.Stepping.{HasCalls, HasStory, HasStoryBy}
 use Rattle.script_run.specs.World.{lost_now}
 
 -- ---- losses
 
-one_more_loss : (es : List Event) (loss : Loss) → AreLosses es → AreLosses (es ++ lost_by (told_of loss) ∷ [])
+one_more_loss : (es : List Event) (loss : Loss) → AreLosses es → AreLosses (es ++ lost_by (loss_told loss) ∷ [])
 one_more_loss [] (LostItem server key) l = (refl, tt)
 one_more_loss [] (Restart server) l = tt
 one_more_loss (Turns server key turned ∷ es) loss l = (l.0, one_more_loss es loss l.1)
@@ -75,7 +75,7 @@ calls_told (Begins number ask ∷ past) = calls_told past
 calls_told (Replies number key reply from ∷ past) = calls_told past
 calls_told (Breaks number ∷ past) = calls_told past
 
-one_told : (r : CallResult) (before : ScriptServers) (earlier story : List Event) → IsTold r before earlier story → calls_of story ≡ call_of_result r ∷ calls_of earlier
+one_told : (r : CallResult) (before : ScriptServers) (earlier story : List Event) → ResultIsTold r before earlier story → calls_of story ≡ call_of_result r ∷ calls_of earlier
 one_told r before earlier story t =
     ap calls_of t.story_is
     ∙ ap (λ (cs : List NumberedCall). record { number = r.number; call = record { server = r.server; ask = r.ask; origin = r.origin; outcome = outcome_of t.end } } ∷ cs)

@@ -5,13 +5,13 @@ use Rattle.fresh_runs.specs.Run.{Event, held}
 use Rattle.fresh_runs.specs.Overlap.{Entry, Ticket, run_of, out_of}
 use Rattle.route_tree.specs.Route.{Route}
 use Rattle.core_proxy.specs.CoreState.{dialect}
-use Rattle.script_events.specs.Caches.{held_at}
+use Rattle.script_events.specs.Caches.{cache_held}
 use Rattle.script_events.specs.Opening.{opening_of}
 use Rattle.script_events.specs.Servers.{caches_of}
 use Rattle.script_events.specs.Scripted.{Scripted, Piece, Add, Result, Fail, Hold, At, Now, Moment}
 use Rattle.script_events.specs.declared.servers.servers.ScriptServers.{ScriptServers}
 use Rattle.script_run.specs.Results.{CallResult, AreOfFirst, ResultsAreTold, call_of_result, calls_of}
-use Rattle.script_run.specs.Standing.{Stands, story_of, HasSameStory}
+use Rattle.script_run.specs.Standing.{LogStands, story_of, HasSameStory}
 use Rattle.script_run.specs.Running.{kept_of, AreOfOne}
 use Rattle.script_run.specs.declared.driver.runner.Runner.{Runner}
 use Rattle.script_run.specs.Driving.{HasNoResult, FirstHasResult, BringsResults, BringsSome}
@@ -34,10 +34,10 @@ led_on events (r ∷ rs) deeds earlier story old new lead told = (told.0, told.1
 
 -- what servers hold
 abbrev pub AreHeld : List Scripted → List (Entry dialect) → ScriptServers → Type 0
-AreHeld events log servers = (s : ℕ) (key : List ℕ) → held (opening_of events) (run_of log) s key ≡ held_at (caches_of servers) s key
+AreHeld events log servers = (s : ℕ) (key : List ℕ) → held (opening_of events) (run_of log) s key ≡ cache_held (caches_of servers) s key
 
 -- servers hold what the run of a log that stands leaves on them
-pub held_so : (events : List Scripted) (tree : ℕ → Route) (log : List (Entry dialect)) (a : Runner) (servers : ScriptServers) → Stands (opening_of events) tree log (kept_of a servers) → AreHeld events log servers
+pub held_so : (events : List Scripted) (tree : ℕ → Route) (log : List (Entry dialect)) (a : Runner) (servers : ScriptServers) → LogStands (opening_of events) tree log (kept_of a servers) → AreHeld events log servers
 held_so events tree log a servers stands s key = sym (stands.leads.holds s key) ∙ stands.holds s key
 
 -- after deeds of this kind come as many results as there are
@@ -124,7 +124,7 @@ first_had server (call ∷ calls) rs more log of has =
 
 -- the results that an event asks for come, those of a piece in whichever turn
 pub brought_some :
-    (event : Scripted) (rs : List CallResult) (a : Runner) (s : ScriptServers) (opening : ℕ → List ℕ → Option Item) (tree : ℕ → Route) (more log : List (Entry dialect)) → Stands opening tree log (kept_of a s)
+    (event : Scripted) (rs : List CallResult) (a : Runner) (s : ScriptServers) (opening : ℕ → List ℕ → Option Item) (tree : ℕ → Route) (more log : List (Entry dialect)) → LogStands opening tree log (kept_of a s)
     → AreFit event rs → AreAskedBy event a s rs → HasCalls rs more log → BringsSome event log (more ++ log)
 brought_some (Piece client bytes) rs a s opening tree more log stands fit asked has = tt
 brought_some (Add client bytes) rs a s opening tree more log stands fit asked has = none_had rs more log fit has
@@ -137,7 +137,7 @@ brought_some (Moment moment) rs a s opening tree more log stands fit asked has =
 
 -- the results that an event asks for come, in their turn
 pub brought :
-    (event : Scripted) (rs : List CallResult) (a : Runner) (s : ScriptServers) (opening : ℕ → List ℕ → Option Item) (tree : ℕ → Route) (more log : List (Entry dialect)) → Stands opening tree log (kept_of a s)
+    (event : Scripted) (rs : List CallResult) (a : Runner) (s : ScriptServers) (opening : ℕ → List ℕ → Option Item) (tree : ℕ → Route) (more log : List (Entry dialect)) → LogStands opening tree log (kept_of a s)
     → AreFit event rs → AreAskedBy event a s rs → HasCalls rs more log → TakesTurns event rs more log → BringsResults event log (more ++ log)
 brought (Piece client bytes) rs a s opening tree more log stands fit asked has turns = record { results = rs; more = more; goes = refl; calls = has; in_turn = turns }
 brought (Add client bytes) rs a s opening tree more log stands fit asked has turns = brought_some (Add client bytes) rs a s opening tree more log stands fit asked has

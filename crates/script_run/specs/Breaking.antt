@@ -67,7 +67,7 @@ pub record StopsGiving (fault : FleetFault) (before after : ScriptServers) : Typ
   pub all : AreGivenAll fault before
 
 -- the servers gave some results, and each log that stood before goes on by them up to a runner, for which nothing more could be done, nor one result more be taken
-pub record StopsAfter (AreFit : List CallResult → Type 0) (old : Runner) (before : ScriptServers) (fault : FleetFault) (after : ScriptServers) : Type 0 where
+pub record BreaksOffAfter (AreFit : List CallResult → Type 0) (old : Runner) (before : ScriptServers) (fault : FleetFault) (after : ScriptServers) : Type 0 where
   pub mid : Runner
   pub at : ScriptServers
   pub results : List CallResult

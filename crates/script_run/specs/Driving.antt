@@ -32,7 +32,7 @@ use Rattle.script_events.specs.Servers.{turn_of}
 use Rattle.script_events.specs.declared.servers.servers.ScriptServers.{ScriptServers}
 use Rattle.script_run.specs.Results.{CallResult, call_of_result, calls_of}
 use Rattle.script_run.specs.Turns.{AreNextResults}
-use Rattle.script_run.specs.Standing.{Kept, Stands, replies_in_run, tree_by}
+use Rattle.script_run.specs.Standing.{Kept, LogStands, replies_in_run, tree_by}
 use Rattle.script_run.specs.World.{World}
 use Rattle.wire_stream.specs.Version.{default_version}
 
@@ -105,7 +105,7 @@ pub record IsDoneFor (log : List (Entry dialect)) (c : ℕ) : Type 0 where
   pub given : given_of log c ≡ output_of default_version log c
 
 -- nothing is left to do for any client that said something in these events, and no command is under way
-pub record IsSettled (events : List Scripted) (log : List (Entry dialect)) : Type 0 where
+pub record EventsAreSettled (events : List Scripted) (log : List (Entry dialect)) : Type 0 where
   pub clients : (c : ℕ) → (said_in events c ≡ []) ⊎ IsDoneFor log c
   pub free : (n : ℕ) → owner_of log n ≡ None
 
@@ -113,7 +113,7 @@ pub record IsSettled (events : List Scripted) (log : List (Entry dialect)) : Typ
 pub record IsStalledIn (events done : List Scripted) (log : List (Entry dialect)) : Type 0 where
   pub trees : ℕ → Route
   pub kept : Kept
-  pub stands : Stands (opening_of events) trees log kept
+  pub stands : LogStands (opening_of events) trees log kept
   pub clients : (c : ℕ) → (said_in done c ≡ []) ⊎ IsStalled kept.core c
 
 -- clients that said something in these events were given all that there was for them
@@ -131,7 +131,7 @@ pub record IsThrough (events done : List Scripted) (log : List (Entry dialect)) 
   pub servers : ScriptServers
   pub world : World events done older servers
   pub stalled : IsStalledIn events done older
-  pub settled : leaves_out false done ≡ false → IsSettled done older
+  pub settled : leaves_out false done ≡ false → EventsAreSettled done older
 
 -- the log has a part after each of so many events, with these outputs of each
 abbrev pub AreThrough : List Scripted → ℕ → List (Entry dialect) → List (List Shown) → Type 0
@@ -199,7 +199,7 @@ pub record IsServedFor (log : List (Entry dialect)) (c : ℕ) : Type 0 where
   pub shown : queue_of log c ≡ []
 
 -- nothing is left to do for any client that said something in these events but to hand out, and no command is under way
-pub record IsServed (events : List Scripted) (log : List (Entry dialect)) : Type 0 where
+pub record EventsAreServed (events : List Scripted) (log : List (Entry dialect)) : Type 0 where
   pub clients : (c : ℕ) → (said_in events c ≡ []) ⊎ IsServedFor log c
   pub free : (n : ℕ) → owner_of log n ≡ None
 
@@ -223,7 +223,7 @@ pub record ComesInCuts (done : List Scripted) (client : ℕ) (bytes : List ℕ) 
   pub served : List (Entry dialect)
   pub newer : List (Entry dialect)
   pub goes : after ≡ newer ++ served
-  pub come : CutsCome client (IsServed done) (last ∷ cuts) before served
+  pub come : CutsCome client (EventsAreServed done) (last ∷ cuts) before served
 
 -- how an event comes that is the last of these: of others than pieces nothing is said
 abbrev pub ComesSo : List Scripted → Scripted → List (Entry dialect) → List (Entry dialect) → Type 0
@@ -273,7 +273,7 @@ pub record IsMarked (events : List Scripted) (log : List (Entry dialect)) (given
   pub within : mark ≤ length given
   pub streams : (c : ℕ) → stream_of older c ≡ said_in (take place events) c
   pub given_is : (c : ℕ) → given_of older c ≡ shown_to (take mark given) c
-  pub settled : leaves_out false (take place events) ≡ false → IsSettled (take place events) older
+  pub settled : leaves_out false (take place events) ≡ false → EventsAreSettled (take place events) older
 
 -- the log has a part before each reload that has a mark
 abbrev pub AreMarked : List Scripted → List (Entry dialect) → List Shown → List Reload → List ℕ → Type 0
@@ -357,7 +357,7 @@ pub record DrivesStepped (first : Route) (refused : List Bool) (reloads : List R
   pub through : AreThrough events (length events) log outputs
   pub steps : AreSteps events (length events) log outputs
   pub marked : AreMarked events log given reloads marks
-  pub settled : IsSettled events log
+  pub settled : EventsAreSettled events log
   pub written : (c : ℕ) → IsWritten first loads events log c
   pub commands : report.commands ≡ commands_in (run_of log)
   -- each command had its reply
@@ -375,7 +375,7 @@ pub record DrivesStepped (first : Route) (refused : List Bool) (reloads : List R
 -- ---- what a fault leaves
 
 -- a beginning of what the next event says was said, after all that earlier ones say
-pub record IsSaid (done next : List Scripted) (log : List (Entry dialect)) (c : ℕ) : Type 0 where
+pub record IsSaidNext (done next : List Scripted) (log : List (Entry dialect)) (c : ℕ) : Type 0 where
   pub said : List ℕ
   pub unsaid : List ℕ
   pub cut : said_in next c ≡ said ++ unsaid
@@ -403,7 +403,7 @@ pub record StepsPart (first : Route) (refused : List Bool) (reloads : List Reloa
   pub later : List Scripted
   pub events_are : events ≡ done ++ (next ++ later)
   pub one : length next ≤ 1
-  pub streams : (c : ℕ) → IsSaid done next log c
+  pub streams : (c : ℕ) → IsSaidNext done next log c
   pub given_is : (c : ℕ) → given_of log c ≡ shown_to given c
   pub order : AreHandedInTurn given log
   -- what was handed out after each event, and what was after them

@@ -4,7 +4,7 @@ use Rattle.core_proxy.specs.Polls.{IsStalled}
 use Rattle.core_proxy.specs.declared.note.Poll.{Poll}
 use Rattle.core_proxy.specs.declared.note.Poll.TheVariants as polls
 use Rattle.core_proxy.specs.declared.proxy.Core.{Core}
-use Rattle.script_run.specs.Running.{IsIdle}
+use Rattle.script_run.specs.Running.{ClientIsIdle}
 use Rattle.script_run.specs.declared.driver.runner.Progress.{Progress}
 use Rattle.script_run.specs.declared.driver.runner.Progress.TheVariants.{Idle, Waits, Moved}
 use Rattle.script_run.specs.declared.driver.runner.Runner.{Runner}
@@ -25,13 +25,13 @@ TakesSo poll Moved old new = Unit {0}
 
 -- a poll of a client leaves this: where nothing was done, all is as it was, and nothing can be done for the client without a result
 abbrev pub LeavesSo : Progress → ℕ → Runner → Runner → Type 0
-LeavesSo Idle client old new = (new ≡ old) × IsIdle old.core client
+LeavesSo Idle client old new = (new ≡ old) × ClientIsIdle old.core client
 LeavesSo Waits client old new = (new ≡ old) × IsStalled old.core client
 LeavesSo Moved client old new = Unit {0}
 
 -- polls of so many clients leave this: where nothing was done, nothing can be done for any of the clients without a result
 abbrev pub AreStillBelow : Progress → ℕ → Core → Type 0
-AreStillBelow Idle count core = (c : ℕ) → c < count → IsIdle core c
+AreStillBelow Idle count core = (c : ℕ) → c < count → ClientIsIdle core c
 AreStillBelow Waits count core = (c : ℕ) → c < count → IsStalled core c
 AreStillBelow Moved count core = Unit {0}
 

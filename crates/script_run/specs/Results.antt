@@ -8,13 +8,13 @@ use Rattle.fresh_runs.specs.Run.{Event, Begins, Calls, Replies, Breaks, Turns, R
 use Rattle.fresh_runs.specs.Overlap.{Entry, Ticket as LogTicket, run_of}
 use Rattle.script_events.specs.declared.servers.event.Made.{Made}
 use Rattle.script_events.specs.Losing.{events_of}
-use Rattle.script_events.specs.Calling.{EndsAs}
+use Rattle.script_events.specs.Calling.{EndsByScript}
 use Rattle.script_events.specs.Law.{spills_of, caches_before, AreSpilled}
-use Rattle.script_events.specs.Servers.{turn_of, moment_of, named_of, lost_of, Answers}
+use Rattle.script_events.specs.Servers.{turn_of, moment_now, named_of, lost_of, Answers}
 use Rattle.script_events.specs.declared.servers.servers.ScriptServers.{ScriptServers}
 use Rattle.route_tree.specs.Route.{Route}
 use Rattle.core_proxy.specs.CoreState.{dialect}
-use Rattle.script_run.specs.Standing.{Kept, GoesOn, story_of}
+use Rattle.script_run.specs.Standing.{Kept, LogGoesOn, story_of}
 
 -- a call of a command, with the stamp of what it stores, and what came of it
 pub record CallResult : Type 0 where
@@ -55,12 +55,12 @@ calls_of (Turns server key turned ∷ past) = calls_of past
 calls_of (Restarts server ∷ past) = calls_of past
 
 -- what a result adds to the servers' story: its call ended as it was named, just after the losses that were named for it; and before those its server dropped by itself what had expired and what the call pushes out
-pub record IsTold (r : CallResult) (before : ScriptServers) (earlier story : List Event) : Type 0 where
+pub record ResultIsTold (r : CallResult) (before : ScriptServers) (earlier story : List Event) : Type 0 where
   pub end : End
-  pub as_named : EndsAs r.ask (named_of before (turn_of before + 1)) end
+  pub as_named : EndsByScript r.ask (named_of before (turn_of before + 1)) end
   pub outcome_is : r.made.outcome ≡ outcome_of end
   pub spilled : List (List ℕ)
-  pub are_spilled : AreSpilled (moment_of before) (caches_before before) r.server r.ask end spilled
+  pub are_spilled : AreSpilled (moment_now before) (caches_before before) r.server r.ask end spilled
   pub story_is : story ≡ Calls r.number r.server r.ask r.origin end ∷ (events_of (lost_of before (turn_of before + 1)) ++ (spills_of r.server spilled ++ earlier))
 
 -- the servers gave these results, the latest first, one after another: each by its server's table at the moment, after the losses named for it, and in the manner named for it; what is named stays
@@ -73,9 +73,9 @@ AreGiven (r ∷ rs) old new =
 abbrev pub ResultsAreTold : List CallResult → ScriptServers → ScriptServers → List Event → List Event → Type 0
 ResultsAreTold [] old new earlier story = (new ≡ old) × (story ≡ earlier)
 ResultsAreTold (r ∷ rs) old new earlier story =
-    (mid : ScriptServers) × (between : List Event) × ResultsAreTold rs old mid earlier between × Answers r.stamp mid r.server r.ask r.made new × (new ≡ record mid { caches = new.caches; turn = new.turn }) × IsTold r mid between story
+    (mid : ScriptServers) × (between : List Event) × ResultsAreTold rs old mid earlier between × Answers r.stamp mid r.server r.ask r.made new × (new ≡ record mid { caches = new.caches; turn = new.turn }) × ResultIsTold r mid between story
 
 -- the log goes on, and leads there; what befell the servers are these results
 pub record GoesOnWith (opening : ℕ → List ℕ → Option Item) (tree : ℕ → Route) (log : List (Entry dialect)) (before : ScriptServers) (results : List CallResult) (k : Kept) : Type 0 where
-  pub goes : GoesOn opening tree log k
+  pub goes : LogGoesOn opening tree log k
   pub told : ResultsAreTold results before k.servers (story_of (run_of log)) (story_of (run_of (goes.more ++ log)))

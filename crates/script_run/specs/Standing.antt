@@ -7,7 +7,7 @@ use Rattle.fresh_runs.specs.Overlap.{Owner, Entry, Ticket as LogTicket, run_of, 
 use Rattle.fresh_runs.specs.OverlapState.{LeadsTo}
 use Rattle.fresh_runs.specs.OverlapStream.{stream_of}
 use Rattle.cache_server.specs.Contents.{Contents}
-use Rattle.script_events.specs.Caches.{held_at}
+use Rattle.script_events.specs.Caches.{cache_held}
 use Rattle.script_events.specs.Found.{AreFound}
 use Rattle.script_events.specs.declared.servers.servers.ScriptServers.{ScriptServers}
 use Rattle.route_tree.specs.At.{tree_at}
@@ -80,7 +80,7 @@ log_calls_at server (ticket ∷ tickets) =
     else log_calls_at server tickets
 
 -- the log, with commands by these trees and servers that held these opening items, leads to the core and the servers as they are kept, for which every client is served, no command was broken off and nobody but the core writes the servers; and what is counted is what the log says
-pub record Stands (opening : ℕ → List ℕ → Option Item) (tree : ℕ → Route) (log : List (Entry dialect)) (k : Kept) : Type 0 where
+pub record LogStands (opening : ℕ → List ℕ → Option Item) (tree : ℕ → Route) (log : List (Entry dialect)) (k : Kept) : Type 0 where
   pub beside : Beside
   pub plain : beside.at ≡ (λ n key. tree_at (tree n) key)
   pub fits : FitsBeside k.core beside
@@ -89,7 +89,7 @@ pub record Stands (opening : ℕ → List ℕ → Option Item) (tree : ℕ → R
   pub served : (c : ℕ) → is_dropped log c ≡ false
   pub unbroken : broken_in (run_of log) ≡ 0
   pub loses : LosesOnly (run_of log)
-  pub holds : (s : ℕ) (key : List ℕ) → beside.holds s key ≡ held_at k.caches s key
+  pub holds : (s : ℕ) (key : List ℕ) → beside.holds s key ≡ cache_held k.caches s key
   pub turn : beside.turn ≡ k.turn
   pub out : (s : ℕ) → out_of log s ≡ log_calls_at s k.out
   pub known : (n : ℕ) (o : Owner) → owner_of log n ≡ Some o → AreFound (calls_so_far (run_of log) n) (beside.found n) (k.stamps n)
@@ -106,23 +106,23 @@ pub record LeavesAsMuch (before after : List (Entry dialect)) : Type 0 where
   pub owner : (n : ℕ) → owner_of after n ≡ owner_of before n
 
 -- the log goes on, and leads there; its clients said nothing more, and were given nothing more
-pub record GoesOn (opening : ℕ → List ℕ → Option Item) (tree : ℕ → Route) (log : List (Entry dialect)) (k : Kept) : Type 0 where
+pub record LogGoesOn (opening : ℕ → List ℕ → Option Item) (tree : ℕ → Route) (log : List (Entry dialect)) (k : Kept) : Type 0 where
   pub more : List (Entry dialect)
-  pub stands : Stands opening tree (more ++ log) k
+  pub stands : LogStands opening tree (more ++ log) k
   pub streams : (c : ℕ) → stream_of (more ++ log) c ≡ stream_of log c
   pub given : (c : ℕ) → given_of (more ++ log) c ≡ given_of log c
 
 -- the log goes on, and a client said these bytes
 pub record GoesOnFed (opening : ℕ → List ℕ → Option Item) (tree : ℕ → Route) (log : List (Entry dialect)) (client : ℕ) (bytes : List ℕ) (k : Kept) : Type 0 where
   pub more : List (Entry dialect)
-  pub stands : Stands opening tree (more ++ log) k
+  pub stands : LogStands opening tree (more ++ log) k
   pub streams : (c : ℕ) → stream_of (more ++ log) c ≡ (if nat_eq client c then stream_of log c ++ bytes else stream_of log c)
   pub given : (c : ℕ) → given_of (more ++ log) c ≡ given_of log c
 
 -- the log goes on, and a client was given these bytes, which were all that there was for it; nothing else was done
 pub record GoesOnGiven (opening : ℕ → List ℕ → Option Item) (tree : ℕ → Route) (log : List (Entry dialect)) (client : ℕ) (bytes : List ℕ) (k : Kept) : Type 0 where
   pub more : List (Entry dialect)
-  pub stands : Stands opening tree (more ++ log) k
+  pub stands : LogStands opening tree (more ++ log) k
   pub streams : (c : ℕ) → stream_of (more ++ log) c ≡ stream_of log c
   pub given : (c : ℕ) → given_of (more ++ log) c ≡ (if nat_eq client c then given_of log c ++ bytes else given_of log c)
   pub all : given_of (more ++ log) client ≡ output_of default_version (more ++ log) client
@@ -136,7 +136,7 @@ pub record CountsAsMany (old new : Kept) : Type 0 where
   pub last : (key : List ℕ) → new.last key ≡ old.last key
 
 -- the servers are as they were
-pub record HasServers (old new : Kept) : Type 0 where
+pub record HasServersStill (old new : Kept) : Type 0 where
   pub caches : new.caches ≡ old.caches
   pub turn : new.turn ≡ old.turn
 
@@ -146,7 +146,7 @@ FoundAsMuch old new = (n : ℕ) → new.stamps n ≡ old.stamps n
 
 -- all but the core is as it was
 pub record IsBesides (old new : Kept) : Type 0 where
-  pub servers : HasServers old new
+  pub servers : HasServersStill old new
   pub counts : CountsAsMany old new
   pub found : FoundAsMuch old new
   pub out : new.out ≡ old.out

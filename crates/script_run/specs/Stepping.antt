@@ -13,15 +13,15 @@ use Rattle.script_events.specs.Scripted.{Scripted, Piece, Add, Result, Fail, Hol
 use Rattle.script_events.specs.Opening.{opening_of}
 use Rattle.script_events.specs.declared.servers.servers.ScriptServers.{ScriptServers}
 use Rattle.script_run.specs.Results.{CallResult, AreGiven, ResultsAreTold, call_of_result, calls_of}
-use Rattle.script_run.specs.Standing.{Kept, story_of, HasSameStory, Stands, GoesOnFed, LeavesAsMuch, tree_by}
+use Rattle.script_run.specs.Standing.{Kept, story_of, HasSameStory, LogStands, GoesOnFed, LeavesAsMuch, tree_by}
 use Rattle.script_events.specs.declared.servers.event.FleetFault.{FleetFault}
 use Rattle.script_events.specs.declared.servers.event.FleetFault.TheVariants.{Spent}
 use Rattle.script_run.specs.Breaking.{AreSpent, IsWithinOne}
 use Rattle.script_run.specs.Turns.{AreNextResults}
-use Rattle.script_run.specs.Running.{kept_of, IsLoadedBy, AreOfOne, AreAsked, AreStalled, KeepStalled, IsAtRest}
+use Rattle.script_run.specs.Running.{kept_of, IsLoadedBy, AreOfOne, AreAskedOf, AreStalled, KeepStalled, RunnerRests}
 use Rattle.script_run.specs.declared.driver.runner.Runner.{Runner}
 use Rattle.script_run.specs.World.{EventChanges, lost_now, World}
-use Rattle.script_run.specs.Driving.{event_bytes, said_in, shown_to, joined_cuts, AreCuts, IsServedFor, CutsCome, AreHandedInTurn, AreRising, AreOutputs, HaveAllOutput, trees_loaded, loaded_trees, CameInTurn, leaves_out, IsSettled, AreThrough, AreSteps, AreMarked, StepsPart, AreSpentIn}
+use Rattle.script_run.specs.Driving.{event_bytes, said_in, shown_to, joined_cuts, AreCuts, IsServedFor, CutsCome, AreHandedInTurn, AreRising, AreOutputs, HaveAllOutput, trees_loaded, loaded_trees, CameInTurn, leaves_out, EventsAreSettled, AreThrough, AreSteps, AreMarked, StepsPart, AreSpentIn}
 use Rattle.wire_stream.specs.Version.{default_version}
 
 -- an event that asks clients nothing leaves as much to do as there was
@@ -38,7 +38,7 @@ LeavesBy (Moment moment) before after = LeavesAsMuch before after
 -- the log goes on, and clients said what the event says
 pub record GoesOnSaid (opening : ℕ → List ℕ → Option Item) (tree : ℕ → Route) (log : List (Entry dialect)) (event : Scripted) (k : Kept) : Type 0 where
   pub more : List (Entry dialect)
-  pub stands : Stands opening tree (more ++ log) k
+  pub stands : LogStands opening tree (more ++ log) k
   pub streams : (c : ℕ) → stream_of (more ++ log) c ≡ stream_of log c ++ event_bytes event c
   pub given : (c : ℕ) → given_of (more ++ log) c ≡ given_of log c
   pub left : LeavesBy event log (more ++ log)
@@ -59,19 +59,19 @@ HasStoryBy event results before after more log = ResultsAreTold results before a
 pub record FedBy (client : ℕ) (bytes : List ℕ) (old : Runner) (before : ScriptServers) (new : Runner) (after : ScriptServers) : Type 0 where
   pub results : List CallResult
   pub given : AreGiven results before after
-  pub goes : (opening : ℕ → List ℕ → Option Item) (tree : ℕ → Route) (log : List (Entry dialect)) → Stands opening tree log (kept_of old before) → (g : GoesOnFed opening tree log client bytes (kept_of new after)) × HasStory results before after g.more log
+  pub goes : (opening : ℕ → List ℕ → Option Item) (tree : ℕ → Route) (log : List (Entry dialect)) → LogStands opening tree log (kept_of old before) → (g : GoesOnFed opening tree log client bytes (kept_of new after)) × HasStory results before after g.more log
 
 -- a client said these bytes, and the servers gave some results, which come in their turn
 pub record FedInTurn (client : ℕ) (bytes : List ℕ) (old : Runner) (before : ScriptServers) (new : Runner) (after : ScriptServers) : Type 0 where
   pub fed : FedBy client bytes old before new after
   pub in_turn :
-      (opening : ℕ → List ℕ → Option Item) (tree : ℕ → Route) (log : List (Entry dialect)) (stands : Stands opening tree log (kept_of old before)) → AreNextResults fed.results (fed.goes opening tree log stands).0.more log
+      (opening : ℕ → List ℕ → Option Item) (tree : ℕ → Route) (log : List (Entry dialect)) (stands : LogStands opening tree log (kept_of old before)) → AreNextResults fed.results (fed.goes opening tree log stands).0.more log
 
 -- the same, and the bytes came at once, before anything was done of them
 pub record FedAtOnce (client : ℕ) (bytes : List ℕ) (old : Runner) (before : ScriptServers) (new : Runner) (after : ScriptServers) : Type 0 where
   pub turn : FedInTurn client bytes old before new after
   pub first :
-      (opening : ℕ → List ℕ → Option Item) (tree : ℕ → Route) (log : List (Entry dialect)) (stands : Stands opening tree log (kept_of old before))
+      (opening : ℕ → List ℕ → Option Item) (tree : ℕ → Route) (log : List (Entry dialect)) (stands : LogStands opening tree log (kept_of old before))
       → (rest : List (Entry dialect)) × ((turn.fed.goes opening tree log stands).0.more ≡ rest ++ Feeds client bytes ∷ [])
 
 -- nothing is left to do for so many clients but to hand out, and no command is under way
@@ -83,7 +83,7 @@ pub record IsServedBelow (count : ℕ) (log : List (Entry dialect)) : Type 0 whe
 pub record FedInCuts (client : ℕ) (cuts : List (List ℕ)) (old : Runner) (before : ScriptServers) (new : Runner) (after : ScriptServers) : Type 0 where
   pub turn : FedInTurn client (joined_cuts cuts) old before new after
   pub come :
-      (opening : ℕ → List ℕ → Option Item) (tree : ℕ → Route) (log : List (Entry dialect)) (stands : Stands opening tree log (kept_of old before))
+      (opening : ℕ → List ℕ → Option Item) (tree : ℕ → Route) (log : List (Entry dialect)) (stands : LogStands opening tree log (kept_of old before))
       → CutsCome client (IsServedBelow new.clients) cuts log ((turn.fed.goes opening tree log stands).0.more ++ log)
 
 -- a client said these bytes in cuts
@@ -125,7 +125,7 @@ AreFit (Moment moment) results = results ≡ []
 abbrev pub AreAskedBy : Scripted → Runner → ScriptServers → List CallResult → Type 0
 AreAskedBy (Piece client bytes) old before results = Unit {0}
 AreAskedBy (Add client bytes) old before results = Unit {0}
-AreAskedBy (Result server) old before results = AreAsked server old before results
+AreAskedBy (Result server) old before results = AreAskedOf server old before results
 AreAskedBy (Fail turn manner) old before results = Unit {0}
 AreAskedBy (Hold server key content) old before results = Unit {0}
 AreAskedBy (At turn loss) old before results = Unit {0}
@@ -151,14 +151,14 @@ pub record Befalls (event : Scripted) (old : Runner) (before : ScriptServers) (n
   pub given : AreGiven results mid after
   pub fit : AreFit event results
   pub asked : AreAskedBy event old before results
-  pub goes : (opening : ℕ → List ℕ → Option Item) (tree : ℕ → Route) (log : List (Entry dialect)) → Stands opening tree log (kept_of old before) → (g : GoesOnSaid opening tree log event (kept_of new after)) × HasStoryBy event results mid after g.more log
-  pub turns : (opening : ℕ → List ℕ → Option Item) (tree : ℕ → Route) (log : List (Entry dialect)) (stands : Stands opening tree log (kept_of old before)) → TakesTurns event results (goes opening tree log stands).0.more log
-  pub cuts : (opening : ℕ → List ℕ → Option Item) (tree : ℕ → Route) (log : List (Entry dialect)) (stands : Stands opening tree log (kept_of old before)) → CutsBy event new.clients log ((goes opening tree log stands).0.more ++ log)
+  pub goes : (opening : ℕ → List ℕ → Option Item) (tree : ℕ → Route) (log : List (Entry dialect)) → LogStands opening tree log (kept_of old before) → (g : GoesOnSaid opening tree log event (kept_of new after)) × HasStoryBy event results mid after g.more log
+  pub turns : (opening : ℕ → List ℕ → Option Item) (tree : ℕ → Route) (log : List (Entry dialect)) (stands : LogStands opening tree log (kept_of old before)) → TakesTurns event results (goes opening tree log stands).0.more log
+  pub cuts : (opening : ℕ → List ℕ → Option Item) (tree : ℕ → Route) (log : List (Entry dialect)) (stands : LogStands opening tree log (kept_of old before)) → CutsBy event new.clients log ((goes opening tree log stands).0.more ++ log)
 
 -- the log goes on, and clients said a beginning of what the event says
 pub record GoesOnInPart (opening : ℕ → List ℕ → Option Item) (tree : ℕ → Route) (log : List (Entry dialect)) (event : Scripted) (k : Kept) : Type 0 where
   pub more : List (Entry dialect)
-  pub stands : Stands opening tree (more ++ log) k
+  pub stands : LogStands opening tree (more ++ log) k
   pub said : ℕ → List ℕ
   pub unsaid : ℕ → List ℕ
   pub cut : (c : ℕ) → event_bytes event c ≡ said c ++ unsaid c
@@ -185,7 +185,7 @@ pub record BreaksOff (event : Scripted) (old : Runner) (before : ScriptServers) 
   pub come : (results ≡ []) ⊎ (EventChanges event before before × (lost_now event ≡ []))
   pub fit : AreFit event results
   pub asked : (results ≡ []) ⊎ AreAskedBy event old before results
-  pub goes : (opening : ℕ → List ℕ → Option Item) (tree : ℕ → Route) (log : List (Entry dialect)) → Stands opening tree log (kept_of old before) → (g : GoesOnInPart opening tree log event (kept_of mid at)) × HasStory results before at g.more log
+  pub goes : (opening : ℕ → List ℕ → Option Item) (tree : ℕ → Route) (log : List (Entry dialect)) → LogStands opening tree log (kept_of old before) → (g : GoesOnInPart opening tree log event (kept_of mid at)) × HasStory results before at g.more log
   pub within : IsWithinOne at after
   pub spent : AreSpent fault mid.core at
 
@@ -195,7 +195,7 @@ pub record IsHeard (event : Scripted) (old new : Runner) : Type 0 where
 
 -- after a piece nothing is left to do but to hand out, and after what is added, or a result, nothing more can be done without one; other events are none to clients
 abbrev pub RestsAfter : Scripted → Runner → Runner → Type 0
-RestsAfter (Piece client bytes) old new = IsAtRest new
+RestsAfter (Piece client bytes) old new = RunnerRests new
 RestsAfter (Add client bytes) old new = AreStalled new
 RestsAfter (Result server) old new = AreStalled new
 RestsAfter (Fail turn manner) old new = new ≡ old
@@ -211,7 +211,7 @@ IsGivenAll log c = given_of log c ≡ output_of default_version log c
 -- the log goes on, and where clients were given what was handed out before, they are given what is handed out after, in its order; these are given all that there is for them, and nothing else is done
 pub record GoesOnShown (AreGiven : ℕ → Type 0) (opening : ℕ → List ℕ → Option Item) (tree : ℕ → Route) (log : List (Entry dialect)) (before after : List Shown) (k : Kept) : Type 0 where
   pub more : List (Entry dialect)
-  pub stands : Stands opening tree (more ++ log) k
+  pub stands : LogStands opening tree (more ++ log) k
   pub streams : (c : ℕ) → stream_of (more ++ log) c ≡ stream_of log c
   pub given : ((c : ℕ) → given_of log c ≡ shown_to before c) → (c : ℕ) → given_of (more ++ log) c ≡ shown_to after c
   pub order : ((c : ℕ) → given_of log c ≡ shown_to before c) → AreHandedInTurn before log → AreHandedInTurn after (more ++ log)
@@ -224,7 +224,7 @@ pub record GoesOnShown (AreGiven : ℕ → Type 0) (opening : ℕ → List ℕ �
 -- each log that stood before goes on so
 abbrev pub HandsOut : (ℕ → Type 0) → List Shown → List Shown → Runner → Runner → Type 0
 HandsOut AreGiven before after old new =
-    (servers : ScriptServers) (opening : ℕ → List ℕ → Option Item) (tree : ℕ → Route) (log : List (Entry dialect)) → Stands opening tree log (kept_of old servers) → GoesOnShown AreGiven opening tree log before after (kept_of new servers)
+    (servers : ScriptServers) (opening : ℕ → List ℕ → Option Item) (tree : ℕ → Route) (log : List (Entry dialect)) → LogStands opening tree log (kept_of old servers) → GoesOnShown AreGiven opening tree log before after (kept_of new servers)
 
 -- output is handed out to all clients that were opened
 abbrev pub HandsOutAll : List Shown → List Shown → Runner → Runner → Type 0
@@ -233,7 +233,7 @@ HandsOutAll before after old new = HandsOut (λ c. c < old.clients) before after
 -- some output was handed out, until a fault came
 abbrev pub HandsSome : List Shown → List Shown → Runner → Type 0
 HandsSome before after old =
-    (servers : ScriptServers) (opening : ℕ → List ℕ → Option Item) (tree : ℕ → Route) (log : List (Entry dialect)) → Stands opening tree log (kept_of old servers)
+    (servers : ScriptServers) (opening : ℕ → List ℕ → Option Item) (tree : ℕ → Route) (log : List (Entry dialect)) → LogStands opening tree log (kept_of old servers)
     → (new : Runner) × GoesOnShown (λ c. ⊥) opening tree log before after (kept_of new servers)
 
 -- one output more of this client was handed out, which isn't empty, or none
@@ -252,7 +252,7 @@ pub record HasCome (first : Route) (refused : List Bool) (reloads : List Reload)
   pub loads : List (ℕ × Route)
   pub loads_are : loaded_trees loads ≡ trees_loaded refused reloads loaded
   pub in_turn : CameInTurn refused reloads events log loaded loads
-  pub stands : Stands (opening_of events) (tree_by first loads) log k
+  pub stands : LogStands (opening_of events) (tree_by first loads) log k
   pub streams : (c : ℕ) → said_in events c ≡ stream_of log c ++ said_in left c
   pub given_is : (c : ℕ) → given_of log c ≡ shown_to given c
   pub order : AreHandedInTurn given log
@@ -268,7 +268,7 @@ pub record HasStood (first : Route) (refused : List Bool) (reloads : List Reload
   pub all : HaveAllOutput come.done come.log
   pub through : AreThrough events (length come.done) come.log outputs
   pub steps : AreSteps events (length come.done) come.log outputs
-  pub settled : leaves_out false come.done ≡ false → IsSettled come.done come.log
+  pub settled : leaves_out false come.done ≡ false → EventsAreSettled come.done come.log
   pub stalled : (c : ℕ) → c < clients → IsStalled k.core c
   pub heard : (c : ℕ) → clients ≤ c → said_in come.done c ≡ []
   pub marked : AreMarked events come.log given reloads marks

@@ -8,7 +8,7 @@ use Rattle.core_commands.specs.declared.ticket.Ticket.{Ticket}
 use Rattle.core_proxy.specs.CoreState.{dialect}
 use Rattle.script_events.specs.declared.servers.servers.ScriptServers.{ScriptServers}
 use Rattle.script_run.specs.Results.{CallResult, AreOfFirst, call_of_result, calls_of}
-use Rattle.script_run.specs.Standing.{log_calls_at, Stands}
+use Rattle.script_run.specs.Standing.{log_calls_at, LogStands}
 use Rattle.script_run.specs.Running.{kept_of, MovesBy}
 use Rattle.script_run.specs.declared.driver.runner.Runner.{Runner}
 
@@ -52,4 +52,4 @@ pub record MovesInTurn (old : Runner) (before : ScriptServers) (new : Runner) (a
   pub results : List CallResult
   pub moves : MovesBy results old before new after
   pub in_turn :
-      (opening : ℕ → List ℕ → Option Item) (tree : ℕ → Route) (log : List (Entry dialect)) (stands : Stands opening tree log (kept_of old before)) → AreNextResults results (moves.goes opening tree log stands).goes.more log
+      (opening : ℕ → List ℕ → Option Item) (tree : ℕ → Route) (log : List (Entry dialect)) (stands : LogStands opening tree log (kept_of old before)) → AreNextResults results (moves.goes opening tree log stands).goes.more log

@@ -5,15 +5,15 @@ use Rattle.fresh_runs.specs.ScriptLog.{lost_by}
 use Rattle.fresh_runs.specs.Run.{Event, held}
 use Rattle.cache_server.specs.Contents.{Contents}
 use Rattle.script_events.specs.Caches as losing
-use Rattle.script_events.specs.Caches.{held_at}
+use Rattle.script_events.specs.Caches.{cache_held}
 use Rattle.script_events.specs.declared.servers.event.Loss.{Loss}
-use Rattle.script_events.specs.Servers.{caches_of, turn_of, moment_of, named_of, lost_of, Answers}
+use Rattle.script_events.specs.Servers.{caches_of, turn_of, moment_now, named_of, lost_of, Answers}
 use Rattle.script_events.specs.declared.servers.servers.ScriptServers.{ScriptServers}
 use Rattle.core_proxy.specs.CoreState.{dialect}
 use Rattle.script_events.specs.Opening.{opening_cache, opening_of}
 use Rattle.script_events.specs.Scripted.{Scripted, Piece, Add, Result, Fail, Hold, At, Now, Moment, loss_of}
 use Rattle.script_run.specs.Standing.{story_of}
-use Rattle.script_run.specs.Results.{CallResult, IsTold}
+use Rattle.script_run.specs.Results.{CallResult, ResultIsTold}
 
 -- The latest deed comes first.
 pub data Deed : Type 0 where
@@ -32,10 +32,10 @@ script_of_deeds (Ends ∷ deeds) = script_of_deeds deeds
 script_of_deeds (Gives r ∷ deeds) = script_of_deeds deeds
 
 -- servers at the start: they hold what the script puts there, no call was made or named, and the time is 0
-pub record AreOpened (events : List Scripted) (servers : ScriptServers) : Type 0 where
+pub record ServersAreOpened (events : List Scripted) (servers : ScriptServers) : Type 0 where
   pub caches : (s : ℕ) (cache : Contents) → slice_get (caches_of servers) s ≡ Some cache → cache ≡ opening_cache events s
   pub turn : turn_of servers ≡ 0
-  pub moment : moment_of servers ≡ pos 0
+  pub moment : moment_now servers ≡ pos 0
   pub named : (t : ℕ) → named_of servers t ≡ None
   pub lost : (t : ℕ) → lost_of servers t ≡ []
 
@@ -50,7 +50,7 @@ EventChanges (Fail turn manner) old new =
 EventChanges (At turn loss) old new =
     ((t : ℕ) → map loss_of (lost_of new t) ≡ (if nat_eq (turn_of old + turn) t then map loss_of (lost_of old t) ++ loss ∷ [] else map loss_of (lost_of old t))) × (new ≡ record old { losses = new.losses })
 EventChanges (Now loss) old new = ((lost : Loss) × (loss_of lost ≡ loss) × (caches_of new ≡ losing.after_loss (losing.loss_of lost) (caches_of old))) × (new ≡ record old { caches = new.caches })
-EventChanges (Moment moment) old new = (moment_of new ≡ moment) × (new ≡ record old { moment = new.moment })
+EventChanges (Moment moment) old new = (moment_now new ≡ moment) × (new ≡ record old { moment = new.moment })
 
 -- what an event adds to the servers' story by itself: what is lost now
 abbrev pub lost_now : Scripted → List Event
@@ -65,11 +65,11 @@ lost_now (Moment moment) = []
 
 -- these deeds led to the servers, and this is their story: each result is the answer of its server's table at that time, after what was named to be lost just before it, or it fails in the manner that was named; and nothing else befell them than what events lose, what servers drop by themselves, and calls that ended so
 abbrev pub LeadTo : List Scripted → List Deed → List Event → ScriptServers → Type 0
-LeadTo events [] story servers = (story ≡ []) × AreOpened events servers
+LeadTo events [] story servers = (story ≡ []) × ServersAreOpened events servers
 LeadTo events (Takes event ∷ deeds) story servers = (old : ScriptServers) × (earlier : List Event) × LeadTo events deeds earlier old × EventChanges event old servers × (story ≡ lost_now event ++ earlier)
 LeadTo events (Ends ∷ deeds) story servers = LeadTo events deeds story servers
 LeadTo events (Gives r ∷ deeds) story servers =
-    (old : ScriptServers) × (earlier : List Event) × LeadTo events deeds earlier old × Answers r.stamp old r.server r.ask r.made servers × (servers ≡ record old { caches = servers.caches; turn = servers.turn }) × IsTold r old earlier story
+    (old : ScriptServers) × (earlier : List Event) × LeadTo events deeds earlier old × Answers r.stamp old r.server r.ask r.made servers × (servers ≡ record old { caches = servers.caches; turn = servers.turn }) × ResultIsTold r old earlier story
 
 -- results come after a piece and at the end, as many as there are
 abbrev pub AreMany : List Deed → Type 0
@@ -111,4 +111,4 @@ pub record World (events done : List Scripted) (log : List (Entry dialect)) (ser
   pub script_is : script_of_deeds deeds ≡ done
   pub lead : LeadTo events deeds (story_of (run_of log)) servers
   pub in_turn : DeedsAreInTurn deeds
-  pub holds : (s : ℕ) (key : List ℕ) → held (opening_of events) (run_of log) s key ≡ held_at (caches_of servers) s key
+  pub holds : (s : ℕ) (key : List ℕ) → held (opening_of events) (run_of log) s key ≡ cache_held (caches_of servers) s key

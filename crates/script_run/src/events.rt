@@ -4,9 +4,9 @@ ghost use Rattle.std.specs.Prelude.{◌≡◌, ◌<◌, ◌≤◌, pos, ◌≤�
 ghost use Rattle.script_events.specs.declared.servers.event.FleetFault.TheVariants.{NoMemory};
 ghost use Rattle.script_events.specs.Bad.{bad_in};
 ghost use Rattle.script_events.specs.Scripted.{Scripted, Now, Moment, loss_of, scripted_of, transcript_of};
-ghost use Rattle.script_events.specs.Servers.{count_of};
+ghost use Rattle.script_events.specs.Servers.{count_of_servers};
 ghost use Rattle.script_run.specs.Breaking.{StopsFed};
-ghost use Rattle.script_run.specs.Running.{MovesFed, AreStalled, KeepStalled, IsAtRest};
+ghost use Rattle.script_run.specs.Running.{MovesFed, AreStalled, KeepStalled, RunnerRests};
 ghost use Rattle.script_run.specs.Stepping.{FedAtOnce, FedAsPiece, FedInPart, Befalls, BreaksOff, IsHeard, RestsAfter, HandsOut, HandsOutAll, HandsSome, AddsOne, AddsRising};
 
 use crate::driver::Runner;
@@ -22,9 +22,9 @@ fn serve(
     bytes: &[u8],
 ) -> Result<(), FleetFault>
     ensures ok { OnOk result (FedAtOnce client bytes.now runner.old servers.old runner.new servers.new) }
-    ensures count { count_of servers.new ≡ count_of servers.old }
+    ensures count { count_of_servers servers.new ≡ count_of_servers servers.old }
     ensures clients { OnOk result (runner.new.clients ≡ runner.old.clients) }
-    ensures rest { OnOk result (IsAtRest runner.new) }
+    ensures rest { OnOk result (RunnerRests runner.new) }
     ensures err { IfErr result (λ fault. FedInPart client bytes.now runner.old servers.old fault servers.new) }
 {
     runner.feed(client, bytes)?;
@@ -39,9 +39,9 @@ fn piece(
     bytes: &[u8],
 ) -> Result<(), FleetFault>
     ensures ok { OnOk result (FedAsPiece client bytes.now runner.old servers.old runner.new servers.new) }
-    ensures count { count_of servers.new ≡ count_of servers.old }
+    ensures count { count_of_servers servers.new ≡ count_of_servers servers.old }
     ensures opened { OnOk result ((client < runner.new.clients) × (runner.old.clients ≤ runner.new.clients)) }
-    ensures rest { OnOk result (IsAtRest runner.new) }
+    ensures rest { OnOk result (RunnerRests runner.new) }
     ensures err { IfErr result (λ fault. FedInPart client bytes.now runner.old servers.old fault servers.new) }
 {
     runner.open(client)?;
@@ -68,7 +68,7 @@ fn add(runner: &mut Runner, client: usize, bytes: &[u8]) -> Result<(), FleetFaul
 // Something is lost.
 fn lose(runner: &mut Runner, servers: &mut ScriptServers, loss: &Loss)
     ensures lost { Befalls (Now (loss_of loss.now)) runner.old servers.old runner.new servers.new }
-    ensures count { count_of servers.new ≡ count_of servers.old }
+    ensures count { count_of_servers servers.new ≡ count_of_servers servers.old }
     ensures same { runner.new ≡ runner.old }
 {
     losses_go_on();
@@ -79,7 +79,7 @@ fn lose(runner: &mut Runner, servers: &mut ScriptServers, loss: &Loss)
 fn set_clock(runner: &Runner, servers: &mut ScriptServers, moment: &i64)
     requires { pos 0 ≤ℤ moment.now }
     ensures timed { Befalls (Moment moment.now) runner.now servers.old runner.now servers.new }
-    ensures count { count_of servers.new ≡ count_of servers.old }
+    ensures count { count_of_servers servers.new ≡ count_of_servers servers.old }
 {
     let _unchanged = runner;
     servers.set_moment(*moment);
@@ -130,9 +130,9 @@ pub fn befall(
     servers: &mut ScriptServers,
     event: &Event,
 ) -> Result<(), FleetFault>
-    requires good { (before : List Scripted) × (bad_in (count_of servers.old) before (scripted_of event.now) ≡ false) }
+    requires good { (before : List Scripted) × (bad_in (count_of_servers servers.old) before (scripted_of event.now) ≡ false) }
     ensures ok { OnOk result (Befalls (scripted_of event.now) runner.old servers.old runner.new servers.new) }
-    ensures count { count_of servers.new ≡ count_of servers.old }
+    ensures count { count_of_servers servers.new ≡ count_of_servers servers.old }
     ensures heard { OnOk result (IsHeard (scripted_of event.now) runner.old runner.new) }
     ensures rest { OnOk result (RestsAfter (scripted_of event.now) runner.old runner.new) }
     ensures err { IfErr result (λ fault. BreaksOff (scripted_of event.now) runner.old servers.old fault servers.new) }

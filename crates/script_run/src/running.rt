@@ -5,9 +5,9 @@ ghost use Rattle.script_events.specs.declared.servers.event.FleetFault.TheVarian
 ghost use Rattle.route_tree.specs.Route.{Route};
 ghost use Rattle.route_json.specs.declared.addresses.servers.TheConstants.{MAX_SERVERS};
 ghost use Rattle.script_events.specs.Bad.{first_bad, Refuses};
-ghost use Rattle.script_events.specs.Reloads.{AreInOrder, is_refused};
-ghost use Rattle.script_events.specs.Scripted.{Scripted, scripted_of, transcript_of, fault_of};
-ghost use Rattle.script_events.specs.Servers.{AreNewServers, count_of};
+ghost use Rattle.script_events.specs.Reloads.{ReloadsInOrder, is_refused};
+ghost use Rattle.script_events.specs.Scripted.{Scripted, scripted_of, transcript_of, drive_fault_of};
+ghost use Rattle.script_events.specs.Servers.{AreNewServers, count_of_servers};
 ghost use Rattle.script_run.specs.Running.{kept_of};
 ghost use Rattle.script_run.specs.Driving.{DrivesStepped, EndsStepped, AreMarks};
 ghost use Rattle.script_run.specs.Stepping.{HasStood, TakesUp, Loads, LoadsInPart, StopsPart, IsDue};
@@ -74,10 +74,10 @@ fn load_due(
     marks: &mut Vec<usize>,
 ) -> Result<usize, FleetFault>
     requires within { before ≤ length reloads.now }
-    requires order { (end servers : ℕ) × AreInOrder end servers next (drop before reloads.now) }
+    requires order { (end servers : ℕ) × ReloadsInOrder end servers next (drop before reloads.now) }
     ensures ok { IfOk result (λ loaded. Loads refused.now reloads.now next shown before loaded marks.old.items marks.new.items runner.old runner.new) }
     ensures clients { OnOk result (runner.new.clients ≡ runner.old.clients) }
-    ensures order { IfOk result (λ loaded. (end servers : ℕ) → AreInOrder end servers next (drop before reloads.now) → AreInOrder end servers (next + 1) (drop loaded reloads.now)) }
+    ensures order { IfOk result (λ loaded. (end servers : ℕ) → ReloadsInOrder end servers next (drop before reloads.now) → ReloadsInOrder end servers (next + 1) (drop loaded reloads.now)) }
     ensures within { IfOk result (λ loaded. loaded ≤ length reloads.now) }
     ensures due { IfOk result (λ loaded. IsDue reloads.now loaded next → ⊥) }
     ensures marked { IfOk result (λ loaded. length marks.old.items ≡ before → length marks.new.items ≡ loaded) }
@@ -126,8 +126,8 @@ fn drive_over(
     transcript: &mut Transcript,
     marks: &mut Vec<usize>,
 ) -> Result<Report, FleetFault>
-    requires good { first_bad (count_of servers.old) (map scripted_of events.now) ≡ None }
-    requires order { AreInOrder (length events.now) (count_of servers.old) 0 reloads.now }
+    requires good { first_bad (count_of_servers servers.old) (map scripted_of events.now) ≡ None }
+    requires order { ReloadsInOrder (length events.now) (count_of_servers servers.old) 0 reloads.now }
     requires marks { marks.old.items ≡ [] }
     ensures ok { IfOk result (λ report. (first : Route) → HasStood first refused.now reloads.now (map scripted_of events.now) 0 (map scripted_of events.now) (transcript_of transcript.old) marks.old.items runner.old.clients (kept_of runner.old servers.old) → DrivesStepped first refused.now reloads.now (map scripted_of events.now) (transcript_of transcript.new) marks.new.items report) }
     ensures err { IfErr result (λ fault. (first : Route) → HasStood first refused.now reloads.now (map scripted_of events.now) 0 (map scripted_of events.now) (transcript_of transcript.old) marks.old.items runner.old.clients (kept_of runner.old servers.old) → StopsPart first refused.now reloads.now (map scripted_of events.now) (transcript_of transcript.new) marks.new.items servers.new fault) }
@@ -168,9 +168,9 @@ fn drive_events(
     transcript: &mut Transcript,
     marks: &mut Vec<usize>,
 ) -> Result<Report, FleetFault>
-    requires good { first_bad (count_of servers.old) (map scripted_of script.now.events.items) ≡ None }
-    requires order { AreInOrder (length script.now.events.items) (count_of servers.old) 0 reloads.now }
-    requires new { AreNewServers (count_of servers.old) servers.old }
+    requires good { first_bad (count_of_servers servers.old) (map scripted_of script.now.events.items) ≡ None }
+    requires order { ReloadsInOrder (length script.now.events.items) (count_of_servers servers.old) 0 reloads.now }
+    requires new { AreNewServers (count_of_servers servers.old) servers.old }
     requires transcript { transcript.old.shown.items ≡ [] }
     requires marks { marks.old.items ≡ [] }
     ensures ok { IfOk result (λ report. DrivesStepped config.now.tree refused.now reloads.now (map scripted_of script.now.events.items) (transcript_of transcript.new) marks.new.items report) }
@@ -196,7 +196,7 @@ fn drive_events(
 }
 
 fn drive_fault(fault: FleetFault) -> DriveFault
-    ensures { result ≡ fault_of fault }
+    ensures { result ≡ drive_fault_of fault }
 {
     match fault {
         FleetFault::NoMemory => DriveFault::NoMemory,
@@ -226,13 +226,13 @@ pub fn drive_stepped(
     transcript: &mut Transcript,
     marks: &mut Vec<usize>,
 ) -> Result<Report, DriveFault>
-    requires servers { length config.now.servers ≤ count_of servers.old }
-    requires few { count_of servers.old ≤ MAX_SERVERS }
-    requires order { AreInOrder (length script.now.events.items) (count_of servers.old) 0 reloads.now }
-    requires new { AreNewServers (count_of servers.old) servers.old }
+    requires servers { length config.now.servers ≤ count_of_servers servers.old }
+    requires few { count_of_servers servers.old ≤ MAX_SERVERS }
+    requires order { ReloadsInOrder (length script.now.events.items) (count_of_servers servers.old) 0 reloads.now }
+    requires new { AreNewServers (count_of_servers servers.old) servers.old }
     requires transcript { transcript.old.shown.items ≡ [] }
     requires marks { marks.old.items ≡ [] }
-    ensures refuses { MatchResult result (λ _. first_bad (count_of servers.old) (map scripted_of script.now.events.items) ≡ None) (Refuses (count_of servers.old) script.now) }
+    ensures refuses { MatchResult result (λ _. first_bad (count_of_servers servers.old) (map scripted_of script.now.events.items) ≡ None) (Refuses (count_of_servers servers.old) script.now) }
     ensures ok { IfOk result (λ report. DrivesStepped config.now.tree refused.now reloads.now (map scripted_of script.now.events.items) (transcript_of transcript.new) marks.new.items report) }
     ensures fault { IfErr result (λ fault. EndsStepped config.now.tree refused.now reloads.now (map scripted_of script.now.events.items) transcript.new marks.new.items servers.old servers.new fault) }
     ensures marked { OnOk result (length marks.new.items ≡ length reloads.now) }

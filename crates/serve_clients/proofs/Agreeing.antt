@@ -4,7 +4,7 @@ use Rattle.std.proofs.lemmas.Bool.{cases_eq}
 use Rattle.std.specs.Prelude.{IfSome, OnOk, OnErr, slice_get}
 use Rattle.std.specs.Option.{option_map, option_flatten}
 use Rattle.wire_parts.specs.Sending.{bytes_of}
-use Rattle.serve_wire.specs.Events.{Event, role}
+use Rattle.serve_wire.specs.Events.{WireEvent, role}
 use Rattle.serve_wire.specs.Agreement.{ClientAgrees, ClientLost, IsUntouched, TouchesOnly}
 use Rattle.serve_wire.specs.Flow.{ReadsOn, SendsOn}
 use Rattle.serve_wire.specs.declared.outcomes.Ready.{Ready}
@@ -12,7 +12,7 @@ use Rattle.serve_wire.proofs.Steps.{apart, client_stays}
 use Rattle.serve_wire.proofs.Flows.{client_reads, client_sends}
 use Rattle.serve_clients.specs.declared.clients.Client.{Client}
 use Rattle.serve_clients.specs.declared.clients.Clients.{Clients}
-use Rattle.serve_clients.specs.Marks.{client_of, Changes, AreAlike, with_ready, with_unsent, with_busy, ready_if, unsent_if, told_of, one_settled, one_got, one_answered, one_waits, one_waited}
+use Rattle.serve_clients.specs.Marks.{client_of, Changes, AreAlike, with_ready, with_unsent, with_busy, ready_if, unsent_if, with_told, one_settled, one_got, one_answered, one_waits, one_waited}
 use Rattle.serve_clients.specs.Agrees.{end_said_of, StateAgrees, EndAgrees, AllAgree, KeepsEnds}
 use Rattle.serve_clients.proofs.Marked.{changed, kept}
 
@@ -23,10 +23,10 @@ not_both true off on = absurd cc
 not_both false off on = absurd cc
 
 -- what agrees wholly agrees in what is left when its end is broken off
-pub client_lost : (h : List Event) (input output : ℕ → List ℕ) (i c : ℕ) (held unsent : List ℕ) → ClientAgrees h input output i c held unsent → ClientLost h input output i c
+pub client_lost : (h : List WireEvent) (input output : ℕ → List ℕ) (i c : ℕ) (held unsent : List ℕ) → ClientAgrees h input output i c held unsent → ClientLost h input output i c
 client_lost h input output i c held unsent was = record { is_its = was.is_its; unread = held; input_is = was.input_is; unsent = unsent; output_is = was.output_is }
 
-pub lost_stays : (h h' : List Event) (input output : ℕ → List ℕ) (i c : ℕ) → IsUntouched c h h' → ClientLost h input output i c → ClientLost h' input output i c
+pub lost_stays : (h h' : List WireEvent) (input output : ℕ → List ℕ) (i c : ℕ) → IsUntouched c h h' → ClientLost h input output i c → ClientLost h' input output i c
 lost_stays h h' input output i c same was = record {
   is_its = same.same_role ∙ was.is_its;
   unread = was.unread;
@@ -36,7 +36,7 @@ lost_stays h h' input output i c same was = record {
 }
 
 -- whose its connection is
-pub its : (h : List Event) (input output : ℕ → List ℕ) (id : ℕ) (x : Client) → EndAgrees h input output id x → role x.conn.number h ≡ Some (0, id)
+pub its : (h : List WireEvent) (input output : ℕ → List ℕ) (id : ℕ) (x : Client) → EndAgrees h input output id x → role x.conn.number h ≡ Some (0, id)
 its h input output id x was = by x.is_broken refl
   where
     by : (b : Bool) → x.is_broken ≡ b → role x.conn.number h ≡ Some (0, id)
@@ -45,7 +45,7 @@ its h input output id x was = by x.is_broken refl
 
 -- one that is as it was, over a connection of which all is as it was
 pub state_stays :
-    (h h' : List Event) (input output : ℕ → List ℕ) (id c : ℕ) (held unsent : List ℕ) (b e : Bool) → IsUntouched c h h'
+    (h h' : List WireEvent) (input output : ℕ → List ℕ) (id c : ℕ) (held unsent : List ℕ) (b e : Bool) → IsUntouched c h h'
     → StateAgrees h input output id c held unsent b e → StateAgrees h' input output id c held unsent b e
 state_stays h h' input output id c held unsent b e same was = record {
   stands = λ off. client_stays h h' input output id c held unsent same (was.stands off);
@@ -55,7 +55,7 @@ state_stays h h' input output id c held unsent b e same was = record {
 
 -- what came is held, and the end isn't broken off
 pub end_reads :
-    (h h' : List Event) (c c' : ℕ) (held held' unsent unsent' : List ℕ) (b b' e e' : Bool) → e ≡ false → ReadsOn c held held' h h' → c' ≡ c → unsent' ≡ unsent → b' ≡ b
+    (h h' : List WireEvent) (c c' : ℕ) (held held' unsent unsent' : List ℕ) (b b' e e' : Bool) → e ≡ false → ReadsOn c held held' h h' → c' ≡ c → unsent' ≡ unsent → b' ≡ b
     → (input output : ℕ → List ℕ) (id : ℕ) → StateAgrees h input output id c held unsent b e → StateAgrees h' input output id c' held' unsent' b' e'
 end_reads h h' c c' held held' unsent unsent' b b' e e' goes r same_c same_u same_b input output id was =
     subst (λ k. StateAgrees h' input output id k held' unsent' b' e') (sym same_c) (subst (λ u. StateAgrees h' input output id c held' u b' e') (sym same_u) (subst (λ k. StateAgrees h' input output id c held' unsent k e') (sym same_b) now))
@@ -69,7 +69,7 @@ end_reads h h' c c' held held' unsent unsent' b b' e e' goes r same_c same_u sam
 
 -- what came is lost, and so is what was to be sent
 pub end_breaks :
-    (h h' : List Event) (c c' : ℕ) (held held' unsent : List ℕ) (b e : Bool) (held'' unsent'' : List ℕ) (b'' e'' : Bool) → e ≡ false → ReadsOn c held held' h h' → c' ≡ c → held'' ≡ [] → b'' ≡ true → e'' ≡ true
+    (h h' : List WireEvent) (c c' : ℕ) (held held' unsent : List ℕ) (b e : Bool) (held'' unsent'' : List ℕ) (b'' e'' : Bool) → e ≡ false → ReadsOn c held held' h h' → c' ≡ c → held'' ≡ [] → b'' ≡ true → e'' ≡ true
     → (input output : ℕ → List ℕ) (id : ℕ) → StateAgrees h input output id c held unsent b e → StateAgrees h' input output id c' held'' unsent'' b'' e''
 end_breaks h h' c c' held held' unsent b e held'' unsent'' b'' e'' goes r same_c none broken ended input output id was =
     subst (λ k. StateAgrees h' input output id k held'' unsent'' b'' e'') (sym same_c) (by b refl)
@@ -84,7 +84,7 @@ end_breaks h h' c c' held held' unsent b e held'' unsent'' b'' e'' goes r same_c
 
 -- the first of what is to be sent went
 pub end_sends :
-    (h h' : List Event) (c c' : ℕ) (held held' unsent unsent' : List ℕ) (b b' e e' : Bool) → b ≡ false → SendsOn c unsent unsent' h h' → c' ≡ c → held' ≡ held → b' ≡ b
+    (h h' : List WireEvent) (c c' : ℕ) (held held' unsent unsent' : List ℕ) (b b' e e' : Bool) → b ≡ false → SendsOn c unsent unsent' h h' → c' ≡ c → held' ≡ held → b' ≡ b
     → (input output : ℕ → List ℕ) (id : ℕ) → StateAgrees h input output id c held unsent b e → StateAgrees h' input output id c' held' unsent' b' e'
 end_sends h h' c c' held held' unsent unsent' b b' e e' stood s same_c same_h same_b input output id was =
     subst (λ k. StateAgrees h' input output id k held' unsent' b' e') (sym same_c) (subst (λ u. StateAgrees h' input output id c u unsent' b' e') (sym same_h) (subst (λ k. StateAgrees h' input output id c held unsent' k e') (sym same_b) now))
@@ -98,7 +98,7 @@ end_sends h h' c c' held held' unsent unsent' b b' e e' stood s same_c same_h sa
 
 -- the first of it went, and the rest is lost
 pub end_fails :
-    (h h' : List Event) (c c' : ℕ) (held unsent unsent' : List ℕ) (b e : Bool) (held'' unsent'' : List ℕ) (b'' e'' : Bool) → b ≡ false → SendsOn c unsent unsent' h h' → c' ≡ c → held'' ≡ [] → b'' ≡ true → e'' ≡ true
+    (h h' : List WireEvent) (c c' : ℕ) (held unsent unsent' : List ℕ) (b e : Bool) (held'' unsent'' : List ℕ) (b'' e'' : Bool) → b ≡ false → SendsOn c unsent unsent' h h' → c' ≡ c → held'' ≡ [] → b'' ≡ true → e'' ≡ true
     → (input output : ℕ → List ℕ) (id : ℕ) → StateAgrees h input output id c held unsent b e → StateAgrees h' input output id c' held'' unsent'' b'' e''
 end_fails h h' c c' held unsent unsent' b e held'' unsent'' b'' e'' stood s same_c none broken ended input output id was =
     subst (λ k. StateAgrees h' input output id k held'' unsent'' b'' e'') (sym same_c) (record {
@@ -109,7 +109,7 @@ end_fails h h' c c' held unsent unsent' b e held'' unsent'' b'' e'' stood s same
 
 -- it is broken off, once more or now
 pub state_breaks :
-    (h : List Event) (c c' : ℕ) (held unsent held'' unsent'' : List ℕ) (b b'' e e'' : Bool) → c' ≡ c → held'' ≡ [] → b'' ≡ true → e'' ≡ true
+    (h : List WireEvent) (c c' : ℕ) (held unsent held'' unsent'' : List ℕ) (b b'' e e'' : Bool) → c' ≡ c → held'' ≡ [] → b'' ≡ true → e'' ≡ true
     → (input output : ℕ → List ℕ) (id : ℕ) → StateAgrees h input output id c held unsent b e → StateAgrees h input output id c' held'' unsent'' b'' e''
 state_breaks h c c' held unsent held'' unsent'' b b'' e e'' same_c none broken ended input output id was =
     subst (λ k. StateAgrees h input output id k held'' unsent'' b'' e'') (sym same_c) (by b refl)
@@ -122,13 +122,13 @@ state_breaks h c c' held unsent held'' unsent'' b b'' e e'' same_c none broken e
 
 -- a client agrees still where another's connection was read or written
 pub other_stays :
-    (h h' : List Event) (input output : ℕ → List ℕ) (i j c : ℕ) (y : Client) → TouchesOnly c h h' → role c h ≡ Some (0, i) → i ≢ j → EndAgrees h input output j y → EndAgrees h' input output j y
+    (h h' : List WireEvent) (input output : ℕ → List ℕ) (i j c : ℕ) (y : Client) → TouchesOnly c h h' → role c h ≡ Some (0, i) → i ≢ j → EndAgrees h input output j y → EndAgrees h' input output j y
 other_stays h h' input output i j c y only of_c differ was =
     state_stays h h' input output j y.conn.number y.conn.held.items (bytes_of y.conn.unsent) y.is_broken y.is_ended (only y.conn.number (apart c y.conn.number h (0, i) (0, j) of_c (its h input output j y was) (λ e. differ (ap (λ (p : ℕ × ℕ). p.1) e)))) was
 
 -- so it is where a server's connection was
 pub by_server_stays :
-    (h h' : List Event) (input output : ℕ → List ℕ) (s j c : ℕ) (y : Client) → TouchesOnly c h h' → role c h ≡ Some (1, s) → EndAgrees h input output j y → EndAgrees h' input output j y
+    (h h' : List WireEvent) (input output : ℕ → List ℕ) (s j c : ℕ) (y : Client) → TouchesOnly c h h' → role c h ≡ Some (1, s) → EndAgrees h input output j y → EndAgrees h' input output j y
 by_server_stays h h' input output s j c y only of_c was =
     state_stays h h' input output j y.conn.number y.conn.held.items (bytes_of y.conn.unsent) y.is_broken y.is_ended (only y.conn.number (apart c y.conn.number h (1, s) (0, j) of_c (its h input output j y was) (λ e. one_zero (ap (λ (p : ℕ × ℕ). p.0) e)))) was
   where
@@ -136,13 +136,13 @@ by_server_stays h h' input output s j c y only of_c was =
     one_zero e = cc
 
 -- ends that are as they were agree as they did
-abbrev of_said : (h : List Event) (input output : ℕ → List ℕ) (id : ℕ) → ℕ × List ℕ × List ℕ × Bool × Bool → Type 0
+abbrev of_said : (h : List WireEvent) (input output : ℕ → List ℕ) (id : ℕ) → ℕ × List ℕ × List ℕ × Bool × Bool → Type 0
 of_said h input output id s = StateAgrees h input output id s.0 s.1 s.2 s.3 s.4
 
 same_some : {x y : ℕ × List ℕ × List ℕ × Bool × Bool} → ◌≡◌ {A = Option (ℕ × List ℕ × List ℕ × Bool × Bool)} (Some x) (Some y) → x ≡ y
 same_some e = cc
 
-pub agree_still : (h : List Event) (input output : ℕ → List ℕ) (old new : Clients) → KeepsEnds old new → AllAgree h input output old → AllAgree h input output new
+pub agree_still : (h : List WireEvent) (input output : ℕ → List ℕ) (old new : Clients) → KeepsEnds old new → AllAgree h input output old → AllAgree h input output new
 agree_still h input output old new keeps was id = by (client_of old id) (client_of new id) (keeps id) (was id)
   where
     by : (x y : Option Client) → option_map end_said_of y ≡ option_map end_said_of x → IfSome x (EndAgrees h input output id) → IfSome y (EndAgrees h input output id)
@@ -211,8 +211,8 @@ pub unsent_said : (writes : Bool) (x : Client) → end_said_of (unsent_if writes
 unsent_said true x = refl
 unsent_said false x = refl
 
-pub told_keeps : (told : Ready) (at : ℕ) (old new : Clients) → Changes (told_of told) at old new → KeepsEnds old new
-told_keeps told at old new is = keeps_by (told_of told) at old new (λ x. refl) is
+pub told_keeps : (told : Ready) (at : ℕ) (old new : Clients) → Changes (with_told told) at old new → KeepsEnds old new
+told_keeps told at old new is = keeps_by (with_told told) at old new (λ x. refl) is
 
 pub idle_keeps : (at : ℕ) (old new : Clients) → Changes (with_ready false) at old new → KeepsEnds old new
 idle_keeps at old new is = keeps_by (with_ready false) at old new (λ x. refl) is

@@ -9,7 +9,7 @@ use Rattle.serve_clients.specs.declared.clients.Client.{Client}
 use Rattle.serve_clients.specs.declared.clients.Clients.{Clients}
 use Rattle.serve_clients.specs.declared.clients.Marking.{Marking}
 use Rattle.serve_wire.specs.declared.outcomes.Ready.{Ready}
-use Rattle.serve_clients.specs.Marks.{client_of, Changes, AreAlike, EndsBusy, client_is_idle, is_marked, HasMarked, with_busy, ids_if, ready_if, unsent_if, told_of, noted, will_send}
+use Rattle.serve_clients.specs.Marks.{client_of, Changes, AreAlike, EndsBusy, client_is_idle, is_marked, HasMarked, with_busy, ids_if, ready_if, unsent_if, with_told, noted, will_send}
 
 -- what was put at a place is there
 at_place : {A : Type 0} (xs : List A) (i : ℕ) (x : A) → i < length xs → slice_get (slice_set xs i x) i ≡ Some x
@@ -152,47 +152,47 @@ changed_twice {A = A} f g xs ys zs i a b = b ∙ ap (λ l. slice_set l i (option
     both (Some x ∷ xs) zero = refl
     both (x ∷ xs) (suc i) = ap (λ l. x ∷ l) (both xs i)
 
-noted_by : (told : Ready) (sends : Bool) (o : Option Client) → sends ≡ will_send told o → option_map (λ x. unsent_if sends (ready_if told.reads (told_of told x))) o ≡ option_map (noted told) o
+noted_by : (told : Ready) (sends : Bool) (o : Option Client) → sends ≡ will_send told o → option_map (λ x. unsent_if sends (ready_if told.reads (with_told told x))) o ≡ option_map (noted told) o
 noted_by told sends None e = refl
-noted_by told sends (Some x) e = ap (λ b. Some (unsent_if b (ready_if told.reads (told_of told x)))) e
+noted_by told sends (Some x) e = ap (λ b. Some (unsent_if b (ready_if told.reads (with_told told x)))) e
 
 -- what was told was noted, and then marked
 pub noted_so : (told : Ready) (sends : Bool) (xs ys zs ws : List (Option Client)) (i : ℕ) → sends ≡ will_send told (option_flatten (slice_get xs i))
-    → ys ≡ slice_set xs i (option_map (told_of told) (option_flatten (slice_get xs i)))
+    → ys ≡ slice_set xs i (option_map (with_told told) (option_flatten (slice_get xs i)))
     → zs ≡ slice_set ys i (option_map (ready_if told.reads) (option_flatten (slice_get ys i)))
     → ws ≡ slice_set zs i (option_map (unsent_if sends) (option_flatten (slice_get zs i)))
     → ws ≡ slice_set xs i (option_map (noted told) (option_flatten (slice_get xs i)))
 noted_so told sends xs ys zs ws i e a b d =
-    changed_twice (λ x. ready_if told.reads (told_of told x)) (unsent_if sends) xs zs ws i (changed_twice (told_of told) (ready_if told.reads) xs ys zs i a b) d
+    changed_twice (λ x. ready_if told.reads (with_told told x)) (unsent_if sends) xs zs ws i (changed_twice (with_told told) (ready_if told.reads) xs ys zs i a b) d
     ∙ ap (slice_set xs i) (noted_by told sends (option_flatten (slice_get xs i)) e)
 
 -- a client that was told of stands in the lists as before
-told_ready : (told : Ready) (b : Bool) (o : Option Client) (id : ℕ) (ids : List ℕ) → ids_if b (λ x. x.is_ready) (option_map (told_of told) o) id ids ≡ ids_if b (λ x. x.is_ready) o id ids
+told_ready : (told : Ready) (b : Bool) (o : Option Client) (id : ℕ) (ids : List ℕ) → ids_if b (λ x. x.is_ready) (option_map (with_told told) o) id ids ≡ ids_if b (λ x. x.is_ready) o id ids
 told_ready told b None id ids = refl
 told_ready told b (Some x) id ids = refl
 
-told_unsent : (told : Ready) (reads b : Bool) (o : Option Client) (id : ℕ) (ids : List ℕ) → ids_if b (λ x. x.has_output) (option_map (ready_if reads) (option_map (told_of told) o)) id ids ≡ ids_if b (λ x. x.has_output) o id ids
+told_unsent : (told : Ready) (reads b : Bool) (o : Option Client) (id : ℕ) (ids : List ℕ) → ids_if b (λ x. x.has_output) (option_map (ready_if reads) (option_map (with_told told) o)) id ids ≡ ids_if b (λ x. x.has_output) o id ids
 told_unsent told reads b None id ids = refl
 told_unsent told true b (Some x) id ids = refl
 told_unsent told false b (Some x) id ids = refl
 
 pub served_so : (told : Ready) (xs ys : List (Option Client)) (i : ℕ) (old between ready new : List ℕ)
-    → ys ≡ slice_set xs i (option_map (told_of told) (option_flatten (slice_get xs i))) → between ≡ old
+    → ys ≡ slice_set xs i (option_map (with_told told) (option_flatten (slice_get xs i))) → between ≡ old
     → ready ≡ ids_if told.reads (λ x. x.is_ready) (option_flatten (slice_get ys i)) i between → new ≡ ready
     → new ≡ ids_if told.reads (λ x. x.is_ready) (option_flatten (slice_get xs i)) i old
 served_so told xs ys i old between ready new a same b last =
     last ∙ b ∙ ap (λ l. ids_if told.reads (λ x. x.is_ready) (option_flatten (slice_get ys i)) i l) same
-    ∙ ap (λ o. ids_if told.reads (λ x. x.is_ready) o i old) (changed (told_of told) xs ys i a) ∙ told_ready told told.reads (option_flatten (slice_get xs i)) i old
+    ∙ ap (λ o. ids_if told.reads (λ x. x.is_ready) o i old) (changed (with_told told) xs ys i a) ∙ told_ready told told.reads (option_flatten (slice_get xs i)) i old
 
 pub unsent_so : (told : Ready) (sends : Bool) (xs ys zs : List (Option Client)) (i : ℕ) (old between new : List ℕ) → sends ≡ will_send told (option_flatten (slice_get xs i))
-    → ys ≡ slice_set xs i (option_map (told_of told) (option_flatten (slice_get xs i)))
+    → ys ≡ slice_set xs i (option_map (with_told told) (option_flatten (slice_get xs i)))
     → zs ≡ slice_set ys i (option_map (ready_if told.reads) (option_flatten (slice_get ys i))) → between ≡ old
     → new ≡ ids_if sends (λ x. x.has_output) (option_flatten (slice_get zs i)) i between
     → new ≡ ids_if (will_send told (option_flatten (slice_get xs i))) (λ x. x.has_output) (option_flatten (slice_get xs i)) i old
 unsent_so told sends xs ys zs i old between new e a b same d =
     let flat : List (Option Client) → Option Client = λ l. option_flatten (slice_get l i) in
     d ∙ ap (λ l. ids_if sends (λ x. x.has_output) (flat zs) i l) same
-    ∙ ap (λ o. ids_if sends (λ x. x.has_output) o i old) (changed (ready_if told.reads) ys zs i b ∙ ap (option_map (ready_if told.reads)) (changed (told_of told) xs ys i a))
+    ∙ ap (λ o. ids_if sends (λ x. x.has_output) o i old) (changed (ready_if told.reads) ys zs i b ∙ ap (option_map (ready_if told.reads)) (changed (with_told told) xs ys i a))
     ∙ told_unsent told told.reads sends (flat xs) i old
     ∙ ap (λ s. ids_if s (λ x. x.has_output) (flat xs) i old) e
 

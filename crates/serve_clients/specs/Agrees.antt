@@ -2,7 +2,7 @@
 use Rattle.std.specs.Prelude.{◌≡◌, ℕ, Bool, true, false, List, [], IfSome}
 use Rattle.std.specs.Option.{option_map}
 use Rattle.wire_parts.specs.Sending.{bytes_of}
-use Rattle.serve_wire.specs.Events.{Event}
+use Rattle.serve_wire.specs.Events.{WireEvent}
 use Rattle.serve_wire.specs.Agreement.{ClientAgrees, ClientLost}
 use Rattle.serve_clients.specs.declared.clients.Client.{Client}
 use Rattle.serve_clients.specs.declared.clients.Clients.{Clients}
@@ -20,20 +20,20 @@ pub record Breaks (old new : Client) : Type 0 where
 
 -- what is known of this client's input and output is what its connection delivered and took, but for what its end holds of both; of one that
 -- is broken off it is the first of that, and nothing more is taken from it
-pub record StateAgrees (h : List Event) (input output : ℕ → List ℕ) (id conn : ℕ) (held unsent : List ℕ) (is_broken is_ended : Bool) : Type 0 where
+pub record StateAgrees (h : List WireEvent) (input output : ℕ → List ℕ) (id conn : ℕ) (held unsent : List ℕ) (is_broken is_ended : Bool) : Type 0 where
   pub stands : is_broken ≡ false → ClientAgrees h input output id conn held unsent
   pub lost : is_broken ≡ true → ClientLost h input output id conn
   pub ended : is_broken ≡ true → (held ≡ []) × (is_ended ≡ true)
 
-abbrev pub EndAgrees : List Event → (ℕ → List ℕ) → (ℕ → List ℕ) → ℕ → Client → Type 0
+abbrev pub EndAgrees : List WireEvent → (ℕ → List ℕ) → (ℕ → List ℕ) → ℕ → Client → Type 0
 EndAgrees h input output id x = StateAgrees h input output id x.conn.number x.conn.held.items (bytes_of x.conn.unsent) x.is_broken x.is_ended
 
 -- whatever is known of the input and the output of a client, its end agrees with that still
-abbrev pub GoesOnAgreeing : List Event → List Event → Client → Client → Type 0
+abbrev pub GoesOnAgreeing : List WireEvent → List WireEvent → Client → Client → Type 0
 GoesOnAgreeing h h' old new = (input output : ℕ → List ℕ) (id : ℕ) → EndAgrees h input output id old → EndAgrees h' input output id new
 
 -- all clients' ends agree
-abbrev pub AllAgree : List Event → (ℕ → List ℕ) → (ℕ → List ℕ) → Clients → Type 0
+abbrev pub AllAgree : List WireEvent → (ℕ → List ℕ) → (ℕ → List ℕ) → Clients → Type 0
 AllAgree h input output clients = (id : ℕ) → IfSome (client_of clients id) (EndAgrees h input output id)
 
 -- all clients have the ends that they had

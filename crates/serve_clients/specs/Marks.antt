@@ -81,8 +81,8 @@ will_send told None = false
 will_send told (Some x) = told.writes && has_unsent x
 
 -- the client with what the system told of its socket, beside what it told before
-abbrev pub told_of : Ready → Client → Client
-told_of told x = record x { conn = record x.conn { readable = x.conn.readable || told.reads; writable = x.conn.writable || told.writes; closing = x.conn.closing || told.closes } }
+abbrev pub with_told : Ready → Client → Client
+with_told told x = record x { conn = record x.conn { readable = x.conn.readable || told.reads; writable = x.conn.writable || told.writes; closing = x.conn.closing || told.closes } }
 
 -- the client, to be served where it is so
 abbrev pub ready_if : Bool → Client → Client
@@ -93,7 +93,7 @@ unsent_if writes x = if writes then with_unsent true x else x
 
 -- and after that was noted: what can be read is to be read, and what can be sent and is there is to be sent
 abbrev pub noted : Ready → Client → Client
-noted told x = unsent_if (told.writes && has_unsent x) (ready_if told.reads (told_of told x))
+noted told x = unsent_if (told.writes && has_unsent x) (ready_if told.reads (with_told told x))
 
 -- each client of these ids is busy no longer, and no other is changed
 pub record EndsBusy (ids : List ℕ) (old new : Clients) : Type 0 where

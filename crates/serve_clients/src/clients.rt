@@ -4,7 +4,7 @@ ghost use Rattle.std.specs.Prelude.{◌≡◌, ◌≢◌, ◌↔◌, IsTrue, ℕ
 ghost use Rattle.std.specs.Option.{option_map, option_flatten, option_copied_mut};
 ghost use Rattle.std.specs.Borrow.{sem};
 ghost use Rattle.wire_parts.specs.Sending.{bytes_of};
-ghost use Rattle.serve_clients.specs.Marks.{client_of, Changes, AreAlike, EndsBusy, ids_with, ids_if, client_is_idle, is_marked, HasMarked, AreListed, with_ready, with_unsent, with_busy, ready_if, unsent_if, told_of, noted, will_send, one_settled, one_got, one_answered, one_waits, one_waited};
+ghost use Rattle.serve_clients.specs.Marks.{client_of, Changes, AreAlike, EndsBusy, ids_with, ids_if, client_is_idle, is_marked, HasMarked, AreListed, with_ready, with_unsent, with_busy, ready_if, unsent_if, with_told, noted, will_send, one_settled, one_got, one_answered, one_waits, one_waited};
 ghost use Rattle.serve_clients.specs.Agrees.{Breaks, KeepsEnds};
 ghost use Rattle.serve_clients.specs.Lending.{LendsClient};
 ghost use Rattle.serve_clients.specs.Waits.{waits_a_turn};
@@ -456,7 +456,7 @@ fn end_busy_at(place: &mut Option<Client>) -> bool
 
 // What the system told of its socket: whether something can be sent to it, and is there.
 fn note_at(place: &mut Option<Client>, told: Ready) -> bool
-    ensures client { place.new ≡ option_map (told_of told) place.old }
+    ensures client { place.new ≡ option_map (with_told told) place.old }
     ensures sends { result ≡ will_send told place.old }
 {
     match place {
@@ -854,7 +854,7 @@ impl Clients {
 
     // What the system told: whether something can be sent to it, and is there.
     fn note_told(&mut self, id: usize, told: Ready) -> bool
-        ensures client { Changes (told_of told) id self.old self.new }
+        ensures client { Changes (with_told told) id self.old self.new }
         ensures sends { result ≡ will_send told (client_of self.old id) }
         ensures rest { self.new ≡ record self.old { all = self.new.all } }
     {

@@ -8,14 +8,14 @@ use Rattle.mc_types.specs.Items.{Item}
 use Rattle.fresh_runs.specs.Calls.{Call, End, outcome_of}
 use Rattle.fresh_runs.specs.Run.{Event, Begins, Calls, Replies, Breaks, Turns, Restarts, under_way, calls_so_far, IsNewNumber, IsFront}
 use Rattle.fresh_runs.specs.Overlap as log
-use Rattle.fresh_runs.specs.Overlap.{Ticket, Entry, Happens, Owner, run_of, owner_of, out_of, ticket_in, without, Follows}
+use Rattle.fresh_runs.specs.Overlap.{Ticket, Entry, Happens, Owner, run_of, owner_of, out_of, ticket_in, without_ticket, Follows}
 use Rattle.fresh_runs.proofs.Runs.{some_ask, no_ask, differs, second, new_calls}
 use Rattle.core_proxy.specs.CoreState.{dialect}
 use Rattle.core_accepted.specs.Late as at_servers
-use Rattle.core_accepted.specs.Late.{Moment, Lands, seen, begun}
+use Rattle.core_accepted.specs.Late.{Moment, Lands, seen, begun_late}
 use Rattle.core_accepted.specs.Parts.{Own}
 use Rattle.core_accepted.proofs.Late.{way_begun}
-use Rattle.serve_links.specs.InOrder.{Move, OfProxy, OfServer, log_of, with_commands, moments_in, AreApplied, IsAwaited, TellAlike, TellAlways}
+use Rattle.serve_links.specs.InOrder.{Move, OfProxy, OfServer, log_of, with_commands, moments_in, AreApplied, CallIsAwaited, TellAlike, TellAlways}
 use Rattle.serve_links.proofs.InOrder.{way_entries, same_way}
 
 -- lists of tickets and calls
@@ -33,12 +33,12 @@ ticket_after (t ∷ tickets) ticket n other none =
 ticket_behind : (t : Ticket) (tickets : List Ticket) (n : ℕ) → ticket_in (t ∷ tickets) n ≡ None → ticket_in tickets n ≡ None
 ticket_behind t tickets n none = (elim (nat_eq t.number n) as (λ b. cond b (Some t) (ticket_in tickets n) ≡ None → ticket_in tickets n ≡ None) [ true ↦ λ e. absurd (some_none e) | false ↦ λ e. e ]) none
 
-ticket_without : (tickets : List Ticket) (m n : ℕ) → ticket_in tickets n ≡ None → ticket_in (without m tickets) n ≡ None
+ticket_without : (tickets : List Ticket) (m n : ℕ) → ticket_in tickets n ≡ None → ticket_in (without_ticket m tickets) n ≡ None
 ticket_without [] m n none = none
 ticket_without (t ∷ tickets) m n none =
-    elim (nat_eq t.number m) as (λ d. ticket_in (cond d tickets (t ∷ without m tickets)) n ≡ None) [
+    elim (nat_eq t.number m) as (λ d. ticket_in (cond d tickets (t ∷ without_ticket m tickets)) n ≡ None) [
       | true ↦ ticket_behind t tickets n none
-      | false ↦ (elim (nat_eq t.number n) as (λ b. cond b (Some t) (ticket_in tickets n) ≡ None → cond b (Some t) (ticket_in (without m tickets) n) ≡ None) [
+      | false ↦ (elim (nat_eq t.number n) as (λ b. cond b (Some t) (ticket_in tickets n) ≡ None → cond b (Some t) (ticket_in (without_ticket m tickets) n) ≡ None) [
         | true ↦ λ e. absurd (some_none e)
         | false ↦ λ e. ticket_without tickets m n e
       ]) none
@@ -73,10 +73,10 @@ not_longer xs ys a b e (inl f) = let l = longer xs a in let g = ap length e in l
 not_longer xs ys a b e (inr f) = let l = longer xs a in let g = ap length e in let h = ap length f in let k = longer ys b in omega (arith, l, g, h, k)
 
 -- what has begun has a lower number than what begins
-begun_below : (x : ℕ) (past : List Event) (n : ℕ) (ask : Ask) → IsNewNumber x past → begun past n ≡ Some ask → n < x
+begun_below : (x : ℕ) (past : List Event) (n : ℕ) (ask : Ask) → IsNewNumber x past → begun_late past n ≡ Some ask → n < x
 begun_below x [] n ask new e = no_ask ask e
 begun_below x (Begins m client ∷ past) n ask new e =
-    (elim (nat_eq m n) as (λ b. nat_eq m n ≡ b → cond b (Some client) (begun past n) ≡ Some ask → n < x) [
+    (elim (nat_eq m n) as (λ b. nat_eq m n ≡ b → cond b (Some client) (begun_late past n) ≡ Some ask → n < x) [
       | true ↦ λ is _. subst (λ k. k < x) (eqb-true m n is) new.0
       | false ↦ λ _ e. begun_below x past n ask new.1 e
     ]) refl e
@@ -86,7 +86,7 @@ begun_below x (Breaks m ∷ past) n ask new e = begun_below x past n ask new.1 e
 begun_below x (Turns server key turned ∷ past) n ask new e = begun_below x past n ask new e
 begun_below x (Restarts server ∷ past) n ask new e = begun_below x past n ask new e
 
-begun_unlike : (x : ℕ) (past : List Event) (n : ℕ) (ask : Ask) → IsNewNumber x past → begun past n ≡ Some ask → nat_eq x n ≡ false
+begun_unlike : (x : ℕ) (past : List Event) (n : ℕ) (ask : Ask) → IsNewNumber x past → begun_late past n ≡ Some ask → nat_eq x n ≡ false
 begun_unlike x past n ask new e = let lt = begun_below x past n ask new e in differs x n (λ is. omega (arith, lt, is))
 
 least : (x : ℕ) (past : List Event) → IsNewNumber x past → 0 < x
@@ -100,8 +100,8 @@ least x (Restarts server ∷ past) new = least x past new
 
 -- what happened has what the log has
 begun_entries :
-    (entries : List (Entry dialect)) (moments : List Moment) (past : List (Entry dialect)) (n : ℕ) → begun (seen moments) n ≡ begun (run_of past) n
-    → begun (seen (with_commands (run_of entries) moments)) n ≡ begun (run_of (entries ++ past)) n
+    (entries : List (Entry dialect)) (moments : List Moment) (past : List (Entry dialect)) (n : ℕ) → begun_late (seen moments) n ≡ begun_late (run_of past) n
+    → begun_late (seen (with_commands (run_of entries) moments)) n ≡ begun_late (run_of (entries ++ past)) n
 begun_entries [] moments past n same = same
 begun_entries (log.Feeds client bytes ∷ entries) moments past n same = begun_entries entries moments past n same
 begun_entries (log.Starts client number part ∷ entries) moments past n same = ap (λ x. cond (nat_eq number n) (Some part.ask) x) (begun_entries entries moments past n same)
@@ -120,7 +120,7 @@ begun_entries (log.Drops client ∷ entries) moments past n same = begun_entries
 begun_entries (log.Frees number ∷ entries) moments past n same = begun_entries entries moments past n same
 begun_entries (log.Resets client ∷ entries) moments past n same = begun_entries entries moments past n same
 
-begun_moment : (place : ℕ) (moment : Moment) (past : List Move) (n : ℕ) → AreApplied (OfServer place moment ∷ past) → begun (seen (moment ∷ moments_in past)) n ≡ begun (seen (moments_in past)) n
+begun_moment : (place : ℕ) (moment : Moment) (past : List Move) (n : ℕ) → AreApplied (OfServer place moment ∷ past) → begun_late (seen (moment ∷ moments_in past)) n ≡ begun_late (seen (moments_in past)) n
 begun_moment place (at_servers.Does (Calls number server ask origin end)) past n applied = refl
 begun_moment place (Lands number server ask origin stamp answer spaces) past n applied = refl
 begun_moment place (at_servers.Does (Turns server key turned)) past n applied = refl
@@ -129,7 +129,7 @@ begun_moment place (at_servers.Does (Begins number ask)) past n applied = absurd
 begun_moment place (at_servers.Does (Replies number key reply from)) past n applied = absurd applied.0
 begun_moment place (at_servers.Does (Breaks number)) past n applied = absurd applied.0
 
-same_begun : (moves : List Move) → AreApplied moves → (n : ℕ) → begun (seen (moments_in moves)) n ≡ begun (run_of (log_of moves)) n
+same_begun : (moves : List Move) → AreApplied moves → (n : ℕ) → begun_late (seen (moments_in moves)) n ≡ begun_late (run_of (log_of moves)) n
 same_begun [] applied n = refl
 same_begun (OfProxy step entries ∷ past) applied n = begun_entries entries (moments_in past) (log_of past) n (same_begun past applied n)
 same_begun (OfServer place moment ∷ past) applied n = begun_moment place moment past n applied ∙ same_begun past applied.1 n
@@ -167,7 +167,7 @@ record Over (l : List (Entry dialect)) (n : ℕ) : Type 0 where
   owner : owner_of l n ≡ None
   out : (s : ℕ) → ticket_in (out_of l s) n ≡ None
   ask : Ask
-  begins : begun (run_of l) n ≡ Some ask
+  begins : begun_late (run_of l) n ≡ Some ask
 
 module _ (words : ℕ → Ask → List Call → Answer → Option ℕ → Type 0) (Bars : ℕ → Ask → ℕ → Ask → Type 0) (believes : ℕ → List ℕ → Option Item) (version : List ℕ) where
   abbrev Follow : List (Entry dialect) → Type 0
@@ -180,7 +180,7 @@ module _ (words : ℕ → Ask → List Call → Answer → Option ℕ → Type 0
   over_stays (log.Feeds client bytes) l f n over = (record { owner = over.owner; out = over.out; ask = over.ask; begins = over.begins }, refl)
   over_stays (log.Starts client m part) l f n over =
       let u = begun_unlike m (run_of l) n over.ask f.0.0.0 over.begins in
-      (record { owner = second (nat_eq m n) (Some (record { client = client; ask = part.ask })) (owner_of l n) u ∙ over.owner; out = over.out; ask = over.ask; begins = second (nat_eq m n) (Some part.ask) (begun (run_of l) n) u ∙ over.begins }, refl)
+      (record { owner = second (nat_eq m n) (Some (record { client = client; ask = part.ask })) (owner_of l n) u ∙ over.owner; out = over.out; ask = over.ask; begins = second (nat_eq m n) (Some part.ask) (begun_late (run_of l) n) u ∙ over.begins }, refl)
   over_stays (log.Sends m server ask origin) l f n over =
       let u = unlike_owner l m n f.0.0.0 f.0.0.1 over.owner in
       let t : Ticket = record { number = m; ask = ask; origin = origin } in (
@@ -196,7 +196,7 @@ module _ (words : ℕ → Ask → List Call → Answer → Option ℕ → Type 0
       let u : nat_eq m n ≡ false = differs m n (λ is. some_none (sym f.0.1 ∙ ap (ticket_in (out_of l server)) is ∙ over.out server)) in (
         record {
           owner = over.owner;
-          out = λ s. elim (nat_eq server s) as (λ b. ticket_in (cond b (without m (out_of l s)) (out_of l s)) n ≡ None) [ true ↦ ticket_without (out_of l s) m n (over.out s) | false ↦ over.out s ];
+          out = λ s. elim (nat_eq server s) as (λ b. ticket_in (cond b (without_ticket m (out_of l s)) (out_of l s)) n ≡ None) [ true ↦ ticket_without (out_of l s) m n (over.out s) | false ↦ over.out s ];
           ask = over.ask;
           begins = over.begins;
         },
@@ -218,11 +218,11 @@ module _ (words : ℕ → Ask → List Call → Answer → Option ℕ → Type 0
   over_stays (log.Resets client) l f n over = (record { owner = over.owner; out = over.out; ask = over.ask; begins = over.begins }, refl)
 
   -- what has begun has begun
-  begun_stays : (entries l : List (Entry dialect)) → Follow (entries ++ l) → (n : ℕ) (ask : Ask) → begun (run_of l) n ≡ Some ask → begun (run_of (entries ++ l)) n ≡ Some ask
+  begun_stays : (entries l : List (Entry dialect)) → Follow (entries ++ l) → (n : ℕ) (ask : Ask) → begun_late (run_of l) n ≡ Some ask → begun_late (run_of (entries ++ l)) n ≡ Some ask
   begun_stays [] l f n ask is = is
   begun_stays (log.Starts client m part ∷ entries) l f n ask is =
       let before = begun_stays entries l f.1 n ask is in
-      second (nat_eq m n) (Some part.ask) (begun (run_of (entries ++ l)) n) (begun_unlike m (run_of (entries ++ l)) n ask f.0.0.0 before) ∙ before
+      second (nat_eq m n) (Some part.ask) (begun_late (run_of (entries ++ l)) n) (begun_unlike m (run_of (entries ++ l)) n ask f.0.0.0 before) ∙ before
   begun_stays (log.Feeds client bytes ∷ entries) l f n ask is = begun_stays entries l f.1 n ask is
   begun_stays (log.Sends m server asked origin ∷ entries) l f n ask is = begun_stays entries l f.1 n ask is
   begun_stays (Happens (Calls m server asked origin end) ∷ entries) l f n ask is = begun_stays entries l f.1 n ask is
@@ -244,13 +244,13 @@ module _ (words : ℕ → Ask → List Call → Answer → Option ℕ → Type 0
   before_them (e ∷ entries) l f = before_them entries l f.1
 
   -- a number that is new to what has begun is new
-  new_number : (x : ℕ) (events : List Event) → Own words Bars events → 0 < x → ((n : ℕ) (ask : Ask) → begun events n ≡ Some ask → n < x) → IsNewNumber x events
+  new_number : (x : ℕ) (events : List Event) → Own words Bars events → 0 < x → ((n : ℕ) (ask : Ask) → begun_late events n ≡ Some ask → n < x) → IsNewNumber x events
   new_number x [] own least all = omega (arith, least)
   new_number x (Begins m client ∷ past) own least all = (
-    all m client (ap (λ b. cond b (Some client) (begun past m)) (eq-eqb m m refl)),
+    all m client (ap (λ b. cond b (Some client) (begun_late past m)) (eq-eqb m m refl)),
     new_number x past own.1 least (λ n ask e. (elim (nat_eq m n) as (λ b. nat_eq m n ≡ b → n < x) [
-      | true ↦ λ is. all n client (ap (λ b. cond b (Some client) (begun past n)) is)
-      | false ↦ λ is. all n ask (ap (λ b. cond b (Some client) (begun past n)) is ∙ e)
+      | true ↦ λ is. all n client (ap (λ b. cond b (Some client) (begun_late past n)) is)
+      | false ↦ λ is. all n ask (ap (λ b. cond b (Some client) (begun_late past n)) is ∙ e)
     ]) refl),
   )
   new_number x (Calls m server asked origin end ∷ past) own least all = (all m own.0.0 (way_begun past m own.0.0 own.0.1), new_number x past own.1 least all)
@@ -269,7 +269,7 @@ module _ (words : ℕ → Ask → List Call → Answer → Option ℕ → Type 0
   -- in a step of the proxy
   own_entries :
       (entries : List (Entry dialect)) (moments : List Moment) (l : List (Entry dialect)) → Follow (entries ++ l) → Own words Bars (seen moments)
-      → ((n : ℕ) → under_way (seen moments) n ≡ under_way (run_of l) n) → ((n : ℕ) → begun (seen moments) n ≡ begun (run_of l) n)
+      → ((n : ℕ) → under_way (seen moments) n ≡ under_way (run_of l) n) → ((n : ℕ) → begun_late (seen moments) n ≡ begun_late (run_of l) n)
       → ((n : ℕ) → Over (entries ++ l) n → calls_so_far (seen moments) n ≡ calls_so_far (run_of (entries ++ l)) n) → Own words Bars (seen (with_commands (run_of entries) moments))
   own_entries [] moments l f own way begins calls = own
   own_entries (log.Starts client m part ∷ entries) moments l f own way begins calls =
@@ -319,10 +319,10 @@ module _ (words : ℕ → Ask → List Call → Answer → Option ℕ → Type 0
   abbrev pub AreFront : ℕ → Ask → List Call → Type 0
   AreFront n client calls = (calls ≡ []) ⊎ IsFront words n client calls
 
-  log_fronts : (events : List Event) → Own words Bars events → (n : ℕ) (client : Ask) → begun events n ≡ Some client → AreFront n client (calls_so_far events n)
+  log_fronts : (events : List Event) → Own words Bars events → (n : ℕ) (client : Ask) → begun_late events n ≡ Some client → AreFront n client (calls_so_far events n)
   log_fronts [] own n client is = no_ask client is
   log_fronts (Begins m ask ∷ past) own n client is =
-      (elim (nat_eq m n) as (λ b. nat_eq m n ≡ b → cond b (Some ask) (begun past n) ≡ Some client → AreFront n client (calls_so_far past n)) [
+      (elim (nat_eq m n) as (λ b. nat_eq m n ≡ b → cond b (Some ask) (begun_late past n) ≡ Some client → AreFront n client (calls_so_far past n)) [
         | true ↦ λ e _. inl (new_calls n past (subst (λ k. IsNewNumber k past) (eqb-true m n e) own.0.0))
         | false ↦ λ _ is. log_fronts past own.1 n client is
       ]) refl is
@@ -330,7 +330,7 @@ module _ (words : ℕ → Ask → List Call → Answer → Option ℕ → Type 0
       let c : Call = record { server = server; ask = ask; origin = origin; outcome = outcome_of end } in
       (elim (nat_eq m n) as (λ b. nat_eq m n ≡ b → AreFront n client (cond b (calls_so_far past n ++ c ∷ []) (calls_so_far past n))) [
         | true ↦ λ e. (let same = eqb-true m n e in
-            let its : own.0.0 ≡ client = some_ask own.0.0 client (sym (way_begun past m own.0.0 own.0.1) ∙ ap (begun past) same ∙ is) in
+            let its : own.0.0 ≡ client = some_ask own.0.0 client (sym (way_begun past m own.0.0 own.0.1) ∙ ap (begun_late past) same ∙ is) in
             inr (subst (λ k. IsFront words k client (calls_so_far past k ++ c ∷ [])) same (subst (λ (a : Ask). IsFront words m a (calls_so_far past m ++ c ∷ [])) its own.0.3)))
         | false ↦ λ _. log_fronts past own.1 n client is
       ]) refl
@@ -340,7 +340,7 @@ module _ (words : ℕ → Ask → List Call → Answer → Option ℕ → Type 0
   log_fronts (Restarts server ∷ past) own n client is = log_fronts past own.1 n client is
 
   abbrev pub Fronts : List Move → Type 0
-  Fronts moves = (n : ℕ) (client : Ask) → begun (run_of (log_of moves)) n ≡ Some client → AreFront n client (calls_so_far (seen (moments_in moves)) n)
+  Fronts moves = (n : ℕ) (client : Ask) → begun_late (run_of (log_of moves)) n ≡ Some client → AreFront n client (calls_so_far (seen (moments_in moves)) n)
 
   -- where a call of a command ended
   module _ (place number server : ℕ) (ask : Ask) (origin : Origin) (end : End) (past : List Move) where
@@ -354,12 +354,12 @@ module _ (words : ℕ → Ask → List Call → Answer → Option ℕ → Type 0
     now_is = ap (λ b. cond b (calls_before ++ its ∷ []) calls_before) (eq-eqb number number refl)
 
     -- it is the one that is out
-    is_out : TellAlike (OfServer place (at_servers.Does (Calls number server ask origin end)) ∷ past) → TellAlike past → IsAwaited (log_of past) number its
+    is_out : TellAlike (OfServer place (at_servers.Does (Calls number server ask origin end)) ∷ past) → TellAlike past → CallIsAwaited (log_of past) number its
     is_out now was =
         ⊎_elim
         (λ e. absurd (⊎_elim (λ f. not_longer calls_before (calls_so_far (run_of (log_of past)) number) its its (sym now_is ∙ e) (inl f))
         (λ f. not_longer calls_before (calls_so_far (run_of (log_of past)) number) its f.0 (sym now_is ∙ e) (inr f.1)) (was number)))
-        (λ f. subst (λ (c : Call). IsAwaited (log_of past) number c) (sym (last_same calls_before (calls_so_far (run_of (log_of past)) number) its f.0 (sym now_is ∙ f.1)).1) f.2)
+        (λ f. subst (λ (c : Call). CallIsAwaited (log_of past) number c) (sym (last_same calls_before (calls_so_far (run_of (log_of past)) number) its f.0 (sym now_is ∙ f.1)).1) f.2)
         (now number)
 
     fronts_before : Fronts (OfServer place (at_servers.Does (Calls number server ask origin end)) ∷ past) → Fronts past
@@ -369,7 +369,7 @@ module _ (words : ℕ → Ask → List Call → Answer → Option ℕ → Type 0
           | false ↦ λ f. f
         ]) (fronts n client is)
 
-    front_of : Fronts (OfServer place (at_servers.Does (Calls number server ask origin end)) ∷ past) → (client : Ask) → begun (run_of (log_of past)) number ≡ Some client → IsFront words number client (calls_before ++ its ∷ [])
+    front_of : Fronts (OfServer place (at_servers.Does (Calls number server ask origin end)) ∷ past) → (client : Ask) → begun_late (run_of (log_of past)) number ≡ Some client → IsFront words number client (calls_before ++ its ∷ [])
     front_of fronts client is =
         ⊎_elim (λ e. absurd (not_empty calls_before its e)) (λ f. f) (subst (λ (c : List Call). AreFront number client c) now_is (fronts number client is))
 
@@ -398,7 +398,7 @@ module _ (words : ℕ → Ask → List Call → Answer → Option ℕ → Type 0
   -- what happened is what commands may do, where what is out ended so that a word goes on by it
   pub does_own :
       (moves : List Move) → Follow (log_of moves) → Own words Bars (run_of (log_of moves)) → AreApplied moves → TellAlways moves → OutWays moves
-      → ((n : ℕ) (call : Call) (client : Ask) → IsAwaited (log_of moves) n call → begun (run_of (log_of moves)) n ≡ Some client → IsFront words n client (calls_so_far (run_of (log_of moves)) n ++ call ∷ []))
+      → ((n : ℕ) (call : Call) (client : Ask) → CallIsAwaited (log_of moves) n call → begun_late (run_of (log_of moves)) n ≡ Some client → IsFront words n client (calls_so_far (run_of (log_of moves)) n ++ call ∷ []))
       → Own words Bars (seen (moments_in moves))
   does_own moves f own applied tell outs goes =
       own_moves moves f applied tell outs

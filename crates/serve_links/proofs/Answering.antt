@@ -15,7 +15,7 @@ use Rattle.serve_links.specs.declared.calls.calls.SentCall.{SentCall}
 use Rattle.serve_links.specs.CoreSteps.{Step, Settled, Spelled, Walks, StepsAreOf, IsOfTurn}
 use Rattle.serve_links.specs.Dialects.{SpellsIn}
 use Rattle.serve_links.specs.Settled.{SettlesOne, SettlesEach, SettlesSome}
-use Rattle.serve_links.specs.Called.{call_in, TellsCalls}
+use Rattle.serve_links.specs.Called.{call_in, TellsCallsOut}
 use Rattle.serve_links.specs.Talks.{SaidAsk, Talk, behind, with_answer, talk_in, IsNotAmong, AreCalled, MaySettle, IsNextAnswer, IsOrderly, IsOfServer}
 use Rattle.serve_links.specs.Story.{said_asks}
 use Rattle.serve_links.proofs.Called.{asks_told, walks_tell_calls}
@@ -36,7 +36,7 @@ pub record Answers (at : ℕ) (sent : List SentCall) (bytes : List ℕ) (a : Ser
   pub spelled : List ℕ
   pub whole : bytes ≡ spelled ++ rest
   pub orderly :
-      (past : List Step) → IsOrderly past → TellsCalls past a → AreCalled past at (said_asks sent) → (talk_in past at).out ≡ said_asks sent → (talk_in past at).awaits ≡ None → (talk_in past at).late ≡ []
+      (past : List Step) → IsOrderly past → TellsCallsOut past a → AreCalled past at (said_asks sent) → (talk_in past at).out ≡ said_asks sent → (talk_in past at).awaits ≡ None → (talk_in past at).late ≡ []
       → IsOrderly (steps ++ past) × (talk_in (steps ++ past) at ≡ record (talk_in past at) { told = (talk_in past at).told ++ spelled; out = said_asks sent' })
 
 spells_within : (dialect : Dialect) (ask : Ask) (bytes : List ℕ) (answer : Answer) (used : ℕ) → SpellsIn dialect ask bytes answer used → used ≤ length bytes
@@ -90,7 +90,7 @@ one at (call ∷ calls) bytes a answer sent' rest b s = record {
     asks = ap (λ (p : ℕ × Dialect). of_calls.asked a.core p.0) first ∙ s.answers.asks
 
     next :
-        (past : List Step) → TellsCalls past a → call_in past number ≡ Some (at, call.ticket.ask) → (talk_in past at).out ≡ said_asks (call ∷ calls) → (talk_in past at).awaits ≡ None → (talk_in past at).late ≡ []
+        (past : List Step) → TellsCallsOut past a → call_in past number ≡ Some (at, call.ticket.ask) → (talk_in past at).out ≡ said_asks (call ∷ calls) → (talk_in past at).awaits ≡ None → (talk_in past at).late ≡ []
         → IsNextAnswer number ask answer spelled (talk_in past at)
     next past tells is out off alone = record {
       dialect = call.dialect;
@@ -142,7 +142,7 @@ both at sent bytes a mid left m sent' rest b f g = record {
 }
   where
     orderly :
-        (past : List Step) → IsOrderly past → TellsCalls past a → AreCalled past at (said_asks sent) → (talk_in past at).out ≡ said_asks sent → (talk_in past at).awaits ≡ None → (talk_in past at).late ≡ []
+        (past : List Step) → IsOrderly past → TellsCallsOut past a → AreCalled past at (said_asks sent) → (talk_in past at).out ≡ said_asks sent → (talk_in past at).awaits ≡ None → (talk_in past at).late ≡ []
         → IsOrderly ((g.steps ++ f.steps) ++ past) × (talk_in ((g.steps ++ f.steps) ++ past) at ≡ record (talk_in past at) { told = (talk_in past at).told ++ (f.spelled ++ g.spelled); out = said_asks sent' })
     orderly past o tells called out off alone =
         let first = f.orderly past o tells called out off alone in

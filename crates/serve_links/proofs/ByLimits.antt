@@ -6,7 +6,7 @@ use Rattle.serve_links.specs.declared.settings.LinkLimits.{LinkLimits}
 use Rattle.serve_links.specs.declared.link.Link.{Link}
 use Rattle.serve_links.specs.CoreSteps.{Step, Opened, NotOpened, Fed, Polled, Stopped, Settled, Gave, Closed, LeftLine, Broke, Ticked, Loaded, Linked, Asked, Greeted, Spelled, Late, CameLate, Lost, StepsAreOf}
 use Rattle.serve_links.specs.Talks.{IsOfClients, IsOfServer}
-use Rattle.serve_links.specs.Story.{server_of, servers_of, most_of, IsByLimit, KeepsServer, KeepsServers}
+use Rattle.serve_links.specs.Story.{address_and_limits, servers_of, most_of, IsByLimit, KeepsServer, KeepsServers}
 use Rattle.serve_links.proofs.Talking.{clients_plain}
 use Rattle.serve_links.proofs.Walked.{of_both}
 use Rattle.serve_links.proofs.Showing.{IsUnlost, plain_unlost}
@@ -65,10 +65,10 @@ own_late most most' i (step ∷ steps) same own late = (by step own.0 late.0, ow
 
 -- ---- one link
 
-pub same_server : (x y : Link) → y.text.items ≡ x.text.items → y.limits ≡ x.limits → server_of y ≡ server_of x
+pub same_server : (x y : Link) → y.text.items ≡ x.text.items → y.limits ≡ x.limits → address_and_limits y ≡ address_and_limits x
 same_server x y text limits = ap (λ (t : List ℕ). let s : List ℕ × LinkLimits = (t, y.limits) in s) text ∙ ap (λ (l : LinkLimits). let s : List ℕ × LinkLimits = (x.text.items, l) in s) limits
 
-pub same_text : (x y : Link) → server_of y ≡ server_of x → y.text.items ≡ x.text.items
+pub same_text : (x y : Link) → address_and_limits y ≡ address_and_limits x → y.text.items ≡ x.text.items
 same_text x y same = ap (λ (s : List ℕ × LinkLimits). s.0) same
 
 -- one after another

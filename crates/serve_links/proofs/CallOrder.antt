@@ -12,7 +12,7 @@ use Rattle.mc_types.specs.declared.answer.Answer.{Answer}
 use Rattle.mc_types.specs.declared.call.Outcome.{Outcome}
 use Rattle.mc_types.specs.declared.call.Outcome.TheVariants.{Answered}
 use Rattle.wire_answers.specs.Laws.{SpelledAnswersFit}
-use Rattle.wire_answers.specs.Reading.{Reads}
+use Rattle.wire_answers.specs.Reading.{ReadsAnswer}
 use Rattle.wire_answers.specs.declared.reader.AnswerRead.{AnswerRead}
 use Rattle.wire_answers.specs.declared.reader.AnswerRead.TheVariants as reads
 use Rattle.wire_stream.specs.Form.{is_retrieval, meta_form}
@@ -55,7 +55,7 @@ same_late a b number dialect since ask = λ i. record {
   formed = is_prop→PathP (λ j. IsAsk (ask j)) (λ j. is_ask_prop (ask j)) a.formed b.formed i;
 }
 
-pub read_classic : SpelledAnswersFit → (ask : Ask) (bytes : List ℕ) (read : AnswerRead) → IsAsk ask → Reads ask bytes read → IsReadFor Classic ask bytes read
+pub read_classic : SpelledAnswersFit → (ask : Ask) (bytes : List ℕ) (read : AnswerRead) → IsAsk ask → ReadsAnswer ask bytes read → IsReadFor Classic ask bytes read
 read_classic fit ask bytes (reads.Answer answer used) is spells = (spells, fit ask bytes answer used is spells)
 read_classic fit ask bytes reads.More is more = more.0
 read_classic fit ask bytes reads.Foreign is bad = bad.1

@@ -14,31 +14,31 @@ use Rattle.core_proxy.proofs.CallsStay.{calls_stay}
 use Rattle.core_accepted.specs.declared.served.ServedCore.{ServedCore}
 use Rattle.core_accepted.specs.Results.{SettleStops, IsSettled}
 use Rattle.serve_links.specs.CoreSteps.{Step, Opened, NotOpened, Fed, Polled, Stopped, Settled, Gave, Closed, LeftLine, Broke, Ticked, Loaded, Linked, Asked, Greeted, Spelled, Late, CameLate, Lost, Does, Walks}
-use Rattle.serve_links.specs.Called.{call_in, TellsCalls, GivesOnce, GiveOnce, WalksTellCalls}
+use Rattle.serve_links.specs.Called.{call_in, TellsCallsOut, GivesOnce, GiveOnce, WalksTellCalls}
 
 law : CallsStay
 law = calls_stay
 
 -- what a step does, and what it tells
 abbrev Goes : Step → List Step → ServedCore → Type 0
-Goes step past new = TellsCalls (step ∷ past) new × GivesOnce step past
+Goes step past new = TellsCallsOut (step ∷ past) new × GivesOnce step past
 
 -- where nothing of calls changes
-kept : (past : List Step) (old new : ServedCore) → TellsCalls past old → KeepsCalls old.core new.core → TellsCalls past new
+kept : (past : List Step) (old new : ServedCore) → TellsCallsOut past old → KeepsCalls old.core new.core → TellsCallsOut past new
 kept past old new was keeps = record { stands = keeps.stands; calls = λ n call is. keeps.calls n ∙ was.calls n call is }
 
-stayed : (past : List Step) (old new : ServedCore) → TellsCalls past old → new ≡ old → TellsCalls past new
-stayed past old new was same = subst (TellsCalls past) (sym same) was
+stayed : (past : List Step) (old new : ServedCore) → TellsCallsOut past old → new ≡ old → TellsCallsOut past new
+stayed past old new was same = subst (TellsCallsOut past) (sym same) was
 
 nobody : {A : Type 0} {x : A} → None ≡ Some x → ⊥
 nobody e = cc
 
 -- none of its number was out
-was_none : (o : Option (ℕ × Ask)) (past : List Step) (old : ServedCore) (n : ℕ) → TellsCalls past old → called old.core n ≡ None → call_in past n ≡ o → call_in past n ≡ None
+was_none : (o : Option (ℕ × Ask)) (past : List Step) (old : ServedCore) (n : ℕ) → TellsCallsOut past old → called old.core n ≡ None → call_in past n ≡ o → call_in past n ≡ None
 was_none None past old n was none e = e
 was_none (Some call) past old n was none e = absurd (nobody (sym none ∙ was.calls n call e))
 
-polled : (client : ℕ) (poll : Poll) (past : List Step) (old new : ServedCore) → TellsCalls past old → PollsCalls old.core poll new.core → Goes (Polled client poll) past new
+polled : (client : ℕ) (poll : Poll) (past : List Step) (old new : ServedCore) → TellsCallsOut past old → PollsCalls old.core poll new.core → Goes (Polled client poll) past new
 polled client (polls.Call ticket) past old new was gives = (
   record { stands = gives.stands; calls = λ n call is. gives.calls n ∙ by (nat_eq ticket.number n) n call is },
   was_none (call_in past ticket.number) past old ticket.number was gives.none refl,
@@ -56,7 +56,7 @@ polled client polls.Busy past old new was keeps = let k = kept past old new was 
 polled client (polls.Did note) past old new was keeps = let k = kept past old new was keeps in (record { stands = k.stands; calls = k.calls }, tt)
 
 -- also but for the step that gave out a call
-pub given_besides : (client : ℕ) (ticket : Ticket) (past : List Step) (old new : ServedCore) → TellsCalls past old → Does (Polled client (polls.Call ticket)) old new → TellsCalls past new
+pub given_besides : (client : ℕ) (ticket : Ticket) (past : List Step) (old new : ServedCore) → TellsCallsOut past old → Does (Polled client (polls.Call ticket)) old new → TellsCallsOut past new
 given_besides client ticket past old new was does = record { stands = gives.stands; calls = λ n call is. gives.calls n ∙ by n call is }
   where
     gives : GivesCall old.core ticket new.core
@@ -65,7 +65,7 @@ given_besides client ticket past old new was does = record { stands = gives.stan
     by : (n : ℕ) (call : ℕ × Ask) → call_in past n ≡ Some call → (if nat_eq ticket.number n then Some (ticket.server, ticket.ask) else called old.core n) ≡ Some call
     by n call is = elim (cases_Bool (nat_eq ticket.number n)) [ inl e ↦ absurd (nobody (sym gives.none ∙ ap (called old.core) (eqb-true ticket.number n e) ∙ was.calls n call is)) | inr e ↦ ap (λ b. if b then Some (ticket.server, ticket.ask) else called old.core n) e ∙ was.calls n call is ]
 
-ended : (number : ℕ) (outcome : Outcome) (past : List Step) (old new : ServedCore) → TellsCalls past old → EndsCall old.core number new.core → TellsCalls (Settled number outcome ∷ past) new
+ended : (number : ℕ) (outcome : Outcome) (past : List Step) (old new : ServedCore) → TellsCallsOut past old → EndsCall old.core number new.core → TellsCallsOut (Settled number outcome ∷ past) new
 ended number outcome past old new was ends = record { stands = ends.stands; calls = λ n call is. ends.calls n ∙ by (nat_eq number n) n call is }
   where
     by : (b : Bool) (n : ℕ) (call : ℕ × Ask) → (if b then None else call_in past n) ≡ Some call → (if b then None else called old.core n) ≡ Some call
@@ -81,21 +81,21 @@ faulted old new number outcome faults.InputFull stops = absurd stops
 faulted old new number outcome faults.UnderWay stops = absurd stops
 faulted old new number outcome faults.Spent stops = absurd stops
 
-settled : (number : ℕ) (outcome : Outcome) (past : List Step) (old new : ServedCore) → TellsCalls past old → IsSettled old number outcome new → TellsCalls (Settled number outcome ∷ past) new
+settled : (number : ℕ) (outcome : Outcome) (past : List Step) (old new : ServedCore) → TellsCallsOut past old → IsSettled old number outcome new → TellsCallsOut (Settled number outcome ∷ past) new
 settled number outcome past old new was (inl takes) = ended number outcome past old new was (law.settles old.core new.core number outcome was.stands takes.settles)
 settled number outcome past old new was (inr stops) = ended number outcome past old new was (law.faults old.core new.core number outcome stops.0 was.stands (faulted old new number outcome stops.0 stops.1))
 
 -- the core's call of this number asks what these steps tell
-pub asks_told : (past : List Step) (core : ServedCore) (number at : ℕ) (said ask : Ask) → TellsCalls past core → call_in past number ≡ Some (at, said) → asked core.core number ≡ Some ask → ask ≡ said
+pub asks_told : (past : List Step) (core : ServedCore) (number at : ℕ) (said ask : Ask) → TellsCallsOut past core → call_in past number ≡ Some (at, said) → asked core.core number ≡ Some ask → ask ≡ said
 asks_told past core number at said ask tells is asks = inside (sym asks ∙ law.asks core.core number ∙ ap (option_map (λ (c : ℕ × Ask). c.1)) (tells.calls number (at, said) is))
   where
     inside : {x y : Ask} → Some x ≡ Some y → x ≡ y
     inside e = cc
 
-keep : (step : Step) (past : List Step) (new : ServedCore) → ((n : ℕ) → call_in (step ∷ past) n ≡ call_in past n) → TellsCalls past new → TellsCalls (step ∷ past) new
+keep : (step : Step) (past : List Step) (new : ServedCore) → ((n : ℕ) → call_in (step ∷ past) n ≡ call_in past n) → TellsCallsOut past new → TellsCallsOut (step ∷ past) new
 keep step past new same k = record { stands = k.stands; calls = λ n call is. k.calls n call (sym (same n) ∙ is) }
 
-step_goes : (step : Step) (past : List Step) (old new : ServedCore) → TellsCalls past old → Does step old new → Goes step past new
+step_goes : (step : Step) (past : List Step) (old new : ServedCore) → TellsCallsOut past old → Does step old new → Goes step past new
 step_goes (Opened client) past old new was does = (keep (Opened client) past new (λ n. refl) (kept past old new was (law.opens old.core new.core client was.stands does.1)), tt)
 step_goes (NotOpened fault) past old new was does = (keep (NotOpened fault) past new (λ n. refl) (kept past old new was (law.unopened old.core new.core fault was.stands does.0)), tt)
 step_goes (Fed client piece) past old new was does = (keep (Fed client piece) past new (λ n. refl) (kept past old new was (law.feeds old.core new.core client piece was.stands does.1)), tt)
@@ -118,7 +118,7 @@ step_goes (Spelled at number ask answer bytes) past old new was does =
     (keep (Spelled at number ask answer bytes) past new (λ n. refl) (stayed past old new was does.0), tt)
 step_goes (Lost at why) past old new was does = (keep (Lost at why) past new (λ n. refl) (stayed past old new was does), tt)
 
-walk_tells : (steps past : List Step) (old new : ServedCore) → TellsCalls past old → Walks steps old new → TellsCalls (steps ++ past) new × GiveOnce steps past
+walk_tells : (steps past : List Step) (old new : ServedCore) → TellsCallsOut past old → Walks steps old new → TellsCallsOut (steps ++ past) new × GiveOnce steps past
 walk_tells [] past old new was same = (stayed past old new was same, tt)
 walk_tells (step ∷ steps) past old new was walks =
     let before = walk_tells steps past old walks.0 was walks.1 in

@@ -7,7 +7,7 @@ use Rattle.core_accepted.specs.declared.served.ServedCore.{ServedCore}
 use Rattle.serve_links.specs.declared.calls.times.CallTimes.{CallTimes}
 use Rattle.serve_links.specs.declared.calls.calls.SentCall.{SentCall}
 use Rattle.serve_links.specs.Calls.{SettlesFirst}
-use Rattle.serve_links.specs.Counting.{took, with_answer, with_outcome, with_first}
+use Rattle.serve_links.specs.Counting.{took, with_answer, with_call_outcome, with_first}
 
 pub took_first : (old new : List ℕ) (went came : ℕ) → old ≡ went ∷ new → came - went ≡ took old came
 took_first old new went came e = sym (ap (λ xs. took xs came) e)
@@ -15,7 +15,7 @@ took_first old new went came e = sym (ap (λ xs. took xs came) e)
 pub took_none : (old : List ℕ) (came : ℕ) → old ≡ [] → 0 ≡ took old came
 took_none old came e = sym (ap (λ xs. took xs came) e)
 
-pub counts_first : (old new : List SentCall) (call : SentCall) (outcome : Outcome) (times : CallTimes) → old ≡ call ∷ new → with_outcome outcome times ≡ with_first old outcome times
+pub counts_first : (old new : List SentCall) (call : SentCall) (outcome : Outcome) (times : CallTimes) → old ≡ call ∷ new → with_call_outcome outcome times ≡ with_first old outcome times
 counts_first old new call outcome times e = sym (ap (λ xs. with_first xs outcome times) e)
 
 pub counts_none : (old : List SentCall) (outcome : Outcome) (times : CallTimes) → old ≡ [] → times.tally ≡ with_first old outcome times

@@ -20,10 +20,10 @@ use Rattle.core_commands.specs.declared.ticket.Ticket.{Ticket}
 use Rattle.core_accepted.specs.declared.served.ServedCore.{ServedCore}
 use Rattle.core_accepted.specs.declared.tally.CoreTally.{CoreTally}
 use Rattle.core_accepted.specs.Results.{PollStops, SettleStops, IsSettled}
-use Rattle.core_accepted.specs.Tallies.{ReplyKind, TellsError, ShowsItem, Acknowledges, TellsOther, kind_of, one_more, more_at, with_reply, with_note, with_poll, with_call, with_outcome, with_client, with_refusal, nothing_done, of_op}
+use Rattle.core_accepted.specs.Tallies.{ReplyKind, TellsError, ShowsItem, Acknowledges, TellsOther, reply_kind, one_more, more_at, with_reply, with_note, with_poll, with_call, with_outcome, with_client, with_refusal, nothing_done, of_op}
 use Rattle.serve_links.specs.CoreSteps.{Step, Opened, NotOpened, Fed, Polled, Stopped, Settled, Gave, Closed, LeftLine, Loaded, Spelled, Does, Walks}
-use Rattle.serve_links.specs.Called.{call_in, TellsCalls}
-use Rattle.serve_links.specs.Talks.{MayFollow, IsOrderly}
+use Rattle.serve_links.specs.Called.{call_in, TellsCallsOut}
+use Rattle.serve_links.specs.Talks.{MayComeNext, IsOrderly}
 use Rattle.serve_links.specs.Counts.{number_of, counted, same_kind, opens_one, refuses_one, ends_one, ends_so, calls_one, answers_one, fails_one, count_of, AreCounted, ResultsAreCounted, StepsAreCounted}
 use Rattle.serve_links.proofs.Called.{walks_tell_calls}
 
@@ -140,12 +140,12 @@ not_opened fault past old new is was = subst (AreCounted (NotOpened fault ∷ pa
 
 did : (client : ℕ) (note : Note) (past : List Step) (old new : CoreTally) → new ≡ with_note note old → AreCounted past old → AreCounted (Polled client (polls.Did note) ∷ past) new
 did client note past old new is was = subst (AreCounted (Polled client (polls.Did note) ∷ past)) (sym is) (record {
-  opened = (others_kept (kind_of note) note.ask.op old).0 ∙ was.opened;
-  refused = (others_kept (kind_of note) note.ask.op old).1 ∙ was.refused;
-  ended = ended_counted (kind_of note) note.ask.op (number_of ends_one past) old was.ended;
-  calls = (others_kept (kind_of note) note.ask.op old).2 ∙ was.calls;
-  replies = λ op kind. reply_counted (kind_of note) kind note.ask.op op (number_of (ends_so op kind) past) old was.places (was.replies op kind);
-  places = places_kept (kind_of note) note.ask.op old was.places;
+  opened = (others_kept (reply_kind note) note.ask.op old).0 ∙ was.opened;
+  refused = (others_kept (reply_kind note) note.ask.op old).1 ∙ was.refused;
+  ended = ended_counted (reply_kind note) note.ask.op (number_of ends_one past) old was.ended;
+  calls = (others_kept (reply_kind note) note.ask.op old).2 ∙ was.calls;
+  replies = λ op kind. reply_counted (reply_kind note) kind note.ask.op op (number_of (ends_so op kind) past) old was.places (was.replies op kind);
+  places = places_kept (reply_kind note) note.ask.op old was.places;
 })
 
 tally_same : (a b : ServedCore) → b ≡ a → b.tally ≡ a.tally
@@ -239,7 +239,7 @@ by_none : (step : Step) (past : List Step) (old new : CoreTally) → answers_one
 by_none step past old new none_answered none_failed same was = by_count step past (λ tally. tally) old new none_answered none_failed (refl, refl) same was
 
 poll_kept : (poll : Poll) (tally : CoreTally) → ((with_poll poll tally).answered ≡ tally.answered) × ((with_poll poll tally).failed ≡ tally.failed)
-poll_kept (polls.Did note) tally = let kept = others_kept (kind_of note) note.ask.op tally in (kept.3, kept.4)
+poll_kept (polls.Did note) tally = let kept = others_kept (reply_kind note) note.ask.op tally in (kept.3, kept.4)
 poll_kept polls.Idle tally = (refl, refl)
 poll_kept polls.Own tally = (refl, refl)
 poll_kept polls.Refused tally = (refl, refl)
@@ -276,7 +276,7 @@ result_settled :
 result_settled number outcome past a b call is (inl takes) was = had_result number outcome past a.tally b.tally takes.tally was
 result_settled number outcome past a b call is (inr stops) was = result_stopped number outcome stops.0 past a b call is stops.1 was
 
-result_counted : (step : Step) (past : List Step) (a b : ServedCore) → TellsCalls past a → MayFollow step past → Does step a b → ResultsAreCounted past a.tally → ResultsAreCounted (step ∷ past) b.tally
+result_counted : (step : Step) (past : List Step) (a b : ServedCore) → TellsCallsOut past a → MayComeNext step past → Does step a b → ResultsAreCounted past a.tally → ResultsAreCounted (step ∷ past) b.tally
 result_counted (Settled number outcome) past a b tells may does was = result_settled number outcome past a b may.0.call (tells.calls number may.0.call may.0.is_out) does was
 result_counted (Opened client) past a b tells may does was = by_count (Opened client) past with_client a.tally b.tally refl refl (refl, refl) does.2.tally was
 result_counted (NotOpened fault) past a b tells may does was = by_count (NotOpened fault) past with_refusal a.tally b.tally refl refl (refl, refl) does.1.tally was
@@ -291,7 +291,7 @@ result_counted (Spelled at number ask answer bytes) past a b tells may does was 
 result_counted step past a b tells may does was = by_none step past a.tally b.tally refl refl (tally_same a b does) was
 
 walk_results :
-    (steps past : List Step) (old new : ServedCore) → Walks steps old new → TellsCalls past old → IsOrderly (steps ++ past) → ResultsAreCounted past old.tally → ResultsAreCounted (steps ++ past) new.tally
+    (steps past : List Step) (old new : ServedCore) → Walks steps old new → TellsCallsOut past old → IsOrderly (steps ++ past) → ResultsAreCounted past old.tally → ResultsAreCounted (steps ++ past) new.tally
 walk_results [] past old new same tells orderly was = subst (ResultsAreCounted past) (sym (tally_same old new same)) was
 walk_results (step ∷ steps) past old new walks tells orderly was =
     result_counted step (steps ++ past) walks.0 new (walks_tell_calls.goes_on steps past old walks.0 tells walks.1).0 orderly.0 walks.2 (walk_results steps past old walks.0 walks.1 tells orderly.1 was)

@@ -12,7 +12,7 @@ use Rattle.serve_wire.proofs.Steps.{equal}
 use Rattle.serve_links.specs.declared.calls.calls.SentCall.{SentCall}
 use Rattle.serve_links.specs.CoreSteps.{Step, Opened, NotOpened, Fed, Polled, Stopped, Settled, Gave, Closed, LeftLine, Broke, Ticked, Loaded, Linked, Asked, Greeted, Spelled, Late, CameLate, Lost, StepsAreOf}
 use Rattle.serve_links.specs.Called.{call_by, call_in, due_in, clock_in, given_in, IsGivenOnce, GivesOnce, GiveOnce}
-use Rattle.serve_links.specs.Talks.{SaidAsk, Talk, behind, first_talk, with_ask, greeted, with_answer, turned_late, with_late, given_up, talk_in, IsCalledIn, IsNotAmong, AreDue, AreCalled, MayFollow, IsOrderly, IsOfClients}
+use Rattle.serve_links.specs.Talks.{SaidAsk, Talk, behind, first_talk, with_ask, greeted, with_answer, turned_late, with_late, given_up, talk_in, IsCalledIn, IsNotAmong, AreDue, AreCalled, MayComeNext, IsOrderly, IsOfClients}
 use Rattle.serve_links.specs.Story.{said_asks, StayOut, LeavesCalls}
 
 none_some : {A : Type 0} {x : A} → None ≡ Some x → ⊥
@@ -485,7 +485,7 @@ clients_stay at (step ∷ steps) kinds past once = λ n ask is.
 
 -- the call is still to be asked, and without it none of its number is out: so it is after one more step
 given_after :
-    (step : Step) (past virtual : List Step) (ticket : Ticket) → MayFollow step past → MayFollow step virtual → (due_in past ticket.number ≡ Some (ticket.server, ticket.ask)) × (call_in virtual ticket.number ≡ None)
+    (step : Step) (past virtual : List Step) (ticket : Ticket) → MayComeNext step past → MayComeNext step virtual → (due_in past ticket.number ≡ Some (ticket.server, ticket.ask)) × (call_in virtual ticket.number ≡ None)
     → (due_in (step ∷ past) ticket.number ≡ Some (ticket.server, ticket.ask)) × (call_in (step ∷ virtual) ticket.number ≡ None)
 given_after (Polled c poll) past virtual ticket real may was = by poll real
   where

@@ -8,12 +8,12 @@ use Rattle.core_accepted.specs.Logs.{LogsGoBy, fed}
 use Rattle.core_accepted.specs.declared.served.ServedCore.{ServedCore}
 use Rattle.serve_clients.specs.declared.clients.Client.{Client}
 use Rattle.serve_links.specs.CoreSteps.{Fed, Does}
-use Rattle.serve_links.specs.Pieces.{Takes, KeepsAllButHeld, FeedsHeld}
+use Rattle.serve_links.specs.Pieces.{FeedsPiece, KeepsAllButHeld, FeedsHeld}
 
 pub takes :
     (client : ℕ) (piece held : List ℕ) → piece ≡ held → (r : Result (Unit {0}) CoreFault) (a b : ServedCore) → OnOk r (CanFeed a.core client piece × Feeds a.core client piece b.core)
     → IfErr r (λ fault. FeedFault a.core client piece fault × (b ≡ a)) → OnOk r (LogsGoBy a (λ entries. entries ≡ fed (dropped_by (client_at a.core client)) client piece) b)
-    → Takes client held a b
+    → FeedsPiece client held a b
 takes client piece held same (Ok done) a b ok err fresh = record { steps = Fed client piece ∷ []; kinds = (ap (λ p. Fed client p) same, tt); walks = (a, refl, (ok.0, ok.1, fresh)) }
 takes client piece held same (Err fault) a b ok err fresh = record { steps = []; kinds = tt; walks = err.1 }
 

@@ -6,7 +6,7 @@ use Rattle.mc_types.specs.declared.ask.Ask.{Ask}
 use Rattle.core_proxy.specs.Settles.{asked}
 use Rattle.core_proxy.proofs.CallsStay.{calls_stay}
 use Rattle.core_accepted.specs.declared.served.ServedCore.{ServedCore}
-use Rattle.serve_wire.specs.Events.{Event}
+use Rattle.serve_wire.specs.Events.{WireEvent}
 use Rattle.serve_wire.specs.declared.conn.conn.Conn.{Conn}
 use Rattle.serve_links.specs.declared.settings.Greeting.{Greeting}
 use Rattle.serve_links.specs.declared.calls.calls.SentCall.{SentCall}
@@ -19,7 +19,7 @@ use Rattle.serve_links.specs.Calls.{IsForeignToLate, PassesOver}
 use Rattle.serve_links.specs.Dialects.{IsForeignIn, GreetsNone}
 use Rattle.serve_links.specs.Settled.{HoldsForeign}
 use Rattle.serve_links.specs.CoreSteps.{Step}
-use Rattle.serve_links.specs.Called.{call_in, TellsCalls}
+use Rattle.serve_links.specs.Called.{call_in, TellsCallsOut}
 use Rattle.serve_links.specs.Talks.{SaidAsk, talk_in, AreCalled}
 use Rattle.serve_links.specs.Story.{said_asks, said_late, IsForeign, LineIsForeign, LineAgrees, LineFails, LineGoesFrom, ShowsWhy}
 use Rattle.serve_links.proofs.Called.{walks_tell_calls}
@@ -65,7 +65,7 @@ none_awaited x c was none alone off some =
     is_foreign x c was (subst (λ o. IsForeign o (said_late x.late.items ++ said_asks x.calls.sent.items) c.held.items) (sym off) sent)
 
 -- a link that agrees shows that
-shows : (at : ℕ) (past : List Step) (h : List Event) (y : Link) (conn : Conn) → y.conn ≡ Some conn → LineAgrees at past h y → LineIsForeign y → ShowsWhy (Some causes.Foreign) (talk_in past at) conn.number h
+shows : (at : ℕ) (past : List Step) (h : List WireEvent) (y : Link) (conn : Conn) → y.conn ≡ Some conn → LineAgrees at past h y → LineIsForeign y → ShowsWhy (Some causes.Foreign) (talk_in past at) conn.number h
 shows at past h y conn there a is =
     let t = a.conn conn there in
     let held : IsForeign y.awaits_dialect (said_late y.late.items ++ said_asks y.calls.sent.items) conn.held.items =
@@ -76,11 +76,11 @@ shows at past h y conn there a is =
     subst (λ (l : List SaidAsk). IsForeign y.awaits_dialect ((talk_in past at).late ++ l) conn.held.items) (sym t.out_is) late in
     (conn.held.items, t.told_is, subst (λ o. IsForeign o ((talk_in past at).late ++ (talk_in past at).out) conn.held.items) (sym t.awaits_is) all)
 
-pub fails_foreign : (at : ℕ) (past : List Step) (h : List Event) (y : Link) → LineIsForeign y → LineAgrees at past h y → LineFails (Some causes.Foreign) at past h y
+pub fails_foreign : (at : ℕ) (past : List Step) (h : List WireEvent) (y : Link) → LineIsForeign y → LineAgrees at past h y → LineFails (Some causes.Foreign) at past h y
 fails_foreign at past h y is a = as_failing (Some causes.Foreign) at past h y (λ conn there. shows at past h y conn there a is) a
 
 -- what is held begins no answer to the first of those that are out, as the core has them
-sent_foreign : (at : ℕ) (past : List Step) (core : ServedCore) (sent : List SentCall) (held : List ℕ) → TellsCalls past core → AreCalled past at (said_asks sent) → HoldsForeign sent held core → IsForeign None (said_asks sent) held
+sent_foreign : (at : ℕ) (past : List Step) (core : ServedCore) (sent : List SentCall) (held : List ℕ) → TellsCallsOut past core → AreCalled past at (said_asks sent) → HoldsForeign sent held core → IsForeign None (said_asks sent) held
 sent_foreign at past core [] held tells called is = is.some
 sent_foreign at past core (call ∷ sent) held tells called is = is.foreign call.ticket.number call.dialect call.ticket.ask refl asks
   where
@@ -88,7 +88,7 @@ sent_foreign at past core (call ∷ sent) held tells called is = is.foreign call
     asks = calls_stay.asks core.core call.ticket.number ∙ ap (option_map (λ (c : ℕ × Ask). c.1)) (tells.calls call.ticket.number (at, call.ticket.ask) called.0)
 
 pub line_foreign :
-    {P : ℕ → List Step → List Event → Link → Type 0} {Is : Step → Type 0} {at : ℕ} {a b : ServedCore} {h h' : List Event} {x : Link} (y : Link) (d : Conn) → y.conn ≡ Some d → y.awaits_dialect ≡ None → y.late.items ≡ []
+    {P : ℕ → List Step → List WireEvent → Link → Type 0} {Is : Step → Type 0} {at : ℕ} {a b : ServedCore} {h h' : List WireEvent} {x : Link} (y : Link) (d : Conn) → y.conn ≡ Some d → y.awaits_dialect ≡ None → y.late.items ≡ []
     → HoldsForeign y.calls.sent.items d.held.items b → LineGoesFrom P LineAgrees Is at a h x b h' y → LineGoesFrom P (LineFails (Some causes.Foreign)) Is at a h x b h' y
 line_foreign {P} {Is} {at} {a} {b} {h} {h'} {x} y d there off alone is g = record {
   steps = g.steps;
@@ -101,7 +101,7 @@ line_foreign {P} {Is} {at} {a} {b} {h} {h'} {x} y d there off alone is g = recor
   server = g.server;
 }
   where
-    fails : (past : List Step) → TellsCalls past a → LineAgrees at (g.steps ++ past) h' y → LineFails (Some causes.Foreign) at (g.steps ++ past) h' y
+    fails : (past : List Step) → TellsCallsOut past a → LineAgrees at (g.steps ++ past) h' y → LineFails (Some causes.Foreign) at (g.steps ++ past) h' y
     fails past tells agrees =
         let told = (walks_tell_calls.goes_on g.steps past a b tells g.walks).0 in
         let held = sent_foreign at (g.steps ++ past) b y.calls.sent.items d.held.items told agrees.called is in
@@ -112,6 +112,6 @@ line_foreign {P} {Is} {at} {a} {b} {h} {h'} {x} y d there off alone is g = recor
 
 -- a link goes on to agree, and holds what is foreign
 pub foreign_goes :
-    {P : ℕ → List Step → List Event → Link → Type 0} {Is : Step → Type 0} {at : ℕ} {a b : ServedCore} {h h' : List Event} {x y : Link} → LineIsForeign y → LineGoesFrom P LineAgrees Is at a h x b h' y
+    {P : ℕ → List Step → List WireEvent → Link → Type 0} {Is : Step → Type 0} {at : ℕ} {a b : ServedCore} {h h' : List WireEvent} {x y : Link} → LineIsForeign y → LineGoesFrom P LineAgrees Is at a h x b h' y
     → LineGoesFrom P (LineFails (Some causes.Foreign)) Is at a h x b h' y
 foreign_goes {at = at} {h' = h'} {y = y} is g = line_between (λ past was. was) (λ past was. fails_foreign at past h' y is was) g

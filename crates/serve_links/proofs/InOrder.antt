@@ -27,12 +27,12 @@ use Rattle.core_accepted.specs.Late as at_servers
 use Rattle.core_accepted.specs.Late.{Moment, Lands, seen}
 use Rattle.core_accepted.specs.Pipes as pipes
 use Rattle.core_accepted.specs.Pipes.{Sends, moments_of, behind_first, tickets_after, IsFirstIn, IsInTurn, pipe_of, Obeys}
-use Rattle.core_accepted.specs.Parts.{AreInOrder}
+use Rattle.core_accepted.specs.Parts.{PipesInOrder}
 use Rattle.core_accepted.specs.LateCores.{only_line}
 use Rattle.serve_links.specs.declared.settings.Greeting.{Greeting}
 use Rattle.serve_links.specs.CoreSteps.{Step, Opened, NotOpened, Fed, Polled, Stopped, Settled, Gave, Closed, LeftLine, Broke, Ticked, Loaded, Linked, Asked, Greeted, Spelled, Late, CameLate, Lost, Walks}
-use Rattle.serve_links.specs.Called.{TellsCalls}
-use Rattle.serve_links.specs.Talks.{Standing, Apart, InUse, Ending, standing_after, Talk, first_talk, with_ask, greeted, with_answer, turned_late, with_late, given_up, talk_in, MayFollow, IsOrderly}
+use Rattle.serve_links.specs.Called.{TellsCallsOut}
+use Rattle.serve_links.specs.Talks.{Standing, Apart, InUse, Ending, standing_after, Talk, first_talk, with_ask, greeted, with_answer, turned_late, with_late, given_up, talk_in, MayComeNext, IsOrderly}
 use Rattle.serve_links.specs.InOrder.{Move, OfProxy, OfServer, walk_of, log_of, with_commands, moments_in, out_origin, sent_over, left_with, queued_at, changed_in, conns_by, conns_after, conns_in, MayApply, AreApplied, LeadAlong, with_moves, closed_if, with_step, as_pipes, ConnectionsAreInOrder}
 use Rattle.serve_links.proofs.Called.{walks_tell_calls}
 use Rattle.serve_links.proofs.Due.{due_out}
@@ -89,7 +89,7 @@ stays false talk new conns pipe same was = was
 
 -- a step of the proxy
 step_keeps :
-    (step : Step) (past : List Step) (log : List (Entry dialect)) (i : ℕ) (conns : List (List Ticket)) (steps : List pipes.PipeStep) → MayFollow step past
+    (step : Step) (past : List Step) (log : List (Entry dialect)) (i : ℕ) (conns : List (List Ticket)) (steps : List pipes.PipeStep) → MayComeNext step past
     → Keeps (talk_in past i).stands conns (pipe_of only_line steps 0 i) → Keeps (talk_in (step ∷ past) i).stands (conns_by step log i conns) (pipe_of only_line (with_step step log steps) 0 i)
 step_keeps (Linked at greeting) past log i conns steps may was =
     linked (nat_eq at i) (talk_in past i) conns (pipe_of only_line steps 0 i) greeting (λ same. was.0 (subst (λ j. (talk_in past j).stands ≡ Apart) (eqb-true at i same) may)) was
@@ -310,7 +310,7 @@ call_way served believes past led n at ask is = by (command_at served.core n) re
         )
 
 -- so all is in order
-order_with : (events : List Event) (steps : List pipes.PipeStep) → AreInOrder only_line steps → AreInOrder only_line (with_moves events steps)
+order_with : (events : List Event) (steps : List pipes.PipeStep) → PipesInOrder only_line steps → PipesInOrder only_line (with_moves events steps)
 order_with [] steps order = order
 order_with (Begins number ask ∷ events) steps order = (tt, order_with events steps order)
 order_with (Replies number key reply from ∷ events) steps order = (tt, order_with events steps order)
@@ -319,7 +319,7 @@ order_with (Calls number server ask origin end ∷ events) steps order = order_w
 order_with (Turns server key turned ∷ events) steps order = order_with events steps order
 order_with (Restarts server ∷ events) steps order = order_with events steps order
 
-order_ended : (s : Standing) (at : ℕ) (steps : List pipes.PipeStep) → AreInOrder only_line steps → AreInOrder only_line (closed_if s at steps)
+order_ended : (s : Standing) (at : ℕ) (steps : List pipes.PipeStep) → PipesInOrder only_line steps → PipesInOrder only_line (closed_if s at steps)
 order_ended Apart at steps order = order
 order_ended InUse at steps order = order
 order_ended Ending at steps order = order
@@ -342,7 +342,7 @@ obeys place (at_servers.Does (Begins number ask)) past one may = absurd may
 obeys place (at_servers.Does (Replies number key reply from)) past one may = absurd may
 obeys place (at_servers.Does (Breaks number)) past one may = absurd may
 
-module _ (first : ServedCore) (believes : ℕ → List ℕ → Option Item) (tells : TellsCalls [] first) where
+module _ (first : ServedCore) (believes : ℕ → List ℕ → Option Item) (tells : TellsCallsOut [] first) where
   walk_along : (moves : List Move) (last : ServedCore) → LeadAlong believes moves first last → Walks (walk_of moves) first last
   walk_along [] last leads = leads.0
   walk_along (OfProxy step entries ∷ past) last leads = (leads.0, walk_along past leads.0 leads.1, leads.2)
@@ -353,12 +353,12 @@ module _ (first : ServedCore) (believes : ℕ → List ℕ → Option Item) (tel
   led_along (OfProxy step entries ∷ past) last leads = leads.3
   led_along (OfServer place moment ∷ past) last leads = led_along past last leads
 
-  tells_along : (moves : List Move) (last : ServedCore) → LeadAlong believes moves first last → TellsCalls (walk_of moves) last
-  tells_along moves last leads = subst (λ (l : List Step). TellsCalls l last) (append-nil (walk_of moves)) (walks_tell_calls.goes_on (walk_of moves) [] first last tells (walk_along moves last leads)).0
+  tells_along : (moves : List Move) (last : ServedCore) → LeadAlong believes moves first last → TellsCallsOut (walk_of moves) last
+  tells_along moves last leads = subst (λ (l : List Step). TellsCallsOut l last) (append-nil (walk_of moves)) (walks_tell_calls.goes_on (walk_of moves) [] first last tells (walk_along moves last leads)).0
 
   order_step :
-      (step : Step) (past : List Move) (mid : ServedCore) → LeadAlong believes past first mid → AreApplied past → MayFollow step (walk_of past) → AreInOrder only_line (as_pipes past)
-      → AreInOrder only_line (with_step step (log_of past) (as_pipes past))
+      (step : Step) (past : List Move) (mid : ServedCore) → LeadAlong believes past first mid → AreApplied past → MayComeNext step (walk_of past) → PipesInOrder only_line (as_pipes past)
+      → PipesInOrder only_line (with_step step (log_of past) (as_pipes past))
   order_step (Asked at number spoken ask since) past mid leads applied may order =
       let way = call_way mid believes (log_of past) (led_along past mid leads) number at ask ((tells_along past mid leads).calls number (at, ask) (due_out (walk_of past) number (at, ask) may.1)) in
       ((way.0, ap (λ (l : List Moment). under_way (seen l) number) (same_moments past) ∙ same_way past applied number ∙ way.1, way.2), order)
@@ -381,7 +381,7 @@ module _ (first : ServedCore) (believes : ℕ → List ℕ → Option Item) (tel
   order_step (CameLate at number ask answer bytes) past mid leads applied may order = order
   order_step (Spelled at number ask answer bytes) past mid leads applied may order = order
 
-  in_order : (moves : List Move) (last : ServedCore) → LeadAlong believes moves first last → IsOrderly (walk_of moves) → AreApplied moves → AreInOrder only_line (as_pipes moves)
+  in_order : (moves : List Move) (last : ServedCore) → LeadAlong believes moves first last → IsOrderly (walk_of moves) → AreApplied moves → PipesInOrder only_line (as_pipes moves)
   in_order [] last leads orderly applied = tt
   in_order (OfProxy step entries ∷ past) last leads orderly applied =
       order_with (run_of entries) (with_step step (log_of past) (as_pipes past)) (order_step step past leads.0 leads.1 applied orderly.0 (in_order past leads.0 leads.1 orderly.1 applied))

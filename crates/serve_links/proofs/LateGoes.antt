@@ -8,11 +8,11 @@ use Rattle.mc_types.specs.declared.ask.Dialect.{Dialect}
 use Rattle.mc_types.specs.declared.answer.Answer.{Answer}
 use Rattle.mc_types.specs.declared.call.Outcome.TheVariants.{Failed}
 use Rattle.wire_parts.specs.Sending.{bytes_of}
-use Rattle.serve_wire.specs.Events.{Event, is_over, time}
+use Rattle.serve_wire.specs.Events.{WireEvent, is_over, time}
 use Rattle.serve_wire.specs.declared.conn.conn.Conn.{Conn}
 use Rattle.serve_wire.proofs.Steps.{equal}
 use Rattle.core_accepted.specs.declared.served.ServedCore.{ServedCore}
-use Rattle.core_accepted.specs.Late.{is_store}
+use Rattle.core_accepted.specs.Late.{begins_stamp}
 use Rattle.core_accepted.specs.Results.{IsSettled}
 use Rattle.serve_links.specs.declared.calls.calls.SentCall.{SentCall}
 use Rattle.serve_links.specs.declared.calls.late_call.LateCall.{LateCall}
@@ -26,7 +26,7 @@ use Rattle.serve_links.specs.Lateness.{IsLate, HasLate, HasOneLate, awaits_store
 use Rattle.serve_links.specs.CoreSteps.{Step, Settled, Late, CameLate, IsOfTurn, IsSending}
 use Rattle.serve_links.specs.Dialects.{SpellsIn}
 use Rattle.serve_links.specs.Talks.{SaidAsk, Talk, HasWaited, behind, first_of_asks, turned_late, with_late, talk_in, IsNotAmong, AreDue, AreCalled, MaySettle, IsOrderly, IsFirstOut, IsNextLate}
-use Rattle.serve_links.specs.Story.{said_asks, said_late, MayAllGo, TalkAgrees, LineAgrees, LineGoes, server_of, LineState, line_of}
+use Rattle.serve_links.specs.Story.{said_asks, said_late, MayAllGo, TalkAgrees, LineAgrees, LineGoes, address_and_limits, LineState, line_of}
 use Rattle.serve_links.proofs.Talking.{calls_later}
 use Rattle.serve_links.proofs.Due.{due_stays, called_stays, keeps_settled, SentGone, sent_gone, own_nowhere}
 use Rattle.serve_links.proofs.ByLimits.{same_text}
@@ -37,7 +37,7 @@ use Rattle.serve_links.proofs.Answering.{spells_front}
 use Rattle.serve_links.proofs.LinkGoes.{talk_as, of_eight, has_conn, quiet, all_kept, line_keeps}
 
 -- nothing was done
-pub line_still : {Is : Step → Type 0} {at : ℕ} {core : ServedCore} {h : List Event} (x : Link) → LineGoes Is at core h x core h x
+pub line_still : {Is : Step → Type 0} {at : ℕ} {core : ServedCore} {h : List WireEvent} (x : Link) → LineGoes Is at core h x core h x
 line_still {h = h} x = line_keeps (quiet h) refl
 
 abbrev conn_state : Conn → ℕ × List ℕ × List ℕ
@@ -47,7 +47,7 @@ conn_state c = (c.number, c.held.items, bytes_of c.unsent)
 pub late_kept : (x y : Link) → y ≡ record x { late = y.late } → y.late.items ≡ x.late.items → line_of y ≡ line_of x
 late_kept x y is late =
     ap line_of is
-    ∙ ap (λ (l : List LateCall). let s : LineState = (server_of x, option_map {U = ℕ × List ℕ × List ℕ} conn_state x.conn, said_asks x.calls.sent.items, x.waiting.items, x.awaits_dialect, x.dialect, said_late l, drain_of x) in s) late
+    ∙ ap (λ (l : List LateCall). let s : LineState = (address_and_limits x, option_map {U = ℕ × List ℕ × List ℕ} conn_state x.conn, said_asks x.calls.sent.items, x.waiting.items, x.awaits_dialect, x.dialect, said_late l, drain_of x) in s) late
 
 pub some_conn : (o : Option Conn) → is_some o ≡ true → (c : Conn) × (o ≡ Some c)
 some_conn None is = absurd (false_true is)
@@ -69,7 +69,7 @@ one_more_late (first ∷ calls) call = ap (λ (l : List SaidAsk). (first.number,
 -- ---- stores that are awaited
 
 abbrev NoStore : SentCall → Type 0
-NoStore call = is_store call.ticket.ask.op ≡ false
+NoStore call = begins_stamp call.ticket.ask.op ≡ false
 
 -- its limits and its calls are as they were
 pub waits_still : (x y : Link) → y.limits ≡ x.limits → y.calls.sent.items ≡ x.calls.sent.items → LetsStoresWait x y
@@ -152,7 +152,7 @@ late_still now x y call core core' client limits first late settles has = subst 
 -- ---- a call that is late
 
 talk_turns :
-    (h : List Event) (at : ℕ) (text : List ℕ) (t : Talk) (c : ℕ) (held unsent : List ℕ) (first : SaidAsk) (rest late : List SaidAsk) (awaits : Option Greeting) (dialect : Dialect)
+    (h : List WireEvent) (at : ℕ) (text : List ℕ) (t : Talk) (c : ℕ) (held unsent : List ℕ) (first : SaidAsk) (rest late : List SaidAsk) (awaits : Option Greeting) (dialect : Dialect)
     → TalkAgrees h at text t c held unsent (first ∷ rest) awaits dialect late → TalkAgrees h at text (turned_late t) c held unsent rest awaits dialect (late ++ first ∷ [])
 talk_turns h at text t c held unsent first rest late awaits dialect was = record {
   is_to = was.is_to;
@@ -167,7 +167,7 @@ talk_turns h at text t c held unsent first rest late awaits dialect was = record
 
 -- the first call that is out fails, and keeps its place
 turns :
-    {at : ℕ} {core core' : ServedCore} {h : List Event} (x y : Link) (c : Conn) (call : SentCall) (rest : List SentCall) → x.conn ≡ Some c → y.conn ≡ x.conn → y.draining ≡ x.draining → server_of y ≡ server_of x → y.waiting.items ≡ x.waiting.items
+    {at : ℕ} {core core' : ServedCore} {h : List WireEvent} (x y : Link) (c : Conn) (call : SentCall) (rest : List SentCall) → x.conn ≡ Some c → y.conn ≡ x.conn → y.draining ≡ x.draining → address_and_limits y ≡ address_and_limits x → y.waiting.items ≡ x.waiting.items
     → y.awaits_dialect ≡ x.awaits_dialect → y.dialect ≡ x.dialect → x.calls.sent.items ≡ call ∷ rest → y.calls.sent.items ≡ rest → y.late.items ≡ x.late.items ++ as_late call ∷ []
     → IsSettled core call.ticket.number Failed core' → HasOneLate (time h) x → LineGoes IsSending at core h x core' h y
 turns {at} {core} {core'} {h} x y c call rest was same draining server waiting awaits speaks sent left late settled waited = record {
@@ -222,7 +222,7 @@ turns {at} {core} {core'} {h} x y c call rest was same draining server waiting a
 
 -- the same of the outcome as a link's calls have it
 pub line_turns :
-    {at : ℕ} {core core' : ServedCore} {h : List Event} (x y : Link) (c : Conn) (call : LateCall) (client : Option ℕ) → x.conn ≡ Some c → y.conn ≡ x.conn → y.draining ≡ x.draining → server_of y ≡ server_of x → y.waiting.items ≡ x.waiting.items
+    {at : ℕ} {core core' : ServedCore} {h : List WireEvent} (x y : Link) (c : Conn) (call : LateCall) (client : Option ℕ) → x.conn ≡ Some c → y.conn ≡ x.conn → y.draining ≡ x.draining → address_and_limits y ≡ address_and_limits x → y.waiting.items ≡ x.waiting.items
     → y.awaits_dialect ≡ x.awaits_dialect → y.dialect ≡ x.dialect → IsFirstLate x.calls.sent.items (Some call) → y.late.items ≡ x.late.items ++ call ∷ []
     → SettlesFirst x.calls.sent.items core Failed client y.calls.sent.items core' → HasOneLate (time h) x → LineGoes IsSending at core h x core' h y
 line_turns {at} {core} {core'} {h} x y c call client was same draining server waiting awaits speaks first late settles waited = by x.calls.sent.items refl first settles
@@ -241,7 +241,7 @@ line_turns {at} {core} {core'} {h} x y c call client was same draining server wa
 -- ---- its answer
 
 talk_throws :
-    (h : List Event) (at : ℕ) (text : List ℕ) (t : Talk) (c : ℕ) (spelled held unsent : List ℕ) (out : List SaidAsk) (first : SaidAsk) (rest : List SaidAsk) (awaits : Option Greeting) (dialect : Dialect)
+    (h : List WireEvent) (at : ℕ) (text : List ℕ) (t : Talk) (c : ℕ) (spelled held unsent : List ℕ) (out : List SaidAsk) (first : SaidAsk) (rest : List SaidAsk) (awaits : Option Greeting) (dialect : Dialect)
     → TalkAgrees h at text t c (spelled ++ held) unsent out awaits dialect (first ∷ rest) → TalkAgrees h at text (with_late spelled t) c held unsent out awaits dialect rest
 talk_throws h at text t c spelled held unsent out first rest awaits dialect was = record {
   is_to = was.is_to;
@@ -256,8 +256,8 @@ talk_throws h at text t c spelled held unsent out first rest awaits dialect was 
 
 -- what is held begins with the answer to the first of those that were late: it is held no more
 pub line_throws :
-    {at : ℕ} {core : ServedCore} {h : List Event} (x y : Link) (c d : Conn) (call : LateCall) (rest : List LateCall) (answer : Answer) (used : ℕ) → x.conn ≡ Some c → y.conn ≡ Some d → x.awaits_dialect ≡ None
-    → server_of y ≡ server_of x → y.waiting.items ≡ x.waiting.items → y.awaits_dialect ≡ x.awaits_dialect → y.dialect ≡ x.dialect → y.calls.sent.items ≡ x.calls.sent.items → x.late.items ≡ call ∷ rest → y.late.items ≡ rest
+    {at : ℕ} {core : ServedCore} {h : List WireEvent} (x y : Link) (c d : Conn) (call : LateCall) (rest : List LateCall) (answer : Answer) (used : ℕ) → x.conn ≡ Some c → y.conn ≡ Some d → x.awaits_dialect ≡ None
+    → address_and_limits y ≡ address_and_limits x → y.waiting.items ≡ x.waiting.items → y.awaits_dialect ≡ x.awaits_dialect → y.dialect ≡ x.dialect → y.calls.sent.items ≡ x.calls.sent.items → x.late.items ≡ call ∷ rest → y.late.items ≡ rest
     → SpellsIn call.dialect call.ask c.held.items answer used → d.held.items ≡ drop used c.held.items → d.number ≡ c.number → bytes_of d.unsent ≡ bytes_of c.unsent → LineGoes IsOfTurn at core h x core h y
 line_throws {at} {core} {h} x y c d call rest answer used was is off server waiting awaits speaks sent late left spells held number unsent = record {
   steps = step ∷ [];
@@ -302,7 +302,7 @@ line_throws {at} {core} {h} x y c d call rest answer used was is off server wait
 
 -- or it isn't there
 passes_none :
-    {at : ℕ} {core : ServedCore} {h : List Event} (x y : Link) (c d : Conn) → x.conn ≡ Some c → y.conn ≡ Some d → server_of y ≡ server_of x → y.waiting.items ≡ x.waiting.items → y.awaits_dialect ≡ x.awaits_dialect
+    {at : ℕ} {core : ServedCore} {h : List WireEvent} (x y : Link) (c d : Conn) → x.conn ≡ Some c → y.conn ≡ Some d → address_and_limits y ≡ address_and_limits x → y.waiting.items ≡ x.waiting.items → y.awaits_dialect ≡ x.awaits_dialect
     → y.dialect ≡ x.dialect → y.draining ≡ x.draining → y.calls.sent.items ≡ x.calls.sent.items → d ≡ record c { held = d.held } → (y.late.items ≡ x.late.items) × (d.held.items ≡ c.held.items) → LineGoes IsOfTurn at core h x core h y
 passes_none {h = h} x y c d was is server waiting awaits speaks draining sent same kept = line_keeps (quiet h) (of_eight server ends (ap said_asks sent) waiting awaits speaks (ap said_late kept.0) (ap (option_map (λ (z : Conn). z.number)) draining))
   where
@@ -312,7 +312,7 @@ passes_none {h = h} x y c d was is server waiting awaits speaks draining sent sa
         ∙ ap (λ (l : List ℕ). let e : ℕ × List ℕ × List ℕ = (c.number, l, bytes_of c.unsent) in Some e) kept.1 ∙ sym (ap (option_map {U = ℕ × List ℕ × List ℕ} conn_state) was)
 
 pub line_passes :
-    {at : ℕ} {core : ServedCore} {h : List Event} (x y : Link) (c d : Conn) (read : LateRead) → x.conn ≡ Some c → y.conn ≡ Some d → x.awaits_dialect ≡ None → server_of y ≡ server_of x → y.waiting.items ≡ x.waiting.items
+    {at : ℕ} {core : ServedCore} {h : List WireEvent} (x y : Link) (c d : Conn) (read : LateRead) → x.conn ≡ Some c → y.conn ≡ Some d → x.awaits_dialect ≡ None → address_and_limits y ≡ address_and_limits x → y.waiting.items ≡ x.waiting.items
     → y.awaits_dialect ≡ x.awaits_dialect → y.dialect ≡ x.dialect → y.draining ≡ x.draining → y.calls.sent.items ≡ x.calls.sent.items → d ≡ record c { held = d.held } → PassesOver x.late.items c.held.items read y.late.items d.held.items
     → LineGoes IsOfTurn at core h x core h y
 line_passes x y c d (lates.Whole used) was is off server waiting awaits speaks draining sent same passes =

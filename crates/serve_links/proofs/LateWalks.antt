@@ -27,7 +27,7 @@ use Rattle.core_proxy.specs.CallsStay.{called_by}
 use Rattle.core_proxy.proofs.Commands.{goes_on}
 use Rattle.core_accepted.specs.declared.served.ServedCore.{ServedCore}
 use Rattle.core_accepted.specs.Logs.{MayHaveLed}
-use Rattle.core_accepted.specs.Late.{Moment, seen, begun, IsFreshBy, WasOver}
+use Rattle.core_accepted.specs.Late.{Moment, seen, begun_late, IsFreshBy, WasOver}
 use Rattle.core_accepted.specs.Parts.{Own}
 use Rattle.core_accepted.specs.Rollout.{words_by}
 use Rattle.core_accepted.specs.LateCores.{DoesAsCore}
@@ -35,7 +35,7 @@ use Rattle.core_accepted.proofs.Late.{way_begun}
 use Rattle.core_accepted.proofs.Parts.{part_laws}
 use Rattle.core_accepted.proofs.LateCores.{own_part}
 use Rattle.serve_links.specs.Talks.{IsOrderly}
-use Rattle.serve_links.specs.InOrder.{Move, OfProxy, OfServer, log_of, moments_in, as_pipes, IsAwaited, LeadAlong, WalksAreFreshLate}
+use Rattle.serve_links.specs.InOrder.{Move, OfProxy, OfServer, log_of, moments_in, as_pipes, CallIsAwaited, LeadAlong, WalksAreFreshLate}
 use Rattle.serve_links.proofs.InOrder.{none_some, is_calling, call_way, led_along, connections_are_in_order}
 use Rattle.serve_links.proofs.Alike.{OutWay, OutWays, does_own}
 
@@ -86,7 +86,7 @@ module _ (served : ServedCore) (believes : ℕ → List ℕ → Option Item) (pa
           (ap called_by e ∙ pair_is a n s ticket (sym (ap (λ (o : Option Command). ticket_by o n s) e) ∙ ticket_is s n ticket out))
 
   -- and a word goes on by what it ended with
-  front_out : (n : ℕ) (call : Call) (client : Ask) → IsAwaited past n call → begun (run_of past) n ≡ Some client → IsFront (words_by led.tree) n client (calls_so_far (run_of past) n ++ call ∷ [])
+  front_out : (n : ℕ) (call : Call) (client : Ask) → CallIsAwaited past n call → begun_late (run_of past) n ≡ Some client → IsFront (words_by led.tree) n client (calls_so_far (run_of past) n ++ call ∷ [])
   front_out n call client awaited is = by (command_at served.core n) refl
     where
       ticket : Ticket

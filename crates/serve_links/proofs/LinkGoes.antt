@@ -7,7 +7,7 @@ use Rattle.mc_types.specs.declared.ask.Ask.{Ask}
 use Rattle.mc_types.specs.declared.ask.Dialect.{Dialect}
 use Rattle.wire_stream.specs.Spelling.{spelling_of}
 use Rattle.wire_parts.specs.Sending.{bytes_of}
-use Rattle.serve_wire.specs.Events.{Event, connects, closes, role, address_of, delivered, taken, is_over, IsNew}
+use Rattle.serve_wire.specs.Events.{WireEvent, connects, closes, role, address_of, delivered, taken, is_over, IsUntold}
 use Rattle.serve_wire.specs.Flow.{ReadsOn, SendsOn, Stands}
 use Rattle.serve_wire.specs.Calls.{Closes}
 use Rattle.serve_wire.specs.Agreement.{Extends, IsUntouched, TouchesOnly}
@@ -22,15 +22,15 @@ use Rattle.serve_links.specs.declared.link.Opening.{Opening}
 use Rattle.serve_links.specs.declared.link.Opening.TheVariants as opening
 use Rattle.serve_links.specs.declared.link.Link.{Link}
 use Rattle.serve_links.specs.declared.news.Cause.{Cause}
-use Rattle.serve_links.specs.CoreSteps.{Step, Opened, NotOpened, Fed, Polled, Stopped, Settled, Gave, Closed, LeftLine, Broke, Ticked, Loaded, Linked, Asked, Greeted, Spelled, Late, CameLate, Lost, StepsAreOf, IsOfTurn, IsFailure, IsGivingUp, IsSending, Fails}
+use Rattle.serve_links.specs.CoreSteps.{Step, Opened, NotOpened, Fed, Polled, Stopped, Settled, Gave, Closed, LeftLine, Broke, Ticked, Loaded, Linked, Asked, Greeted, Spelled, Late, CameLate, Lost, StepsAreOf, IsOfTurn, IsFailure, IsGivingUp, IsSending, OnlyFails}
 use Rattle.serve_links.specs.Dialects.{asked_in, AnswersFirst, awaits_flush}
 use Rattle.serve_links.specs.Lines.{first_asked_of, awaits_first, first_dialect, greeting_of, SameLine, KeepsLines, IsNewEnd, HasNewEnd, OpensLink, TakesGreeting, HasLearnt, Learns}
 use Rattle.serve_links.specs.Links.{FailsTo}
 use Rattle.serve_links.specs.Settled.{SettlesSome}
 use Rattle.serve_links.specs.Talks.{SaidAsk, Talk, Apart, Ending, standing_after, first_talk, with_ask, greeted, given_up, talk_in, AreDue, AreCalled, IsOrderly, IsOfServer}
-use Rattle.serve_links.specs.Called.{TellsCalls}
+use Rattle.serve_links.specs.Called.{TellsCallsOut}
 use Rattle.serve_links.proofs.Called.{walks_tell_calls}
-use Rattle.serve_links.specs.Story.{said_asks, said_late, MayGo, MayAllGo, TalkAgrees, Unused, ConnAgrees, LineAgrees, LineLost, LineFails, ShowsWhy, WasShown, StepsAreShown, LineCalled, server_of, LineState, line_of, KeepsOthers, LeavesCalls, LineGoesFrom, LineGoes}
+use Rattle.serve_links.specs.Story.{said_asks, said_late, MayGo, MayAllGo, TalkAgrees, Unused, ConnAgrees, LineAgrees, LineLost, LineFails, ShowsWhy, WasShown, StepsAreShown, LineCalled, address_and_limits, LineState, line_of, KeepsOthers, LeavesCalls, LineGoesFrom, LineGoes}
 use Rattle.serve_links.proofs.Talking.{calls_later, one_more, IsPlain, plain_talk, AreOut, sent_out, waiting_out, FailsInOrder, fail_in_order}
 use Rattle.serve_links.proofs.Due.{due_stays, called_stays, leaves_twice, due_last, called_last, due_behind, due_taken, SentGone, sent_gone, waiting_gone, AskedOne, asked_one}
 use Rattle.serve_links.proofs.Walked.{walked, of_both}
@@ -50,26 +50,26 @@ none_some e = cc
 -- ---- connections of others
 
 -- nothing but this connection was touched, which was no other's, and is its now
-pub keeps_by : (c : ℕ) (its : ℕ × ℕ) (h h' : List Event) → ((p : ℕ × ℕ) → role c h ≡ Some p → p ≡ its) → role c h' ≡ Some its → TouchesOnly c h h' → KeepsOthers its h h'
+pub keeps_by : (c : ℕ) (its : ℕ × ℕ) (h h' : List WireEvent) → ((p : ℕ × ℕ) → role c h ≡ Some p → p ≡ its) → role c h' ≡ Some its → TouchesOnly c h h' → KeepsOthers its h h'
 keeps_by c its h h' was now only = record {
   were = λ d p of_d other. elim (cases_Bool (nat_eq c d)) [ inl e ↦ absurd (other (was p (ap (λ n. role n h) (eqb-true c d e) ∙ of_d))) | inr e ↦ only d e ];
   are = λ d other. elim (cases_Bool (nat_eq c d)) [ inl e ↦ absurd (other (ap (λ n. role n h') (sym (eqb-true c d e)) ∙ now)) | inr e ↦ only d e ];
   clock = only_time c h h' only;
 }
 
-pub keeps_others : (c : ℕ) (its : ℕ × ℕ) (h h' : List Event) → role c h ≡ Some its → role c h' ≡ role c h → TouchesOnly c h h' → KeepsOthers its h h'
+pub keeps_others : (c : ℕ) (its : ℕ × ℕ) (h h' : List WireEvent) → role c h ≡ Some its → role c h' ≡ role c h → TouchesOnly c h h' → KeepsOthers its h h'
 keeps_others c its h h' of_c same only = keeps_by c its h h' (λ p was. same_some (sym was ∙ of_c)) (same ∙ of_c) only
 
-pub all_kept : (its : ℕ × ℕ) (h h' : List Event) → ((d : ℕ) → IsUntouched d h h') → KeepsOthers its h h'
+pub all_kept : (its : ℕ × ℕ) (h h' : List WireEvent) → ((d : ℕ) → IsUntouched d h h') → KeepsOthers its h h'
 all_kept its h h' quiet = record { were = λ d p of_d other. quiet d; are = λ d other. quiet d; clock = (quiet 0).same_time }
 
-pub quiet : (h : List Event) (d : ℕ) → IsUntouched d h h
+pub quiet : (h : List WireEvent) (d : ℕ) → IsUntouched d h h
 quiet h d = untouched d h
 
 -- ---- what agrees, in equal words
 
 pub talk_as :
-    {h : List Event} {at : ℕ} {text text' : List ℕ} {t t' : Talk} {c c' : ℕ} {held held' unsent unsent' : List ℕ} {out out' : List SaidAsk} {awaits awaits' : Option Greeting} {dialect dialect' : Dialect} {late late' : List SaidAsk}
+    {h : List WireEvent} {at : ℕ} {text text' : List ℕ} {t t' : Talk} {c c' : ℕ} {held held' unsent unsent' : List ℕ} {out out' : List SaidAsk} {awaits awaits' : Option Greeting} {dialect dialect' : Dialect} {late late' : List SaidAsk}
     → text' ≡ text → t' ≡ t → c' ≡ c → held' ≡ held → unsent' ≡ unsent → out' ≡ out → awaits' ≡ awaits → dialect' ≡ dialect → late' ≡ late
     → TalkAgrees h at text t c held unsent out awaits dialect late → TalkAgrees h at text' t' c' held' unsent' out' awaits' dialect' late'
 talk_as {h} {at} {text} {text'} {t} {t'} {c} {c'} {held} {held'} {unsent} {unsent'} {out} {out'} {awaits} {awaits'} {dialect} {dialect'} {late} {late'} text_is t_is c_is held_same unsent_same out_same awaits_same dialect_same late_same was = record {
@@ -84,29 +84,29 @@ talk_as {h} {at} {text} {text'} {t} {t'} {c} {c'} {held} {held'} {unsent} {unsen
 }
 
 -- a link that has this connection
-pub has_conn : (at : ℕ) (past : List Step) (h : List Event) (y : Link) (d : Conn) → y.conn ≡ Some d → ConnAgrees at past h y d d.held.items → is_over d.number h ≡ false → MayAllGo past at y.waiting.items → AreDue past at (said_asks y.waiting.items) → AreCalled past at (said_asks y.calls.sent.items) → LineAgrees at past h y
+pub has_conn : (at : ℕ) (past : List Step) (h : List WireEvent) (y : Link) (d : Conn) → y.conn ≡ Some d → ConnAgrees at past h y d d.held.items → is_over d.number h ≡ false → MayAllGo past at y.waiting.items → AreDue past at (said_asks y.waiting.items) → AreCalled past at (said_asks y.calls.sent.items) → LineAgrees at past h y
 has_conn at past h y d is agrees goes_on waiting due called = record { conn = λ conn there. subst (λ (z : Conn). ConnAgrees at past h y z z.held.items) (same_some (sym is ∙ there)) agrees; goes_on = λ conn there. subst (λ (z : Conn). is_over z.number h ≡ false) (same_some (sym is ∙ there)) goes_on; waiting = waiting; due = due; none_out = λ none. absurd (none_some (sym none ∙ is)); unused = λ none. absurd (none_some (sym none ∙ is)); called = called }
 
 -- and one that has none
-pub has_none : (at : ℕ) (past : List Step) (h : List Event) (y : Link) → y.conn ≡ None → MayAllGo past at y.waiting.items → AreDue past at (said_asks y.waiting.items) → (talk_in past at).out ≡ [] → Unused h at y.text.items (talk_in past at) (drain_of y) → AreCalled past at (said_asks y.calls.sent.items) → LineAgrees at past h y
+pub has_none : (at : ℕ) (past : List Step) (h : List WireEvent) (y : Link) → y.conn ≡ None → MayAllGo past at y.waiting.items → AreDue past at (said_asks y.waiting.items) → (talk_in past at).out ≡ [] → Unused h at y.text.items (talk_in past at) (drain_of y) → AreCalled past at (said_asks y.calls.sent.items) → LineAgrees at past h y
 has_none at past h y is waiting due out unused called = record { conn = λ conn there. absurd (none_some (sym is ∙ there)); goes_on = λ conn there. absurd (none_some (sym is ∙ there)); waiting = waiting; due = due; none_out = λ none. out; unused = λ none. unused; called = called }
 
-pub as_lost : (at : ℕ) (past : List Step) (h : List Event) (x : Link) → LineAgrees at past h x → LineLost at past h x
+pub as_lost : (at : ℕ) (past : List Step) (h : List WireEvent) (x : Link) → LineAgrees at past h x → LineLost at past h x
 as_lost at past h x a = record { conn = λ conn is. (conn.held.items, a.conn conn is); waiting = a.waiting; due = a.due; none_out = a.none_out; unused = a.unused; called = a.called }
 
 -- one that agrees, whose connection shows why it is to be given up
-pub as_failing : (why : Option Cause) (at : ℕ) (past : List Step) (h : List Event) (x : Link) → ((conn : Conn) → x.conn ≡ Some conn → ShowsWhy why (talk_in past at) conn.number h) → LineAgrees at past h x → LineFails why at past h x
+pub as_failing : (why : Option Cause) (at : ℕ) (past : List Step) (h : List WireEvent) (x : Link) → ((conn : Conn) → x.conn ≡ Some conn → ShowsWhy why (talk_in past at) conn.number h) → LineAgrees at past h x → LineFails why at past h x
 as_failing why at past h x shows a = record { lost = as_lost at past h x a; shows = shows }
 
 -- nothing happened but at the connection, and no step is told of
 pub line_moves :
-    {Before After : ℕ → List Step → List Event → Link → Type 0} {Is : Step → Type 0} {at : ℕ} {a b : ServedCore} {h h' : List Event} {x y : Link} → b ≡ a → Extends h h' → StaysShut at h x h' y → server_of y ≡ server_of x
+    {Before After : ℕ → List Step → List WireEvent → Link → Type 0} {Is : Step → Type 0} {at : ℕ} {a b : ServedCore} {h h' : List WireEvent} {x y : Link} → b ≡ a → Extends h h' → StaysShut at h x h' y → address_and_limits y ≡ address_and_limits x
     → ((past : List Step) → Before at past h x → After at past h' y × KeepsOthers (1, at) h h') → LineGoesFrom Before After Is at a h x b h' y
 line_moves {h = h} {h' = h'} same more shut server moves = record { steps = []; kinds = tt; own = tt; walks = same; agrees = λ past o tells was. let m = moves past was in (o, m.0, m.1, λ j other n ask is. (refl, refl, refl)); shown = λ past o tells was shown. shown_since past h h' more shown; shut = shut; server = record { same = server; late = tt } }
 
 -- what is wanted before is there, and what is there after is more than is wanted
 pub line_between :
-    {P P' Q Q' : ℕ → List Step → List Event → Link → Type 0} {Is : Step → Type 0} {at : ℕ} {a b : ServedCore} {h h' : List Event} {x y : Link}
+    {P P' Q Q' : ℕ → List Step → List WireEvent → Link → Type 0} {Is : Step → Type 0} {at : ℕ} {a b : ServedCore} {h h' : List WireEvent} {x y : Link}
     → ((past : List Step) → P' at past h x → P at past h x) → ((past : List Step) → Q at past h' y → Q' at past h' y) → LineGoesFrom P Q Is at a h x b h' y → LineGoesFrom P' Q' Is at a h x b h' y
 line_between before after g = record {
   steps = g.steps;
@@ -120,7 +120,7 @@ line_between before after g = record {
 }
 
 -- what nobody but it may have touched, one after another
-others_twice : (its : ℕ × ℕ) (h h' h'' : List Event) → KeepsOthers its h h' → KeepsOthers its h' h'' → KeepsOthers its h h''
+others_twice : (its : ℕ × ℕ) (h h' h'' : List WireEvent) → KeepsOthers its h h' → KeepsOthers its h' h'' → KeepsOthers its h h''
 others_twice its h h' h'' first later = record {
   were = λ d p was other. let s = first.were d p was other in untouched_twice d h h' h'' s (later.were d p (s.same_role ∙ was) other);
   are = λ d other. let s = later.are d other in untouched_twice d h h' h'' (first.are d (λ is. other (s.same_role ∙ is))) s;
@@ -129,7 +129,7 @@ others_twice its h h' h'' first later = record {
 
 -- one after another
 pub line_then :
-    {P Q R : ℕ → List Step → List Event → Link → Type 0} {Is : Step → Type 0} {at : ℕ} {a b c : ServedCore} {h h' h'' : List Event} {x y z : Link} → LineGoesFrom P Q Is at a h x b h' y → LineGoesFrom Q R Is at b h' y c h'' z
+    {P Q R : ℕ → List Step → List WireEvent → Link → Type 0} {Is : Step → Type 0} {at : ℕ} {a b c : ServedCore} {h h' h'' : List WireEvent} {x y z : Link} → LineGoesFrom P Q Is at a h x b h' y → LineGoesFrom Q R Is at b h' y c h'' z
     → LineGoesFrom P R Is at a h x c h'' z
 line_then {P} {Q} {R} {Is} {at} {a} {b} {c} {h} {h'} {h''} {x} {y} {z} g k = record {
   steps = k.steps ++ g.steps;
@@ -148,26 +148,26 @@ line_then {P} {Q} {R} {Is} {at} {a} {b} {c} {h} {h'} {h''} {x} {y} {z} g k = rec
   server = server_then g.steps k.steps x y z g.server k.server;
 }
   where
-    told : (past : List Step) → TellsCalls past a → TellsCalls (g.steps ++ past) b
+    told : (past : List Step) → TellsCallsOut past a → TellsCallsOut (g.steps ++ past) b
     told past tells = (walks_tell_calls.goes_on g.steps past a b tells g.walks).0
 
 -- ---- a link that has the same
 
-abbrev OfConn : ℕ → List Step → List Event → List ℕ → List SaidAsk → Option Greeting → Dialect → List SaidAsk → Option ℕ → Option (ℕ × List ℕ × List ℕ) → Type 0
+abbrev OfConn : ℕ → List Step → List WireEvent → List ℕ → List SaidAsk → Option Greeting → Dialect → List SaidAsk → Option ℕ → Option (ℕ × List ℕ × List ℕ) → Type 0
 OfConn at past h text out awaits dialect late drain None = ((talk_in past at).out ≡ []) × Unused h at text (talk_in past at) drain
 OfConn at past h text out awaits dialect late drain (Some e) = TalkAgrees h at text (talk_in past at) e.0 e.1 e.2 out awaits dialect late × (is_over e.0 h ≡ false)
 
-abbrev OfLine : ℕ → List Step → List Event → LineState → Type 0
+abbrev OfLine : ℕ → List Step → List WireEvent → LineState → Type 0
 OfLine at past h s = OfConn at past h s.0.0 s.2 s.4 s.5 s.6 s.7 s.1 × MayAllGo past at s.3 × AreDue past at (said_asks s.3) × AreCalled past at s.2
 
-to_line : (at : ℕ) (past : List Step) (h : List Event) (x : Link) → LineAgrees at past h x → OfLine at past h (line_of x)
+to_line : (at : ℕ) (past : List Step) (h : List WireEvent) (x : Link) → LineAgrees at past h x → OfLine at past h (line_of x)
 to_line at past h x a = (by x.conn refl, a.waiting, a.due, a.called)
   where
     by : (o : Option Conn) → x.conn ≡ o → OfConn at past h x.text.items (said_asks x.calls.sent.items) x.awaits_dialect x.dialect (said_late x.late.items) (drain_of x) (option_map (λ (c : Conn). (c.number, c.held.items, bytes_of c.unsent)) o)
     by None e = (a.none_out e, a.unused e)
     by (Some c) e = (a.conn c e, a.goes_on c e)
 
-from_line : (at : ℕ) (past : List Step) (h : List Event) (y : Link) → OfLine at past h (line_of y) → LineAgrees at past h y
+from_line : (at : ℕ) (past : List Step) (h : List WireEvent) (y : Link) → OfLine at past h (line_of y) → LineAgrees at past h y
 from_line at past h y o = record { conn = λ conn is. (there conn is).0; goes_on = λ conn is. (there conn is).1; waiting = o.1; due = o.2; none_out = λ none. (there_none none).0; unused = λ none. (there_none none).1; called = o.3 }
   where
     there : (conn : Conn) → y.conn ≡ Some conn → ConnAgrees at past h y conn conn.held.items × (is_over conn.number h ≡ false)
@@ -176,7 +176,7 @@ from_line at past h y o = record { conn = λ conn is. (there conn is).0; goes_on
     there_none : y.conn ≡ None → ((talk_in past at).out ≡ []) × Unused h at y.text.items (talk_in past at) (drain_of y)
     there_none none = subst (λ (q : Option Conn). OfConn at past h y.text.items (said_asks y.calls.sent.items) y.awaits_dialect y.dialect (said_late y.late.items) (drain_of y) (option_map (λ (c : Conn). (c.number, c.held.items, bytes_of c.unsent)) q)) none o.0
 
-pub same_line : (at : ℕ) (past : List Step) (h : List Event) (x y : Link) → line_of y ≡ line_of x → LineAgrees at past h x → LineAgrees at past h y
+pub same_line : (at : ℕ) (past : List Step) (h : List WireEvent) (x y : Link) → line_of y ≡ line_of x → LineAgrees at past h x → LineAgrees at past h y
 same_line at past h x y same a = from_line at past h y (subst (OfLine at past h) (sym same) (to_line at past h x a))
 
 -- with the same connection
@@ -190,7 +190,7 @@ same_conn x y same =
 
 -- where its connection is as it was
 pub line_keeps :
-    {Is : Step → Type 0} {at : ℕ} {core : ServedCore} {h h' : List Event} {x y : Link} → ((d : ℕ) → IsUntouched d h h') → line_of y ≡ line_of x → LineGoes Is at core h x core h' y
+    {Is : Step → Type 0} {at : ℕ} {core : ServedCore} {h h' : List WireEvent} {x y : Link} → ((d : ℕ) → IsUntouched d h h') → line_of y ≡ line_of x → LineGoes Is at core h x core h' y
 line_keeps {at = at} {h = h} {h' = h'} {x = x} {y = y} still same =
     line_moves refl (still 0).after (shut_still still (same_conn x y same)) (ap (λ (s : LineState). s.0) same)
     (λ past a. (same_line at past h' x y same (line_stays h h' at [] past x (λ c of_c. still c) refl (λ n ask is. (refl, refl, refl)) a), all_kept (1, at) h h' still))
@@ -223,7 +223,7 @@ keeps_line x y k =
 -- ---- reads and writes
 
 talk_reads :
-    (h h' : List Event) (at : ℕ) (text : List ℕ) (t : Talk) (c : ℕ) (held held' unsent : List ℕ) (out : List SaidAsk) (awaits : Option Greeting) (dialect : Dialect) {late : List SaidAsk} → ReadsOn c held held' h h' → TalkAgrees h at text t c held unsent out awaits dialect late
+    (h h' : List WireEvent) (at : ℕ) (text : List ℕ) (t : Talk) (c : ℕ) (held held' unsent : List ℕ) (out : List SaidAsk) (awaits : Option Greeting) (dialect : Dialect) {late : List SaidAsk} → ReadsOn c held held' h h' → TalkAgrees h at text t c held unsent out awaits dialect late
     → TalkAgrees h' at text t c held' unsent out awaits dialect late
 talk_reads h h' at text t c held held' unsent out awaits dialect r was = record {
   is_to = r.same_role ∙ was.is_to;
@@ -238,7 +238,7 @@ talk_reads h h' at text t c held held' unsent out awaits dialect r was = record 
 
 -- what agrees but for its connection is over, and shows why
 pub over_so :
-    (why : Option Cause) (at : ℕ) (past : List Step) (h : List Event) (y : Link) (d : Conn) → y.conn ≡ Some d → ConnAgrees at past h y d d.held.items → ShowsWhy why (talk_in past at) d.number h → MayAllGo past at y.waiting.items
+    (why : Option Cause) (at : ℕ) (past : List Step) (h : List WireEvent) (y : Link) (d : Conn) → y.conn ≡ Some d → ConnAgrees at past h y d d.held.items → ShowsWhy why (talk_in past at) d.number h → MayAllGo past at y.waiting.items
     → AreDue past at (said_asks y.waiting.items) → AreCalled past at (said_asks y.calls.sent.items) → LineFails why at past h y
 over_so why at past h y d is agrees shows waiting due called = record {
   lost = record { conn = λ conn there. (conn.held.items, subst (λ (z : Conn). ConnAgrees at past h y z z.held.items) (same_some (sym is ∙ there)) agrees); waiting = waiting; due = due; none_out = λ none. absurd (none_some (sym none ∙ is)); unused = λ none. absurd (none_some (sym none ∙ is)); called = called };
@@ -247,12 +247,12 @@ over_so why at past h y d is agrees shows waiting due called = record {
 
 -- what came is held, and this holds of the link then
 line_reads_to :
-    {After : ℕ → List Step → List Event → Link → Type 0} {Is : Step → Type 0} {at : ℕ} {core : ServedCore} {h h' : List Event} (x y : Link) (c d : Conn) → x.conn ≡ Some c → y ≡ record x { conn = Some d } → d.number ≡ c.number
+    {After : ℕ → List Step → List WireEvent → Link → Type 0} {Is : Step → Type 0} {at : ℕ} {core : ServedCore} {h h' : List WireEvent} (x y : Link) (c d : Conn) → x.conn ≡ Some c → y ≡ record x { conn = Some d } → d.number ≡ c.number
     → bytes_of d.unsent ≡ bytes_of c.unsent → ReadsOn c.number c.held.items d.held.items h h'
     → ((past : List Step) → LineAgrees at past h x → ConnAgrees at past h' y d d.held.items → MayAllGo past at y.waiting.items → AreDue past at (said_asks y.waiting.items) → AreCalled past at (said_asks y.calls.sent.items) → After at past h' y)
     → LineGoesFrom LineAgrees After Is at core h x core h' y
 line_reads_to {After} {at = at} {h = h} {h' = h'} x y c d was is number unsent r after =
-    line_moves refl (only_after c.number h h' r.elsewhere) (shut_used c.number r.elsewhere (conn_is x c was) (ap conn_of is ∙ ap (λ n. Some n) number)) (ap server_of is) (λ past a. (agrees past a, keeps_others c.number (1, at) h h' (a.conn c was).is_to r.same_role r.elsewhere))
+    line_moves refl (only_after c.number h h' r.elsewhere) (shut_used c.number r.elsewhere (conn_is x c was) (ap conn_of is ∙ ap (λ n. Some n) number)) (ap address_and_limits is) (λ past a. (agrees past a, keeps_others c.number (1, at) h h' (a.conn c was).is_to r.same_role r.elsewhere))
   where
     agrees : (past : List Step) → LineAgrees at past h x → After at past h' y
     agrees past a =
@@ -263,7 +263,7 @@ line_reads_to {After} {at = at} {h = h} {h' = h'} x y c d was is number unsent r
 
 -- where the connection stands still
 pub line_reads :
-    {Is : Step → Type 0} {at : ℕ} {core : ServedCore} {h h' : List Event} (x y : Link) (c d : Conn) → x.conn ≡ Some c → y ≡ record x { conn = Some d } → d.number ≡ c.number → bytes_of d.unsent ≡ bytes_of c.unsent
+    {Is : Step → Type 0} {at : ℕ} {core : ServedCore} {h h' : List WireEvent} (x y : Link) (c d : Conn) → x.conn ≡ Some c → y ≡ record x { conn = Some d } → d.number ≡ c.number → bytes_of d.unsent ≡ bytes_of c.unsent
     → ReadsOn c.number c.held.items d.held.items h h' → Stands c.number h h' → LineGoes Is at core h x core h' y
 line_reads {at = at} {h' = h'} x y c d was is number unsent r stands =
     line_reads_to x y c d was is number unsent r
@@ -271,14 +271,14 @@ line_reads {at = at} {h' = h'} x y c d was is number unsent r stands =
 
 -- or shows why it is to be given up
 pub line_reads_over :
-    {Is : Step → Type 0} {at : ℕ} {core : ServedCore} {h h' : List Event} (why : Option Cause) (x y : Link) (c d : Conn) → x.conn ≡ Some c → y ≡ record x { conn = Some d } → d.number ≡ c.number
+    {Is : Step → Type 0} {at : ℕ} {core : ServedCore} {h h' : List WireEvent} (why : Option Cause) (x y : Link) (c d : Conn) → x.conn ≡ Some c → y ≡ record x { conn = Some d } → d.number ≡ c.number
     → bytes_of d.unsent ≡ bytes_of c.unsent → ReadsOn c.number c.held.items d.held.items h h' → ((t : Talk) → ShowsWhy why t c.number h') → LineGoesFrom LineAgrees (LineFails why) Is at core h x core h' y
 line_reads_over {at = at} {h' = h'} why x y c d was is number unsent r shows =
     line_reads_to x y c d was is number unsent r
     (λ past a agrees waiting due called. over_so why at past h' y d (ap (λ (z : Link). z.conn) is) agrees (subst (λ n. ShowsWhy why (talk_in past at) n h') (sym number) (shows (talk_in past at))) waiting due called)
 
 talk_sends :
-    (h h' : List Event) (at : ℕ) (text : List ℕ) (t : Talk) (c : ℕ) (held unsent unsent' : List ℕ) (out : List SaidAsk) (awaits : Option Greeting) (dialect : Dialect) {late : List SaidAsk} → SendsOn c unsent unsent' h h' → TalkAgrees h at text t c held unsent out awaits dialect late
+    (h h' : List WireEvent) (at : ℕ) (text : List ℕ) (t : Talk) (c : ℕ) (held unsent unsent' : List ℕ) (out : List SaidAsk) (awaits : Option Greeting) (dialect : Dialect) {late : List SaidAsk} → SendsOn c unsent unsent' h h' → TalkAgrees h at text t c held unsent out awaits dialect late
     → TalkAgrees h' at text t c held unsent' out awaits dialect late
 talk_sends h h' at text t c held unsent unsent' out awaits dialect s was = record {
   is_to = s.same_role ∙ was.is_to;
@@ -293,12 +293,12 @@ talk_sends h h' at text t c held unsent unsent' out awaits dialect s was = recor
 
 -- what is to be sent goes out, as far as it is taken, and this holds of the link then
 line_sends_to :
-    {After : ℕ → List Step → List Event → Link → Type 0} {Is : Step → Type 0} {at : ℕ} {core : ServedCore} {h h' : List Event} (x y : Link) (c d : Conn) → x.conn ≡ Some c → y ≡ record x { conn = Some d } → d.number ≡ c.number
+    {After : ℕ → List Step → List WireEvent → Link → Type 0} {Is : Step → Type 0} {at : ℕ} {core : ServedCore} {h h' : List WireEvent} (x y : Link) (c d : Conn) → x.conn ≡ Some c → y ≡ record x { conn = Some d } → d.number ≡ c.number
     → d.held.items ≡ c.held.items → SendsOn c.number (bytes_of c.unsent) (bytes_of d.unsent) h h'
     → ((past : List Step) → LineAgrees at past h x → ConnAgrees at past h' y d d.held.items → MayAllGo past at y.waiting.items → AreDue past at (said_asks y.waiting.items) → AreCalled past at (said_asks y.calls.sent.items) → After at past h' y)
     → LineGoesFrom LineAgrees After Is at core h x core h' y
 line_sends_to {After} {at = at} {h = h} {h' = h'} x y c d was is number held s after =
-    line_moves refl (only_after c.number h h' s.elsewhere) (shut_used c.number s.elsewhere (conn_is x c was) (ap conn_of is ∙ ap (λ n. Some n) number)) (ap server_of is) (λ past a. (agrees past a, keeps_others c.number (1, at) h h' (a.conn c was).is_to s.same_role s.elsewhere))
+    line_moves refl (only_after c.number h h' s.elsewhere) (shut_used c.number s.elsewhere (conn_is x c was) (ap conn_of is ∙ ap (λ n. Some n) number)) (ap address_and_limits is) (λ past a. (agrees past a, keeps_others c.number (1, at) h h' (a.conn c was).is_to s.same_role s.elsewhere))
   where
     agrees : (past : List Step) → LineAgrees at past h x → After at past h' y
     agrees past a =
@@ -309,7 +309,7 @@ line_sends_to {After} {at = at} {h = h} {h' = h'} x y c d was is number held s a
 
 -- where the connection stands still
 pub line_sends :
-    {Is : Step → Type 0} {at : ℕ} {core : ServedCore} {h h' : List Event} (x y : Link) (c d : Conn) → x.conn ≡ Some c → y ≡ record x { conn = Some d } → d.number ≡ c.number → d.held.items ≡ c.held.items
+    {Is : Step → Type 0} {at : ℕ} {core : ServedCore} {h h' : List WireEvent} (x y : Link) (c d : Conn) → x.conn ≡ Some c → y ≡ record x { conn = Some d } → d.number ≡ c.number → d.held.items ≡ c.held.items
     → SendsOn c.number (bytes_of c.unsent) (bytes_of d.unsent) h h' → Stands c.number h h' → LineGoes Is at core h x core h' y
 line_sends {at = at} {h' = h'} x y c d was is number held s stands =
     line_sends_to x y c d was is number held s
@@ -317,7 +317,7 @@ line_sends {at = at} {h' = h'} x y c d was is number held s stands =
 
 -- or shows why it is to be given up
 pub line_sends_over :
-    {Is : Step → Type 0} {at : ℕ} {core : ServedCore} {h h' : List Event} (why : Option Cause) (x y : Link) (c d : Conn) → x.conn ≡ Some c → y ≡ record x { conn = Some d } → d.number ≡ c.number → d.held.items ≡ c.held.items
+    {Is : Step → Type 0} {at : ℕ} {core : ServedCore} {h h' : List WireEvent} (why : Option Cause) (x y : Link) (c d : Conn) → x.conn ≡ Some c → y ≡ record x { conn = Some d } → d.number ≡ c.number → d.held.items ≡ c.held.items
     → SendsOn c.number (bytes_of c.unsent) (bytes_of d.unsent) h h' → ((t : Talk) → ShowsWhy why t c.number h') → LineGoesFrom LineAgrees (LineFails why) Is at core h x core h' y
 line_sends_over {at = at} {h' = h'} why x y c d was is number held s shows =
     line_sends_to x y c d was is number held s
@@ -326,7 +326,7 @@ line_sends_over {at = at} {h' = h'} why x y c d was is number held s shows =
 -- ---- a new connection
 
 first_agrees :
-    (h : List Event) (at number : ℕ) (text : List ℕ) (dialect : Greeting) → IsNew number h
+    (h : List WireEvent) (at number : ℕ) (text : List ℕ) (dialect : Greeting) → IsUntold number h
     → TalkAgrees (connects number at text ∷ h) at text (first_talk dialect) number [] (first_asked_of dialect) [] (awaits_first dialect) (first_dialect dialect.dialect) []
 first_agrees h at number text dialect new = record {
   is_to = ap (λ b. if b then Some (1, at) else role number h) (equal number);
@@ -340,15 +340,15 @@ first_agrees h at number text dialect new = record {
 }
 
 -- a new connection was nobody's
-new_own : (number : ℕ) (its : ℕ × ℕ) (h : List Event) → role number h ≡ None → (p : ℕ × ℕ) → role number h ≡ Some p → p ≡ its
+new_own : (number : ℕ) (its : ℕ × ℕ) (h : List WireEvent) → role number h ≡ None → (p : ℕ × ℕ) → role number h ≡ Some p → p ≡ its
 new_own number its h none p was = absurd (none_some (sym none ∙ was))
 
-closed_role : (c : ℕ) (h h' : List Event) → Closes c h h' → role c h' ≡ role c h
+closed_role : (c : ℕ) (h h' : List WireEvent) → Closes c h h' → role c h' ≡ role c h
 closed_role c h h' (inl closed) = ap (role c) closed
 closed_role c h h' (inr same) = ap (role c) same.0
 
 begins :
-    (at : ℕ) (core : ServedCore) (h h' : List Event) (x y : Link) (dialect : Greeting) (number : ℕ) → IsNew number h → h' ≡ connects number at x.text.items ∷ h → HasNewEnd number dialect x y
+    (at : ℕ) (core : ServedCore) (h h' : List WireEvent) (x y : Link) (dialect : Greeting) (number : ℕ) → IsUntold number h → h' ≡ connects number at x.text.items ∷ h → HasNewEnd number dialect x y
     → LineGoes IsSending at core h x core h' y
 begins at core h h' x y dialect number new noted has = record {
   steps = Linked at dialect ∷ [];
@@ -382,7 +382,7 @@ begins at core h h' x y dialect number new noted has = record {
 
 -- one was begun, and closed
 begins_in_vain :
-    (at : ℕ) (core : ServedCore) (h h' : List Event) (x y : Link) (number : ℕ) → IsNew number h → Closes number (connects number at x.text.items ∷ h) h' → KeepsLines x y → LineGoes IsSending at core h x core h' y
+    (at : ℕ) (core : ServedCore) (h h' : List WireEvent) (x y : Link) (number : ℕ) → IsUntold number h → Closes number (connects number at x.text.items ∷ h) h' → KeepsLines x y → LineGoes IsSending at core h x core h' y
 begins_in_vain at core h h' x y number new closed keeps =
     let same = keeps_line x y keeps in
     let only = only_twice number h (connects number at x.text.items ∷ h) h' (only_connects number at x.text.items h) (only_closed number (connects number at x.text.items ∷ h) h' closed) in
@@ -391,12 +391,12 @@ begins_in_vain at core h h' x y number new closed keeps =
       keeps_by number (1, at) h h' (new_own number (1, at) h new.no_role) (closed_role number (connects number at x.text.items ∷ h) h' closed ∙ ap (λ b. if b then Some (1, at) else role number h) (equal number)) only,
     ))
 
-at_same : {Is : Step → Type 0} (at : ℕ) (core : ServedCore) (h h' : List Event) (x y : Link) → h' ≡ h → KeepsLines x y → LineGoes Is at core h x core h' y
+at_same : {Is : Step → Type 0} (at : ℕ) (core : ServedCore) (h h' : List WireEvent) (x y : Link) → h' ≡ h → KeepsLines x y → LineGoes Is at core h x core h' y
 at_same at core h h' x y same keeps = line_keeps (λ d. subst (IsUntouched d h) (sym same) (untouched d h)) (keeps_line x y keeps)
 
 -- a connection was begun, or not
 pub line_opens :
-    {at : ℕ} {core : ServedCore} {h h' : List Event} (x y : Link) (dialect : ServerDialect) (o : Opening) → OpensLink at dialect o x y h h' → LineGoes IsSending at core h x core h' y
+    {at : ℕ} {core : ServedCore} {h h' : List WireEvent} (x y : Link) (dialect : ServerDialect) (o : Opening) → OpensLink at dialect o x y h h' → LineGoes IsSending at core h x core h' y
 line_opens {at} {core} {h} {h'} x y dialect opening.Begun opens = begins at core h h' x y (greeting_of x dialect) opens.0 opens.1 opens.2 opens.3
 line_opens {at} {core} {h} {h'} x y dialect opening.NoAddress opens = at_same at core h h' x y opens.0 opens.1
 line_opens {at} {core} {h} {h'} x y dialect opening.Failed opens = at_same at core h h' x y opens.0 opens.1
@@ -405,7 +405,7 @@ line_opens {at} {core} {h} {h'} x y dialect opening.NoMemory opens = begins_in_v
 -- ---- what the server tells of its dialects
 
 talk_greets :
-    (h : List Event) (at : ℕ) (text : List ℕ) (t : Talk) (c : ℕ) (bytes held unsent : List ℕ) (out : List SaidAsk) (awaits : Option Greeting) (old dialect : Dialect) {late : List SaidAsk} → TalkAgrees h at text t c (bytes ++ held) unsent out awaits old late
+    (h : List WireEvent) (at : ℕ) (text : List ℕ) (t : Talk) (c : ℕ) (bytes held unsent : List ℕ) (out : List SaidAsk) (awaits : Option Greeting) (old dialect : Dialect) {late : List SaidAsk} → TalkAgrees h at text t c (bytes ++ held) unsent out awaits old late
     → TalkAgrees h at text (greeted dialect bytes t) c held unsent out None dialect late
 talk_greets h at text t c bytes held unsent out awaits old dialect was = record {
   is_to = was.is_to;
@@ -419,7 +419,7 @@ talk_greets h at text t c bytes held unsent out awaits old dialect was = record 
 }
 
 -- it is taken from the front of what is held, where it is awaited
-pub line_learns : {at : ℕ} {core : ServedCore} {h : List Event} (x y : Link) (can : Bool) → Learns can x y → LineGoes IsOfTurn at core h x core h y
+pub line_learns : {at : ℕ} {core : ServedCore} {h : List WireEvent} (x y : Link) (can : Bool) → Learns can x y → LineGoes IsOfTurn at core h x core h y
 line_learns {at} {core} {h} x y can l = by l.told
   where
     learned : (c d : Conn) → x.conn ≡ Some c → y.conn ≡ Some d → TakesGreeting x.awaits_dialect y.dialect (Some c) (Some d) → HasLearnt x y → LineGoes IsOfTurn at core h x core h y
@@ -431,7 +431,7 @@ line_learns {at} {core} {h} x y can l = by l.told
       agrees = λ past o tells a. ((subst (λ o. AnswersFirst o y.dialect takes.0) (sym (a.conn c was).awaits_is) takes.2, o), agreed past a, all_kept (1, at) h h (quiet h), λ j other n ask is. (refl, refl, refl));
       shown = λ past o tells a shown. shown_later (step ∷ []) past h h (tt, tt) (none_since h) shown;
       shut = shut_still (quiet h) (conn_is y d is ∙ ap (λ (z : Conn). Some z.number) takes.3 ∙ sym (conn_is x c was));
-      server = record { same = ap server_of learnt.rest; late = (tt, tt) };
+      server = record { same = ap address_and_limits learnt.rest; late = (tt, tt) };
     }
       where
         step : Step
@@ -465,7 +465,7 @@ one_said [] call = refl
 one_said (first ∷ calls) call = ap (λ (l : List SaidAsk). (first.ticket.number, first.dialect, first.ticket.ask, first.since) ∷ l) (one_said calls call)
 
 talk_asks :
-    (h : List Event) (at : ℕ) (text : List ℕ) (t : Talk) (c : ℕ) (held unsent : List ℕ) (out : List SaidAsk) (awaits : Option Greeting) (speaks : Dialect) (number : ℕ) (dialect : Dialect) (ask : Ask) (since : ℕ) {late : List SaidAsk}
+    (h : List WireEvent) (at : ℕ) (text : List ℕ) (t : Talk) (c : ℕ) (held unsent : List ℕ) (out : List SaidAsk) (awaits : Option Greeting) (speaks : Dialect) (number : ℕ) (dialect : Dialect) (ask : Ask) (since : ℕ) {late : List SaidAsk}
     → TalkAgrees h at text t c held unsent out awaits speaks late
     → TalkAgrees h at text (with_ask number dialect ask since t) c held (unsent ++ spelling_of (asked_in dialect ask)) (out ++ (number, dialect, ask, since) ∷ []) awaits speaks late
 talk_asks h at text t c held unsent out awaits speaks number dialect ask since was = record {
@@ -481,7 +481,7 @@ talk_asks h at text t c held unsent out awaits speaks number dialect ask since w
 
 -- a call that the core gave out for its server is asked
 pub line_asks :
-    {at : ℕ} {core : ServedCore} {h : List Event} (x y : Link) (c d : Conn) (call : SentCall) → x.conn ≡ Some c → y ≡ record x { calls = y.calls; conn = Some d } → d ≡ record c { unsent = d.unsent }
+    {at : ℕ} {core : ServedCore} {h : List WireEvent} (x y : Link) (c d : Conn) (call : SentCall) → x.conn ≡ Some c → y ≡ record x { calls = y.calls; conn = Some d } → d ≡ record c { unsent = d.unsent }
     → x.late.items ≡ [] → awaits_flush x.awaits_dialect ≡ false → y.calls.sent.items ≡ x.calls.sent.items ++ call ∷ [] → bytes_of d.unsent ≡ bytes_of c.unsent ++ spelling_of (asked_in call.dialect call.ticket.ask)
     → LineGoesFrom (LineCalled call) LineAgrees IsSending at core h x core h y
 line_asks {at} {core} {h} x y c d call was is same alone ready more unsent = record {
@@ -494,7 +494,7 @@ line_asks {at} {core} {h} x y c d call was is same alone ready more unsent = rec
       (((a.1, a.2.0, (a.0.conn c was).late_is ∙ ap said_late alone, ap awaits_flush (a.0.conn c was).awaits_is ∙ ready, a.2.3), o), agreed past a.0 one, all_kept (1, at) h h (quiet h), one.others);
   shown = λ past o tells a shown. shown_later (step ∷ []) past h h (tt, tt) (none_since h) shown;
   shut = shut_still (quiet h) (ap conn_of is ∙ ap (λ (z : Conn). Some z.number) same ∙ sym (conn_is x c was));
-  server = record { same = ap server_of is; late = (tt, tt) };
+  server = record { same = ap address_and_limits is; late = (tt, tt) };
 }
   where
     step : Step
@@ -512,7 +512,7 @@ line_asks {at} {core} {h} x y c d call was is same alone ready more unsent = rec
         (subst (λ (l : List SentCall). AreCalled (step ∷ past) at (said_asks l)) (sym more) one.called)
 
 -- a link that has another list of calls that wait
-waits_with : (at : ℕ) (past : List Step) (h : List Event) (x y : Link) → y ≡ record x { waiting = y.waiting } → LineAgrees at past h x → MayAllGo past at y.waiting.items → AreDue past at (said_asks y.waiting.items) → LineAgrees at past h y
+waits_with : (at : ℕ) (past : List Step) (h : List WireEvent) (x y : Link) → y ≡ record x { waiting = y.waiting } → LineAgrees at past h x → MayAllGo past at y.waiting.items → AreDue past at (said_asks y.waiting.items) → LineAgrees at past h y
 waits_with at past h x y is a waiting due = record {
   conn = λ conn there.
       talk_as (ap (λ (z : Link). z.text.items) is) refl refl refl refl (ap (λ (z : Link). said_asks z.calls.sent.items) is) (ap (λ (z : Link). z.awaits_dialect) is) (ap (λ (z : Link). z.dialect) is) (ap (λ (z : Link). said_late z.late.items) is)
@@ -527,10 +527,10 @@ waits_with at past h x y is a waiting due = record {
 
 -- it waits
 pub line_waits :
-    {Is : Step → Type 0} {at : ℕ} {core : ServedCore} {h : List Event} (x y : Link) (call : SentCall) → y ≡ record x { waiting = y.waiting } → y.waiting.items ≡ x.waiting.items ++ call ∷ []
+    {Is : Step → Type 0} {at : ℕ} {core : ServedCore} {h : List WireEvent} (x y : Link) (call : SentCall) → y ≡ record x { waiting = y.waiting } → y.waiting.items ≡ x.waiting.items ++ call ∷ []
     → LineGoesFrom (LineCalled call) LineAgrees Is at core h x core h y
 line_waits {at = at} {h = h} x y call is more =
-    line_moves refl (none_since h) (shut_still (quiet h) (ap conn_of is)) (ap server_of is)
+    line_moves refl (none_since h) (shut_still (quiet h) (ap conn_of is)) (ap address_and_limits is)
     (λ past a. (
       waits_with at past h x y is a.0 (subst (λ w. MayAllGo past at w) (sym more) (one_more past at x.waiting.items call a.0.waiting a.1)) (subst (λ w. AreDue past at (said_asks w)) (sym more) (due_behind past at x.waiting.items call a.2)),
       all_kept (1, at) h h (quiet h),
@@ -542,10 +542,10 @@ called_between past at (first ∷ before) call after are = let rest = called_bet
 
 -- one of those that wait is taken
 pub line_takes :
-    {Is : Step → Type 0} {at : ℕ} {core : ServedCore} {h : List Event} (x y : Link) (call : SentCall) (before after : List SentCall) → y ≡ record x { waiting = y.waiting } → x.waiting.items ≡ before ++ call ∷ after
+    {Is : Step → Type 0} {at : ℕ} {core : ServedCore} {h : List WireEvent} (x y : Link) (call : SentCall) (before after : List SentCall) → y ≡ record x { waiting = y.waiting } → x.waiting.items ≡ before ++ call ∷ after
     → y.waiting.items ≡ before ++ after → LineGoesFrom LineAgrees (LineCalled call) Is at core h x core h y
 line_takes {at = at} {h = h} x y call before after is was now =
-    line_moves refl (none_since h) (shut_still (quiet h) (ap conn_of is)) (ap server_of is)
+    line_moves refl (none_since h) (shut_still (quiet h) (ap conn_of is)) (ap address_and_limits is)
     (λ past a.
     let all = called_between past at before call after (subst (λ w. MayAllGo past at w) was a.waiting) in
     let due = due_taken past at before call after (subst (λ w. AreDue past at (said_asks w)) was a.due) in (
@@ -560,7 +560,7 @@ line_takes {at = at} {h = h} x y call before after is was now =
 -- ---- answers
 
 talk_answers :
-    (h : List Event) (at : ℕ) (text : List ℕ) (t : Talk) (c : ℕ) (spelled held unsent : List ℕ) (out out' : List SaidAsk) (awaits : Option Greeting) (dialect : Dialect) {late : List SaidAsk} → TalkAgrees h at text t c (spelled ++ held) unsent out awaits dialect late
+    (h : List WireEvent) (at : ℕ) (text : List ℕ) (t : Talk) (c : ℕ) (spelled held unsent : List ℕ) (out out' : List SaidAsk) (awaits : Option Greeting) (dialect : Dialect) {late : List SaidAsk} → TalkAgrees h at text t c (spelled ++ held) unsent out awaits dialect late
     → TalkAgrees h at text (record t { told = t.told ++ spelled; out = out' }) c held unsent out' awaits dialect late
 talk_answers h at text t c spelled held unsent out out' awaits dialect was = record {
   is_to = was.is_to;
@@ -575,8 +575,8 @@ talk_answers h at text t c spelled held unsent out out' awaits dialect was = rec
 
 -- the answers in front of what is held settle calls, and this is left of it
 settles_to :
-    {After : ℕ → List Step → List Event → Link → Type 0} {at : ℕ} {core core' : ServedCore} {h : List Event} (x y : Link) (c d : Conn) (rest : List ℕ) → x.conn ≡ Some c → y.conn ≡ Some d → x.awaits_dialect ≡ None → x.late.items ≡ []
-    → server_of y ≡ server_of x → y.waiting.items ≡ x.waiting.items → y.awaits_dialect ≡ x.awaits_dialect → y.dialect ≡ x.dialect → y.late.items ≡ x.late.items → d.number ≡ c.number → bytes_of d.unsent ≡ bytes_of c.unsent
+    {After : ℕ → List Step → List WireEvent → Link → Type 0} {at : ℕ} {core core' : ServedCore} {h : List WireEvent} (x y : Link) (c d : Conn) (rest : List ℕ) → x.conn ≡ Some c → y.conn ≡ Some d → x.awaits_dialect ≡ None → x.late.items ≡ []
+    → address_and_limits y ≡ address_and_limits x → y.waiting.items ≡ x.waiting.items → y.awaits_dialect ≡ x.awaits_dialect → y.dialect ≡ x.dialect → y.late.items ≡ x.late.items → d.number ≡ c.number → bytes_of d.unsent ≡ bytes_of c.unsent
     → ((past : List Step) → ConnAgrees at past h y d rest → is_over d.number h ≡ false → MayAllGo past at y.waiting.items → AreDue past at (said_asks y.waiting.items) → AreCalled past at (said_asks y.calls.sent.items) → After at past h y)
     → SettlesSome x.calls.sent.items c.held.items core y.calls.sent.items rest core' → LineGoesFrom LineAgrees After IsOfTurn at core h x core' h y
 settles_to {After} {at} {core} {core'} {h} x y c d rest was is off alone server waiting awaits speaks late number unsent after s = record {
@@ -605,7 +605,7 @@ settles_to {After} {at} {core} {core'} {h} x y c d rest was is off alone server 
 
 -- what is left of it is held
 pub line_settles :
-    {at : ℕ} {core core' : ServedCore} {h : List Event} (x y : Link) (c d : Conn) → x.conn ≡ Some c → y.conn ≡ Some d → x.awaits_dialect ≡ None → x.late.items ≡ [] → server_of y ≡ server_of x → y.waiting.items ≡ x.waiting.items
+    {at : ℕ} {core core' : ServedCore} {h : List WireEvent} (x y : Link) (c d : Conn) → x.conn ≡ Some c → y.conn ≡ Some d → x.awaits_dialect ≡ None → x.late.items ≡ [] → address_and_limits y ≡ address_and_limits x → y.waiting.items ≡ x.waiting.items
     → y.awaits_dialect ≡ x.awaits_dialect → y.dialect ≡ x.dialect → y.late.items ≡ x.late.items → d.number ≡ c.number → bytes_of d.unsent ≡ bytes_of c.unsent → SettlesSome x.calls.sent.items c.held.items core y.calls.sent.items d.held.items core'
     → LineGoes IsOfTurn at core h x core' h y
 line_settles {at} {core} {core'} {h} x y c d was is off alone server waiting awaits speaks late number unsent s =
@@ -613,7 +613,7 @@ line_settles {at} {core} {core'} {h} x y c d was is off alone server waiting awa
 
 -- or it is lost
 pub line_loses :
-    {at : ℕ} {core core' : ServedCore} {h : List Event} (x y : Link) (c d : Conn) (rest : List ℕ) → x.conn ≡ Some c → y.conn ≡ Some d → x.awaits_dialect ≡ None → x.late.items ≡ [] → server_of y ≡ server_of x
+    {at : ℕ} {core core' : ServedCore} {h : List WireEvent} (x y : Link) (c d : Conn) (rest : List ℕ) → x.conn ≡ Some c → y.conn ≡ Some d → x.awaits_dialect ≡ None → x.late.items ≡ [] → address_and_limits y ≡ address_and_limits x
     → y.waiting.items ≡ x.waiting.items → y.awaits_dialect ≡ x.awaits_dialect → y.dialect ≡ x.dialect → y.late.items ≡ x.late.items → d.number ≡ c.number → bytes_of d.unsent ≡ bytes_of c.unsent → SettlesSome x.calls.sent.items c.held.items core y.calls.sent.items rest core'
     → LineGoesFrom LineAgrees LineLost IsOfTurn at core h x core' h y
 line_loses {at} {core} {core'} {h} x y c d rest was is off alone server waiting awaits speaks late number unsent s =
@@ -624,7 +624,7 @@ line_loses {at} {core} {core'} {h} x y c d rest was is off alone server waiting 
 
 -- it had no connection in use, and nothing happened
 gives_none :
-    {at : ℕ} {core : ServedCore} {h h' : List Event} (why : Option Cause) (x y : Link) → x.conn ≡ None → h' ≡ h → y.conn ≡ None → y.draining ≡ x.draining → server_of y ≡ server_of x → y.waiting.items ≡ x.waiting.items
+    {at : ℕ} {core : ServedCore} {h h' : List WireEvent} (why : Option Cause) (x y : Link) → x.conn ≡ None → h' ≡ h → y.conn ≡ None → y.draining ≡ x.draining → address_and_limits y ≡ address_and_limits x → y.waiting.items ≡ x.waiting.items
     → y.calls.sent.items ≡ x.calls.sent.items → LineGoesFrom (LineFails why) LineAgrees (IsGivingUp why) at core h x core h' y
 gives_none {at} {core} {h} {h'} why x y had same closed draining server waiting sent =
     line_moves refl ([], same) (shut_still still (conns_same x y (closed ∙ sym had) draining)) server (λ past a. (left past a, all_kept (1, at) h h' still))
@@ -640,7 +640,7 @@ gives_none {at} {core} {h} {h'} why x y had same closed draining server waiting 
 
 -- it was given up, for what its connection showed, whatever that held; and so the connections that it has stand now
 gives_up :
-    {at : ℕ} {core : ServedCore} {h h' : List Event} (why : Option Cause) (x y : Link) (c : Conn) → x.conn ≡ Some c → TouchesOnly c.number h h' → role c.number h' ≡ role c.number h → y.conn ≡ None → server_of y ≡ server_of x
+    {at : ℕ} {core : ServedCore} {h h' : List WireEvent} (why : Option Cause) (x y : Link) (c : Conn) → x.conn ≡ Some c → TouchesOnly c.number h h' → role c.number h' ≡ role c.number h → y.conn ≡ None → address_and_limits y ≡ address_and_limits x
     → y.waiting.items ≡ x.waiting.items → y.calls.sent.items ≡ x.calls.sent.items → StaysShut at h x h' y
     → ((past : List Step) → LineFails why at past h x → Unused h' at y.text.items (talk_in (Lost at why ∷ past) at) (drain_of y)) → LineGoesFrom (LineFails why) LineAgrees (IsGivingUp why) at core h x core h' y
 gives_up {at} {core} {h} {h'} why x y c e only same_role closed server waiting sent shut unused = record {
@@ -677,8 +677,8 @@ gives_up {at} {core} {h} {h'} why x y c e only same_role closed server waiting s
 
 -- its connection was closed, whatever it held, for what it showed
 pub line_closes :
-    {at : ℕ} {core : ServedCore} {h h' : List Event} (why : Option Cause) → standing_after why ≡ Apart → (x y : Link) (r : Option ℕ) → r ≡ option_map (λ (z : Conn). z.number) x.conn → IfSome r (λ c. Closes c h h') → (r ≡ None → h' ≡ h) → y.conn ≡ None
-    → MatchOption x.conn (y.draining ≡ x.draining) (λ c. y.draining ≡ None) → server_of y ≡ server_of x → y.waiting.items ≡ x.waiting.items → y.calls.sent.items ≡ x.calls.sent.items
+    {at : ℕ} {core : ServedCore} {h h' : List WireEvent} (why : Option Cause) → standing_after why ≡ Apart → (x y : Link) (r : Option ℕ) → r ≡ option_map (λ (z : Conn). z.number) x.conn → IfSome r (λ c. Closes c h h') → (r ≡ None → h' ≡ h) → y.conn ≡ None
+    → MatchOption x.conn (y.draining ≡ x.draining) (λ c. y.draining ≡ None) → address_and_limits y ≡ address_and_limits x → y.waiting.items ≡ x.waiting.items → y.calls.sent.items ≡ x.calls.sent.items
     → LineGoesFrom (LineFails why) LineAgrees (IsGivingUp why) at core h x core h' y
 line_closes {at} {core} {h} {h'} why apart x y r r_is some none closed draining server waiting sent = by x.conn refl draining
   where
@@ -697,7 +697,7 @@ line_closes {at} {core} {h} {h'} why apart x y r r_is some none closed draining 
 
 -- or it can't be kept, and its end is awaited
 pub line_drains :
-    {at : ℕ} {core : ServedCore} {h h' : List Event} (why : Option Cause) → standing_after why ≡ Ending → (x y : Link) → h' ≡ h → y.conn ≡ None → conn_of y ≡ conn_of x → (x.conn ≡ None → y.draining ≡ x.draining) → server_of y ≡ server_of x
+    {at : ℕ} {core : ServedCore} {h h' : List WireEvent} (why : Option Cause) → standing_after why ≡ Ending → (x y : Link) → h' ≡ h → y.conn ≡ None → conn_of y ≡ conn_of x → (x.conn ≡ None → y.draining ≡ x.draining) → address_and_limits y ≡ address_and_limits x
     → y.waiting.items ≡ x.waiting.items → y.calls.sent.items ≡ x.calls.sent.items → LineGoesFrom (LineFails why) LineAgrees (IsGivingUp why) at core h x core h' y
 line_drains {at} {core} {h} {h'} why ending x y same closed conns draining server waiting sent = by x.conn refl
   where
@@ -724,10 +724,10 @@ line_drains {at} {core} {h} {h'} why ending x y same closed conns draining serve
 
 -- what came over it is thrown away
 pub line_away :
-    {Is : Step → Type 0} {at : ℕ} {core : ServedCore} {h h' : List Event} (x y : Link) (c d : Conn) (bytes : List ℕ) → x.conn ≡ None → x.draining ≡ Some c → y ≡ record x { draining = Some d } → d.number ≡ c.number
+    {Is : Step → Type 0} {at : ℕ} {core : ServedCore} {h h' : List WireEvent} (x y : Link) (c d : Conn) (bytes : List ℕ) → x.conn ≡ None → x.draining ≡ Some c → y ≡ record x { draining = Some d } → d.number ≡ c.number
     → ReadsOn c.number [] bytes h h' → LineGoes Is at core h x core h' y
 line_away {at = at} {h = h} {h' = h'} x y c d bytes none was is number r =
-    line_moves refl (only_after c.number h h' r.elsewhere) (shut_used c.number r.elsewhere (conn_drains x none ∙ ap (option_map (λ (z : Conn). z.number)) was) (conn_drains y (ap (λ (z : Link). z.conn) is ∙ none) ∙ drains)) (ap server_of is)
+    line_moves refl (only_after c.number h h' r.elsewhere) (shut_used c.number r.elsewhere (conn_drains x none ∙ ap (option_map (λ (z : Conn). z.number)) was) (conn_drains y (ap (λ (z : Link). z.conn) is ∙ none) ∙ drains)) (ap address_and_limits is)
     (λ past a. (agrees past a, keeps_others c.number (1, at) h h' (before past a).3.is_to r.same_role r.elsewhere))
   where
     drains : drain_of y ≡ Some c.number
@@ -763,7 +763,7 @@ line_away {at = at} {h = h} {h' = h'} x y c d bytes none was is number r =
 
 -- it has ended, or failed, or is awaited no longer, and was closed for that
 pub line_ends :
-    {Is : Step → Type 0} {at : ℕ} {core : ServedCore} {h k h' : List Event} (why : Option Cause) → Is (Lost at why) → standing_after why ≡ Apart → (x y : Link) (c : Conn) → x.conn ≡ None → x.draining ≡ Some c → y ≡ record x { draining = None }
+    {Is : Step → Type 0} {at : ℕ} {core : ServedCore} {h k h' : List WireEvent} (why : Option Cause) → Is (Lost at why) → standing_after why ≡ Apart → (x y : Link) (c : Conn) → x.conn ≡ None → x.draining ≡ Some c → y ≡ record x { draining = None }
     → ReadsOn c.number [] [] h k → ((t : Talk) → t.stands ≡ Ending → ShowsWhy why t c.number k) → Closes c.number k h' → LineGoes Is at core h x core h' y
 line_ends {Is} {at} {core} {h} {k} {h'} why kind apart x y c none was is r shows closes_it = record {
   steps = Lost at why ∷ [];
@@ -773,7 +773,7 @@ line_ends {Is} {at} {core} {h} {k} {h'} why kind apart x y c none was is r shows
   agrees = λ past o tells a. ((tt, o), left past a, keeps_others c.number (1, at) h h' (before past a).3.is_to (closed_role c.number k h' closes_it ∙ r.same_role) only, λ j other n ask is. (refl, refl, refl));
   shown = λ past o tells a shown. (was_shown past a, shown_since past h h' (only_after c.number h h' only) shown);
   shut = shut_closed c.number only (closed_shut c.number k h' closes_it) (conn_drains x none ∙ ap (option_map (λ (z : Conn). z.number)) was);
-  server = record { same = ap server_of is; late = (tt, tt) };
+  server = record { same = ap address_and_limits is; late = (tt, tt) };
 }
   where
     only : TouchesOnly c.number h h'
@@ -818,8 +818,8 @@ line_ends {Is} {at} {core} {h} {k} {h'} why kind apart x y c none was is r shows
 
 -- it had none in use, and has none then
 pub line_shuts :
-    {Before : ℕ → List Step → List Event → Link → Type 0} {Is : Step → Type 0} {at : ℕ} {a b : ServedCore} {h h' : List Event} {x y z : Link} → LineGoesFrom Before LineAgrees Is at a h x b h' y → y.conn ≡ None → z.conn ≡ None
-    → z.draining ≡ y.draining → server_of z ≡ server_of y → z.waiting.items ≡ y.waiting.items → z.calls.sent.items ≡ y.calls.sent.items → LineGoesFrom Before LineAgrees Is at a h x b h' z
+    {Before : ℕ → List Step → List WireEvent → Link → Type 0} {Is : Step → Type 0} {at : ℕ} {a b : ServedCore} {h h' : List WireEvent} {x y z : Link} → LineGoesFrom Before LineAgrees Is at a h x b h' y → y.conn ≡ None → z.conn ≡ None
+    → z.draining ≡ y.draining → address_and_limits z ≡ address_and_limits y → z.waiting.items ≡ y.waiting.items → z.calls.sent.items ≡ y.calls.sent.items → LineGoesFrom Before LineAgrees Is at a h x b h' z
 line_shuts {at = at} {h' = h'} {x = x} {y = y} {z = z} g none closed draining server waiting sent = record {
   steps = g.steps;
   kinds = g.kinds;
@@ -892,8 +892,8 @@ last_called past at (call ∷ first) later are = last_called past at first later
 
 -- calls of it fail, while it has no connection: of those that were sent, and of those that wait, the first do
 pub line_fails :
-    {why : Option Cause} {at : ℕ} {core core' : ServedCore} {h : List Event} (x y : Link) (mid : ServedCore) → FailsTo x.calls.sent.items y.calls.sent.items core mid → FailsTo x.waiting.items y.waiting.items mid core'
-    → x.conn ≡ None → y.conn ≡ None → y.draining ≡ x.draining → server_of y ≡ server_of x → LineGoes (IsGivingUp why) at core h x core' h y
+    {why : Option Cause} {at : ℕ} {core core' : ServedCore} {h : List WireEvent} (x y : Link) (mid : ServedCore) → FailsTo x.calls.sent.items y.calls.sent.items core mid → FailsTo x.waiting.items y.waiting.items mid core'
+    → x.conn ≡ None → y.conn ≡ None → y.draining ≡ x.draining → address_and_limits y ≡ address_and_limits x → LineGoes (IsGivingUp why) at core h x core' h y
 line_fails {why} {at} {core} {core'} {h} x y mid sent waiting had none draining server = record {
   steps = w.steps ++ f.steps;
   kinds = failed_giving why (w.steps ++ f.steps) kinds;

@@ -1,6 +1,6 @@
 -- Why connections were given up, as the wire showed it.
 use Rattle.std.proofs.Common.{◌≡◌, ℕ, List, [], ◌∷◌, ◌++◌, Option, refl}
-use Rattle.serve_wire.specs.Events.{Event}
+use Rattle.serve_wire.specs.Events.{WireEvent}
 use Rattle.serve_wire.specs.Agreement.{Extends}
 use Rattle.serve_wire.proofs.Steps.{extends_twice}
 use Rattle.serve_links.specs.declared.news.Cause.{Cause}
@@ -56,10 +56,10 @@ plain_unlost (step ∷ steps) kinds = (unlost step kinds.0, plain_unlost steps k
     unlost (Spelled at number ask answer bytes) is = absurd is
 
 -- nothing has happened since
-pub none_since : (h : List Event) → Extends h h
+pub none_since : (h : List WireEvent) → Extends h h
 none_since h = ([], refl)
 
-was_since : (why : Option Cause) (at : ℕ) (past : List Step) (h h' : List Event) → Extends h h' → WasShown why at past h → WasShown why at past h'
+was_since : (why : Option Cause) (at : ℕ) (past : List Step) (h h' : List WireEvent) → Extends h h' → WasShown why at past h → WasShown why at past h'
 was_since why at past h h' more was = record {
   conn = was.conn;
   before = was.before;
@@ -72,7 +72,7 @@ was_since why at past h h' more was = record {
 }
 
 -- what was shown stays so
-pub shown_since : (steps : List Step) (h h' : List Event) → Extends h h' → StepsAreShown steps h → StepsAreShown steps h'
+pub shown_since : (steps : List Step) (h h' : List WireEvent) → Extends h h' → StepsAreShown steps h → StepsAreShown steps h'
 shown_since [] h h' more shown = tt
 shown_since (step ∷ steps) h h' more shown = (by step shown.0, shown_since steps h h' more shown.1)
   where
@@ -98,7 +98,7 @@ shown_since (step ∷ steps) h h' more shown = (by step shown.0, shown_since ste
     by (Spelled at number ask answer bytes) was = tt
 
 -- and so it is with steps by which none is given up
-pub shown_later : (steps past : List Step) (h h' : List Event) → StepsAreOf IsUnlost steps → Extends h h' → StepsAreShown past h → StepsAreShown (steps ++ past) h'
+pub shown_later : (steps past : List Step) (h h' : List WireEvent) → StepsAreOf IsUnlost steps → Extends h h' → StepsAreShown past h → StepsAreShown (steps ++ past) h'
 shown_later [] past h h' kinds more shown = shown_since past h h' more shown
 shown_later (step ∷ steps) past h h' kinds more shown = (by step kinds.0, shown_later steps past h h' kinds.1 more shown)
   where

@@ -2,7 +2,7 @@
 use Rattle.std.proofs.Common.{◌≡◌, ◌≢◌, ℕ, Bool, true, false, if◌then◌else◌, List, Option, Some, None, inl, inr, refl, sym, ap, ◌∙◌, subst}
 use Rattle.std.specs.Prelude.{nat_eq}
 use Rattle.std.proofs.lemmas.Bool.{cases_Bool, eq-eqb, eqb-true}
-use Rattle.serve_wire.specs.Events.{Event, role, is_open}
+use Rattle.serve_wire.specs.Events.{WireEvent, role, is_open}
 use Rattle.serve_wire.specs.Agreement.{IsUntouched, TouchesOnly}
 use Rattle.serve_wire.specs.Calls.{Closes}
 use Rattle.serve_wire.proofs.Steps.{equal}
@@ -36,7 +36,7 @@ same_number : {kind i j : ℕ} → ◌≡◌ {A = Option (ℕ × ℕ)} (Some (ki
 same_number e = ap (λ (p : ℕ × ℕ). p.1) (same_pair e)
 
 -- what was closed isn't open
-pub closed_shut : (c : ℕ) (h h' : List Event) → Closes c h h' → is_open c h' ≡ false
+pub closed_shut : (c : ℕ) (h h' : List WireEvent) → Closes c h h' → is_open c h' ≡ false
 closed_shut c h h' (inl closed) = ap (is_open c) closed ∙ ap (λ b. if b then false else is_open c h) (equal c)
 closed_shut c h h' (inr same) = ap (is_open c) same.0 ∙ same.1
 
@@ -56,7 +56,7 @@ conns_same x y conn draining =
 
 -- one connection was touched: if it is open it is the one that is kept now, and any other that was kept still is
 pub shut_by :
-    {its : ℕ × ℕ} {h h' : List Event} {o o' : Option ℕ} (c : ℕ) → TouchesOnly c h h' → ((d : ℕ) → nat_eq c d ≡ false → o ≡ Some d → o' ≡ Some d) → (is_open c h' ≡ true → o' ≡ Some c)
+    {its : ℕ × ℕ} {h h' : List WireEvent} {o o' : Option ℕ} (c : ℕ) → TouchesOnly c h h' → ((d : ℕ) → nat_eq c d ≡ false → o ≡ Some d → o' ≡ Some d) → (is_open c h' ≡ true → o' ≡ Some c)
     → IsShutBut its o h → IsShutBut its o' h'
 shut_by {its} {h} {h'} {o} {o'} c only others own was d of_d on = elim (cases_Bool (nat_eq c d)) [ inl e ↦ mine (eqb-true c d e) | inr e ↦ other e (only d e) ]
   where
@@ -67,33 +67,33 @@ shut_by {its} {h} {h'} {o} {o'} c only others own was d of_d on = elim (cases_Bo
     other e same = others d e (was d (sym same.same_role ∙ of_d) (sym same.same_open ∙ on))
 
 -- it is kept, before and after
-pub shut_used : {its : ℕ × ℕ} {h h' : List Event} {o o' : Option ℕ} (c : ℕ) → TouchesOnly c h h' → o ≡ Some c → o' ≡ Some c → IsShutBut its o h → IsShutBut its o' h'
+pub shut_used : {its : ℕ × ℕ} {h h' : List WireEvent} {o o' : Option ℕ} (c : ℕ) → TouchesOnly c h h' → o ≡ Some c → o' ≡ Some c → IsShutBut its o h → IsShutBut its o' h'
 shut_used c only had has = shut_by c only (λ d other was. has ∙ sym had ∙ was) (λ on. has)
 
 -- it was begun, where none was kept
-pub shut_begun : {its : ℕ × ℕ} {h h' : List Event} {o o' : Option ℕ} (c : ℕ) → TouchesOnly c h h' → o ≡ None → o' ≡ Some c → IsShutBut its o h → IsShutBut its o' h'
+pub shut_begun : {its : ℕ × ℕ} {h h' : List WireEvent} {o o' : Option ℕ} (c : ℕ) → TouchesOnly c h h' → o ≡ None → o' ≡ Some c → IsShutBut its o h → IsShutBut its o' h'
 shut_begun c only none has = shut_by c only (λ d other was. absurd (none_some (sym none ∙ was))) (λ on. has)
 
 -- it isn't open, and what was kept is
-pub shut_in_vain : {its : ℕ × ℕ} {h h' : List Event} {o o' : Option ℕ} (c : ℕ) → TouchesOnly c h h' → is_open c h' ≡ false → o' ≡ o → IsShutBut its o h → IsShutBut its o' h'
+pub shut_in_vain : {its : ℕ × ℕ} {h h' : List WireEvent} {o o' : Option ℕ} (c : ℕ) → TouchesOnly c h h' → is_open c h' ≡ false → o' ≡ o → IsShutBut its o h → IsShutBut its o' h'
 shut_in_vain c only shut same = shut_by c only (λ d other was. same ∙ was) (λ on. absurd (false_true (sym shut ∙ on)))
 
 -- it was kept, and isn't open
-pub shut_closed : {its : ℕ × ℕ} {h h' : List Event} {o o' : Option ℕ} (c : ℕ) → TouchesOnly c h h' → is_open c h' ≡ false → o ≡ Some c → IsShutBut its o h → IsShutBut its o' h'
+pub shut_closed : {its : ℕ × ℕ} {h h' : List WireEvent} {o o' : Option ℕ} (c : ℕ) → TouchesOnly c h h' → is_open c h' ≡ false → o ≡ Some c → IsShutBut its o h → IsShutBut its o' h'
 shut_closed c only shut had = shut_by c only (λ d other was. absurd (false_true (sym other ∙ eq-eqb c d (same (sym had ∙ was))))) (λ on. absurd (false_true (sym shut ∙ on)))
   where
     same : {m n : ℕ} → Some m ≡ Some n → m ≡ n
     same e = cc
 
 -- no connection was touched
-pub shut_still : {its : ℕ × ℕ} {h h' : List Event} {o o' : Option ℕ} → ((d : ℕ) → IsUntouched d h h') → o' ≡ o → IsShutBut its o h → IsShutBut its o' h'
+pub shut_still : {its : ℕ × ℕ} {h h' : List WireEvent} {o o' : Option ℕ} → ((d : ℕ) → IsUntouched d h h') → o' ≡ o → IsShutBut its o h → IsShutBut its o' h'
 shut_still still same was d of_d on = same ∙ was d (sym (still d).same_role ∙ of_d) (sym (still d).same_open ∙ on)
 
 -- ---- all ends
 
 -- one link's connections were touched
 pub shut_line :
-    {h h' : List Event} {cs cs' : Clients} {ls ls' : List Link} (at : ℕ) → KeepsOthers (1, at) h h' → (IsShutBut (1, at) (link_conn ls at) h → IsShutBut (1, at) (link_conn ls' at) h')
+    {h h' : List WireEvent} {cs cs' : Clients} {ls ls' : List Link} (at : ℕ) → KeepsOthers (1, at) h h' → (IsShutBut (1, at) (link_conn ls at) h → IsShutBut (1, at) (link_conn ls' at) h')
     → ((j : ℕ) → nat_eq at j ≡ false → link_conn ls' j ≡ link_conn ls j) → ((j : ℕ) → client_conn cs' j ≡ client_conn cs j) → AreShut h cs ls → AreShut h' cs' ls'
 shut_line {h} {h'} {cs} {cs'} {ls} {ls'} at keeps own others clients_are was = record {
   clients = λ id c its on. let same = keeps.are c (λ e. clients_servers (sym its ∙ e)) in clients_are id ∙ was.clients id c (sym same.same_role ∙ its) (sym same.same_open ∙ on);
@@ -111,7 +111,7 @@ shut_line {h} {h'} {cs} {cs'} {ls} {ls'} at keeps own others clients_are was = r
 
 -- one client's was, which it has
 pub shut_client :
-    {h h' : List Event} {cs cs' : Clients} {ls ls' : List Link} (id c : ℕ) → role c h' ≡ Some (0, id) → TouchesOnly c h h' → client_conn cs' id ≡ Some c
+    {h h' : List WireEvent} {cs cs' : Clients} {ls ls' : List Link} (id c : ℕ) → role c h' ≡ Some (0, id) → TouchesOnly c h h' → client_conn cs' id ≡ Some c
     → ((j : ℕ) → client_conn cs' j ≡ client_conn cs j) → ((j : ℕ) → link_conn ls' j ≡ link_conn ls j) → AreShut h cs ls → AreShut h' cs' ls'
 shut_client {h} {h'} {cs} {cs'} {ls} {ls'} id c of_c only has clients_are links_are was = record {
   clients = λ j d its on. elim (cases_Bool (nat_eq c d)) [ inl e ↦ mine j d its (eqb-true c d e) | inr e ↦ (let same = only d e in clients_are j ∙ was.clients j d (sym same.same_role ∙ its) (sym same.same_open ∙ on)) ];
@@ -127,7 +127,7 @@ shut_client {h} {h'} {cs} {cs'} {ls} {ls'} id c of_c only has clients_are links_
 
 -- none was
 pub shut_quiet :
-    {h h' : List Event} {cs cs' : Clients} {ls ls' : List Link} → ((d : ℕ) → IsUntouched d h h') → ((j : ℕ) → client_conn cs' j ≡ client_conn cs j) → ((j : ℕ) → link_conn ls' j ≡ link_conn ls j)
+    {h h' : List WireEvent} {cs cs' : Clients} {ls ls' : List Link} → ((d : ℕ) → IsUntouched d h h') → ((j : ℕ) → client_conn cs' j ≡ client_conn cs j) → ((j : ℕ) → link_conn ls' j ≡ link_conn ls j)
     → AreShut h cs ls → AreShut h' cs' ls'
 shut_quiet quiet clients_are links_are was = record {
   clients = λ j d its on. clients_are j ∙ was.clients j d (sym (quiet d).same_role ∙ its) (sym (quiet d).same_open ∙ on);
@@ -139,7 +139,7 @@ shut_quiet quiet clients_are links_are was = record {
 
 -- a client is gone, and its connection isn't open
 pub shut_without :
-    {h h' : List Event} {cs cs' : Clients} {ls ls' : List Link} (id : ℕ) → ((d : ℕ) → role d h' ≡ role d h) → ((d : ℕ) → is_open d h' ≡ true → (is_open d h ≡ true) × (client_conn cs id ≢ Some d))
+    {h h' : List WireEvent} {cs cs' : Clients} {ls ls' : List Link} (id : ℕ) → ((d : ℕ) → role d h' ≡ role d h) → ((d : ℕ) → is_open d h' ≡ true → (is_open d h ≡ true) × (client_conn cs id ≢ Some d))
     → ((j : ℕ) → j ≢ id → client_conn cs' j ≡ client_conn cs j) → ((j : ℕ) → link_conn ls' j ≡ link_conn ls j) → AreShut h cs ls → AreShut h' cs' ls'
 shut_without {h} {h'} {cs} {cs'} {ls} {ls'} id roles opens others links_are was = record {
   clients = λ j d its on. client j d (sym (roles d) ∙ its) (opens d on);
@@ -155,7 +155,7 @@ shut_without {h} {h'} {cs} {cs'} {ls} {ls'} id roles opens others links_are was 
 
 -- and then a new one may have come in its place, by a connection that was nobody's
 pub shut_opened :
-    {h h' : List Event} {cs cs' : Clients} {ls ls' : List Link} (id c : ℕ) → ((d : ℕ) → nat_eq c d ≡ false → role d h' ≡ role d h)
+    {h h' : List WireEvent} {cs cs' : Clients} {ls ls' : List Link} (id c : ℕ) → ((d : ℕ) → nat_eq c d ≡ false → role d h' ≡ role d h)
     → ((d : ℕ) → nat_eq c d ≡ false → is_open d h' ≡ true → (is_open d h ≡ true) × (client_conn cs id ≢ Some d)) → (is_open c h' ≡ true → (client_conn cs' id ≡ Some c) × (role c h' ≡ Some (0, id)))
     → ((j : ℕ) → j ≢ id → client_conn cs' j ≡ client_conn cs j) → ((j : ℕ) → link_conn ls' j ≡ link_conn ls j) → AreShut h cs ls → AreShut h' cs' ls'
 shut_opened {h} {h'} {cs} {cs'} {ls} {ls'} id c roles opens own others links_are was = record {
@@ -178,7 +178,7 @@ shut_opened {h} {h'} {cs} {cs'} {ls} {ls'} id c roles opens own others links_are
 
 -- one connection was touched that was nobody's, and isn't open
 pub shut_turned :
-    {h h' : List Event} {cs : Clients} {ls : List Link} (c : ℕ) → is_open c h' ≡ false → TouchesOnly c h h' → AreShut h cs ls → AreShut h' cs ls
+    {h h' : List WireEvent} {cs : Clients} {ls : List Link} (c : ℕ) → is_open c h' ≡ false → TouchesOnly c h h' → AreShut h cs ls → AreShut h' cs ls
 shut_turned {h} {h'} {cs} {ls} c shut only was = record {
   clients = λ j d its on. let same = other d on in was.clients j d (sym same.same_role ∙ its) (sym same.same_open ∙ on);
   links = λ j d its on. let same = other d on in was.links j d (sym same.same_role ∙ its) (sym same.same_open ∙ on);

@@ -8,17 +8,17 @@ use Rattle.mc_types.specs.declared.ask.Dialect.TheVariants.{Classic, Meta}
 use Rattle.mc_types.specs.declared.ask.Ask.{Ask}
 use Rattle.wire_parts.specs.Tests.{block_text}
 use Rattle.wire_stream.specs.Spelling.{spelling_of, spelled_in}
-use Rattle.wire_classic.specs.Spelling.{stores, block_after, ask_line}
-use Rattle.serve_links.specs.Sending.{stores_in, is_store}
+use Rattle.wire_classic.specs.Spelling.{stores_data, block_after, ask_line}
+use Rattle.serve_links.specs.Sending.{stores_in, is_classic_store}
 
-pub op_stores_in : (dialect : Dialect) (op : Op) → stores_in dialect op ≡ true → stores op ≡ true
+pub op_stores_in : (dialect : Dialect) (op : Op) → stores_in dialect op ≡ true → stores_data op ≡ true
 op_stores_in Classic op e = e
 op_stores_in Meta op e = absurd cc
 
-pub op_stores : (ask : Ask) → is_store ask ≡ true → stores ask.op ≡ true
+pub op_stores : (ask : Ask) → is_classic_store ask ≡ true → stores_data ask.op ≡ true
 op_stores ask e = op_stores_in ask.dialect ask.op e
 
-block_is : (op : Op) (ask : Ask) → stores op ≡ true → block_after op ask ≡ block_text ask.body
+block_is : (op : Op) (ask : Ask) → stores_data op ≡ true → block_after op ask ≡ block_text ask.body
 block_is Set ask e = refl
 block_is Add ask e = refl
 block_is Replace ask e = refl
@@ -37,6 +37,6 @@ spelled_is Classic ask e = ap (λ (t : List ℕ). ask_line ask ++ t) (block_is a
 spelled_is Meta ask e = absurd cc
 
 -- a store is its line, its data and their end
-pub store_is : (ask : Ask) (old new : List ℕ) → is_store ask ≡ true → new ≡ ((old ++ ask_line ask) ++ ask.body) ++ codes "\r\n" → new ≡ old ++ spelling_of ask
+pub store_is : (ask : Ask) (old new : List ℕ) → is_classic_store ask ≡ true → new ≡ ((old ++ ask_line ask) ++ ask.body) ++ codes "\r\n" → new ≡ old ++ spelling_of ask
 store_is ask old new e is =
     is ∙ append_assoc (old ++ ask_line ask) ask.body (codes "\r\n") ∙ append_assoc old (ask_line ask) (ask.body ++ codes "\r\n") ∙ ap (λ (t : List ℕ). old ++ t) (sym (spelled_is ask.dialect ask e))

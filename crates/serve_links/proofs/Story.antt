@@ -6,7 +6,7 @@ use Rattle.std.proofs.lemmas.Bool.{cases_Bool, eq-eqb, eqb-true}
 use Rattle.mc_types.specs.declared.ask.Ask.{Ask}
 use Rattle.mc_types.specs.declared.ask.Dialect.{Dialect}
 use Rattle.wire_parts.specs.Sending.{bytes_of}
-use Rattle.serve_wire.specs.Events.{Event, role, delivered, taken}
+use Rattle.serve_wire.specs.Events.{WireEvent, role, delivered, taken}
 use Rattle.serve_wire.specs.Agreement.{ClientLost, IsUntouched}
 use Rattle.serve_wire.specs.declared.conn.conn.Conn.{Conn}
 use Rattle.serve_wire.proofs.Steps.{apart, only_after, only_time}
@@ -21,7 +21,7 @@ use Rattle.serve_links.specs.declared.link.Link.{Link}
 use Rattle.serve_links.specs.CoreSteps.{Step, Closed, Opened, Polled, StepsAreOf, IsSending}
 use Rattle.serve_links.specs.Talks.{SaidAsk, Talk, Apart, talk_in, AreDue, AreCalled}
 use Rattle.serve_links.specs.Story.{fed_in, gave_in, is_open_in, is_broken_in, ClientAgreesWith, ClientIsTold, ClientsAreTold, TellsNone, TookAll, ClientEndsBy, IsGone, HasOrHad, TalkAgrees, Unused, said_asks, StayOut, LineAgrees, LinesAgree, servers_of, OneGoes, LineGoesFrom, LineGoes, AnEnd, Agrees, AgreesBut, AgreesCalled, AllGoFrom, AllGo, StoriesGoOn}
-use Rattle.serve_links.specs.Called.{TellsCalls, GiveOnce}
+use Rattle.serve_links.specs.Called.{TellsCallsOut, GiveOnce}
 use Rattle.serve_links.proofs.Called.{walks_tell_calls}
 use Rattle.serve_links.proofs.Talking.{calls_later, IsPlain, clients_plain, plain_talk, clients_orderly, clients_clock, server_tells_none, server_clock, sending_clock, sending_given, talk_elsewhere}
 use Rattle.serve_links.proofs.Due.{due_stays, called_stays, clients_stay}
@@ -34,7 +34,7 @@ use Rattle.serve_links.proofs.Walked.{walked, of_both}
 -- ---- one end
 
 -- what is told of a client is the same
-told_same : (h : List Event) (input output input' output' : ℕ → List ℕ) (id : ℕ) (x : Client) → input' id ≡ input id → output' id ≡ output id → EndAgrees h input output id x → EndAgrees h input' output' id x
+told_same : (h : List WireEvent) (input output input' output' : ℕ → List ℕ) (id : ℕ) (x : Client) → input' id ≡ input id → output' id ≡ output id → EndAgrees h input output id x → EndAgrees h input' output' id x
 told_same h input output input' output' id x fed gave a =
     record {
       stands = λ is. let was = a.stands is in record { is_its = was.is_its; input_is = was.input_is ∙ ap (λ l. l ++ x.conn.held.items) (sym fed); output_is = gave ∙ was.output_is };
@@ -44,15 +44,15 @@ told_same h input output input' output' id x fed gave a =
 
 -- an end that nothing touched, and of which nothing more was told
 end_stays :
-    (h h' : List Event) (input output input' output' : ℕ → List ℕ) (id : ℕ) (x : Client) → IsUntouched x.conn.number h h' → input' id ≡ input id → output' id ≡ output id
+    (h h' : List WireEvent) (input output input' output' : ℕ → List ℕ) (id : ℕ) (x : Client) → IsUntouched x.conn.number h h' → input' id ≡ input id → output' id ≡ output id
     → EndAgrees h input output id x → EndAgrees h' input' output' id x
 end_stays h h' input output input' output' id x same fed gave a =
     told_same h' input output input' output' id x fed gave (state_stays h h' input output id x.conn.number x.conn.held.items (bytes_of x.conn.unsent) x.is_broken x.is_ended same a)
 
-at_client : (h : List Event) (input output : ℕ → List ℕ) (clients : Clients) (id : ℕ) (x : Client) → client_of clients id ≡ Some x → AllAgree h input output clients → EndAgrees h input output id x
+at_client : (h : List WireEvent) (input output : ℕ → List ℕ) (clients : Clients) (id : ℕ) (x : Client) → client_of clients id ≡ Some x → AllAgree h input output clients → EndAgrees h input output id x
 at_client h input output clients id x is all = subst (λ o. IfSome o (EndAgrees h input output id)) is (all id)
 
-each_client : (h : List Event) (input output : ℕ → List ℕ) (clients : Clients) → ((id : ℕ) (x : Client) → client_of clients id ≡ Some x → EndAgrees h input output id x) → AllAgree h input output clients
+each_client : (h : List WireEvent) (input output : ℕ → List ℕ) (clients : Clients) → ((id : ℕ) (x : Client) → client_of clients id ≡ Some x → EndAgrees h input output id x) → AllAgree h input output clients
 each_client h input output clients each id = by (client_of clients id) refl
   where
     by : (o : Option Client) → client_of clients id ≡ o → IfSome o (EndAgrees h input output id)
@@ -79,7 +79,7 @@ all_told past steps clients none was = each_told (steps ++ past) clients (λ j z
 
 -- a connection that nothing touched, and of which nothing more was told
 pub talk_stays :
-    (h h' : List Event) (at : ℕ) (text : List ℕ) (t t' : Talk) (c : ℕ) (held unsent : List ℕ) (out : List SaidAsk) (awaits : Option Greeting) (dialect : Dialect) {late : List SaidAsk} → IsUntouched c h h' → t' ≡ t
+    (h h' : List WireEvent) (at : ℕ) (text : List ℕ) (t t' : Talk) (c : ℕ) (held unsent : List ℕ) (out : List SaidAsk) (awaits : Option Greeting) (dialect : Dialect) {late : List SaidAsk} → IsUntouched c h h' → t' ≡ t
     → TalkAgrees h at text t c held unsent out awaits dialect late → TalkAgrees h' at text t' c held unsent out awaits dialect late
 talk_stays h h' at text t t' c held unsent out awaits dialect same e was = record {
   is_to = same.same_role ∙ was.is_to;
@@ -93,7 +93,7 @@ talk_stays h h' at text t t' c held unsent out awaits dialect same e was = recor
 }
 
 -- the same of one that isn't in use
-pub unused_stays : (h h' : List Event) (at : ℕ) (text : List ℕ) (t t' : Talk) (o : Option ℕ) → ((c : ℕ) → role c h ≡ Some (1, at) → IsUntouched c h h') → t' ≡ t → Unused h at text t o → Unused h' at text t' o
+pub unused_stays : (h h' : List WireEvent) (at : ℕ) (text : List ℕ) (t t' : Talk) (o : Option ℕ) → ((c : ℕ) → role c h ≡ Some (1, at) → IsUntouched c h h') → t' ≡ t → Unused h at text t o → Unused h' at text t' o
 unused_stays h h' at text t t' o same e was = subst (λ u. Unused h' at text u o) (sym e) (by o was)
   where
     by : (p : Option ℕ) → Unused h at text t p → Unused h' at text t p
@@ -102,7 +102,7 @@ unused_stays h h' at text t t' o same e was = subst (λ u. Unused h' at text u o
 
 -- a link whose connections nothing touched, and of whose server nothing more was told, and whose calls are as they were
 pub line_stays_by :
-    (h h' : List Event) (at : ℕ) (steps past : List Step) (link : Link) → ((c : ℕ) → role c h ≡ Some (1, at) → IsUntouched c h h') → talk_in (steps ++ past) at ≡ talk_in past at → AreDue (steps ++ past) at (said_asks link.waiting.items)
+    (h h' : List WireEvent) (at : ℕ) (steps past : List Step) (link : Link) → ((c : ℕ) → role c h ≡ Some (1, at) → IsUntouched c h h') → talk_in (steps ++ past) at ≡ talk_in past at → AreDue (steps ++ past) at (said_asks link.waiting.items)
     → AreCalled (steps ++ past) at (said_asks link.calls.sent.items) → LineAgrees at past h link → LineAgrees at (steps ++ past) h' link
 line_stays_by h h' at steps past link same told due called was = record {
   conn = λ conn is.
@@ -117,7 +117,7 @@ line_stays_by h h' at steps past link same told due called was = record {
 
 -- so they are where they stay out
 pub line_stays :
-    (h h' : List Event) (at : ℕ) (steps past : List Step) (link : Link) → ((c : ℕ) → role c h ≡ Some (1, at) → IsUntouched c h h') → talk_in (steps ++ past) at ≡ talk_in past at → StayOut at past (steps ++ past)
+    (h h' : List WireEvent) (at : ℕ) (steps past : List Step) (link : Link) → ((c : ℕ) → role c h ≡ Some (1, at) → IsUntouched c h h') → talk_in (steps ++ past) at ≡ talk_in past at → StayOut at past (steps ++ past)
     → LineAgrees at past h link → LineAgrees at (steps ++ past) h' link
 line_stays h h' at steps past link same told stay was =
     line_stays_by h h' at steps past link same told (due_stays past (steps ++ past) at (said_asks link.waiting.items) stay was.due) (called_stays past (steps ++ past) at (said_asks link.calls.sent.items) stay was.called) was
@@ -129,13 +129,13 @@ unlinked_stays same was = (ap (λ (z : Talk). z.out) same ∙ was.0, ap (λ (z :
 -- ---- connections of clients
 
 -- whose a connection is, and what came over it and went, is the same
-abbrev pub TellsSame : ℕ → List Event → List Event → Type 0
+abbrev pub TellsSame : ℕ → List WireEvent → List WireEvent → Type 0
 TellsSame d h h' = (role d h' ≡ role d h) × (delivered d h' ≡ delivered d h) × (taken d h' ≡ taken d h)
 
-pub same_told : (d : ℕ) (h h' : List Event) → IsUntouched d h h' → TellsSame d h h'
+pub same_told : (d : ℕ) (h h' : List WireEvent) → IsUntouched d h h' → TellsSame d h h'
 same_told d h h' same = (same.same_role, same.same_came, same.same_went)
 
-lost_told : (h h' : List Event) (input output : ℕ → List ℕ) (id conn : ℕ) → TellsSame conn h h' → ClientLost h input output id conn → ClientLost h' input output id conn
+lost_told : (h h' : List WireEvent) (input output : ℕ → List ℕ) (id conn : ℕ) → TellsSame conn h h' → ClientLost h input output id conn → ClientLost h' input output id conn
 lost_told h h' input output id conn same was = record {
   is_its = same.0 ∙ was.is_its;
   unread = was.unread;
@@ -145,16 +145,16 @@ lost_told h h' input output id conn same was = record {
 }
 
 -- all was taken still
-took_told : (past : List Step) (h h' : List Event) (id conn : ℕ) → TellsSame conn h h' → TookAll past h id conn → TookAll past h' id conn
+took_told : (past : List Step) (h h' : List WireEvent) (id conn : ℕ) → TellsSame conn h h' → TookAll past h id conn → TookAll past h' id conn
 took_told past h h' id conn same (inl all) = inl (all ∙ sym same.2)
 took_told past h h' id conn same (inr broken) = inr broken
 
-ends_told : (last : Step) (past : List Step) (h h' : List Event) (id conn : ℕ) → TellsSame conn h h' → ClientEndsBy last past h id conn → ClientEndsBy last past h' id conn
+ends_told : (last : Step) (past : List Step) (h h' : List WireEvent) (id conn : ℕ) → TellsSame conn h h' → ClientEndsBy last past h id conn → ClientEndsBy last past h' id conn
 ends_told last past h h' id conn same (inl closed) = inl (closed.0, closed.1, took_told past h h' id conn same closed.2)
 ends_told last past h h' id conn same (inr opened) = inr opened
 
 -- what is known of one that is gone stays known
-pub gone_stays : (past steps : List Step) (h h' : List Event) (id conn : ℕ) → TellsSame conn h h' → IsGone past h id conn → IsGone (steps ++ past) h' id conn
+pub gone_stays : (past steps : List Step) (h h' : List WireEvent) (id conn : ℕ) → TellsSame conn h h' → IsGone past h id conn → IsGone (steps ++ past) h' id conn
 gone_stays past steps h h' id conn same gone = record {
   later = steps ++ gone.later;
   last = gone.last;
@@ -165,7 +165,7 @@ gone_stays past steps h h' id conn same gone = record {
 }
 
 -- what is left of an end that agrees
-end_lost : (h : List Event) (input output : ℕ → List ℕ) (id : ℕ) (x : Client) → EndAgrees h input output id x → ClientLost h input output id x.conn.number
+end_lost : (h : List WireEvent) (input output : ℕ → List ℕ) (id : ℕ) (x : Client) → EndAgrees h input output id x → ClientLost h input output id x.conn.number
 end_lost h input output id x was = by x.is_broken refl
   where
     by : (b : Bool) → x.is_broken ≡ b → ClientLost h input output id x.conn.number
@@ -173,7 +173,7 @@ end_lost h input output id x was = by x.is_broken refl
     by true e = was.lost e
 
 -- where nothing is unsent, all was taken, or the end is broken off
-pub took_all : (past : List Step) (h : List Event) (id : ℕ) (x : Client) → ClientAgreesWith past h id x → ClientIsTold past id x → bytes_of x.conn.unsent ≡ [] → TookAll past h id x.conn.number
+pub took_all : (past : List Step) (h : List WireEvent) (id : ℕ) (x : Client) → ClientAgreesWith past h id x → ClientIsTold past id x → bytes_of x.conn.unsent ≡ [] → TookAll past h id x.conn.number
 took_all past h id x was told none = by x.is_broken refl
   where
     by : (b : Bool) → x.is_broken ≡ b → TookAll past h id x.conn.number
@@ -182,7 +182,7 @@ took_all past h id x was told none = by x.is_broken refl
 
 -- the client whose end this was is gone by this call
 pub end_gone :
-    (past steps : List Step) (last : Step) (h h' : List Event) (id conn : ℕ) (x : Client) → ClientEndsBy last past h id conn → ClientAgreesWith past h id x → x.conn.number ≡ conn → TellsSame conn h h'
+    (past steps : List Step) (last : Step) (h h' : List WireEvent) (id conn : ℕ) (x : Client) → ClientEndsBy last past h id conn → ClientAgreesWith past h id x → x.conn.number ≡ conn → TellsSame conn h h'
     → IsGone (steps ++ last ∷ past) h' id conn
 end_gone past steps last h h' id conn x ends was is same = record {
   later = steps;
@@ -195,7 +195,7 @@ end_gone past steps last h h' id conn x ends was is same = record {
 
 -- and of one over which nothing came or went, where the client's end has the number that it had
 pub had_stays :
-    (past steps : List Step) (h h' : List Event) (cs cs' : Clients) (id conn : ℕ) → TellsSame conn h h' → option_map (λ (x : Client). x.conn.number) (client_of cs' id) ≡ option_map (λ (x : Client). x.conn.number) (client_of cs id)
+    (past steps : List Step) (h h' : List WireEvent) (cs cs' : Clients) (id conn : ℕ) → TellsSame conn h h' → option_map (λ (x : Client). x.conn.number) (client_of cs' id) ≡ option_map (λ (x : Client). x.conn.number) (client_of cs id)
     → HasOrHad past h cs id conn → HasOrHad (steps ++ past) h' cs' id conn
 had_stays past steps h h' cs cs' id conn same ends (inl now) = inl (ends ∙ now)
 had_stays past steps h h' cs cs' id conn same ends (inr (inl unused)) = inr (inl (same.1 ∙ unused.0, same.2 ∙ unused.1))
@@ -236,10 +236,10 @@ pub one_agrees :
     → (g : OneGoes Is id old.core old.history x new.core new.history y) (past : List Step) → Agrees past old → Agrees (g.steps ++ past) new
 one_agrees {Is} id old new x y was is others links g = agree
   where
-    h : List Event
+    h : List WireEvent
     h = old.history
 
-    h' : List Event
+    h' : List WireEvent
     h' = new.history
 
     was_of : (past : List Step) → Agrees past old → (j : ℕ) (z : Client) → client_of old.clients j ≡ Some z → ClientAgreesWith past h j z
@@ -270,7 +270,7 @@ one_agrees {Is} id old new x y was is others links g = agree
     plain : StepsAreOf IsPlain g.steps
     plain = clients_plain g.steps g.own
 
-    tells : (past : List Step) → Agrees past old → TellsCalls (g.steps ++ past) new.core × GiveOnce g.steps past
+    tells : (past : List Step) → Agrees past old → TellsCallsOut (g.steps ++ past) new.core × GiveOnce g.steps past
     tells past a = walks_tell_calls.goes_on g.steps past old.core new.core a.calls g.walks
 
     lines : (past : List Step) → Agrees past old → LinesAgree (g.steps ++ past) h' new.links
@@ -328,15 +328,15 @@ one_of_all id old new x y was is others links g = record { steps = g.steps; kind
 
 -- one link's end goes on, and the others are as they were
 pub line_among :
-    {Before After : ℕ → List Step → List Event → Link → Type 0} {Is : Step → Type 0} (at : ℕ) (old new : AnEnd) (x y : Link) → slice_get old.links at ≡ Some x → slice_get new.links at ≡ Some y
+    {Before After : ℕ → List Step → List WireEvent → Link → Type 0} {Is : Step → Type 0} (at : ℕ) (old new : AnEnd) (x y : Link) → slice_get old.links at ≡ Some x → slice_get new.links at ≡ Some y
     → ((j : ℕ) → nat_eq at j ≡ false → slice_get new.links j ≡ slice_get old.links j) → servers_of new.links ≡ servers_of old.links → ((j : ℕ) → client_of new.clients j ≡ client_of old.clients j)
     → LineGoesFrom Before After Is at old.core old.history x new.core new.history y → AllGoFrom (AgreesBut Before at) (AgreesBut After at) Is old new
 line_among {Before} {After} {Is} at old new x y was is others servers clients_are g = record { steps = g.steps; kinds = g.kinds; walks = g.walks; agree = agree; servers = line_servers at g.steps old.links new.links x y was servers g.own g.server }
   where
-    h : List Event
+    h : List WireEvent
     h = old.history
 
-    h' : List Event
+    h' : List WireEvent
     h' = new.history
 
     client : (past : List Step) → AgreesBut Before at past old → (j : ℕ) (z : Client) → client_of new.clients j ≡ Some z → ClientAgreesWith (g.steps ++ past) h' j z
@@ -389,7 +389,7 @@ but_all at past x a = record { orderly = a.orderly; calls = a.calls; clients = a
     mine j link there e = subst (λ k. LineAgrees k past x.history link) e (a.this link (ap (slice_get x.links) e ∙ there))
 
 -- and where none is there
-pub but_none : {This : ℕ → List Step → List Event → Link → Type 0} (at : ℕ) (past : List Step) (x : AnEnd) → slice_get x.links at ≡ None → AgreesBut This at past x → Agrees past x
+pub but_none : {This : ℕ → List Step → List WireEvent → Link → Type 0} (at : ℕ) (past : List Step) (x : AnEnd) → slice_get x.links at ≡ None → AgreesBut This at past x → Agrees past x
 but_none at past x none a = record { orderly = a.orderly; calls = a.calls; clients = a.clients; told = a.told; links = λ j link there. elim (cases_Bool (nat_eq at j)) [ inl e ↦ absurd (nobody (sym none ∙ ap (slice_get x.links) (eqb-true at j e) ∙ there)) | inr e ↦ a.links j link e there ]; gone = a.gone; shown = a.shown; unlinked = a.unlinked; shut = a.shut; clock = a.clock }
   where
     nobody : {link : Link} → None ≡ Some link → ⊥

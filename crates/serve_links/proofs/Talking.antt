@@ -6,7 +6,7 @@ use Rattle.mc_types.specs.declared.call.Outcome.TheVariants.{Failed}
 use Rattle.core_proxy.specs.declared.note.Poll.TheVariants as polls
 use Rattle.serve_links.specs.declared.calls.calls.SentCall.{SentCall}
 use Rattle.serve_links.specs.CoreSteps.{Step, Opened, NotOpened, Fed, Polled, Stopped, Settled, Gave, Closed, LeftLine, Broke, Ticked, Loaded, Linked, Asked, Greeted, Spelled, Late, CameLate, Lost, StepsAreOf}
-use Rattle.serve_links.specs.Talks.{SaidAsk, first_talk, with_ask, greeted, with_answer, turned_late, with_late, given_up, talk_in, IsCalledIn, IsNotAmong, AreDue, AreCalled, MaySettle, MayFollow, IsOrderly, IsOfClients, IsOfServer}
+use Rattle.serve_links.specs.Talks.{SaidAsk, first_talk, with_ask, greeted, with_answer, turned_late, with_late, given_up, talk_in, IsCalledIn, IsNotAmong, AreDue, AreCalled, MaySettle, MayComeNext, IsOrderly, IsOfClients, IsOfServer}
 use Rattle.serve_links.specs.Story.{TellsNone, MayGo, MayAllGo, said_asks}
 use Rattle.serve_links.specs.Called.{call_in, clock_in, given_in, GivesOnce, GiveOnce}
 use Rattle.serve_links.proofs.Due.{turned, among_first, said_both, due_out, KeepsBut, keeps_settled, own_nowhere}
@@ -117,7 +117,7 @@ pub clients_orderly : (steps : List Step) → StepsAreOf IsOfClients steps → (
 clients_orderly [] kinds past once o = o
 clients_orderly (step ∷ steps) kinds past once o = (follows step (steps ++ past) kinds.0 once.0, clients_orderly steps kinds.1 past once.1 o)
   where
-    follows : (s : Step) (before : List Step) → IsOfClients s → GivesOnce s before → MayFollow s before
+    follows : (s : Step) (before : List Step) → IsOfClients s → GivesOnce s before → MayComeNext s before
     follows (Opened client) before is once = tt
     follows (NotOpened fault) before is once = tt
     follows (Fed client piece) before is once = tt

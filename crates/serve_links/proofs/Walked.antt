@@ -8,7 +8,7 @@ use Rattle.core_proxy.specs.declared.fault.CoreFault.{CoreFault}
 use Rattle.core_proxy.specs.declared.fault.CoreFault.TheVariants as faults
 use Rattle.core_proxy.specs.declared.note.Poll.{Poll}
 use Rattle.core_proxy.specs.Faults.{CanFeed, CanClose, FeedFault, OutputFault, CloseFault}
-use Rattle.core_proxy.specs.CoreState.{Feeds, Gives, ClosesClient, LeavesLine, client_at, dropped_by, output_by}
+use Rattle.core_proxy.specs.CoreState.{Feeds, GivesAll, ClosesClient, LeavesLine, client_at, dropped_by, output_by}
 use Rattle.core_proxy.specs.Polls.{Polls, PollFault}
 use Rattle.route_json.specs.Configuration.{Configuration}
 use Rattle.core_accepted.specs.declared.served.ServedCore.{ServedCore}
@@ -24,7 +24,7 @@ use Rattle.core_accepted.specs.Known.{Known, more}
 use Rattle.core_accepted.specs.Loading.{IsLoaded}
 use Rattle.serve_links.specs.Calls.{SettlesFirst, SettlesNext}
 use Rattle.serve_links.specs.CoreSteps.{WalksKeepSince}
-use Rattle.serve_links.specs.CoreSteps.{Step, Opened, NotOpened, Fed, Polled, Stopped, Settled, Gave, Closed, LeftLine, Broke, Ticked, Loaded, Linked, Asked, Greeted, Spelled, Late, CameLate, Lost, Does, Walks, StepsAreOf, GoesBy, IsOfTurn, IsSettlement, IsFailure, GoesOn, Fails, WalksKeep}
+use Rattle.serve_links.specs.CoreSteps.{Step, Opened, NotOpened, Fed, Polled, Stopped, Settled, Gave, Closed, LeftLine, Broke, Ticked, Loaded, Linked, Asked, Greeted, Spelled, Late, CameLate, Lost, Does, Walks, StepsAreOf, GoesBy, IsOfTurn, IsSettlement, IsFailure, GoesOn, OnlyFails, WalksKeep}
 
 pub walked : (later first : List Step) (a b c : ServedCore) → Walks first a b → Walks later b c → Walks (later ++ first) a c
 walked [] first a b c w v = subst (λ x. Walks first a x) (sym v) w
@@ -92,7 +92,7 @@ each_of_turn (step ∷ steps) each = (of_turn step each.0, each_of_turn steps ea
     of_turn (Spelled at number ask answer bytes) is = tt
     of_turn (Lost at why) is = absurd is
 
-pub failed : {a b : ServedCore} → Fails a b → GoesOn a b
+pub failed : {a b : ServedCore} → OnlyFails a b → GoesOn a b
 failed f = record { steps = f.steps; kinds = each_of_turn f.steps f.kinds; walks = f.walks }
 
 -- where calls have outcomes it goes on
@@ -134,7 +134,7 @@ by_feed client piece (Ok done) a b ok err fresh = one IsOfTurn (Fed client piece
 by_feed client piece (Err fault) a b ok err fresh = still err.1
 
 pub by_output :
-    (client : ℕ) (r : Result (Unit {0}) CoreFault) (a b : ServedCore) → OnOk r (Gives a.core client (output_by (client_at a.core client)) b.core)
+    (client : ℕ) (r : Result (Unit {0}) CoreFault) (a b : ServedCore) → OnOk r (GivesAll a.core client (output_by (client_at a.core client)) b.core)
     → IfErr r (λ fault. OutputFault a.core client fault × (b ≡ a))
     → OnOk r (LogsGoBy a (λ entries. entries ≡ log.Gives client (output_by (client_at a.core client)) ∷ []) b) → GoesOn a b
 by_output client (Ok done) a b ok err fresh = one IsOfTurn (Gave client (output_by (client_at a.core client))) a b tt (ok, fresh)
@@ -155,10 +155,10 @@ by_poll client (Err fault) a b ok err fresh stops = one IsOfTurn (Stopped client
 pub by_leave : (client : ℕ) (a b : ServedCore) → LeavesLine a.core client b.core → LogsGoBy a (λ entries. entries ≡ []) b → GoesOn a b
 by_leave client a b left fresh = one IsOfTurn (LeftLine client) a b tt (left, fresh)
 
-pub by_failure : (number : ℕ) (a b : ServedCore) → IsSettled a number Failed b → Fails a b
+pub by_failure : (number : ℕ) (a b : ServedCore) → IsSettled a number Failed b → OnlyFails a b
 by_failure number a b is = one IsFailure (Settled number Failed) a b refl is
 
-pub by_fail_next : (sent : List SentCall) (client : Option ℕ) (sent' : List SentCall) (a b : ServedCore) → SettlesFirst sent a Failed client sent' b → Fails a b
+pub by_fail_next : (sent : List SentCall) (client : Option ℕ) (sent' : List SentCall) (a b : ServedCore) → SettlesFirst sent a Failed client sent' b → OnlyFails a b
 by_fail_next [] client sent' a b is = still is.2
 by_fail_next (call ∷ sent) client sent' a b is = by_failure call.ticket.number a b is.2
 

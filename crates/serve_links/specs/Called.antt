@@ -5,7 +5,7 @@ use Rattle.route_tree.specs.Route.{Route}
 use Rattle.core_proxy.specs.declared.limits.CoreLimits.{CoreLimits}
 use Rattle.core_proxy.specs.declared.note.Poll.{Poll}
 use Rattle.core_proxy.specs.declared.note.Poll.TheVariants as polls
-use Rattle.core_proxy.specs.CoreState.{IsFresh}
+use Rattle.core_proxy.specs.CoreState.{IsNewCore}
 use Rattle.core_proxy.specs.CallsStay.{CanStand, called}
 use Rattle.core_accepted.specs.declared.served.ServedCore.{ServedCore}
 use Rattle.serve_links.specs.CoreSteps.{Step, Opened, NotOpened, Fed, Polled, Stopped, Settled, Gave, Closed, LeftLine, Broke, Ticked, Loaded, Linked, Asked, Greeted, Spelled, Late, CameLate, Lost, Walks}
@@ -141,7 +141,7 @@ given_in [] n = 0
 given_in (step ∷ steps) n = given_after step n (clock_in steps) (given_in steps n)
 
 -- each call that these steps tell to be out is out in the core
-pub record TellsCalls (steps : List Step) (core : ServedCore) : Type 0 where
+pub record TellsCallsOut (steps : List Step) (core : ServedCore) : Type 0 where
   pub stands : CanStand core.core
   pub calls : (n : ℕ) (call : ℕ × Ask) → call_in steps n ≡ Some call → called core.core n ≡ Some call
 
@@ -185,5 +185,5 @@ GiveOnce (step ∷ steps) past = GivesOnce step (steps ++ past) × GiveOnce step
 
 -- laws of all walks: something can stand beside a core of which nothing was asked yet; and where those calls are out that the steps before tell to be, so it is after each step of the walk, and no call is given out while one of its number is out
 pub record WalksTellCalls : Type 0 where
-  pub begins : (tree : Route) (limits : CoreLimits) (core : ServedCore) → IsFresh tree limits core.core → TellsCalls [] core
-  pub goes_on : (steps past : List Step) (old new : ServedCore) → TellsCalls past old → Walks steps old new → TellsCalls (steps ++ past) new × GiveOnce steps past
+  pub begins : (tree : Route) (limits : CoreLimits) (core : ServedCore) → IsNewCore tree limits core.core → TellsCallsOut [] core
+  pub goes_on : (steps past : List Step) (old new : ServedCore) → TellsCallsOut past old → Walks steps old new → TellsCallsOut (steps ++ past) new × GiveOnce steps past

@@ -10,7 +10,7 @@ use Rattle.route_json.specs.Configuration.{Configuration}
 use Rattle.core_proxy.specs.declared.fault.CoreFault.{CoreFault}
 use Rattle.core_proxy.specs.declared.note.Poll.{Poll}
 use Rattle.core_proxy.specs.Faults.{CanOpen, CanFeed, CanClose, OpenFault}
-use Rattle.core_proxy.specs.CoreState.{Opens, Feeds, Gives, ClosesClient, LeavesLine, client_at, dropped_by}
+use Rattle.core_proxy.specs.CoreState.{Opens, Feeds, GivesAll, ClosesClient, LeavesLine, client_at, dropped_by}
 use Rattle.core_proxy.specs.Settles as of_calls
 use Rattle.core_proxy.specs.Polls.{Polls, PollFault}
 use Rattle.core_accepted.specs.declared.beginnings.Beginnings.{Beginnings}
@@ -57,7 +57,7 @@ Does (Fed client piece) old new =
 Does (Polled client poll) old new = Polls old.core client poll new.core × PollGoes old client poll new
 Does (Stopped client fault) old new = PollFault old.core client fault new.core × PollStops old client fault new
 Does (Settled number outcome) old new = IsSettled old number outcome new
-Does (Gave client bytes) old new = Gives old.core client bytes new.core × LogsGoBy old (λ entries. entries ≡ log.Gives client bytes ∷ []) new
+Does (Gave client bytes) old new = GivesAll old.core client bytes new.core × LogsGoBy old (λ entries. entries ≡ log.Gives client bytes ∷ []) new
 Does (Closed client) old new = CanClose old.core client × ClosesClient old.core client new.core × LogsGoBy old (λ entries. entries ≡ log.Resets client ∷ []) new
 Does (LeftLine client) old new = LeavesLine old.core client new.core × LogsGoBy old (λ entries. entries ≡ []) new
 Does (Ticked now) old new = new ≡ old
@@ -206,8 +206,8 @@ abbrev pub GoesOn : ServedCore → ServedCore → Type 0
 GoesOn old new = GoesBy IsOfTurn old new
 
 -- nothing is done but that calls fail
-abbrev pub Fails : ServedCore → ServedCore → Type 0
-Fails old new = GoesBy IsFailure old new
+abbrev pub OnlyFails : ServedCore → ServedCore → Type 0
+OnlyFails old new = GoesBy IsFailure old new
 
 -- a law of all walks: a core whose trees the gate accepted stays one, and so does one on other trees
 abbrev pub WalksKeep : Type 0

@@ -36,14 +36,14 @@ took [] came = 0
 took (went ∷ later) came = came - went
 
 -- the first of them had this outcome
-abbrev pub with_outcome : Outcome → CallTimes → CallTally
-with_outcome (Answered answer) times = with_answer (took times.went.items times.came) times.tally
-with_outcome Failed times = with_failure times.tally
+abbrev pub with_call_outcome : Outcome → CallTimes → CallTally
+with_call_outcome (Answered answer) times = with_answer (took times.went.items times.came) times.tally
+with_call_outcome Failed times = with_failure times.tally
 
 -- the first of these calls had this outcome, if there is one
 abbrev pub with_first : List SentCall → Outcome → CallTimes → CallTally
 with_first [] outcome times = times.tally
-with_first (call ∷ sent) outcome times = with_outcome outcome times
+with_first (call ∷ sent) outcome times = with_call_outcome outcome times
 
 -- it was answered, if that was done
 abbrev pub with_next : Next → CallTimes → CallTally

@@ -7,9 +7,9 @@ use Rattle.core_proxy.specs.declared.note.Poll.TheVariants as polls
 use Rattle.core_accepted.specs.declared.served.ServedCore.{ServedCore}
 use Rattle.core_accepted.specs.declared.tally.CoreTally.{CoreTally}
 use Rattle.core_accepted.specs.declared.tally.OpTally.{OpTally}
-use Rattle.core_accepted.specs.Tallies.{ReplyKind, TellsError, ShowsItem, Acknowledges, TellsOther, kind_of, nothing_done, of_op}
+use Rattle.core_accepted.specs.Tallies.{ReplyKind, TellsError, ShowsItem, Acknowledges, TellsOther, reply_kind, nothing_done, of_op}
 use Rattle.serve_links.specs.CoreSteps.{Step, Opened, NotOpened, Polled, Settled, Walks}
-use Rattle.serve_links.specs.Called.{TellsCalls}
+use Rattle.serve_links.specs.Called.{TellsCallsOut}
 use Rattle.serve_links.specs.Talks.{IsOrderly}
 
 -- how many of these steps are so
@@ -46,7 +46,7 @@ ends_one step = false
 
 -- whether it was of this operation, and its reply of this kind
 abbrev pub ends_so : Op → ReplyKind → Step → Bool
-ends_so op kind (Polled client (polls.Did note)) = same_kind (kind_of note) kind && same_op note.ask.op op
+ends_so op kind (Polled client (polls.Did note)) = same_kind (reply_kind note) kind && same_op note.ask.op op
 ends_so op kind step = false
 
 -- whether a call was given out by this step
@@ -90,4 +90,4 @@ pub record StepsAreCounted : Type 0 where
   pub begins : AreCounted [] nothing_done
   pub goes_on : (steps past : List Step) (old new : ServedCore) → Walks steps old new → AreCounted past old.tally → AreCounted (steps ++ past) new.tally
   pub results_begin : ResultsAreCounted [] nothing_done
-  pub results_go_on : (steps past : List Step) (old new : ServedCore) → Walks steps old new → TellsCalls past old → IsOrderly (steps ++ past) → ResultsAreCounted past old.tally → ResultsAreCounted (steps ++ past) new.tally
+  pub results_go_on : (steps past : List Step) (old new : ServedCore) → Walks steps old new → TellsCallsOut past old → IsOrderly (steps ++ past) → ResultsAreCounted past old.tally → ResultsAreCounted (steps ++ past) new.tally

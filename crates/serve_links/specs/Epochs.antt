@@ -15,7 +15,7 @@ abbrev pub IsRetiredAt : ℕ → List Link → Type 0
 IsRetiredAt at links = (link : Link) × (slice_get links at ≡ Some link) × (is_retired link ≡ true)
 
 -- no call is out on it or waits for it, none is late, and no end of a connection is awaited
-pub record IsQuiet (link : Link) : Type 0 where
+pub record LinkIsQuiet (link : Link) : Type 0 where
   pub sent : link.calls.sent.items ≡ []
   pub waiting : link.waiting.items ≡ []
   pub late : link.late.items ≡ []

@@ -14,10 +14,10 @@ use Rattle.core_accepted.specs.Late as at_servers
 use Rattle.core_accepted.specs.Late.{Moment, Lands, seen, IsFreshBy, WasOver}
 use Rattle.core_accepted.specs.Pipes as pipes
 use Rattle.core_accepted.specs.Pipes.{Sends, Moves, Closes, moments_of, behind_first, tickets_after, IsFirstIn, IsInTurn}
-use Rattle.core_accepted.specs.Parts.{Serves, AreInOrder}
+use Rattle.core_accepted.specs.Parts.{ServesPipes, PipesInOrder}
 use Rattle.core_accepted.specs.LateCores.{only_line, EveryLateRunIsFresh}
 use Rattle.serve_links.specs.CoreSteps.{Step, Opened, NotOpened, Fed, Polled, Stopped, Settled, Gave, Closed, LeftLine, Broke, Ticked, Loaded, Linked, Asked, Greeted, Spelled, Late, CameLate, Lost, Does}
-use Rattle.serve_links.specs.Called.{TellsCalls}
+use Rattle.serve_links.specs.Called.{TellsCallsOut}
 use Rattle.serve_links.specs.Talks.{Standing, Apart, InUse, Ending, standing_after, IsOrderly}
 
 -- a step of the proxy, and what the log has of it; or something happens at a server. Where that applies a call, it came over this one of the connections to it that aren't closed, the latest of which is 0
@@ -148,7 +148,7 @@ LeadAlong believes (OfProxy step entries ∷ past) old new = (mid : ServedCore) 
 LeadAlong believes (OfServer place moment ∷ past) old new = LeadAlong believes past old new
 
 -- by the log this call of the command is out, and it has ended with an answer that fits what it asks, or with none
-pub record IsAwaited (log : List (Entry dialect)) (number : ℕ) (call : Call) : Type 0 where
+pub record CallIsAwaited (log : List (Entry dialect)) (number : ℕ) (call : Call) : Type 0 where
   pub out : ticket_in (out_of log call.server) number ≡ Some (record { number = number; ask = call.ask; origin = call.origin })
   pub fits : FitsOutcome call.ask call.outcome
 
@@ -156,7 +156,7 @@ pub record IsAwaited (log : List (Entry dialect)) (number : ℕ) (call : Call) :
 abbrev pub TellAlike : List Move → Type 0
 TellAlike past =
     (n : ℕ) → (calls_so_far (seen (moments_in past)) n ≡ calls_so_far (run_of (log_of past)) n)
-    ⊎ ((call : Call) × (calls_so_far (seen (moments_in past)) n ≡ calls_so_far (run_of (log_of past)) n ++ call ∷ []) × IsAwaited (log_of past) n call)
+    ⊎ ((call : Call) × (calls_so_far (seen (moments_in past)) n ≡ calls_so_far (run_of (log_of past)) n ++ call ∷ []) × CallIsAwaited (log_of past) n call)
 
 -- so it is at each time
 abbrev pub TellAlways : List Move → Type 0
@@ -210,8 +210,8 @@ as_pipes (OfServer place moment ∷ past) = Moves moment ∷ as_pipes past
 abbrev pub ConnectionsAreInOrder : Type 0
 ConnectionsAreInOrder =
     (first last : ServedCore) (believes : ℕ → List ℕ → Option Item) (moves : List Move)
-    → TellsCalls [] first → LeadAlong believes moves first last → IsOrderly (walk_of moves) → AreApplied moves
-    → (moments_of (as_pipes moves) ≡ moments_in moves) × AreInOrder only_line (as_pipes moves)
+    → TellsCallsOut [] first → LeadAlong believes moves first last → IsOrderly (walk_of moves) → AreApplied moves
+    → (moments_of (as_pipes moves) ≡ moments_in moves) × PipesInOrder only_line (as_pipes moves)
 
 -- what happens at servers while the core goes from one state to the other: they do as memcached does, each applies what came over a connection in its order, and nobody else writes them; and what they answer is what the log has, once it has it
 pub record HappensAlong (opening : ℕ → List ℕ → Option Item) (moves : List Move) (first last : ServedCore) : Type 0 where
@@ -219,7 +219,7 @@ pub record HappensAlong (opening : ℕ → List ℕ → Option Item) (moves : Li
   pub believes : ℕ → List ℕ → Option Item
   pub leads : LeadAlong believes moves first last
   pub alike : TellAlways moves
-  pub serves : Serves opening (moments_in moves)
+  pub serves : ServesPipes opening (moments_in moves)
   pub applied : AreApplied moves
 
 -- whatever happens at servers in these steps, and however late: a command that begins after a delete of its key was acknowledged shows no item of a store that was over when the delete began
@@ -229,4 +229,4 @@ AreFreshAlong steps first last =
 
 -- a law of all walks: where all happens in order, and the core to which they lead is fresh over connections in order, it is fresh over its own
 abbrev pub WalksAreFreshLate : Type 0
-WalksAreFreshLate = (steps : List Step) (first last : ServedCore) → TellsCalls [] first → IsOrderly steps → EveryLateRunIsFresh last → AreFreshAlong steps first last
+WalksAreFreshLate = (steps : List Step) (first last : ServedCore) → TellsCallsOut [] first → IsOrderly steps → EveryLateRunIsFresh last → AreFreshAlong steps first last

@@ -3,7 +3,7 @@ use Rattle.std.specs.Prelude.{◌≡◌, ◌⊎◌, ◌||◌, ℕ, Bool, true, f
 use Rattle.mc_types.specs.declared.ask.Dialect.{Dialect}
 use Rattle.mc_types.specs.declared.ask.Dialect.TheVariants.{Classic, Meta}
 use Rattle.wire_parts.specs.Sending.{bytes_of}
-use Rattle.serve_wire.specs.Events.{Event, connects, ends, fails, IsNew}
+use Rattle.serve_wire.specs.Events.{WireEvent, connects, ends, fails, IsUntold}
 use Rattle.serve_wire.specs.Flow.{ReadsOn}
 use Rattle.serve_wire.specs.Calls.{Closes}
 use Rattle.serve_wire.specs.declared.conn.conn.Conn.{Conn}
@@ -99,11 +99,11 @@ abbrev pub greeting_of : Link → ServerDialect → Greeting
 greeting_of link dialect = record { flushes = link.flushes; dialect = dialect }
 
 -- a new connection to this server was begun, at the address that the link's text names; and where memory was refused for its end it was closed
-abbrev pub OpensLink : ℕ → ServerDialect → Opening → Link → Link → List Event → List Event → Type 0
-OpensLink server dialect opening.Begun old new h h' = (number : ℕ) × IsNew number h × (h' ≡ connects number server old.text.items ∷ h) × HasNewEnd number (greeting_of old dialect) old new
+abbrev pub OpensLink : ℕ → ServerDialect → Opening → Link → Link → List WireEvent → List WireEvent → Type 0
+OpensLink server dialect opening.Begun old new h h' = (number : ℕ) × IsUntold number h × (h' ≡ connects number server old.text.items ∷ h) × HasNewEnd number (greeting_of old dialect) old new
 OpensLink server dialect opening.NoAddress old new h h' = (h' ≡ h) × KeepsLines old new
 OpensLink server dialect opening.Failed old new h h' = (h' ≡ h) × KeepsLines old new
-OpensLink server dialect opening.NoMemory old new h h' = (number : ℕ) × IsNew number h × Closes number (connects number server old.text.items ∷ h) h' × KeepsLines old new
+OpensLink server dialect opening.NoMemory old new h h' = (number : ℕ) × IsUntold number h × Closes number (connects number server old.text.items ∷ h) h' × KeepsLines old new
 
 -- of a link's end the first bytes are held no more, by which a server tells this dialect and all that is awaited before, and nothing else has changed
 abbrev pub TakesGreeting : Option Greeting → Dialect → Option Conn → Option Conn → Type 0
@@ -132,7 +132,7 @@ ended_by_read got.Ended = Some causes.Closed
 ended_by_read got.Failed = Some causes.Broken
 
 -- one read of a connection whose end is awaited: nothing came over it, or bytes did, which are thrown away; or it is to be closed, as it has ended or failed
-abbrev pub ReadsAway : Option Cause → ℕ → List Event → List Event → Type 0
+abbrev pub ReadsAway : Option Cause → ℕ → List WireEvent → List WireEvent → Type 0
 ReadsAway None c h h' = (bytes : List ℕ) × ReadsOn c [] bytes h h'
 ReadsAway (Some causes.Closed) c h h' = h' ≡ ends c ∷ h
 ReadsAway (Some causes.Broken) c h h' = h' ≡ fails c ∷ h
@@ -144,15 +144,15 @@ ReadsAway (Some causes.NoRoom) c h h' = ⊥
 ReadsAway (Some causes.VainReads) c h h' = ⊥
 
 -- the same of its end
-abbrev pub DrainsOne : Option Cause → Conn → Conn → List Event → List Event → Type 0
+abbrev pub DrainsOne : Option Cause → Conn → Conn → List WireEvent → List WireEvent → Type 0
 DrainsOne why x y h h' = (y.number ≡ x.number) × ReadsAway why x.number h h'
 
 -- or it wasn't read, as there is none, or as another is in use
-abbrev pub DrainsAt : Option Cause → Option Conn → Option Conn → Option Conn → List Event → List Event → Type 0
+abbrev pub DrainsAt : Option Cause → Option Conn → Option Conn → Option Conn → List WireEvent → List WireEvent → Type 0
 DrainsAt why used None y h h' = (why ≡ None) × (y ≡ None) × (h' ≡ h)
 DrainsAt why used (Some x) None h h' = ⊥
 DrainsAt why used (Some x) (Some y) h h' = ((why ≡ None) × (y.number ≡ x.number) × (h' ≡ h)) ⊎ ((used ≡ None) × DrainsOne why x y h h')
 
 -- nothing else of the link has changed
-abbrev pub DrainsBy : Option Cause → Link → Link → List Event → List Event → Type 0
+abbrev pub DrainsBy : Option Cause → Link → Link → List WireEvent → List WireEvent → Type 0
 DrainsBy why old new h h' = (new ≡ record old { draining = new.draining }) × DrainsAt why old.conn old.draining new.draining h h'

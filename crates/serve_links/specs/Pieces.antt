@@ -6,8 +6,8 @@ use Rattle.serve_clients.specs.Agrees.{Breaks}
 use Rattle.serve_links.specs.CoreSteps.{Fed, Does, GoesBy}
 
 -- this piece was fed for this client, or nothing was done
-abbrev pub Takes : ℕ → List ℕ → ServedCore → ServedCore → Type 0
-Takes client piece old new = GoesBy (λ step. step ≡ Fed client piece) old new
+abbrev pub FeedsPiece : ℕ → List ℕ → ServedCore → ServedCore → Type 0
+FeedsPiece client piece old new = GoesBy (λ step. step ≡ Fed client piece) old new
 
 -- nothing of a client's end has changed but what it holds
 abbrev pub KeepsAllButHeld : Client → Client → Type 0

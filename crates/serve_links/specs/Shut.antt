@@ -1,7 +1,7 @@
 -- Which connections stay open: those that ends of clients and links have, and no other. Source: mcgate's own.
 use Rattle.std.specs.Prelude.{◌≡◌, ℕ, true, false, List, Option, Some, None, slice_get}
 use Rattle.std.specs.Option.{option_map, option_flatten}
-use Rattle.serve_wire.specs.Events.{Event, role, is_open}
+use Rattle.serve_wire.specs.Events.{WireEvent, role, is_open}
 use Rattle.serve_wire.specs.declared.conn.conn.Conn.{Conn}
 use Rattle.serve_clients.specs.declared.clients.Client.{Client}
 use Rattle.serve_clients.specs.declared.clients.Clients.{Clients}
@@ -26,15 +26,15 @@ abbrev pub link_conn : List Link → ℕ → Option ℕ
 link_conn links at = option_flatten (option_map conn_of (slice_get links at))
 
 -- of all connections of one client, or to one server, none is open but this one, if there is one
-abbrev pub IsShutBut : ℕ × ℕ → Option ℕ → List Event → Type 0
+abbrev pub IsShutBut : ℕ × ℕ → Option ℕ → List WireEvent → Type 0
 IsShutBut its kept h = (c : ℕ) → role c h ≡ Some its → is_open c h ≡ true → kept ≡ Some c
 
 -- where nothing of this server is open but what its link has, it is so after
-abbrev pub StaysShut : ℕ → List Event → Link → List Event → Link → Type 0
+abbrev pub StaysShut : ℕ → List WireEvent → Link → List WireEvent → Link → Type 0
 StaysShut at h link h' link' = IsShutBut (1, at) (conn_of link) h → IsShutBut (1, at) (conn_of link') h'
 
 -- each connection is closed but those that clients' ends and links have
-pub record AreShut (h : List Event) (cs : Clients) (ls : List Link) : Type 0 where
+pub record AreShut (h : List WireEvent) (cs : Clients) (ls : List Link) : Type 0 where
   pub clients : (id : ℕ) → IsShutBut (0, id) (client_conn cs id) h
   pub links : (at : ℕ) → IsShutBut (1, at) (link_conn ls at) h
   pub nobodys : (c : ℕ) → role c h ≡ None → is_open c h ≡ false

@@ -3,7 +3,7 @@ use Rattle.std.specs.Prelude.{◌≡◌, ◌≢◌, ℕ, IfSome, Bool, true, fal
 use Rattle.mc_types.specs.declared.ask.Ask.{Ask}
 use Rattle.mc_types.specs.declared.ask.Dialect.{Dialect}
 use Rattle.wire_parts.specs.Sending.{bytes_of}
-use Rattle.serve_wire.specs.Events.{Event, ends, fails, role, delivered, taken, is_over, time}
+use Rattle.serve_wire.specs.Events.{WireEvent, ends, fails, role, delivered, taken, is_over, time}
 use Rattle.serve_wire.specs.Agreement.{Extends, AddressAgrees, IsUntouched, ClientLost, TouchesOnly}
 use Rattle.serve_wire.specs.declared.conn.conn.Conn.{Conn}
 use Rattle.core_accepted.specs.declared.served.ServedCore.{ServedCore}
@@ -21,7 +21,7 @@ use Rattle.serve_links.specs.declared.news.Cause.{Cause}
 use Rattle.serve_links.specs.declared.news.Cause.TheVariants as causes
 use Rattle.serve_links.specs.CoreSteps.{Step, Opened, NotOpened, Fed, Polled, Stopped, Settled, Gave, Closed, LeftLine, Broke, Ticked, Loaded, Linked, Asked, Greeted, Spelled, Late, CameLate, Lost, Walks, StepsAreOf}
 use Rattle.serve_links.specs.Shut.{drain_of, AreShut, StaysShut}
-use Rattle.serve_links.specs.Called.{call_in, due_in, clock_in, given_in, TellsCalls}
+use Rattle.serve_links.specs.Called.{call_in, due_in, clock_in, given_in, TellsCallsOut}
 use Rattle.serve_links.specs.Talks.{SaidAsk, Talk, Apart, Ending, talk_in, IsCalledIn, MayBeAsked, IsStoreFirst, IsNotAmong, AreDue, AreCalled, IsOrderly, IsOfClients, IsOfServer}
 use Rattle.std.specs.Option.{option_map}
 
@@ -118,7 +118,7 @@ is_broken_in (Spelled at number ask answer bytes ∷ steps) i = is_broken_in ste
 is_broken_in (Lost at why ∷ steps) i = is_broken_in steps i
 
 -- a client's end agrees with what was fed and given for it by these calls
-abbrev pub ClientAgreesWith : List Step → List Event → ℕ → Client → Type 0
+abbrev pub ClientAgreesWith : List Step → List WireEvent → ℕ → Client → Type 0
 ClientAgreesWith steps h id client = EndAgrees h (fed_in steps) (gave_in steps) id client
 
 -- these steps tell how the client's end stands: it was opened, and is broken off where they say so
@@ -129,7 +129,7 @@ abbrev pub ClientsAreTold : List Step → Clients → Type 0
 ClientsAreTold steps clients = (id : ℕ) → IfSome (client_of clients id) (ClientIsTold steps id)
 
 -- each client's end agrees with what was fed and given for it by these calls
-abbrev pub AgreeWith : List Step → List Event → Clients → Type 0
+abbrev pub AgreeWith : List Step → List WireEvent → Clients → Type 0
 AgreeWith steps h clients = AllAgree h (fed_in steps) (gave_in steps) clients
 
 -- of this client the calls tell nothing more
@@ -138,7 +138,7 @@ TellsNone j past steps =
     (fed_in (steps ++ past) j ≡ fed_in past j) × (gave_in (steps ++ past) j ≡ gave_in past j) × (is_open_in (steps ++ past) j ≡ is_open_in past j) × (is_broken_in (steps ++ past) j ≡ is_broken_in past j)
 
 -- a connection took all that the core gave for its client by these calls, or the client was broken off
-abbrev pub TookAll : List Step → List Event → ℕ → ℕ → Type 0
+abbrev pub TookAll : List Step → List WireEvent → ℕ → ℕ → Type 0
 TookAll steps h id conn = (gave_in steps id ≡ taken conn h) ⊎ (is_broken_in steps id ≡ true)
 
 -- the last of these calls was that the core gave all that it had for this client
@@ -148,11 +148,11 @@ pub record IsJustGiven (id : ℕ) (steps : List Step) : Type 0 where
   pub last : steps ≡ Gave id bytes ∷ earlier
 
 -- a client ends by this step: the core closes it once it gave all that it had for it and the connection took that, or opens it anew though it is open
-abbrev pub ClientEndsBy : Step → List Step → List Event → ℕ → ℕ → Type 0
+abbrev pub ClientEndsBy : Step → List Step → List WireEvent → ℕ → ℕ → Type 0
 ClientEndsBy last steps h id conn = ((last ≡ Closed id) × IsJustGiven id steps × TookAll steps h id conn) ⊎ ((last ≡ Opened id) × (is_open_in steps id ≡ true))
 
 -- the client whose connection this was is gone by this last step: until then the connection delivered what was fed for it, and more perhaps, and took what was given for it, or where it was broken off the first of that
-pub record IsGone (past : List Step) (h : List Event) (id conn : ℕ) : Type 0 where
+pub record IsGone (past : List Step) (h : List WireEvent) (id conn : ℕ) : Type 0 where
   pub later : List Step
   pub last : Step
   pub earlier : List Step
@@ -161,11 +161,11 @@ pub record IsGone (past : List Step) (h : List Event) (id conn : ℕ) : Type 0 w
   pub lost : ClientLost h (fed_in earlier) (gave_in earlier) id conn
 
 -- nothing came over a connection, and it took nothing
-abbrev pub IsUnused : ℕ → List Event → Type 0
+abbrev pub IsUnused : ℕ → List WireEvent → Type 0
 IsUnused conn h = (delivered conn h ≡ []) × (taken conn h ≡ [])
 
 -- a connection of the client of this id is that of its end now, or was never used, or the client is gone
-abbrev pub HasOrHad : List Step → List Event → Clients → ℕ → ℕ → Type 0
+abbrev pub HasOrHad : List Step → List WireEvent → Clients → ℕ → ℕ → Type 0
 HasOrHad past h clients id conn = (option_map (λ x. x.conn.number) (client_of clients id) ≡ Some conn) ⊎ IsUnused conn h ⊎ IsGone past h id conn
 
 -- calls, as a walk has them
@@ -187,7 +187,7 @@ MayAllGo past at (call ∷ calls) = MayGo past at call × MayAllGo past at calls
 
 -- a connection agrees with what was said over it: it is to this server, and was begun at the address that this text names; what was to be sent is what it took, and then what is unsent; what it delivered told all
 -- that was told, and is else held; these calls are out, what the server says to what it was asked first is awaited or not, calls are asked in this dialect, and these were late
-pub record TalkAgrees (h : List Event) (at : ℕ) (text : List ℕ) (talk : Talk) (c : ℕ) (held unsent : List ℕ) (out : List SaidAsk) (awaits : Option Greeting) (dialect : Dialect) (late : List SaidAsk) : Type 0 where
+pub record TalkAgrees (h : List WireEvent) (at : ℕ) (text : List ℕ) (talk : Talk) (c : ℕ) (held unsent : List ℕ) (out : List SaidAsk) (awaits : Option Greeting) (dialect : Dialect) (late : List SaidAsk) : Type 0 where
   pub is_to : role c h ≡ Some (1, at)
   pub address : AddressAgrees h text c
   pub sent_is : talk.sent ≡ taken c h ++ unsent
@@ -198,16 +198,16 @@ pub record TalkAgrees (h : List Event) (at : ℕ) (text : List ℕ) (talk : Talk
   pub late_is : talk.late ≡ late
 
 -- so does that of a link, if it has one, where so much of it is held
-abbrev pub ConnAgrees : ℕ → List Step → List Event → Link → Conn → List ℕ → Type 0
+abbrev pub ConnAgrees : ℕ → List Step → List WireEvent → Link → Conn → List ℕ → Type 0
 ConnAgrees at past h link conn held = TalkAgrees h at link.text.items (talk_in past at) conn.number held (bytes_of conn.unsent) (said_asks link.calls.sent.items) link.awaits_dialect link.dialect (said_late link.late.items)
 
 -- where no connection is in use: none is there; or the end of this one is awaited, and it agrees with what was said over it, but for what it delivered that told nothing, and what it didn't take
-abbrev pub Unused : List Event → ℕ → List ℕ → Talk → Option ℕ → Type 0
+abbrev pub Unused : List WireEvent → ℕ → List ℕ → Talk → Option ℕ → Type 0
 Unused h at text talk None = talk.stands ≡ Apart
 Unused h at text talk (Some c) = (talk.stands ≡ Ending) × (held unsent : List ℕ) × TalkAgrees h at text talk c held unsent talk.out talk.awaits talk.dialect talk.late
 
 -- a link agrees with these calls, its connection is not over, and all calls that wait for it may go there, and weren't asked yet, and those that were sent are out; without a connection no call is out there
-pub record LineAgrees (at : ℕ) (past : List Step) (h : List Event) (link : Link) : Type 0 where
+pub record LineAgrees (at : ℕ) (past : List Step) (h : List WireEvent) (link : Link) : Type 0 where
   pub conn : (conn : Conn) → link.conn ≡ Some conn → ConnAgrees at past h link conn conn.held.items
   pub goes_on : (conn : Conn) → link.conn ≡ Some conn → is_over conn.number h ≡ false
   pub waiting : MayAllGo past at link.waiting.items
@@ -217,7 +217,7 @@ pub record LineAgrees (at : ℕ) (past : List Step) (h : List Event) (link : Lin
   pub called : AreCalled past at (said_asks link.calls.sent.items)
 
 -- the same of a link whose bytes were lost, or whose connection is over: it agrees but for what it holds
-pub record LineLost (at : ℕ) (past : List Step) (h : List Event) (link : Link) : Type 0 where
+pub record LineLost (at : ℕ) (past : List Step) (h : List WireEvent) (link : Link) : Type 0 where
   pub conn : (conn : Conn) → link.conn ≡ Some conn → (held : List ℕ) × ConnAgrees at past h link conn held
   pub waiting : MayAllGo past at link.waiting.items
   pub due : AreDue past at (said_asks link.waiting.items)
@@ -226,8 +226,8 @@ pub record LineLost (at : ℕ) (past : List Step) (h : List Event) (link : Link)
   pub called : AreCalled past at (said_asks link.calls.sent.items)
 
 -- this has happened
-abbrev pub HasHappened : Event → List Event → Type 0
-HasHappened event h = (later earlier : List Event) × (h ≡ later ++ event ∷ earlier)
+abbrev pub HasHappened : WireEvent → List WireEvent → Type 0
+HasHappened event h = (later earlier : List WireEvent) × (h ≡ later ++ event ∷ earlier)
 
 -- these bytes begin nothing that is to come first, whatever follows them: not what a server is to say to what it was asked first, or else no answer to the first of these calls; where neither is to come, they are some
 abbrev pub IsForeign : Option Greeting → List SaidAsk → List ℕ → Type 0
@@ -236,7 +236,7 @@ IsForeign None [] bytes = bytes ≢ []
 IsForeign None (call ∷ calls) bytes = IsForeignIn call.1 call.2 bytes
 
 -- what the wire shows, or what was said, of a connection that is given up for this cause: it has ended, or has failed, or what it delivered behind all that told something is foreign, or reads were in vain while calls are out there, or late answers were to come, or that to a store, or the end of one that can't be kept. For want of a connection none is given up
-abbrev pub Shows : Cause → Talk → ℕ → List Event → Type 0
+abbrev pub Shows : Cause → Talk → ℕ → List WireEvent → Type 0
 Shows causes.Unreachable talk c h = ⊥
 Shows causes.ConnectLate talk c h = Unit {0}
 Shows causes.AnswerLate talk c h = (talk.late ≢ []) ⊎ IsStoreFirst talk.out ⊎ (talk.stands ≡ Ending)
@@ -247,14 +247,14 @@ Shows causes.NoRoom talk c h = Unit {0}
 Shows causes.VainReads talk c h = talk.out ≢ []
 
 -- the same where it is given up for a cause, if it is
-abbrev pub ShowsWhy : Option Cause → Talk → ℕ → List Event → Type 0
+abbrev pub ShowsWhy : Option Cause → Talk → ℕ → List WireEvent → Type 0
 ShowsWhy None talk c h = Unit {0}
 ShowsWhy (Some cause) talk c h = Shows cause talk c h
 
 -- the connection over which these steps tell what was said showed so, at some time
-pub record WasShown (why : Option Cause) (at : ℕ) (past : List Step) (h : List Event) : Type 0 where
+pub record WasShown (why : Option Cause) (at : ℕ) (past : List Step) (h : List WireEvent) : Type 0 where
   pub conn : ℕ
-  pub before : List Event
+  pub before : List WireEvent
   pub since : Extends before h
   pub text : List ℕ
   pub held : List ℕ
@@ -263,11 +263,11 @@ pub record WasShown (why : Option Cause) (at : ℕ) (past : List Step) (h : List
   pub shows : ShowsWhy why (talk_in past at) conn before
 
 -- the wire's clock showed this time
-abbrev pub HasShown : ℕ → List Event → Type 0
-HasShown now h = (before : List Event) × Extends before h × (time before ≡ now)
+abbrev pub HasShown : ℕ → List WireEvent → Type 0
+HasShown now h = (before : List WireEvent) × Extends before h × (time before ≡ now)
 
 -- so it is with a step by which one is given up; and where a call is late, the clock showed by then what it is late by
-abbrev pub StepIsShown : Step → List Step → List Event → Type 0
+abbrev pub StepIsShown : Step → List Step → List WireEvent → Type 0
 StepIsShown (Lost at why) past h = WasShown why at past h
 StepIsShown (Opened client) past h = Unit {0}
 StepIsShown (NotOpened fault) past h = Unit {0}
@@ -289,12 +289,12 @@ StepIsShown (CameLate at number ask answer bytes) past h = Unit {0}
 StepIsShown (Spelled at number ask answer bytes) past h = Unit {0}
 
 -- and with each of these
-abbrev pub StepsAreShown : List Step → List Event → Type 0
+abbrev pub StepsAreShown : List Step → List WireEvent → Type 0
 StepsAreShown [] h = Unit {0}
 StepsAreShown (step ∷ steps) h = StepIsShown step steps h × StepsAreShown steps h
 
 -- a link is to be given up so: it agrees but for what it holds, and its connection shows why
-pub record LineFails (why : Option Cause) (at : ℕ) (past : List Step) (h : List Event) (link : Link) : Type 0 where
+pub record LineFails (why : Option Cause) (at : ℕ) (past : List Step) (h : List WireEvent) (link : Link) : Type 0 where
   pub lost : LineLost at past h link
   pub shows : (conn : Conn) → link.conn ≡ Some conn → ShowsWhy why (talk_in past at) conn.number h
 
@@ -303,16 +303,16 @@ abbrev pub LineIsForeign : Link → Type 0
 LineIsForeign link = IfSome link.conn (λ conn. IsForeign link.awaits_dialect (said_late link.late.items ++ said_asks link.calls.sent.items) conn.held.items)
 
 -- a link agrees, and this call may go there, and wasn't asked yet
-abbrev pub LineCalled : SentCall → (at : ℕ) → List Step → List Event → Link → Type 0
+abbrev pub LineCalled : SentCall → (at : ℕ) → List Step → List WireEvent → Link → Type 0
 LineCalled call at past h link = LineAgrees at past h link × MayGo past at call × AreDue past at (said_asks (call ∷ link.waiting.items))
 
 -- each link agrees with these calls
-abbrev pub LinesAgree : List Step → List Event → List Link → Type 0
+abbrev pub LinesAgree : List Step → List WireEvent → List Link → Type 0
 LinesAgree past h links = (at : ℕ) (link : Link) → slice_get links at ≡ Some link → LineAgrees at past h link
 
 -- what names the address of a link's server, and the limits that it has
-abbrev pub server_of : Link → List ℕ × LinkLimits
-server_of link = (link.text.items, link.limits)
+abbrev pub address_and_limits : Link → List ℕ × LinkLimits
+address_and_limits link = (link.text.items, link.limits)
 
 -- all that a link has to do with its connections and its calls: its server's address and limits, the connection's number, what is held of it and what is to be sent, the calls that are out, those that wait,
 -- what its server was asked first and is still to answer, in which dialect calls are asked, those that were late, and the number of the connection whose end is awaited
@@ -320,7 +320,7 @@ abbrev pub LineState : Type 0
 LineState = (List ℕ × LinkLimits) × Option (ℕ × List ℕ × List ℕ) × List SaidAsk × List SentCall × Option Greeting × Dialect × List SaidAsk × Option ℕ
 
 abbrev pub line_of : Link → LineState
-line_of link = (server_of link, option_map (λ (x : Conn). (x.number, x.held.items, bytes_of x.unsent)) link.conn, said_asks link.calls.sent.items, link.waiting.items, link.awaits_dialect, link.dialect, said_late link.late.items, drain_of link)
+line_of link = (address_and_limits link, option_map (λ (x : Conn). (x.number, x.held.items, bytes_of x.unsent)) link.conn, said_asks link.calls.sent.items, link.waiting.items, link.awaits_dialect, link.dialect, said_late link.late.items, drain_of link)
 
 -- a step by which a call is late tells for how long those of its server may take, where this says it of each server
 abbrev pub IsByLimit : (ℕ → Option ℕ) → Step → Type 0
@@ -346,17 +346,17 @@ IsByLimit most (Lost at why) = Unit {0}
 
 -- a link is to the server that it was to, which has the limits that it had, and by these steps, which tell of that one alone, calls are late by its limit
 pub record KeepsServer (steps : List Step) (old new : Link) : Type 0 where
-  pub same : server_of new ≡ server_of old
+  pub same : address_and_limits new ≡ address_and_limits old
   pub late : StepsAreOf (IsByLimit (λ at. Some old.limits.call_ms)) steps
 
 -- all connections that were of others than this one, and all that aren't its now, are as they were, and the clock wasn't looked at
-pub record KeepsOthers (its : ℕ × ℕ) (h h' : List Event) : Type 0 where
+pub record KeepsOthers (its : ℕ × ℕ) (h h' : List WireEvent) : Type 0 where
   pub were : (d : ℕ) (p : ℕ × ℕ) → role d h ≡ Some p → p ≢ its → IsUntouched d h h'
   pub are : (d : ℕ) → role d h' ≢ Some its → IsUntouched d h h'
   pub clock : time h' ≡ time h
 
 -- by calls of this kind, which tell nothing of servers, the core goes on, and a client's end on the wire with it: where it agreed with all calls before, it agrees with all calls after, and no other connection is touched
-pub record OneGoes (Is : Step → Type 0) (id : ℕ) (core : ServedCore) (h : List Event) (client : Client) (core' : ServedCore) (h' : List Event) (client' : Client) : Type 0 where
+pub record OneGoes (Is : Step → Type 0) (id : ℕ) (core : ServedCore) (h : List WireEvent) (client : Client) (core' : ServedCore) (h' : List WireEvent) (client' : Client) : Type 0 where
   pub steps : List Step
   pub kinds : StepsAreOf Is steps
   pub own : StepsAreOf IsOfClients steps
@@ -377,24 +377,24 @@ LeavesCalls at past past' = (j : ℕ) → nat_eq at j ≡ false → StayOut j pa
 
 -- by calls of this kind, which tell of this server alone, the core goes on, and the server's link on the wire with it: where the one held of it and of all calls before, and the core has those out that they tell to be, the other
 -- holds of it and of all calls after, and all happened in order if it had before. No other's connection is touched, nor its calls, of its own none is left open but the one that it has, where a connection is given up the wire showed why, and where a call is late it is so by the server's limit
-pub record LineGoesFrom (Before After : ℕ → List Step → List Event → Link → Type 0) (Is : Step → Type 0) (at : ℕ) (core : ServedCore) (h : List Event) (link : Link) (core' : ServedCore) (h' : List Event) (link' : Link) : Type 0 where
+pub record LineGoesFrom (Before After : ℕ → List Step → List WireEvent → Link → Type 0) (Is : Step → Type 0) (at : ℕ) (core : ServedCore) (h : List WireEvent) (link : Link) (core' : ServedCore) (h' : List WireEvent) (link' : Link) : Type 0 where
   pub steps : List Step
   pub kinds : StepsAreOf Is steps
   pub own : StepsAreOf (IsOfServer at) steps
   pub walks : Walks steps core core'
-  pub agrees : (past : List Step) → IsOrderly past → TellsCalls past core → Before at past h link → IsOrderly (steps ++ past) × After at (steps ++ past) h' link' × KeepsOthers (1, at) h h' × LeavesCalls at past (steps ++ past)
-  pub shown : (past : List Step) → IsOrderly past → TellsCalls past core → Before at past h link → StepsAreShown past h → StepsAreShown (steps ++ past) h'
+  pub agrees : (past : List Step) → IsOrderly past → TellsCallsOut past core → Before at past h link → IsOrderly (steps ++ past) × After at (steps ++ past) h' link' × KeepsOthers (1, at) h h' × LeavesCalls at past (steps ++ past)
+  pub shown : (past : List Step) → IsOrderly past → TellsCallsOut past core → Before at past h link → StepsAreShown past h → StepsAreShown (steps ++ past) h'
   pub shut : StaysShut at h link h' link'
   pub server : KeepsServer steps link link'
 
 -- a link that agrees goes on to agree
-abbrev pub LineGoes : (Step → Type 0) → ℕ → ServedCore → List Event → Link → ServedCore → List Event → Link → Type 0
+abbrev pub LineGoes : (Step → Type 0) → ℕ → ServedCore → List WireEvent → Link → ServedCore → List WireEvent → Link → Type 0
 LineGoes = LineGoesFrom LineAgrees LineAgrees
 
 -- what a proxy's end has: a core, and the ends of clients and links on a wire
 pub record AnEnd : Type 0 where
   pub core : ServedCore
-  pub history : List Event
+  pub history : List WireEvent
   pub clients : Clients
   pub links : List Link
 
@@ -403,7 +403,7 @@ abbrev pub texts_of : List Link → List (List ℕ)
 texts_of links = each (λ link. link.text.items) links
 
 abbrev pub servers_of : List Link → List (List ℕ × LinkLimits)
-servers_of links = each server_of links
+servers_of links = each address_and_limits links
 
 -- how long a call to the server of this number may take, in milliseconds, if there is one
 abbrev pub most_of : List (List ℕ × LinkLimits) → ℕ → Option ℕ
@@ -417,7 +417,7 @@ pub record KeepsServers (steps : List Step) (old new : List Link) : Type 0 where
 -- all happened in order by these calls, the core has those out that they tell to be, the clock showed last what they tell, and each end agrees with them, and so does each connection that was a client's; the wire showed why each of a server's was given up; and none is open but what ends have
 pub record Agrees (past : List Step) (x : AnEnd) : Type 0 where
   pub orderly : IsOrderly past
-  pub calls : TellsCalls past x.core
+  pub calls : TellsCallsOut past x.core
   pub clients : AgreeWith past x.history x.clients
   pub told : ClientsAreTold past x.clients
   pub links : LinesAgree past x.history x.links
@@ -428,9 +428,9 @@ pub record Agrees (past : List Step) (x : AnEnd) : Type 0 where
   pub clock : clock_in past ≡ time x.history
 
 -- the same, but that this holds of the link at one place
-pub record AgreesBut (This : ℕ → List Step → List Event → Link → Type 0) (at : ℕ) (past : List Step) (x : AnEnd) : Type 0 where
+pub record AgreesBut (This : ℕ → List Step → List WireEvent → Link → Type 0) (at : ℕ) (past : List Step) (x : AnEnd) : Type 0 where
   pub orderly : IsOrderly past
-  pub calls : TellsCalls past x.core
+  pub calls : TellsCallsOut past x.core
   pub clients : AgreeWith past x.history x.clients
   pub told : ClientsAreTold past x.clients
   pub links : (j : ℕ) (link : Link) → nat_eq at j ≡ false → slice_get x.links j ≡ Some link → LineAgrees j past x.history link

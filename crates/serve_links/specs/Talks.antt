@@ -7,7 +7,7 @@ use Rattle.mc_types.specs.declared.answer.Answer.{Answer}
 use Rattle.mc_types.specs.declared.call.Outcome.{Outcome}
 use Rattle.mc_types.specs.declared.call.Outcome.TheVariants.{Answered, Failed}
 use Rattle.wire_stream.specs.Spelling.{spelling_of}
-use Rattle.core_accepted.specs.Late.{is_store}
+use Rattle.core_accepted.specs.Late.{begins_stamp}
 use Rattle.core_commands.specs.declared.ticket.Ticket.{Ticket}
 use Rattle.core_proxy.specs.declared.note.Poll.{Poll}
 use Rattle.core_proxy.specs.declared.note.Poll.TheVariants as polls
@@ -182,7 +182,7 @@ HasWaited limit now (said ∷ others) = (said.3 + limit < now) ⊎ HasWaited lim
 -- the call that was asked first of those that are out is a store
 abbrev pub IsStoreFirst : List SaidAsk → Type 0
 IsStoreFirst [] = ⊥
-IsStoreFirst (said ∷ others) = is_store said.2.op ≡ true
+IsStoreFirst (said ∷ others) = begins_stamp said.2.op ≡ true
 
 -- the call of this number, which asks this, is the first of those that were late, nothing else is told before its answer, and these bytes, whatever follows them, spell this one to it, in the dialect in which it was asked
 pub record IsNextLate (number : ℕ) (ask : Ask) (answer : Answer) (bytes : List ℕ) (talk : Talk) : Type 0 where
@@ -215,31 +215,31 @@ ComesBy number Failed past = Unit {0}
 
 -- after these steps this one may come: a connection is begun where none is there, also none whose end is awaited; a server is asked what the core gave out for it last under that number, once, in a dialect that it speaks, its time counting from then or later, and neither while late answers are still to come nor before it said that it emptied itself where it is to do that first; tells of its dialects where it is asked for that, and then answers its calls in
 -- their order, those that are late too, whose answers settle nothing; the first of those that are out is late once one of them, or of those that were late before it, has waited too long; a call is settled that no server has, by its answer, or as it failed; and none is given out while one of its number is out
-abbrev pub MayFollow : Step → List Step → Type 0
-MayFollow (Asked at number dialect ask since) past = MayBeAsked past number at dialect ask × (due_in past number ≡ Some (at, ask)) × ((talk_in past at).late ≡ []) × (awaits_flush (talk_in past at).awaits ≡ false) × (given_in past number ≤ since)
-MayFollow (Greeted at dialect bytes) past = AnswersFirst (talk_in past at).awaits dialect bytes
-MayFollow (Late at number limit now) past = IsFirstOut number (talk_in past at) × HasWaited limit now ((talk_in past at).late ++ (talk_in past at).out)
-MayFollow (CameLate at number ask answer bytes) past = IsNextLate number ask answer bytes (talk_in past at)
-MayFollow (Spelled at number ask answer bytes) past = IsNextAnswer number ask answer bytes (talk_in past at)
-MayFollow (Settled number outcome) past = MaySettle number past × ComesBy number outcome past
-MayFollow (Linked at dialect) past = (talk_in past at).stands ≡ Apart
-MayFollow (Lost at why) past = Unit {0}
-MayFollow (Opened client) past = Unit {0}
-MayFollow (NotOpened fault) past = Unit {0}
-MayFollow (Fed client piece) past = Unit {0}
-MayFollow (Polled client poll) past = IsGivenOnce poll past
-MayFollow (Stopped client fault) past = Unit {0}
-MayFollow (Gave client bytes) past = Unit {0}
-MayFollow (Closed client) past = Unit {0}
-MayFollow (LeftLine client) past = Unit {0}
-MayFollow (Ticked now) past = Unit {0}
-MayFollow (Broke client) past = Unit {0}
-MayFollow (Loaded configuration generation) past = Unit {0}
+abbrev pub MayComeNext : Step → List Step → Type 0
+MayComeNext (Asked at number dialect ask since) past = MayBeAsked past number at dialect ask × (due_in past number ≡ Some (at, ask)) × ((talk_in past at).late ≡ []) × (awaits_flush (talk_in past at).awaits ≡ false) × (given_in past number ≤ since)
+MayComeNext (Greeted at dialect bytes) past = AnswersFirst (talk_in past at).awaits dialect bytes
+MayComeNext (Late at number limit now) past = IsFirstOut number (talk_in past at) × HasWaited limit now ((talk_in past at).late ++ (talk_in past at).out)
+MayComeNext (CameLate at number ask answer bytes) past = IsNextLate number ask answer bytes (talk_in past at)
+MayComeNext (Spelled at number ask answer bytes) past = IsNextAnswer number ask answer bytes (talk_in past at)
+MayComeNext (Settled number outcome) past = MaySettle number past × ComesBy number outcome past
+MayComeNext (Linked at dialect) past = (talk_in past at).stands ≡ Apart
+MayComeNext (Lost at why) past = Unit {0}
+MayComeNext (Opened client) past = Unit {0}
+MayComeNext (NotOpened fault) past = Unit {0}
+MayComeNext (Fed client piece) past = Unit {0}
+MayComeNext (Polled client poll) past = IsGivenOnce poll past
+MayComeNext (Stopped client fault) past = Unit {0}
+MayComeNext (Gave client bytes) past = Unit {0}
+MayComeNext (Closed client) past = Unit {0}
+MayComeNext (LeftLine client) past = Unit {0}
+MayComeNext (Ticked now) past = Unit {0}
+MayComeNext (Broke client) past = Unit {0}
+MayComeNext (Loaded configuration generation) past = Unit {0}
 
 -- so it is with each of them, after those before it
 abbrev pub IsOrderly : List Step → Type 0
 IsOrderly [] = Unit {0}
-IsOrderly (step ∷ steps) = MayFollow step steps × IsOrderly steps
+IsOrderly (step ∷ steps) = MayComeNext step steps × IsOrderly steps
 
 -- a step tells nothing of servers
 abbrev pub IsOfClients : Step → Type 0

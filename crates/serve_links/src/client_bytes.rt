@@ -6,7 +6,7 @@ ghost use Rattle.core_proxy.specs.CoreState.{client_at, output_by};
 ghost use Rattle.serve_links.specs.CoreSteps.{Gave, Does, GoesOn};
 ghost use Rattle.serve_wire.specs.Agreement.{TouchesOnly};
 ghost use Rattle.serve_clients.specs.Agrees.{GoesOnAgreeing};
-ghost use Rattle.serve_links.specs.Pieces.{Takes, FeedsHeld};
+ghost use Rattle.serve_links.specs.Pieces.{FeedsPiece, FeedsHeld};
 
 use crate::tally::Tally;
 use core_accepted::ServedCore;
@@ -76,7 +76,7 @@ pub fn send_once<W: Wire>(core: &ServedCore, id: usize, client: &mut Client, wir
 /// What the client's end holds is given to the core.
 pub fn feed_held(core: &mut ServedCore, id: usize, client: &mut Client)
     ensures core { GoesOn core.old core.new }
-    ensures piece { Takes id client.old.conn.held.items core.old core.new }
+    ensures piece { FeedsPiece id client.old.conn.held.items core.old core.new }
     ensures held { FeedsHeld id client.old client.new core.old core.new }
 {
     if client.conn.held.is_empty() {

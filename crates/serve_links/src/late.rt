@@ -2,7 +2,7 @@
 //! they are the sign that the server is back.
 
 ghost use Rattle.std.specs.Prelude.{◌≡◌, ℕ, List, None, []};
-ghost use Rattle.serve_wire.specs.Events.{Event, time};
+ghost use Rattle.serve_wire.specs.Events.{WireEvent, time};
 ghost use Rattle.core_accepted.specs.declared.served.ServedCore.{ServedCore};
 ghost use Rattle.serve_links.specs.Calls.{PassesOver};
 ghost use Rattle.serve_links.specs.Lateness.{HasOneLate, LetsStoresWait};
@@ -55,7 +55,7 @@ impl Link {
     /// The first of the calls that are out is late, as one of them is, or one that was late before: it has failed, and keeps its place. Whose it was. Without a connection none is, nor is a store
     /// where stores are awaited however long they take.
     pub(crate) fn fail_late(&mut self, core: &mut ServedCore) -> Result<Option<usize>, AllocError>
-        ensures goes { (at : ℕ) (h : List Event) → HasOneLate (time h) self.old → LineGoes IsSending at core.old h self.old core.new h self.new }
+        ensures goes { (at : ℕ) (h : List WireEvent) → HasOneLate (time h) self.old → LineGoes IsSending at core.old h self.old core.new h self.new }
         ensures late { (now : ℕ) → HasOneLate now self.old → HasOneLate now self.new }
         ensures stores { LetsStoresWait self.old self.new }
     {
@@ -75,7 +75,7 @@ impl Link {
     // The answer to the first call that is late is thrown away, where what is held begins with it.
     fn throw_first(&mut self) -> LateRead
         requires { self.old.awaits_dialect ≡ None }
-        ensures goes { (at : ℕ) (core : ServedCore) (h : List Event) → LineGoes IsOfTurn at core h self.old core h self.new }
+        ensures goes { (at : ℕ) (core : ServedCore) (h : List WireEvent) → LineGoes IsOfTurn at core h self.old core h self.new }
         ensures foreign { result ≡ LateRead.Foreign → LineIsForeign self.new }
         ensures told { self.new.awaits_dialect ≡ None }
     {
@@ -88,7 +88,7 @@ impl Link {
     /// Late answers that are held whole are thrown away, one after another.
     pub fn throw_late(&mut self) -> LateEnd
         requires { self.old.awaits_dialect ≡ None }
-        ensures goes { (at : ℕ) (core : ServedCore) (h : List Event) → LineGoes IsOfTurn at core h self.old core h self.new }
+        ensures goes { (at : ℕ) (core : ServedCore) (h : List WireEvent) → LineGoes IsOfTurn at core h self.old core h self.new }
         ensures over { result ≡ LateEnd.Over → self.new.late.items ≡ [] }
         ensures foreign { result ≡ LateEnd.Foreign → LineIsForeign self.new }
         ensures told { self.new.awaits_dialect ≡ None }

@@ -7,7 +7,7 @@ ghost use Rattle.serve_links.specs.Calls.{stores_first};
 ghost use Rattle.serve_links.specs.Lateness.{HasLate, awaits_store, AwaitsLate, IsUnready, IsConnectLate, IsReadBy, may_give};
 ghost use Rattle.wire_parts.specs.Sending.{bytes_of};
 ghost use Rattle.serve_links.specs.Dialects.{awaits_flush};
-ghost use Rattle.serve_links.specs.Epochs.{is_retired, with_retired, IsQuiet};
+ghost use Rattle.serve_links.specs.Epochs.{is_retired, with_retired, LinkIsQuiet};
 ghost use Rattle.serve_links.specs.Lines.{dialect_asked, flush_asked, first_asked_of, asks_dialect, awaits_first, first_dialect, greeting_of, KeepsLines, HasNewEnd, OpensLink, Learns, ended_by_read, DrainsOne, DrainsBy};
 ghost use Rattle.serve_links.specs.Story.{line_of, LineIsForeign};
 ghost use Rattle.serve_links.specs.Shut.{conn_of};
@@ -396,7 +396,7 @@ impl Link {
 
     /// Whether no call is out or waits, none is late, and no end of a connection is awaited.
     pub fn is_quiet(&self) -> bool
-        ensures { result ≡ true → IsQuiet self.now }
+        ensures { result ≡ true → LinkIsQuiet self.now }
     {
         self.calls.is_empty()
             && self.waiting.is_empty()

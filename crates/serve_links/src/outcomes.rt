@@ -4,8 +4,8 @@ ghost use Rattle.std.specs.Prelude.{◌≡◌, ◌≢◌, ◌⊎◌, ℕ, List, 
 ghost use Rattle.serve_wire.specs.Ends.{HoldsAnew};
 ghost use Rattle.serve_clients.specs.Agrees.{KeepsEnds};
 ghost use Rattle.serve_links.specs.Calls.{SettlesNext};
-ghost use Rattle.serve_wire.specs.Events.{Event, time};
-ghost use Rattle.serve_links.specs.CoreSteps.{GoesBy, IsSettlement, IsSending, Fails};
+ghost use Rattle.serve_wire.specs.Events.{WireEvent, time};
+ghost use Rattle.serve_links.specs.CoreSteps.{GoesBy, IsSettlement, IsSending, OnlyFails};
 ghost use Rattle.serve_links.specs.Story.{LineGoes};
 ghost use Rattle.core_accepted.specs.declared.served.ServedCore.{ServedCore};
 ghost use Rattle.serve_links.specs.Lateness.{HasLate, HasOneLate, LetsStoresWait};
@@ -28,7 +28,7 @@ const ROOM_AFTER: usize = 147_456;
 
 // The calls that are out on a link have failed.
 fn fail_sent(calls: &mut LinkCalls, core: &mut ServedCore, clients: &mut Clients)
-    ensures core { Fails core.old core.new }
+    ensures core { OnlyFails core.old core.new }
     ensures none { calls.new.sent.items ≡ [] }
     ensures all { AllFail calls.old.sent.items core.old core.new }
     ensures first { FailsTo calls.old.sent.items calls.new.sent.items core.old core.new }
@@ -45,7 +45,7 @@ fn fail_sent(calls: &mut LinkCalls, core: &mut ServedCore, clients: &mut Clients
 // The calls that wait for the link have failed.
 fn fail_waiting(link: &mut Link, core: &mut ServedCore, clients: &mut Clients)
     requires { link.old.conn ≡ None }
-    ensures core { Fails core.old core.new }
+    ensures core { OnlyFails core.old core.new }
     ensures none { link.new.waiting.items ≡ [] }
     ensures all { AllFail link.old.waiting.items core.old core.new }
     ensures first { FailsTo link.old.waiting.items link.new.waiting.items core.old core.new }
@@ -66,7 +66,7 @@ fn fail_waiting(link: &mut Link, core: &mut ServedCore, clients: &mut Clients)
 /// All calls of the link, which has no connection, have failed: those that are out, and then those that wait.
 pub fn fail_all(link: &mut Link, core: &mut ServedCore, clients: &mut Clients)
     requires { link.old.conn ≡ None }
-    ensures core { Fails core.old core.new }
+    ensures core { OnlyFails core.old core.new }
     ensures down { IsDown link.new }
     ensures all { AllFail (link.old.calls.sent.items ++ link.old.waiting.items) core.old core.new }
     ensures closed { link.new.conn ≡ None }
@@ -83,7 +83,7 @@ pub fn fail_all(link: &mut Link, core: &mut ServedCore, clients: &mut Clients)
 /// If a call that is out on the link is late by now, all that are have failed, and keep their places: those before the first store, where stores are
 /// awaited however long they take. Else nothing is done.
 pub fn fail_late(link: &mut Link, core: &mut ServedCore, clients: &mut Clients, now: u64)
-    ensures goes { (at : ℕ) (h : List Event) → time h ≡ now → LineGoes IsSending at core.old h link.old core.new h link.new }
+    ensures goes { (at : ℕ) (h : List WireEvent) → time h ≡ now → LineGoes IsSending at core.old h link.old core.new h link.new }
     ensures late { HasLate now link.old ⊎ ((link.new ≡ link.old) × (core.new ≡ core.old)) }
     ensures stores { LetsStoresWait link.old link.new }
     ensures ends { KeepsEnds clients.old clients.new }
@@ -96,7 +96,7 @@ pub fn fail_late(link: &mut Link, core: &mut ServedCore, clients: &mut Clients, 
 
 // The calls that are out on the link have failed, and keep their places, as one of them is late.
 fn fail_all_late(link: &mut Link, core: &mut ServedCore, clients: &mut Clients, now: u64)
-    ensures goes { (at : ℕ) (h : List Event) → HasOneLate (time h) link.old → LineGoes IsSending at core.old h link.old core.new h link.new }
+    ensures goes { (at : ℕ) (h : List WireEvent) → HasOneLate (time h) link.old → LineGoes IsSending at core.old h link.old core.new h link.new }
     ensures stores { LetsStoresWait link.old link.new }
     ensures ends { KeepsEnds clients.old clients.new }
 {

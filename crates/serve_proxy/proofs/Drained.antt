@@ -3,7 +3,7 @@ use Rattle.std.proofs.Common.{◌≡◌, ℕ, List, [], Option, Some, None, inl,
 use Rattle.std.specs.Prelude.{IfSome}
 use Rattle.std.specs.Option.{option_map}
 use Rattle.wire_parts.specs.Sending.{bytes_of}
-use Rattle.serve_wire.specs.Events.{Event}
+use Rattle.serve_wire.specs.Events.{WireEvent}
 use Rattle.serve_wire.specs.Flow.{ReadsOn}
 use Rattle.serve_wire.specs.Calls.{Closes}
 use Rattle.serve_wire.specs.Agreement.{IsUntouched}
@@ -17,7 +17,7 @@ use Rattle.serve_links.specs.declared.news.Cause.TheVariants as causes
 use Rattle.serve_links.specs.Lines.{ReadsAway, DrainsAt, DrainsBy}
 use Rattle.serve_links.specs.Shut.{drain_of}
 use Rattle.serve_links.specs.Talks.{Talk, Apart, standing_after}
-use Rattle.serve_links.specs.Story.{said_asks, said_late, server_of, LineState, line_of, ShowsWhy, LineGoes}
+use Rattle.serve_links.specs.Story.{said_asks, said_late, address_and_limits, LineState, line_of, ShowsWhy, LineGoes}
 use Rattle.serve_links.specs.CoreSteps.{IsSending}
 use Rattle.core_accepted.specs.declared.served.ServedCore.{ServedCore}
 use Rattle.serve_links.proofs.LinkGoes.{line_keeps, line_away, line_ends}
@@ -27,20 +27,20 @@ none_some : {A : Type 0} {x : A} → None ≡ Some x → ⊥
 none_some e = cc
 
 -- nothing came
-nothing_read : (c : ℕ) (h : List Event) → ReadsOn c [] [] h h
+nothing_read : (c : ℕ) (h : List WireEvent) → ReadsOn c [] [] h h
 nothing_read c h = reads_on c 1 [] got.Nothing [] h h (omega arith, refl, refl)
 
-quiet_as : (h k : List Event) → k ≡ h → (d : ℕ) → IsUntouched d h k
+quiet_as : (h k : List WireEvent) → k ≡ h → (d : ℕ) → IsUntouched d h k
 quiet_as h k same d = subst (IsUntouched d h) (sym same) (untouched d h)
 
 -- a link that awaits the end of the same connection
 line_drain : (x y : Link) → y ≡ record x { draining = y.draining } → drain_of y ≡ drain_of x → line_of y ≡ line_of x
 line_drain x y is same =
     ap line_of is
-    ∙ ap (λ (o : Option ℕ). let s : LineState = (server_of x, option_map {U = ℕ × List ℕ × List ℕ} (λ (z : Conn). (z.number, z.held.items, bytes_of z.unsent)) x.conn, said_asks x.calls.sent.items, x.waiting.items, x.awaits_dialect, x.dialect, said_late x.late.items, o) in s) same
+    ∙ ap (λ (o : Option ℕ). let s : LineState = (address_and_limits x, option_map {U = ℕ × List ℕ × List ℕ} (λ (z : Conn). (z.number, z.held.items, bytes_of z.unsent)) x.conn, said_asks x.calls.sent.items, x.waiting.items, x.awaits_dialect, x.dialect, said_late x.late.items, o) in s) same
 
 -- why it is to be closed, and what the wire shows of that
-read_over : (cause : Cause) (c : ℕ) (h k : List Event) → ReadsAway (Some cause) c h k → (standing_after (Some cause) ≡ Apart) × ReadsOn c [] [] h k × ((t : Talk) → ShowsWhy (Some cause) t c k)
+read_over : (cause : Cause) (c : ℕ) (h k : List WireEvent) → ReadsAway (Some cause) c h k → (standing_after (Some cause) ≡ Apart) × ReadsOn c [] [] h k × ((t : Talk) → ShowsWhy (Some cause) t c k)
 read_over causes.Closed c h k noted = (refl, reads_on c 1 [] got.Ended [] h k (omega arith, refl, noted), λ t. ([], h, noted))
 read_over causes.Broken c h k noted = (refl, reads_on c 1 [] got.Failed [] h k (omega arith, refl, noted), λ t. ([], h, noted))
 read_over causes.Unreachable c h k never = absurd never
@@ -51,7 +51,7 @@ read_over causes.NoRoom c h k never = absurd never
 read_over causes.VainReads c h k never = absurd never
 
 -- it was read, and stands
-pub drains_so : (at : ℕ) (h k : List Event) (x m : Link) (v : Option Cause) → v ≡ None → DrainsBy v x m h k → LineStands at h k x m
+pub drains_so : (at : ℕ) (h k : List WireEvent) (x m : Link) (v : Option Cause) → v ≡ None → DrainsBy v x m h k → LineStands at h k x m
 drains_so at h k x m v is did = λ core. by core x.draining refl m.draining refl (subst (λ w. DrainsAt w x.conn x.draining m.draining h k) is did.1)
   where
     by : (core : ServedCore) (o : Option Conn) → x.draining ≡ o → (p : Option Conn) → m.draining ≡ p → DrainsAt None x.conn o p h k → LineGoes IsSending at core h x core k m
@@ -63,7 +63,7 @@ drains_so at h k x m v is did = λ core. by core x.draining refl m.draining refl
 
 -- it was read, has ended or failed, and was closed
 pub ends_so :
-    (at : ℕ) (h k h' : List Event) (x m y : Link) (v : Option Cause) (cause : Cause) (r : Option ℕ) → v ≡ Some cause → DrainsBy v x m h k → r ≡ option_map (λ (z : Conn). z.number) m.draining → y ≡ record m { draining = None }
+    (at : ℕ) (h k h' : List WireEvent) (x m y : Link) (v : Option Cause) (cause : Cause) (r : Option ℕ) → v ≡ Some cause → DrainsBy v x m h k → r ≡ option_map (λ (z : Conn). z.number) m.draining → y ≡ record m { draining = None }
     → IfSome r (λ c. Closes c k h') → LineStands at h h' x y
 ends_so at h k h' x m y v cause r is did r_is y_is closes_it = λ core. by core x.draining refl m.draining refl (subst (λ w. DrainsAt w x.conn x.draining m.draining h k) is did.1)
   where
@@ -78,7 +78,7 @@ ends_so at h k h' x m y v cause r is did r_is y_is closes_it = λ core. by core 
 
 -- its end is awaited no longer, and it was closed
 pub stops_so :
-    (at : ℕ) (h h' : List Event) (x y : Link) (r : Option ℕ) → x.conn ≡ None → r ≡ option_map (λ (z : Conn). z.number) x.draining → y ≡ record x { draining = None } → IfSome r (λ c. Closes c h h') → (r ≡ None → h' ≡ h)
+    (at : ℕ) (h h' : List WireEvent) (x y : Link) (r : Option ℕ) → x.conn ≡ None → r ≡ option_map (λ (z : Conn). z.number) x.draining → y ≡ record x { draining = None } → IfSome r (λ c. Closes c h h') → (r ≡ None → h' ≡ h)
     → LineStands at h h' x y
 stops_so at h h' x y r none r_is y_is closes_it still = λ core. by core x.draining refl
   where

@@ -3,7 +3,7 @@ use Rattle.std.proofs.Common.{◌≡◌, ◌≢◌, ℕ, ◌<◌, Bool, true, fa
 use Rattle.std.proofs.Math.ListN.{set}
 use Rattle.std.specs.Prelude.{IfSome, slice_get}
 use Rattle.mc_types.specs.declared.call.Outcome.TheVariants.{Failed}
-use Rattle.serve_wire.specs.Events.{Event}
+use Rattle.serve_wire.specs.Events.{WireEvent}
 use Rattle.serve_wire.specs.declared.conn.conn.Conn.{Conn}
 use Rattle.serve_wire.specs.declared.conn.conn.Got.{Got}
 use Rattle.serve_wire.specs.declared.conn.conn.Got.TheVariants as got
@@ -19,7 +19,7 @@ use Rattle.serve_links.specs.declared.news.Cause.TheVariants as causes
 use Rattle.serve_links.specs.Calls.{stores_first}
 use Rattle.serve_links.specs.Lateness.{AwaitsLate}
 use Rattle.serve_links.specs.Links.{vain_cause}
-use Rattle.serve_links.specs.CoreSteps.{Step, Opened, NotOpened, Fed, Polled, Stopped, Settled, Gave, Closed, LeftLine, Broke, Ticked, Loaded, Linked, Asked, Greeted, Spelled, Late, CameLate, Lost, Walks, StepsAreOf, IsOfTurn, IsGivingUp, IsSending, Fails, GoesBy}
+use Rattle.serve_links.specs.CoreSteps.{Step, Opened, NotOpened, Fed, Polled, Stopped, Settled, Gave, Closed, LeftLine, Broke, Ticked, Loaded, Linked, Asked, Greeted, Spelled, Late, CameLate, Lost, Walks, StepsAreOf, IsOfTurn, IsGivingUp, IsSending, OnlyFails, GoesBy}
 use Rattle.serve_links.specs.Talks.{SaidAsk, IsStoreFirst, talk_in}
 use Rattle.serve_links.specs.Story.{said_asks, said_late, line_of, IsForeign, LineIsForeign, LineAgrees, LineLost, LineFails, LineGoesFrom, AnEnd, Agrees, AgreesBut, AllGoFrom, ShowsWhy}
 use Rattle.serve_links.proofs.LinkGoes.{as_failing, line_between, line_keeps}
@@ -42,33 +42,33 @@ said_none (call ∷ calls) e = absurd (some_said (call.ticket.number, call.diale
     some_said said others none = cc
 
 -- calls that are out were said
-out_some : (at : ℕ) (past : List Step) (h : List Event) (y : Link) (conn : Conn) → LineAgrees at past h y → y.conn ≡ Some conn → y.calls.sent.items ≢ [] → (talk_in past at).out ≢ []
+out_some : (at : ℕ) (past : List Step) (h : List WireEvent) (y : Link) (conn : Conn) → LineAgrees at past h y → y.conn ≡ Some conn → y.calls.sent.items ≢ [] → (talk_in past at).out ≢ []
 out_some at past h y conn a there some none = some (said_none y.calls.sent.items (sym (a.conn conn there).out_is ∙ none))
 
 -- too many reads were in vain, or not
-pub vain_agrees : (has_failed : Bool) (at : ℕ) (past : List Step) (h : List Event) (y : Link) → (has_failed ≡ true → y.calls.sent.items ≢ []) → LineAgrees at past h y → LineUnless (vain_cause has_failed) at past h y
+pub vain_agrees : (has_failed : Bool) (at : ℕ) (past : List Step) (h : List WireEvent) (y : Link) → (has_failed ≡ true → y.calls.sent.items ≢ []) → LineAgrees at past h y → LineUnless (vain_cause has_failed) at past h y
 vain_agrees false at past h y some a = a
 vain_agrees true at past h y some a = as_failing (Some causes.VainReads) at past h y (λ conn there. out_some at past h y conn a there (some refl)) a
 
 pub vain_goes :
-    {P : ℕ → List Step → List Event → Link → Type 0} {Is : Step → Type 0} {at : ℕ} {a b : ServedCore} {h h' : List Event} {x y : Link} (has_failed : Bool) (cause : Option Cause) → cause ≡ vain_cause has_failed
+    {P : ℕ → List Step → List WireEvent → Link → Type 0} {Is : Step → Type 0} {at : ℕ} {a b : ServedCore} {h h' : List WireEvent} {x y : Link} (has_failed : Bool) (cause : Option Cause) → cause ≡ vain_cause has_failed
     → (has_failed ≡ true → y.calls.sent.items ≢ []) → LineGoesFrom P LineAgrees Is at a h x b h' y → LineGoesFrom P (LineUnless cause) Is at a h x b h' y
 vain_goes {P} {Is} {at} {a} {b} {h} {h'} {x} {y} has_failed cause is some g =
     subst (λ o. LineGoesFrom P (LineUnless o) Is at a h x b h' y) (sym is) (line_between (λ past was. was) (λ past was. vain_agrees has_failed at past h' y some was) g)
 
 pub stands_in_vain :
-    (at : ℕ) (h : List Event) (x y : Link) (has_failed : Bool) (cause : Option Cause) → cause ≡ vain_cause has_failed → (has_failed ≡ true → y.calls.sent.items ≢ []) → line_of y ≡ line_of x → LineStandsUnless cause at h h x y
+    (at : ℕ) (h : List WireEvent) (x y : Link) (has_failed : Bool) (cause : Option Cause) → cause ≡ vain_cause has_failed → (has_failed ≡ true → y.calls.sent.items ≢ []) → line_of y ≡ line_of x → LineStandsUnless cause at h h x y
 stands_in_vain at h x y has_failed cause is some same = λ core. vain_goes has_failed cause is some (line_keeps (λ d. untouched d h) same)
 
 -- there was no room for what came
 pub no_room_goes :
-    {P : ℕ → List Step → List Event → Link → Type 0} {Is : Step → Type 0} {at : ℕ} {a b : ServedCore} {h h' : List Event} {x y : Link} → LineGoesFrom P LineLost Is at a h x b h' y
+    {P : ℕ → List Step → List WireEvent → Link → Type 0} {Is : Step → Type 0} {at : ℕ} {a b : ServedCore} {h h' : List WireEvent} {x y : Link} → LineGoesFrom P LineLost Is at a h x b h' y
     → LineGoesFrom P (LineFails (Some causes.NoRoom)) Is at a h x b h' y
 no_room_goes g = line_between (λ past was. was) (λ past was. record { lost = was; shows = λ conn there. tt }) g
 
 -- what a read of a link comes to on which nothing is out
 idle_agrees :
-    (what : Got) (at : ℕ) (past : List Step) (h : List Event) (y : Link) → (what ≡ got.Bytes → LineIsForeign y) → LineUnless (over_by what) at past h y → LineUnless (idle_cause what) at past h y
+    (what : Got) (at : ℕ) (past : List Step) (h : List WireEvent) (y : Link) → (what ≡ got.Bytes → LineIsForeign y) → LineUnless (over_by what) at past h y → LineUnless (idle_cause what) at past h y
 idle_agrees got.Bytes at past h y came a = fails_foreign at past h y (came refl) a
 idle_agrees got.Nothing at past h y came a = a
 idle_agrees got.Full at past h y came a = as_failing (Some causes.NoRoom) at past h y (λ conn there. tt) a
@@ -76,7 +76,7 @@ idle_agrees got.Ended at past h y came a = a
 idle_agrees got.Failed at past h y came a = a
 
 pub idle_stands :
-    (at : ℕ) (h h' : List Event) (x y : Link) (what : Got) (cause : Option Cause) → cause ≡ idle_cause what → (what ≡ got.Bytes → LineIsForeign y) → LineStandsUnless (over_by what) at h h' x y → LineStandsUnless cause at h h' x y
+    (at : ℕ) (h h' : List WireEvent) (x y : Link) (what : Got) (cause : Option Cause) → cause ≡ idle_cause what → (what ≡ got.Bytes → LineIsForeign y) → LineStandsUnless (over_by what) at h h' x y → LineStandsUnless cause at h h' x y
 idle_stands at h h' x y what cause is came s = λ core.
     subst (λ o. LineGoesFrom LineAgrees (LineUnless o) IsSending at core h x core h' y) (sym is) (line_between (λ past was. was) (λ past was. idle_agrees what at past h' y came was) (s core))
 
@@ -89,10 +89,10 @@ idle_came x y nothing rest some = by y.conn refl some
     by (Some c) e is = none_awaited y c e (ap (λ (z : Link). z.calls.sent.items) rest ∙ nothing.0) (ap (λ (z : Link). z.late.items) rest ∙ nothing.1) (ap (λ (z : Link). z.awaits_dialect) rest ∙ nothing.2) is
 
 -- where it was read, and where it was not
-pub line_some : {h h' : List Event} {x y : Link} (at : ℕ) (v : Option Got) (what : Got) → v ≡ Some what → LineStandsUnless (over_of v) at h h' x y → LineStandsUnless (over_by what) at h h' x y
+pub line_some : {h h' : List WireEvent} {x y : Link} (at : ℕ) (v : Option Got) (what : Got) → v ≡ Some what → LineStandsUnless (over_of v) at h h' x y → LineStandsUnless (over_by what) at h h' x y
 line_some {h} {h'} {x} {y} at v what is s = subst (λ o. LineStandsUnless (over_of o) at h h' x y) is s
 
-pub line_none : {h h' : List Event} {x y : Link} (at : ℕ) (v : Option Got) → v ≡ None → LineStandsUnless (over_of v) at h h' x y → LineStandsUnless None at h h' x y
+pub line_none : {h h' : List WireEvent} {x y : Link} (at : ℕ) (v : Option Got) → v ≡ None → LineStandsUnless (over_of v) at h h' x y → LineStandsUnless None at h h' x y
 line_none {h} {h'} {x} {y} at v is s = subst (λ o. LineStandsUnless (over_of o) at h h' x y) is s
 
 false_true : false ≡ true → ⊥
@@ -106,7 +106,7 @@ unless_one (Some cause) at past x was = was
 
 -- where one link goes on, or is to be given up
 pub line_goes_to :
-    {Is : Step → Type 0} {h h' : List Event} {cs : Clients} {a b : ServedCore} (cause : Option Cause) (links : List Link) (at : ℕ) (x y : Link) → at < length links → x ≡ get_or links at x
+    {Is : Step → Type 0} {h h' : List WireEvent} {cs : Clients} {a b : ServedCore} (cause : Option Cause) (links : List Link) (at : ℕ) (x y : Link) → at < length links → x ≡ get_or links at x
     → LineGoesFrom LineAgrees (LineUnless cause) Is at a h x b h' y
     → AllGoFrom Agrees (AgreesUnless at cause) Is (record { core = a; history = h; clients = cs; links = links }) (record { core = b; history = h'; clients = cs; links = set links at y })
 line_goes_to {h = h} {h' = h'} {cs = cs} {a = a} {b = b} cause links at x y within was g =
@@ -114,13 +114,13 @@ line_goes_to {h = h} {h' = h'} {cs = cs} {a = a} {b = b} cause links at x y with
     (line_lends links at x y within was g)
 
 pub line_goes_unless :
-    {h h' : List Event} {cs : Clients} (cause : Option Cause) (links : List Link) (at : ℕ) (x y : Link) → at < length links → x ≡ get_or links at x → LineStandsUnless cause at h h' x y
+    {h h' : List WireEvent} {cs : Clients} (cause : Option Cause) (links : List Link) (at : ℕ) (x y : Link) → at < length links → x ≡ get_or links at x → LineStandsUnless cause at h h' x y
     → EndsGoFrom Agrees (AgreesUnless at cause) h h' cs cs links (set links at y)
 line_goes_unless cause links at x y within was s = λ core. line_goes_to cause links at x y within was (s core)
 
 -- while clients have the ends that they had
 pub unless_clients :
-    {P : List Step → AnEnd → Type 0} {a : AnEnd} {core : ServedCore} {h : List Event} {ls : List Link} (cause : Option Cause) (at : ℕ) (cs cs' : Clients)
+    {P : List Step → AnEnd → Type 0} {a : AnEnd} {core : ServedCore} {h : List WireEvent} {ls : List Link} (cause : Option Cause) (at : ℕ) (cs cs' : Clients)
     → AllGoFrom P (AgreesUnless at cause) IsOfTurn a (record { core = core; history = h; clients = cs; links = ls }) → KeepsEnds cs cs'
     → AllGoFrom P (AgreesUnless at cause) IsOfTurn a (record { core = core; history = h; clients = cs'; links = ls })
 unless_clients {core = core} {h = h} {ls = ls} None at cs cs' g keeps = and_then g (stays core (stay_clients h cs cs' ls keeps))
@@ -128,7 +128,7 @@ unless_clients (Some cause) at cs cs' g keeps = but_clients at cs cs' g keeps
 
 -- one is given up
 pub line_given_up :
-    {Is : Step → Type 0} {h h' : List Event} {cs : Clients} {a b : ServedCore} (why : Option Cause) (links : List Link) (at : ℕ) (x y : Link) → at < length links → x ≡ get_or links at x
+    {Is : Step → Type 0} {h h' : List WireEvent} {cs : Clients} {a b : ServedCore} (why : Option Cause) (links : List Link) (at : ℕ) (x y : Link) → at < length links → x ≡ get_or links at x
     → LineGoesFrom (LineFails why) LineAgrees Is at a h x b h' y
     → AllGoFrom (AgreesBut (LineFails why) at) Agrees Is (record { core = a; history = h; clients = cs; links = links }) (record { core = b; history = h'; clients = cs; links = set links at y })
 line_given_up {h = h} {h' = h'} {cs = cs} {a = a} {b = b} why links at x y within was g =
@@ -144,7 +144,7 @@ unconnected {a = a} at g =
     go_between (λ past was. failing_at (Some causes.ConnectLate) at past a (λ link there. as_failing (Some causes.ConnectLate) at past a.history link (λ conn is. tt) (was.links at link there)) was) (λ past was. was) g
 
 -- so may one whose late answers didn't come
-pub late_some : (at : ℕ) (past : List Step) (h : List Event) (y : Link) (conn : Conn) → LineAgrees at past h y → y.conn ≡ Some conn → y.late.items ≢ [] → (talk_in past at).late ≢ []
+pub late_some : (at : ℕ) (past : List Step) (h : List WireEvent) (y : Link) (conn : Conn) → LineAgrees at past h y → y.conn ≡ Some conn → y.late.items ≢ [] → (talk_in past at).late ≢ []
 late_some at past h y conn a there some none = some (none_said y.late.items (sym (a.conn conn there).late_is ∙ none))
   where
     none_said : (calls : List LateCall) → said_late calls ≡ [] → calls ≡ []
@@ -162,7 +162,7 @@ store_said [] e = absurd (false_true e)
     false_true e = cc
 store_said (call ∷ calls) e = e
 
-late_shows : (at : ℕ) (past : List Step) (h : List Event) (y : Link) (conn : Conn) → LineAgrees at past h y → y.conn ≡ Some conn → AwaitsLate y → ShowsWhy (Some causes.AnswerLate) (talk_in past at) conn.number h
+late_shows : (at : ℕ) (past : List Step) (h : List WireEvent) (y : Link) (conn : Conn) → LineAgrees at past h y → y.conn ≡ Some conn → AwaitsLate y → ShowsWhy (Some causes.AnswerLate) (talk_in past at) conn.number h
 late_shows at past h y conn a there (inl late) = inl (late_some at past h y conn a there late)
 late_shows at past h y conn a there (inr store) = inr (inl (subst IsStoreFirst (sym (a.conn conn there).out_is) (store_said y.calls.sent.items store)))
 
@@ -183,11 +183,11 @@ pub wanted : {Q : List Step → AnEnd → Type 0} {Is : Step → Type 0} {a b : 
 wanted {a = a} at g = go_between (λ past was. failing_at None at past a (λ link there. as_failing None at past a.history link (λ conn is. tt) (was.links at link there)) was) (λ past was. was) g
 
 -- of the core nothing is asked but that calls fail
-pub fails_of : (why : Option Cause) (steps : List Step) (a b : ServedCore) → StepsAreOf (IsGivingUp why) steps → Walks steps a b → Fails a b
+pub fails_of : (why : Option Cause) (steps : List Step) (a b : ServedCore) → StepsAreOf (IsGivingUp why) steps → Walks steps a b → OnlyFails a b
 fails_of why [] a b kinds walks = record { steps = []; kinds = tt; walks = walks }
 fails_of why (Settled number outcome ∷ steps) a b kinds walks =
     let first = fails_of why steps a walks.0 kinds.1 walks.1 in record { steps = Settled number outcome ∷ first.steps; kinds = (kinds.0, first.kinds); walks = (walks.0, first.walks, walks.2) }
-fails_of why (Lost at cause ∷ steps) a b kinds walks = subst (λ x. Fails a x) (sym walks.2) (fails_of why steps a walks.0 kinds.1 walks.1)
+fails_of why (Lost at cause ∷ steps) a b kinds walks = subst (λ x. OnlyFails a x) (sym walks.2) (fails_of why steps a walks.0 kinds.1 walks.1)
 fails_of why (Opened client ∷ steps) a b kinds walks = absurd kinds.0
 fails_of why (NotOpened fault ∷ steps) a b kinds walks = absurd kinds.0
 fails_of why (Fed client piece ∷ steps) a b kinds walks = absurd kinds.0
@@ -210,38 +210,38 @@ fails_of why (Spelled at number ask answer bytes ∷ steps) a b kinds walks = ab
 
 -- where there is a cause, and where there is none
 pub unless_some :
-    {W : Type 0} (history : W → List Event) (at : ℕ) (core : ServedCore) (s : Sockets W) (core' : ServedCore) (s' : Sockets W) (v : Option Cause) (cause : Cause) → v ≡ Some cause → AllGoUnless at v history core s core' s'
+    {W : Type 0} (history : W → List WireEvent) (at : ℕ) (core : ServedCore) (s : Sockets W) (core' : ServedCore) (s' : Sockets W) (v : Option Cause) (cause : Cause) → v ≡ Some cause → AllGoUnless at v history core s core' s'
     → AllGoFrom Agrees (AgreesBut (LineFails (Some cause)) at) IsOfTurn (end_of history core s) (end_of history core' s')
 unless_some history at core s core' s' v cause is did = subst (λ o. AllGoUnless at o history core s core' s') is did
 
 pub unless_none :
-    {W : Type 0} (history : W → List Event) (at : ℕ) (core : ServedCore) (s : Sockets W) (core' : ServedCore) (s' : Sockets W) (v : Option Cause) → v ≡ None → AllGoUnless at v history core s core' s' → AllGoOn history core s core' s'
+    {W : Type 0} (history : W → List WireEvent) (at : ℕ) (core : ServedCore) (s : Sockets W) (core' : ServedCore) (s' : Sockets W) (v : Option Cause) → v ≡ None → AllGoUnless at v history core s core' s' → AllGoOn history core s core' s'
 unless_none history at core s core' s' v is did = subst (λ o. AllGoUnless at o history core s core' s') is did
 
 -- a read gave this
 pub read_some :
-    {h h' : List Event} {cs cs' : Clients} {ls ls' : List Link} (at : ℕ) (v : Option Got) (what : Got) → v ≡ Some what → EndsGoFrom Agrees (AgreesUnless at (over_of v)) h h' cs cs' ls ls'
+    {h h' : List WireEvent} {cs cs' : Clients} {ls ls' : List Link} (at : ℕ) (v : Option Got) (what : Got) → v ≡ Some what → EndsGoFrom Agrees (AgreesUnless at (over_of v)) h h' cs cs' ls ls'
     → EndsGoFrom Agrees (AgreesUnless at (over_by what)) h h' cs cs' ls ls'
 read_some {h} {h'} {cs} {cs'} {ls} {ls'} at v what is did = subst (λ o. EndsGoFrom Agrees (AgreesUnless at (over_of o)) h h' cs cs' ls ls') is did
 
 pub read_none :
-    {h h' : List Event} {cs cs' : Clients} {ls ls' : List Link} (at : ℕ) (v : Option Got) → v ≡ None → EndsGoFrom Agrees (AgreesUnless at (over_of v)) h h' cs cs' ls ls' → EndsGoFrom Agrees Agrees h h' cs cs' ls ls'
+    {h h' : List WireEvent} {cs cs' : Clients} {ls ls' : List Link} (at : ℕ) (v : Option Got) → v ≡ None → EndsGoFrom Agrees (AgreesUnless at (over_of v)) h h' cs cs' ls ls' → EndsGoFrom Agrees Agrees h h' cs cs' ls ls'
 read_none {h} {h'} {cs} {cs'} {ls} {ls'} at v is did = subst (λ o. EndsGoFrom Agrees (AgreesUnless at (over_of o)) h h' cs cs' ls ls') is did
 
 -- and so with what was said of that
 pub idle_some :
-    {h h' : List Event} {cs cs' : Clients} {ls ls' : List Link} (at : ℕ) (v : Option Cause) (cause : Cause) → v ≡ Some cause → EndsGoFrom Agrees (AgreesUnless at v) h h' cs cs' ls ls' → EndsGoFrom Agrees (AgreesBut (LineFails (Some cause)) at) h h' cs cs' ls ls'
+    {h h' : List WireEvent} {cs cs' : Clients} {ls ls' : List Link} (at : ℕ) (v : Option Cause) (cause : Cause) → v ≡ Some cause → EndsGoFrom Agrees (AgreesUnless at v) h h' cs cs' ls ls' → EndsGoFrom Agrees (AgreesBut (LineFails (Some cause)) at) h h' cs cs' ls ls'
 idle_some {h} {h'} {cs} {cs'} {ls} {ls'} at v cause is did = subst (λ o. EndsGoFrom Agrees (AgreesUnless at o) h h' cs cs' ls ls') is did
 
-pub idle_none : {h h' : List Event} {cs cs' : Clients} {ls ls' : List Link} (at : ℕ) (v : Option Cause) → v ≡ None → EndsGoFrom Agrees (AgreesUnless at v) h h' cs cs' ls ls' → EndsGoFrom Agrees Agrees h h' cs cs' ls ls'
+pub idle_none : {h h' : List WireEvent} {cs cs' : Clients} {ls ls' : List Link} (at : ℕ) (v : Option Cause) → v ≡ None → EndsGoFrom Agrees (AgreesUnless at v) h h' cs cs' ls ls' → EndsGoFrom Agrees Agrees h h' cs cs' ls ls'
 idle_none {h} {h'} {cs} {cs'} {ls} {ls'} at v is did = subst (λ o. EndsGoFrom Agrees (AgreesUnless at o) h h' cs cs' ls ls') is did
 
 -- and with what was to be sent
-pub sent_all : {h h' : List Event} {cs cs' : Clients} {ls ls' : List Link} (at : ℕ) (has_sent : Bool) → has_sent ≡ true → EndsGoFrom Agrees (AgreesUnless at (broken_unless has_sent)) h h' cs cs' ls ls' → EndsGoFrom Agrees Agrees h h' cs cs' ls ls'
+pub sent_all : {h h' : List WireEvent} {cs cs' : Clients} {ls ls' : List Link} (at : ℕ) (has_sent : Bool) → has_sent ≡ true → EndsGoFrom Agrees (AgreesUnless at (broken_unless has_sent)) h h' cs cs' ls ls' → EndsGoFrom Agrees Agrees h h' cs cs' ls ls'
 sent_all {h} {h'} {cs} {cs'} {ls} {ls'} at has_sent is did = subst (λ b. EndsGoFrom Agrees (AgreesUnless at (broken_unless b)) h h' cs cs' ls ls') is did
 
 pub sent_not :
-    {h h' : List Event} {cs cs' : Clients} {ls ls' : List Link} (at : ℕ) (has_sent : Bool) → has_sent ≡ false → EndsGoFrom Agrees (AgreesUnless at (broken_unless has_sent)) h h' cs cs' ls ls'
+    {h h' : List WireEvent} {cs cs' : Clients} {ls ls' : List Link} (at : ℕ) (has_sent : Bool) → has_sent ≡ false → EndsGoFrom Agrees (AgreesUnless at (broken_unless has_sent)) h h' cs cs' ls ls'
     → EndsGoFrom Agrees (AgreesBut (LineFails (Some causes.Broken)) at) h h' cs cs' ls ls'
 sent_not {h} {h'} {cs} {cs'} {ls} {ls'} at has_sent is did = subst (λ b. EndsGoFrom Agrees (AgreesUnless at (broken_unless b)) h h' cs cs' ls ls') is did
 

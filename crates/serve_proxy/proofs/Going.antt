@@ -10,7 +10,7 @@ use Rattle.mc_types.specs.declared.ask.Dialect.TheVariants.{Classic}
 use Rattle.mc_types.specs.declared.call.Outcome.TheVariants.{Failed}
 use Rattle.fresh_runs.specs.Overlap as log
 use Rattle.wire_parts.specs.Sending.{bytes_of}
-use Rattle.serve_wire.specs.Events.{Event, role, taken}
+use Rattle.serve_wire.specs.Events.{WireEvent, role, taken}
 use Rattle.serve_wire.specs.Agreement.{TouchesOnly, IsUntouched}
 use Rattle.serve_wire.proofs.Steps.{untouched, only_twice}
 use Rattle.core_proxy.specs.declared.fault.CoreFault.{CoreFault}
@@ -34,12 +34,12 @@ use Rattle.serve_links.specs.declared.calls.calls.SentCall.{SentCall}
 use Rattle.serve_links.specs.declared.settings.LinkLimits.{LinkLimits}
 use Rattle.serve_links.specs.declared.link.Link.{Link}
 use Rattle.serve_links.specs.declared.news.Cause.{Cause}
-use Rattle.serve_links.specs.CoreSteps.{Step, Opened, NotOpened, Fed, Polled, Stopped, Settled, Gave, Closed, LeftLine, Broke, Ticked, Loaded, Linked, Asked, Greeted, Spelled, Late, CameLate, Lost, Does, Walks, StepsAreOf, GoesBy, IsOfTurn, IsFailure, IsSending, IsGivingUp, Fails}
-use Rattle.serve_links.specs.Called.{clock_in, given_in, TellsCalls, GiveOnce}
+use Rattle.serve_links.specs.CoreSteps.{Step, Opened, NotOpened, Fed, Polled, Stopped, Settled, Gave, Closed, LeftLine, Broke, Ticked, Loaded, Linked, Asked, Greeted, Spelled, Late, CameLate, Lost, Does, Walks, StepsAreOf, GoesBy, IsOfTurn, IsFailure, IsSending, IsGivingUp, OnlyFails}
+use Rattle.serve_links.specs.Called.{clock_in, given_in, TellsCallsOut, GiveOnce}
 use Rattle.serve_links.specs.Talks.{Talk, IsNotAmong, AreDue, MaySettle, IsOrderly, IsOfClients}
 use Rattle.serve_links.proofs.Called.{given_besides, walks_tell_calls}
 use Rattle.serve_links.specs.Pieces.{FeedsHeld}
-use Rattle.serve_links.specs.Story.{fed_in, gave_in, is_open_in, is_broken_in, ClientAgreesWith, ClientIsTold, ClientsAreTold, TellsNone, HasOrHad, said_asks, StayOut, IsInHand, server_of, LineState, line_of, LineAgrees, LineCalled, LinesAgree, OneGoes, LineGoesFrom, LineGoes, AnEnd, Agrees, AgreesGiven, AgreesBut, AgreesCalled, AgreesDue, AllGoFrom, AllGo, texts_of, servers_of, AgreesSent}
+use Rattle.serve_links.specs.Story.{fed_in, gave_in, is_open_in, is_broken_in, ClientAgreesWith, ClientIsTold, ClientsAreTold, TellsNone, HasOrHad, said_asks, StayOut, IsInHand, address_and_limits, LineState, line_of, LineAgrees, LineCalled, LinesAgree, OneGoes, LineGoesFrom, LineGoes, AnEnd, Agrees, AgreesGiven, AgreesBut, AgreesCalled, AgreesDue, AllGoFrom, AllGo, texts_of, servers_of, AgreesSent}
 use Rattle.serve_links.proofs.Reading.{breaks_now}
 use Rattle.serve_links.proofs.Talking.{IsPlain, plain_talk, clients_orderly, clients_clock}
 use Rattle.serve_links.proofs.Story.{one_agrees, at_told, each_told, all_told, same_told, had_stays, one_of_all, line_among, line_stays_by, line_stays, unlinked_stays, all_still, from_then, go_between, all_but, but_all}
@@ -84,12 +84,12 @@ texts_by_lines (link ∷ links) = ap (λ l. link.text.items ∷ l) (texts_by_lin
 
 servers_by_lines : (links : List Link) → each (λ (p : LineState). p.0) (link_lines links) ≡ servers_of links
 servers_by_lines [] = refl
-servers_by_lines (link ∷ links) = ap (λ l. server_of link ∷ l) (servers_by_lines links)
+servers_by_lines (link ∷ links) = ap (λ l. address_and_limits link ∷ l) (servers_by_lines links)
 
 same_servers : (ls ls' : List Link) → link_lines ls' ≡ link_lines ls → servers_of ls' ≡ servers_of ls
 same_servers ls ls' same = sym (servers_by_lines ls') ∙ ap (each (λ (p : LineState). p.0)) same ∙ servers_by_lines ls
 
-lines_stay : (h h' : List Event) (past : List Step) (ls ls' : List Link) → ((d : ℕ) → IsUntouched d h h') → link_lines ls' ≡ link_lines ls → LinesAgree past h ls → LinesAgree past h' ls'
+lines_stay : (h h' : List WireEvent) (past : List Step) (ls ls' : List Link) → ((d : ℕ) → IsUntouched d h h') → link_lines ls' ≡ link_lines ls → LinesAgree past h ls → LinesAgree past h' ls'
 lines_stay h h' past ls ls' quiet same was at link there = by (slice_get ls at) refl (get_line ls at ∙ ap (λ l. slice_get l at) (sym same) ∙ sym (get_line ls' at) ∙ ap (option_map line_of) there)
   where
     by : (o : Option Link) → slice_get ls at ≡ o → option_map line_of o ≡ Some (line_of link) → LineAgrees at past h' link
@@ -97,7 +97,7 @@ lines_stay h h' past ls ls' quiet same was at link there = by (slice_get ls at) 
     by (Some x) e l = line_stays h h' at [] past link (λ c of_c. quiet c) refl (λ n ask is. (refl, refl, refl)) (same_line at past h x link (sym (same_some l)) (was at x e))
 
 -- steps of which servers are told nothing, and by which all calls that were out stay so
-pub lines_told : (h : List Event) (steps past : List Step) (ls : List Link) → StepsAreOf IsPlain steps → ((at : ℕ) → StayOut at past (steps ++ past)) → LinesAgree past h ls → LinesAgree (steps ++ past) h ls
+pub lines_told : (h : List WireEvent) (steps past : List Step) (ls : List Link) → StepsAreOf IsPlain steps → ((at : ℕ) → StayOut at past (steps ++ past)) → LinesAgree past h ls → LinesAgree (steps ++ past) h ls
 lines_told h steps past ls plain stay was at link there = line_stays h h at steps past link (λ c of_c. untouched c h) (plain_talk steps plain past at) (stay at) (was at link there)
 
 -- what is in hand is so still where links have the lines that they had
@@ -113,7 +113,7 @@ hand_stays number past ls ls' same was = record {
     by link None e l = absurd (none_some l)
     by link (Some x) e l = subst (λ (line : LineState). IsNotAmong number (said_asks line.3)) (same_some l) (was.apart x e)
 
-clients_quiet : (h h' : List Event) (input output : ℕ → List ℕ) (cs : Clients) → ((d : ℕ) → IsUntouched d h h') → AllAgree h input output cs → AllAgree h' input output cs
+clients_quiet : (h h' : List WireEvent) (input output : ℕ → List ℕ) (cs : Clients) → ((d : ℕ) → IsUntouched d h h') → AllAgree h input output cs → AllAgree h' input output cs
 clients_quiet h h' input output cs quiet was id = by (client_of cs id) (was id)
   where
     by : (o : Option Client) → IfSome o (EndAgrees h input output id) → IfSome o (EndAgrees h' input output id)
@@ -139,7 +139,7 @@ told_kept past cs cs' keeps was id = by (client_of cs id) (client_of cs' id) (ke
 
 -- what is known of a connection that nothing touched
 pub had_quiet :
-    (past steps : List Step) (h h' : List Event) (cs cs' : Clients) (id conn : ℕ) → IsUntouched conn h h' → option_map (λ (x : Client). x.conn.number) (client_of cs' id) ≡ option_map (λ (x : Client). x.conn.number) (client_of cs id)
+    (past steps : List Step) (h h' : List WireEvent) (cs cs' : Clients) (id conn : ℕ) → IsUntouched conn h h' → option_map (λ (x : Client). x.conn.number) (client_of cs' id) ≡ option_map (λ (x : Client). x.conn.number) (client_of cs id)
     → role conn h' ≡ Some (0, id) → ((d j : ℕ) → role d h ≡ Some (0, j) → HasOrHad past h cs j d) → HasOrHad (steps ++ past) h' cs' id conn
 had_quiet past steps h h' cs cs' id conn same ends is was = had_stays past steps h h' cs cs' id conn (same_told conn h h' same) ends (was conn id (sym same.same_role ∙ is))
 
@@ -152,7 +152,7 @@ none_there ls ls' same at none = of_none (slice_get ls at) (get_line ls at ∙ a
     of_none (Some link) e = absurd (none_some (sym e))
 
 pub stays :
-    {Is : Step → Type 0} {h h' : List Event} {cs cs' : Clients} {ls ls' : List Link} (core : ServedCore) → EndsStay h h' cs cs' ls ls'
+    {Is : Step → Type 0} {h h' : List WireEvent} {cs cs' : Clients} {ls ls' : List Link} (core : ServedCore) → EndsStay h h' cs cs' ls ls'
     → AllGo Is (record { core = core; history = h; clients = cs; links = ls }) (record { core = core; history = h'; clients = cs'; links = ls' })
 stays {Is} {h} {h'} {cs} {cs'} {ls} {ls'} core s =
     record {
@@ -174,16 +174,16 @@ stays {Is} {h} {h'} {cs} {cs'} {ls} {ls'} core s =
       servers = servers_same ls ls' (same_servers ls ls' s.links);
     }
 
-pub stay_go : {h h' : List Event} {cs cs' : Clients} {ls ls' : List Link} → EndsStay h h' cs cs' ls ls' → EndsGo h h' cs cs' ls ls'
+pub stay_go : {h h' : List WireEvent} {cs cs' : Clients} {ls ls' : List Link} → EndsStay h h' cs cs' ls ls' → EndsGo h h' cs cs' ls ls'
 stay_go s = λ core. stays core s
 
 pub go_then :
-    {P Q R : List Step → AnEnd → Type 0} {h h' h'' : List Event} {cs cs' cs'' : Clients} {ls ls' ls'' : List Link} → EndsGoFrom P Q h h' cs cs' ls ls' → EndsGoFrom Q R h' h'' cs' cs'' ls' ls''
+    {P Q R : List Step → AnEnd → Type 0} {h h' h'' : List WireEvent} {cs cs' cs'' : Clients} {ls ls' ls'' : List Link} → EndsGoFrom P Q h h' cs cs' ls ls' → EndsGoFrom Q R h' h'' cs' cs'' ls' ls''
     → EndsGoFrom P R h h'' cs cs'' ls ls''
 go_then a b = λ core. and_then (a core) (b core)
 
 pub go_stay :
-    {P : List Step → AnEnd → Type 0} {h h' h'' : List Event} {cs cs' cs'' : Clients} {ls ls' ls'' : List Link} → EndsGoFrom P Agrees h h' cs cs' ls ls' → EndsStay h' h'' cs' cs'' ls' ls''
+    {P : List Step → AnEnd → Type 0} {h h' h'' : List WireEvent} {cs cs' cs'' : Clients} {ls ls' ls'' : List Link} → EndsGoFrom P Agrees h h' cs cs' ls ls' → EndsStay h' h'' cs' cs'' ls' ls''
     → EndsGoFrom P Agrees h h'' cs cs'' ls ls''
 go_stay a s = λ core. and_then (a core) (stays core s)
 
@@ -201,10 +201,10 @@ set_others (y ∷ xs) zero (suc k) x other = refl
 set_others (y ∷ xs) (suc i) zero x other = refl
 set_others (y ∷ xs) (suc i) (suc k) x other = set_others xs i k x (λ e. other (ap suc e))
 
-server_set : (links : List Link) (at : ℕ) (x y : Link) → x ≡ get_or links at x → server_of y ≡ server_of x → servers_of (set links at y) ≡ servers_of links
+server_set : (links : List Link) (at : ℕ) (x y : Link) → x ≡ get_or links at x → address_and_limits y ≡ address_and_limits x → servers_of (set links at y) ≡ servers_of links
 server_set [] at x y was same = refl
-server_set (first ∷ links) zero x y was same = ap (λ (s : List ℕ × LinkLimits). s ∷ servers_of links) (same ∙ ap server_of was)
-server_set (first ∷ links) (suc at) x y was same = ap (λ (l : List (List ℕ × LinkLimits)). server_of first ∷ l) (server_set links at x y was same)
+server_set (first ∷ links) zero x y was same = ap (λ (s : List ℕ × LinkLimits). s ∷ servers_of links) (same ∙ ap address_and_limits was)
+server_set (first ∷ links) (suc at) x y was same = ap (λ (l : List (List ℕ × LinkLimits)). address_and_limits first ∷ l) (server_set links at x y was same)
 
 true_false : true ≡ false → ⊥
 true_false e = cc
@@ -447,7 +447,7 @@ without_sent at call g = go_between (λ past was. was.0) (λ past was. was) g
 
 -- while clients have the ends that they had, it may be asked still
 pub sent_clients :
-    {h : List Event} {ls : List Link} (at : ℕ) (call : SentCall) (core : ServedCore) (cs cs' : Clients) → KeepsEnds cs cs'
+    {h : List WireEvent} {ls : List Link} (at : ℕ) (call : SentCall) (core : ServedCore) (cs cs' : Clients) → KeepsEnds cs cs'
     → AllGoFrom (AgreesSent at call) (AgreesSent at call) IsSending (record { core = core; history = h; clients = cs; links = ls }) (record { core = core; history = h; clients = cs'; links = ls })
 unfolding stays
 sent_clients {h} {ls} at call core cs cs' keeps =
@@ -464,7 +464,7 @@ sent_renewed {a = a} at call call' is later = record { steps = []; kinds = tt; w
     renewed : (past : List Step) → AgreesSent at call past a → AgreesSent at (record call { since = call'.since; bulk = call'.bulk }) past a
     renewed past was = (was.0, was.1, λ link there. (let due = was.2 link there in (due.0, due.1, due.2, given past due.3)), (was.3.0, tt, tt, given past was.3.3))
 
-pub agree_told : (h : List Event) (input output input' output' : ℕ → List ℕ) (cs : Clients) → ((j : ℕ) → (input' j ≡ input j) × (output' j ≡ output j)) → AllAgree h input output cs → AllAgree h input' output' cs
+pub agree_told : (h : List WireEvent) (input output input' output' : ℕ → List ℕ) (cs : Clients) → ((j : ℕ) → (input' j ≡ input j) × (output' j ≡ output j)) → AllAgree h input output cs → AllAgree h input' output' cs
 agree_told h input output input' output' cs told was id = by (client_of cs id) (was id)
   where
     by : (o : Option Client) → IfSome o (EndAgrees h input output id) → IfSome o (EndAgrees h input' output' id)
@@ -479,7 +479,7 @@ agree_told h input output input' output' cs told was id = by (client_of cs id) (
 
 -- calls of the core alone, of which nobody is told anything
 calls_agree :
-    {h : List Event} {cs : Clients} {ls : List Link} (a b : ServedCore) (past steps : List Step) → StepsAreOf IsSilent steps → TellsCalls (steps ++ past) b → GiveOnce steps past
+    {h : List WireEvent} {cs : Clients} {ls : List Link} (a b : ServedCore) (past steps : List Step) → StepsAreOf IsSilent steps → TellsCallsOut (steps ++ past) b → GiveOnce steps past
     → Agrees past (record { core = a; history = h; clients = cs; links = ls }) → Agrees (steps ++ past) (record { core = b; history = h; clients = cs; links = ls })
 calls_agree {h} {cs} {ls} a b past steps silent tells once was = record {
   orderly = clients_orderly steps (silent_clients steps silent) past once was.orderly;
@@ -495,7 +495,7 @@ calls_agree {h} {cs} {ls} a b past steps silent tells once was = record {
 }
 
 calls_go :
-    {Is : Step → Type 0} {h : List Event} {cs : Clients} {ls : List Link} (a b : ServedCore) (steps : List Step) → StepsAreOf Is steps → StepsAreOf IsSilent steps → Walks steps a b
+    {Is : Step → Type 0} {h : List WireEvent} {cs : Clients} {ls : List Link} (a b : ServedCore) (steps : List Step) → StepsAreOf Is steps → StepsAreOf IsSilent steps → Walks steps a b
     → AllGo Is (record { core = a; history = h; clients = cs; links = ls }) (record { core = b; history = h; clients = cs; links = ls })
 calls_go {Is} {h} {cs} {ls} a b steps kinds silent walks = record {
   steps = steps;
@@ -507,7 +507,7 @@ calls_go {Is} {h} {cs} {ls} a b steps kinds silent walks = record {
 
 -- a call failed that is still to be asked
 pub refused_go :
-    {h : List Event} {cs : Clients} {ls : List Link} (number : ℕ) (a b : ServedCore) → IsSettled a number Failed b
+    {h : List WireEvent} {cs : Clients} {ls : List Link} (number : ℕ) (a b : ServedCore) → IsSettled a number Failed b
     → AllGoFrom (AgreesDue number) Agrees IsSending (record { core = a; history = h; clients = cs; links = ls }) (record { core = b; history = h; clients = cs; links = ls })
 refused_go {h} {cs} {ls} number a b is =
     let step : Step = Settled number Failed in
@@ -545,19 +545,19 @@ called_due number at ask g =
     go_between (λ past was. (was.0, record { at = at; ask = ask; due = one_due past number at ask was.1 was.0.orderly was.2.orderly; apart = λ link there. one_apart past number at ask was.1 (said_asks link.waiting.items) was.0.orderly was.2.orderly (was.2.links at link there).due })) (λ past was. was) g
 
 pub sent_due :
-    {h h' : List Event} {cs cs' : Clients} {ls ls' : List Link} (at : ℕ) (call : SentCall) (core : ServedCore) → EndsStay h h' cs cs' ls ls'
+    {h h' : List WireEvent} {cs cs' : Clients} {ls ls' : List Link} (at : ℕ) (call : SentCall) (core : ServedCore) → EndsStay h h' cs cs' ls ls'
     → AllGoFrom (AgreesSent at call) (AgreesDue call.ticket.number) IsSending (record { core = core; history = h; clients = cs; links = ls }) (record { core = core; history = h'; clients = cs'; links = ls' })
 unfolding stays
 sent_due {h} {h'} {cs} {cs'} {ls} {ls'} at call core s =
     let g : AllGo IsSending (record { core = core; history = h; clients = cs; links = ls }) (record { core = core; history = h'; clients = cs'; links = ls' }) = stays core s in
     record { steps = []; kinds = tt; walks = refl; agree = λ past was. (g.agree past was.0, hand_stays call.ticket.number past ls ls' s.links (record { at = at; ask = call.ticket.ask; due = was.3.0; apart = λ link there. (was.2 link there).1 })); servers = g.servers }
 
-pub quietly_go : {h : List Event} {cs : Clients} {ls : List Link} {a b : ServedCore} → GoesBy IsSilent a b → AllGo IsOfTurn (record { core = a; history = h; clients = cs; links = ls }) (record { core = b; history = h; clients = cs; links = ls })
+pub quietly_go : {h : List WireEvent} {cs : Clients} {ls : List Link} {a b : ServedCore} → GoesBy IsSilent a b → AllGo IsOfTurn (record { core = a; history = h; clients = cs; links = ls }) (record { core = b; history = h; clients = cs; links = ls })
 quietly_go {a = a} {b = b} f = calls_go a b f.steps (silent_turn f.steps f.kinds) f.kinds f.walks
 
 -- the core gave out a call
 pub called_go :
-    {h : List Event} {cs : Clients} {ls : List Link} (client : ℕ) (ticket : Ticket) (a b : ServedCore) → Does (Polled client (polls.Call ticket)) a b
+    {h : List WireEvent} {cs : Clients} {ls : List Link} (client : ℕ) (ticket : Ticket) (a b : ServedCore) → Does (Polled client (polls.Call ticket)) a b
     → AllGoFrom Agrees (AgreesCalled ticket.number ticket.server ticket.ask) IsOfTurn (record { core = a; history = h; clients = cs; links = ls }) (record { core = b; history = h; clients = cs; links = ls })
 called_go {h} {cs} {ls} client ticket a b does =
     let step : Step = Polled client (polls.Call ticket) in
@@ -578,11 +578,11 @@ pub nothing : {a : ServedCore} → GoesBy IsSilent a a
 nothing = record { steps = []; kinds = tt; walks = refl }
 
 -- a core that is the same
-pub same_core : {Is : Step → Type 0} {h : List Event} {cs : Clients} {ls : List Link} {a b : ServedCore} → b ≡ a → AllGo Is (record { core = a; history = h; clients = cs; links = ls }) (record { core = b; history = h; clients = cs; links = ls })
+pub same_core : {Is : Step → Type 0} {h : List WireEvent} {cs : Clients} {ls : List Link} {a b : ServedCore} → b ≡ a → AllGo Is (record { core = a; history = h; clients = cs; links = ls }) (record { core = b; history = h; clients = cs; links = ls })
 same_core {a = a} {b = b} same = calls_go a b [] tt tt same
 
 pub go_from :
-    {P Q : List Step → AnEnd → Type 0} {Is : Step → Type 0} {h : List Event} {cs : Clients} {ls : List Link} {a x : ServedCore} {b : AnEnd} → x ≡ a
+    {P Q : List Step → AnEnd → Type 0} {Is : Step → Type 0} {h : List WireEvent} {cs : Clients} {ls : List Link} {a x : ServedCore} {b : AnEnd} → x ≡ a
     → AllGoFrom P Q Is (record { core = x; history = h; clients = cs; links = ls }) b → AllGoFrom P Q Is (record { core = a; history = h; clients = cs; links = ls }) b
 go_from {P} {Q} {Is} {h} {cs} {ls} {a} {x} {b} same g = subst (λ y. AllGoFrom P Q Is (record { core = y; history = h; clients = cs; links = ls }) b) same g
 
@@ -600,7 +600,7 @@ by_leave client a b left fresh = by_one (LeftLine client) a b tt (left, fresh)
 
 -- the core closed a client whose end isn't there, or did nothing
 pub close_none :
-    {h : List Event} {cs : Clients} {ls : List Link} (client : ℕ) (r : Result (Unit {0}) CoreFault) (a b : ServedCore) → client_of cs client ≡ None → OnOk r (CanClose a.core client × ClosesIn a.core client b.core)
+    {h : List WireEvent} {cs : Clients} {ls : List Link} (client : ℕ) (r : Result (Unit {0}) CoreFault) (a b : ServedCore) → client_of cs client ≡ None → OnOk r (CanClose a.core client × ClosesIn a.core client b.core)
     → IfErr r (λ fault. CloseFault a.core client fault × (b ≡ a)) → OnOk r (LogsGoBy a (λ entries. entries ≡ log.Resets client ∷ []) b)
     → AllGo IsOfTurn (record { core = a; history = h; clients = cs; links = ls }) (record { core = b; history = h; clients = cs; links = ls })
 close_none {h} {cs} {ls} client (Ok done) a b nobody ok err fresh = record {
@@ -631,7 +631,7 @@ by_not_opened fault a b err fresh = by_one (NotOpened fault) a b tt (err, fresh)
 
 -- what is done at one link is done among all
 pub line_lends :
-    {Before After : ℕ → List Step → List Event → Link → Type 0} {Is : Step → Type 0} {h h' : List Event} {cs : Clients} {a b : ServedCore} (links : List Link) (at : ℕ) (x y : Link) → at < length links → x ≡ get_or links at x
+    {Before After : ℕ → List Step → List WireEvent → Link → Type 0} {Is : Step → Type 0} {h h' : List WireEvent} {cs : Clients} {a b : ServedCore} (links : List Link) (at : ℕ) (x y : Link) → at < length links → x ≡ get_or links at x
     → LineGoesFrom Before After Is at a h x b h' y
     → AllGoFrom (AgreesBut Before at) (AgreesBut After at) Is (record { core = a; history = h; clients = cs; links = links }) (record { core = b; history = h'; clients = cs; links = set links at y })
 line_lends {h = h} {h' = h'} {cs = cs} {a = a} {b = b} links at x y within was g =
@@ -640,14 +640,14 @@ line_lends {h = h} {h' = h'} {cs = cs} {a = a} {b = b} links at x y within was g
 
 -- it agrees before and after
 pub line_goes_on :
-    {Is : Step → Type 0} {h h' : List Event} {cs : Clients} {a b : ServedCore} (links : List Link) (at : ℕ) (x y : Link) → at < length links → x ≡ get_or links at x → LineGoes Is at a h x b h' y
+    {Is : Step → Type 0} {h h' : List WireEvent} {cs : Clients} {a b : ServedCore} (links : List Link) (at : ℕ) (x y : Link) → at < length links → x ≡ get_or links at x → LineGoes Is at a h x b h' y
     → AllGo Is (record { core = a; history = h; clients = cs; links = links }) (record { core = b; history = h'; clients = cs; links = set links at y })
 line_goes_on {h = h} {h' = h'} {cs = cs} {a = a} {b = b} links at x y within was g =
     go_between (λ past was. all_but at past (record { core = a; history = h; clients = cs; links = links }) was) (λ past was. but_all at past (record { core = b; history = h'; clients = cs; links = set links at y }) was) (line_lends links at x y within was g)
 
 -- it took over a call
 pub line_took :
-    {Is : Step → Type 0} {h h' : List Event} {cs : Clients} {a b : ServedCore} (links : List Link) (at : ℕ) (x y : Link) (call : SentCall) → at < length links → x ≡ get_or links at x → LineGoesFrom (LineCalled call) LineAgrees Is at a h x b h' y
+    {Is : Step → Type 0} {h h' : List WireEvent} {cs : Clients} {a b : ServedCore} (links : List Link) (at : ℕ) (x y : Link) (call : SentCall) → at < length links → x ≡ get_or links at x → LineGoesFrom (LineCalled call) LineAgrees Is at a h x b h' y
     → AllGoFrom (AgreesSent at call) Agrees Is (record { core = a; history = h; clients = cs; links = links }) (record { core = b; history = h'; clients = cs; links = set links at y })
 line_took {h = h} {h' = h'} {cs = cs} {a = a} {b = b} links at x y call within was g =
     go_between (λ past was. with_call past was) (λ past was. but_all at past (record { core = b; history = h'; clients = cs; links = set links at y }) was) (line_lends links at x y within was g)
@@ -659,7 +659,7 @@ line_took {h = h} {h' = h'} {cs = cs} {a = a} {b = b} links at x y call within w
 
 -- one that waited was taken from it
 pub line_gave :
-    {Is : Step → Type 0} {h h' : List Event} {cs : Clients} {a b : ServedCore} (links : List Link) (at : ℕ) (x y : Link) (call : SentCall) → at < length links → x ≡ get_or links at x → LineGoesFrom LineAgrees (LineCalled call) Is at a h x b h' y
+    {Is : Step → Type 0} {h h' : List WireEvent} {cs : Clients} {a b : ServedCore} (links : List Link) (at : ℕ) (x y : Link) (call : SentCall) → at < length links → x ≡ get_or links at x → LineGoesFrom LineAgrees (LineCalled call) Is at a h x b h' y
     → AllGoFrom Agrees (AgreesSent at call) Is (record { core = a; history = h; clients = cs; links = links }) (record { core = b; history = h'; clients = cs; links = set links at y })
 line_gave {h = h} {h' = h'} {cs = cs} {a = a} {b = b} links at x y call within was g =
     go_between (λ past was. all_but at past (record { core = a; history = h; clients = cs; links = links }) was) (λ past was. with_call past was) (line_lends links at x y within was g)
@@ -677,21 +677,21 @@ line_gave {h = h} {h' = h'} {cs = cs} {a = a} {b = b} links at x y call within w
 
 -- without a core
 pub line_goes :
-    {h h' : List Event} {cs : Clients} (links : List Link) (at : ℕ) (x y : Link) → at < length links → x ≡ get_or links at x → LineStands at h h' x y → EndsGo h h' cs cs links (set links at y)
+    {h h' : List WireEvent} {cs : Clients} (links : List Link) (at : ℕ) (x y : Link) → at < length links → x ≡ get_or links at x → LineStands at h h' x y → EndsGo h h' cs cs links (set links at y)
 line_goes links at x y within was s = λ core. line_goes_on links at x y within was (s core)
 
 -- ---- one client
 
-abbrev of_said : (h : List Event) (input output : ℕ → List ℕ) (id : ℕ) → ℕ × List ℕ × List ℕ × Bool × Bool → Type 0
+abbrev of_said : (h : List WireEvent) (input output : ℕ → List ℕ) (id : ℕ) → ℕ × List ℕ × List ℕ × Bool × Bool → Type 0
 of_said h input output id s = StateAgrees h input output id s.0 s.1 s.2 s.3 s.4
 
 -- an end that has what it had
-pub same_agrees : (h : List Event) (x y : Client) → end_said_of y ≡ end_said_of x → GoesOnAgreeing h h x y
+pub same_agrees : (h : List WireEvent) (x y : Client) → end_said_of y ≡ end_said_of x → GoesOnAgreeing h h x y
 same_agrees h x y same = λ input output id was. subst (of_said h input output id) (sym same) was
 
 -- it goes on without a call of the core
 pub one_touched :
-    {Is : Step → Type 0} {id : ℕ} {a b : ServedCore} {h h' : List Event} {x y : Client} → b ≡ a → GoesOnAgreeing h h' x y → y.conn.number ≡ x.conn.number → TouchesOnly x.conn.number h h' → y.is_broken ≡ x.is_broken → OneGoes Is id a h x b h' y
+    {Is : Step → Type 0} {id : ℕ} {a b : ServedCore} {h h' : List WireEvent} {x y : Client} → b ≡ a → GoesOnAgreeing h h' x y → y.conn.number ≡ x.conn.number → TouchesOnly x.conn.number h h' → y.is_broken ≡ x.is_broken → OneGoes Is id a h x b h' y
 one_touched {Is} {id} {a} {b} {h} {h'} {x} {y} same goes number only broken =
     record {
       steps = [];
@@ -707,7 +707,7 @@ one_touched {Is} {id} {a} {b} {h} {h'} {x} {y} same goes number only broken =
 
 -- it is broken off
 pub one_broken :
-    {Is : Step → Type 0} {id : ℕ} {a b : ServedCore} {h h' : List Event} {x y : Client} → Is (Broke id) → b ≡ a → GoesOnAgreeing h h' x y → y.conn.number ≡ x.conn.number → TouchesOnly x.conn.number h h' → y.is_broken ≡ true
+    {Is : Step → Type 0} {id : ℕ} {a b : ServedCore} {h h' : List WireEvent} {x y : Client} → Is (Broke id) → b ≡ a → GoesOnAgreeing h h' x y → y.conn.number ≡ x.conn.number → TouchesOnly x.conn.number h h' → y.is_broken ≡ true
     → OneGoes Is id a h x b h' y
 one_broken {Is} {id} {a} {b} {h} {h'} {x} {y} kind same goes number only broken =
     record {
@@ -724,7 +724,7 @@ one_broken {Is} {id} {a} {b} {h} {h'} {x} {y} kind same goes number only broken 
 
 -- it is, or isn't; and who was is so still
 pub one_may_break :
-    {Is : Step → Type 0} {id : ℕ} {a : ServedCore} {h h' : List Event} {x y : Client} → Is (Broke id) → GoesOnAgreeing h h' x y → y.conn.number ≡ x.conn.number → TouchesOnly x.conn.number h h' → (x.is_broken ≡ true → y.is_broken ≡ true)
+    {Is : Step → Type 0} {id : ℕ} {a : ServedCore} {h h' : List WireEvent} {x y : Client} → Is (Broke id) → GoesOnAgreeing h h' x y → y.conn.number ≡ x.conn.number → TouchesOnly x.conn.number h h' → (x.is_broken ≡ true → y.is_broken ≡ true)
     → OneGoes Is id a h x a h' y
 one_may_break {Is} {id} {a} {h} {h'} {x} {y} kind goes number only still = by y.is_broken x.is_broken refl refl
   where
@@ -742,14 +742,14 @@ broken_said x y same = ap (λ (s : ℕ × List ℕ × List ℕ × Bool × Bool).
 pub number_broken : (x y : Client) → Breaks x y → y.conn.number ≡ x.conn.number
 number_broken x y breaks = ap (λ (z : Client). z.conn.number) breaks.rest
 
-pub one_same : {Is : Step → Type 0} {id : ℕ} {a : ServedCore} {h : List Event} (x y : Client) → end_said_of y ≡ end_said_of x → OneGoes Is id a h x a h y
+pub one_same : {Is : Step → Type 0} {id : ℕ} {a : ServedCore} {h : List WireEvent} (x y : Client) → end_said_of y ≡ end_said_of x → OneGoes Is id a h x a h y
 one_same {h = h} x y same = one_touched refl (same_agrees h x y same) (number_said x y same) (λ d other. untouched d h) (broken_said x y same)
 
-pub one_breaks : {id : ℕ} {a b : ServedCore} {h : List Event} (x y : Client) → b ≡ a → Breaks x y → OneGoes IsOfTurn id a h x b h y
+pub one_breaks : {id : ℕ} {a b : ServedCore} {h : List WireEvent} (x y : Client) → b ≡ a → Breaks x y → OneGoes IsOfTurn id a h x b h y
 one_breaks {h = h} x y same breaks = one_broken tt same (breaks_now h x y breaks) (number_broken x y breaks) (λ d other. untouched d h) (ap (λ (z : Client). z.is_broken) breaks.rest)
 
 -- what is only broken off goes on
-pub one_breaking : {id : ℕ} {a b : ServedCore} {h h' : List Event} {x y : Client} → OneGoes (λ step. step ≡ Broke id) id a h x b h' y → OneGoes IsOfTurn id a h x b h' y
+pub one_breaking : {id : ℕ} {a b : ServedCore} {h h' : List WireEvent} {x y : Client} → OneGoes (λ step. step ≡ Broke id) id a h x b h' y → OneGoes IsOfTurn id a h x b h' y
 one_breaking g = record {
   steps = g.steps;
   kinds = all_of (λ step is. subst IsOfTurn (sym is) tt) g.steps g.kinds;
@@ -764,7 +764,7 @@ one_breaking g = record {
 
 -- one after another
 pub one_then :
-    {Is : Step → Type 0} {id : ℕ} {a b c : ServedCore} {h h' h'' : List Event} {x y z : Client} → OneGoes Is id a h x b h' y → OneGoes Is id b h' y c h'' z → OneGoes Is id a h x c h'' z
+    {Is : Step → Type 0} {id : ℕ} {a b c : ServedCore} {h h' h'' : List WireEvent} {x y z : Client} → OneGoes Is id a h x b h' y → OneGoes Is id b h' y c h'' z → OneGoes Is id a h x c h'' z
 one_then {Is} {id} {a} {b} {c} {h} {h'} {h''} {x} {y} {z} g k =
     record {
       steps = k.steps ++ g.steps;
@@ -785,7 +785,7 @@ one_then {Is} {id} {a} {b} {c} {h} {h'} {h''} {x} {y} {z} g k =
 
 -- it is done to one among all, to which the core gave all that it had
 pub one_given :
-    {h h' : List Event} {ls : List Link} {a b : ServedCore} (id : ℕ) (s n : Clients) (x y : Client) → client_of s id ≡ Some x → n ≡ with_client_at s id y → OneGives id a h x b h' y
+    {h h' : List WireEvent} {ls : List Link} {a b : ServedCore} (id : ℕ) (s n : Clients) (x y : Client) → client_of s id ≡ Some x → n ≡ with_client_at s id y → OneGives id a h x b h' y
     → AllGoFrom Agrees (AgreesGiven id) (IsClosing id) (record { core = a; history = h; clients = s; links = ls }) (record { core = b; history = h'; clients = n; links = ls })
 one_given {h} {h'} {ls} {a} {b} id s n x y was is given =
     let g = given.0 in
@@ -803,7 +803,7 @@ one_given {h} {h'} {ls} {a} {b} id s n x y was is given =
 
 -- it is done to one among all
 pub one_goes :
-    {Is : Step → Type 0} {h h' : List Event} {ls : List Link} {a b : ServedCore} (id : ℕ) (s n : Clients) (x y : Client) → client_of s id ≡ Some x → n ≡ with_client_at s id y → OneGoes Is id a h x b h' y
+    {Is : Step → Type 0} {h h' : List WireEvent} {ls : List Link} {a b : ServedCore} (id : ℕ) (s n : Clients) (x y : Client) → client_of s id ≡ Some x → n ≡ with_client_at s id y → OneGoes Is id a h x b h' y
     → AllGo Is (record { core = a; history = h; clients = s; links = ls }) (record { core = b; history = h'; clients = n; links = ls })
 one_goes {Is} {h} {h'} {ls} {a} {b} id s n x y was is g =
     one_of_all id (record { core = a; history = h; clients = s; links = ls }) (record { core = b; history = h'; clients = n; links = ls })
@@ -813,7 +813,7 @@ one_goes {Is} {h} {h'} {ls} {a} {b} id s n x y was is g =
 
 -- all that was held was fed
 fed_state :
-    (h : List Event) (input input' output : ℕ → List ℕ) (id c : ℕ) (held unsent : List ℕ) (b e : Bool) → input' id ≡ input id ++ held → StateAgrees h input output id c held unsent b e → StateAgrees h input' output id c [] unsent b e
+    (h : List WireEvent) (input input' output : ℕ → List ℕ) (id c : ℕ) (held unsent : List ℕ) (b e : Bool) → input' id ≡ input id ++ held → StateAgrees h input output id c held unsent b e → StateAgrees h input' output id c [] unsent b e
 fed_state h input input' output id c held unsent b e more was =
     record {
       stands = λ is. let w = was.stands is in record { is_its = w.is_its; input_is = w.input_is ∙ sym more ∙ sym (append-nil (input' id)); output_is = w.output_is };
@@ -829,7 +829,7 @@ fed_state h input input' output id c held unsent b e more was =
 
 -- what the core gave is to be sent, behind the rest
 pub gave_state :
-    (h : List Event) (input output output' : ℕ → List ℕ) (id c : ℕ) (held unsent bytes : List ℕ) (b e : Bool) → output' id ≡ output id ++ bytes → StateAgrees h input output id c held unsent b e
+    (h : List WireEvent) (input output output' : ℕ → List ℕ) (id c : ℕ) (held unsent bytes : List ℕ) (b e : Bool) → output' id ≡ output id ++ bytes → StateAgrees h input output id c held unsent b e
     → StateAgrees h input output' id c held (unsent ++ bytes) b e
 gave_state h input output output' id c held unsent bytes b e more was =
     record {
@@ -838,7 +838,7 @@ gave_state h input output output' id c held unsent bytes b e more was =
       ended = was.ended;
     }
 
-pub one_fed : {id : ℕ} {a b : ServedCore} {h : List Event} (x y : Client) → FeedsHeld id x y a b → OneGoes IsOfTurn id a h x b h y
+pub one_fed : {id : ℕ} {a b : ServedCore} {h : List WireEvent} (x y : Client) → FeedsHeld id x y a b → OneGoes IsOfTurn id a h x b h y
 one_fed {id} {a} {b} {h} x y (inl fed) =
     let piece = x.conn.held.items in
     let said : end_said_of y ≡ (x.conn.number, [], bytes_of x.conn.unsent, x.is_broken, x.is_ended) = ap end_said_of fed.2 ∙ ap (λ l. (x.conn.number, l, bytes_of x.conn.unsent, x.is_broken, x.is_ended)) fed.1 in
@@ -860,7 +860,7 @@ one_fed {id} {a} {b} {h} x y (inr (core, inr breaks)) = one_breaks x y core brea
 
 -- the core gave what it had for the client
 pub gave_one :
-    {id : ℕ} {a b : ServedCore} {h : List Event} (x y : Client) (bytes : List ℕ) → Does (Gave id bytes) a b → y.conn.number ≡ x.conn.number → y.is_broken ≡ x.is_broken
+    {id : ℕ} {a b : ServedCore} {h : List WireEvent} (x y : Client) (bytes : List ℕ) → Does (Gave id bytes) a b → y.conn.number ≡ x.conn.number → y.is_broken ≡ x.is_broken
     → ((past : List Step) → ClientAgreesWith past h id x → ClientAgreesWith (Gave id bytes ∷ past) h id y) → OneGoes IsOfTurn id a h x b h y
 gave_one {id} {a} {b} {h} x y bytes does number broken goes =
     record {
@@ -877,7 +877,7 @@ gave_one {id} {a} {b} {h} x y bytes does number broken goes =
 
 -- and then its end was broken off
 pub gave_broken :
-    {id : ℕ} {a b : ServedCore} {h : List Event} (x y : Client) (bytes : List ℕ) → Does (Gave id bytes) a b → y.conn.number ≡ x.conn.number → y.is_broken ≡ true
+    {id : ℕ} {a b : ServedCore} {h : List WireEvent} (x y : Client) (bytes : List ℕ) → Does (Gave id bytes) a b → y.conn.number ≡ x.conn.number → y.is_broken ≡ true
     → ((past : List Step) → ClientAgreesWith past h id x → ClientAgreesWith (Gave id bytes ∷ past) h id y) → OneGoes IsOfTurn id a h x b h y
 gave_broken {id} {a} {b} {h} x y bytes does number broken goes =
     record {
@@ -897,7 +897,7 @@ more_given past id bytes = ap (λ (t : Bool). if t then gave_in past id ++ bytes
 
 -- and it is to be sent
 pub one_shown :
-    {id : ℕ} {a b : ServedCore} {h : List Event} (x y : Client) (r : Result ℕ CoreFault) → OnOk r (Does (Gave id (output_by (client_at a.core id))) a b) → OnErr r (b ≡ a)
+    {id : ℕ} {a b : ServedCore} {h : List WireEvent} (x y : Client) (r : Result ℕ CoreFault) → OnOk r (Does (Gave id (output_by (client_at a.core id))) a b) → OnErr r (b ≡ a)
     → OnOk r (bytes_of y.conn.unsent ≡ bytes_of x.conn.unsent ++ output_by (client_at a.core id)) → OnErr r (bytes_of y.conn.unsent ≡ bytes_of x.conn.unsent)
     → y ≡ record x { conn = record x.conn { unsent = y.conn.unsent } } → OneGoes IsOfTurn id a h x b h y
 one_shown {id} {a} {b} {h} x y (Ok shown) gives same more kept rest =
@@ -911,7 +911,7 @@ one_shown {id} {a} {b} {h} x y (Err fault) gives same more kept rest =
 
 -- the core gave all that it had, and that is all that was done
 pub one_gives :
-    {id : ℕ} {a b : ServedCore} {h : List Event} (x y : Client) → Does (Gave id (output_by (client_at a.core id))) a b → bytes_of y.conn.unsent ≡ bytes_of x.conn.unsent ++ output_by (client_at a.core id)
+    {id : ℕ} {a b : ServedCore} {h : List WireEvent} (x y : Client) → Does (Gave id (output_by (client_at a.core id))) a b → bytes_of y.conn.unsent ≡ bytes_of x.conn.unsent ++ output_by (client_at a.core id)
     → y ≡ record x { conn = record x.conn { unsent = y.conn.unsent } } → OneGives id a h x b h y
 one_gives {id} {a} {b} {h} x y gives more rest =
     let bytes = output_by (client_at a.core id) in
@@ -935,6 +935,6 @@ one_gives {id} {a} {b} {h} x y gives more rest =
 
 -- or nothing
 pub one_kept :
-    {Is : Step → Type 0} {id : ℕ} {a b : ServedCore} {h : List Event} (x y : Client) → b ≡ a → bytes_of y.conn.unsent ≡ bytes_of x.conn.unsent → y ≡ record x { conn = record x.conn { unsent = y.conn.unsent } } → OneGoes Is id a h x b h y
+    {Is : Step → Type 0} {id : ℕ} {a b : ServedCore} {h : List WireEvent} (x y : Client) → b ≡ a → bytes_of y.conn.unsent ≡ bytes_of x.conn.unsent → y ≡ record x { conn = record x.conn { unsent = y.conn.unsent } } → OneGoes Is id a h x b h y
 one_kept {h = h} x y same kept rest =
     one_touched same (same_agrees h x y (ap end_said_of rest ∙ ap (λ l. (x.conn.number, x.conn.held.items, l, x.is_broken, x.is_ended)) kept)) (ap (λ (z : Client). z.conn.number) rest) (λ d other. untouched d h) (ap (λ (z : Client). z.is_broken) rest)

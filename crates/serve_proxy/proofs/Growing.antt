@@ -11,7 +11,7 @@ use Rattle.serve_links.specs.declared.settings.Settings.{Settings}
 use Rattle.core_accepted.specs.declared.served.ServedCore.{ServedCore}
 use Rattle.core_accepted.specs.Loading.{IsLoaded}
 use Rattle.wire_parts.specs.Sending.{bytes_of}
-use Rattle.serve_wire.specs.Events.{Event}
+use Rattle.serve_wire.specs.Events.{WireEvent}
 use Rattle.serve_wire.proofs.Steps.{untouched}
 use Rattle.serve_wire.specs.declared.conn.conn.Conn.{Conn}
 use Rattle.serve_clients.specs.declared.clients.Client.{Client}
@@ -25,10 +25,10 @@ use Rattle.serve_links.specs.declared.link.Link.{Link}
 use Rattle.serve_links.specs.Links.{IsDown}
 use Rattle.serve_links.specs.CoreSteps.{Step, Loaded}
 use Rattle.serve_links.specs.declared.settings.Greeting.{Greeting}
-use Rattle.serve_links.specs.Story.{fed_in, gave_in, ClientIsTold, said_asks, said_late, server_of, LineState, line_of, Unused, LineAgrees, LinesAgree, AnEnd, Agrees, AllGoFrom, AllGo, texts_of, servers_of, MayAllGo}
+use Rattle.serve_links.specs.Story.{fed_in, gave_in, ClientIsTold, said_asks, said_late, address_and_limits, LineState, line_of, Unused, LineAgrees, LinesAgree, AnEnd, Agrees, AllGoFrom, AllGo, texts_of, servers_of, MayAllGo}
 use Rattle.serve_links.specs.Shut.{drain_of, link_conn, IsShutBut}
 use Rattle.serve_links.specs.Talks.{Apart, talk_in, AreDue, AreCalled, IsOrderly}
-use Rattle.serve_links.specs.Called.{TellsCalls}
+use Rattle.serve_links.specs.Called.{TellsCallsOut}
 use Rattle.serve_links.proofs.Called.{walks_tell_calls}
 use Rattle.serve_links.proofs.Shutting.{shut_quiet}
 use Rattle.serve_links.proofs.Walked.{walked, of_both}
@@ -44,14 +44,14 @@ pub adds_none : (old new : List Link) → new ≡ old → AddsLines old new
 adds_none old new same = ([], ap link_lines same ∙ sym (append-nil (link_lines old)))
 
 -- the line of a link that is down
-down_of : (link : Link) → IsDown link → link.draining ≡ None → link.late.items ≡ [] → link.awaits_dialect ≡ None → link.dialect ≡ Classic → line_of link ≡ down_line (server_of link)
+down_of : (link : Link) → IsDown link → link.draining ≡ None → link.late.items ≡ [] → link.awaits_dialect ≡ None → link.dialect ≡ Classic → line_of link ≡ down_line (address_and_limits link)
 down_of link down undrained alone off classic =
-    ap (λ (o : Option Conn). let s : LineState = (server_of link, option_map (λ (x : Conn). (x.number, x.held.items, bytes_of x.unsent)) o, said_asks link.calls.sent.items, link.waiting.items, link.awaits_dialect, link.dialect, said_late link.late.items, drain_of link) in s) down.closed
-    ∙ ap (λ (l : List SentCall). let s : LineState = (server_of link, None, said_asks l, link.waiting.items, link.awaits_dialect, link.dialect, said_late link.late.items, drain_of link) in s) down.sent
-    ∙ ap (λ (l : List SentCall). let s : LineState = (server_of link, None, [], l, link.awaits_dialect, link.dialect, said_late link.late.items, drain_of link) in s) down.waiting
-    ∙ ap (λ (b : Option Greeting). let s : LineState = (server_of link, None, [], [], b, link.dialect, said_late link.late.items, drain_of link) in s) off
-    ∙ ap (λ (d : Dialect). let s : LineState = (server_of link, None, [], [], None, d, said_late link.late.items, drain_of link) in s) classic ∙ ap (λ (l : List LateCall). let s : LineState = (server_of link, None, [], [], None, Classic, said_late l, drain_of link) in s) alone
-    ∙ ap (λ (o : Option Conn). let s : LineState = (server_of link, None, [], [], None, Classic, [], option_map (λ (x : Conn). x.number) o) in s) undrained
+    ap (λ (o : Option Conn). let s : LineState = (address_and_limits link, option_map (λ (x : Conn). (x.number, x.held.items, bytes_of x.unsent)) o, said_asks link.calls.sent.items, link.waiting.items, link.awaits_dialect, link.dialect, said_late link.late.items, drain_of link) in s) down.closed
+    ∙ ap (λ (l : List SentCall). let s : LineState = (address_and_limits link, None, said_asks l, link.waiting.items, link.awaits_dialect, link.dialect, said_late link.late.items, drain_of link) in s) down.sent
+    ∙ ap (λ (l : List SentCall). let s : LineState = (address_and_limits link, None, [], l, link.awaits_dialect, link.dialect, said_late link.late.items, drain_of link) in s) down.waiting
+    ∙ ap (λ (b : Option Greeting). let s : LineState = (address_and_limits link, None, [], [], b, link.dialect, said_late link.late.items, drain_of link) in s) off
+    ∙ ap (λ (d : Dialect). let s : LineState = (address_and_limits link, None, [], [], None, d, said_late link.late.items, drain_of link) in s) classic ∙ ap (λ (l : List LateCall). let s : LineState = (address_and_limits link, None, [], [], None, Classic, said_late l, drain_of link) in s) alone
+    ∙ ap (λ (o : Option Conn). let s : LineState = (address_and_limits link, None, [], [], None, Classic, [], option_map (λ (x : Conn). x.number) o) in s) undrained
 
 lines_more : (links : List Link) (link : Link) → link_lines (links ++ link ∷ []) ≡ link_lines links ++ line_of link ∷ []
 lines_more [] link = refl
@@ -59,7 +59,7 @@ lines_more (x ∷ links) link = ap (λ l. line_of x ∷ l) (lines_more links lin
 
 -- one without a connection
 pub adds_one : (old new : List Link) (link : Link) → new ≡ old ++ link ∷ [] → IsDown link → link.draining ≡ None → link.late.items ≡ [] → link.awaits_dialect ≡ None → link.dialect ≡ Classic → AddsLines old new
-adds_one old new link more down undrained alone off classic = (server_of link ∷ [], ap link_lines more ∙ lines_more old link ∙ ap (λ (s : LineState). link_lines old ++ s ∷ []) (down_of link down undrained alone off classic))
+adds_one old new link more down undrained alone off classic = (address_and_limits link ∷ [], ap link_lines more ∙ lines_more old link ∙ ap (λ (s : LineState). link_lines old ++ s ∷ []) (down_of link down undrained alone off classic))
 
 down_both : (xs ys : List (List ℕ × LinkLimits)) → each down_line (xs ++ ys) ≡ each down_line xs ++ each down_line ys
 down_both [] ys = refl
@@ -109,7 +109,7 @@ none_of ls at none = by (slice_get ls at) (get_line ls at ∙ none)
 none_before : (ls ls' : List Link) → AddsLines ls ls' → (at : ℕ) → slice_get ls' at ≡ None → slice_get ls at ≡ None
 none_before ls ls' adds at none = none_of ls at (in_first (link_lines ls) (each down_line adds.0) at (ap (λ l. slice_get l at) (sym adds.1) ∙ sym (get_line ls' at) ∙ ap (option_map line_of) none))
 
-pub lines_grow : (h : List Event) (past : List Step) (ls ls' : List Link) → AddsLines ls ls' → IsOrderly past → ((at : ℕ) → slice_get ls at ≡ None → ((talk_in past at).out ≡ []) × ((talk_in past at).stands ≡ Apart)) → LinesAgree past h ls → LinesAgree past h ls'
+pub lines_grow : (h : List WireEvent) (past : List Step) (ls ls' : List Link) → AddsLines ls ls' → IsOrderly past → ((at : ℕ) → slice_get ls at ≡ None → ((talk_in past at).out ≡ []) × ((talk_in past at).stands ≡ Apart)) → LinesAgree past h ls → LinesAgree past h ls'
 lines_grow h past ls ls' adds orderly unlinked was at link there = by (in_both (link_lines ls) (each down_line adds.0) at (line_of link) (ap (λ l. slice_get l at) (sym adds.1) ∙ sym (get_line ls' at) ∙ ap (option_map line_of) there))
   where
     of_old : (o : Option Link) → slice_get ls at ≡ o → option_map line_of o ≡ Some (line_of link) → LineAgrees at past h link
@@ -158,14 +158,14 @@ then_grows {P} {Q} {R} {Is} {a} {b} {c} g k =
 
 -- links were added
 pub links_grow :
-    {Is : Step → Type 0} {h : List Event} {cs : Clients} {ls ls' : List Link} (core : ServedCore) → AddsLines ls ls'
+    {Is : Step → Type 0} {h : List WireEvent} {cs : Clients} {ls ls' : List Link} (core : ServedCore) → AddsLines ls ls'
     → AllGrow Is (record { core = core; history = h; clients = cs; links = ls }) (record { core = core; history = h; clients = cs; links = ls' })
 links_grow {h = h} {ls = ls} {ls' = ls'} core adds =
     record { steps = []; kinds = tt; walks = refl; agree = λ past was. record { orderly = was.orderly; calls = was.calls; clients = was.clients; told = was.told; links = lines_grow h past ls ls' adds was.orderly was.unlinked was.links; gone = was.gone; shown = was.shown; shut = shut_quiet (λ d. untouched d h) (λ j. refl) (conns_grow ls ls' adds) was.shut; unlinked = λ at none. was.unlinked at (none_before ls ls' adds at none); clock = was.clock }; texts = (texts_in adds.0, texts_grow ls ls' adds) }
 
 -- a configuration was loaded, which tells nothing of clients
 pub load_grows :
-    {h : List Event} {cs : Clients} {ls : List Link} (configuration : Configuration) (generation : ℕ) (a b : ServedCore) → IsLoaded a configuration generation b
+    {h : List WireEvent} {cs : Clients} {ls : List Link} (configuration : Configuration) (generation : ℕ) (a b : ServedCore) → IsLoaded a configuration generation b
     → AllGrow (IsLoadOf configuration) (record { core = a; history = h; clients = cs; links = ls }) (record { core = b; history = h; clients = cs; links = ls })
 load_grows {h} {cs} {ls} configuration generation a b loaded =
     record {
@@ -178,12 +178,12 @@ load_grows {h} {cs} {ls} configuration generation a b loaded =
 
 -- it was, or it is as it was
 pub same_grows :
-    {Is : Step → Type 0} {h : List Event} {cs : Clients} {ls : List Link} (a b : ServedCore) → b ≡ a → AllGrow Is (record { core = a; history = h; clients = cs; links = ls }) (record { core = b; history = h; clients = cs; links = ls })
-same_grows {Is} {h} {cs} {ls} a b same = record { steps = []; kinds = tt; walks = same; agree = λ past was. record { orderly = was.orderly; calls = subst (TellsCalls past) (sym same) was.calls; clients = was.clients; told = was.told; links = was.links; gone = was.gone; shown = was.shown; shut = was.shut; unlinked = was.unlinked; clock = was.clock }; texts = ([], sym (append-nil (texts_of ls))) }
+    {Is : Step → Type 0} {h : List WireEvent} {cs : Clients} {ls : List Link} (a b : ServedCore) → b ≡ a → AllGrow Is (record { core = a; history = h; clients = cs; links = ls }) (record { core = b; history = h; clients = cs; links = ls })
+same_grows {Is} {h} {cs} {ls} a b same = record { steps = []; kinds = tt; walks = same; agree = λ past was. record { orderly = was.orderly; calls = subst (TellsCallsOut past) (sym same) was.calls; clients = was.clients; told = was.told; links = was.links; gone = was.gone; shown = was.shown; shut = was.shut; unlinked = was.unlinked; clock = was.clock }; texts = ([], sym (append-nil (texts_of ls))) }
 
 -- from a core that is the same
 pub grow_from :
-    {Is : Step → Type 0} {h : List Event} {cs : Clients} {ls : List Link} {a x : ServedCore} {b : AnEnd} → x ≡ a → AllGrow Is (record { core = x; history = h; clients = cs; links = ls }) b
+    {Is : Step → Type 0} {h : List WireEvent} {cs : Clients} {ls : List Link} {a x : ServedCore} {b : AnEnd} → x ≡ a → AllGrow Is (record { core = x; history = h; clients = cs; links = ls }) b
     → AllGrow Is (record { core = a; history = h; clients = cs; links = ls }) b
 grow_from {Is} {h} {cs} {ls} {a} {x} {b} same g = subst (λ y. AllGrow Is (record { core = y; history = h; clients = cs; links = ls }) b) same g
 
@@ -204,14 +204,14 @@ conns_limited any [] at = refl
 conns_limited any (link ∷ links) zero = refl
 conns_limited any (link ∷ links) (suc at) = conns_limited any links at
 
-to_limited : (any : LinkLimits) (at : ℕ) (past : List Step) (h : List Event) (x : Link) → LineAgrees at past h x → LineAgrees at past h (record x { limits = any })
+to_limited : (any : LinkLimits) (at : ℕ) (past : List Step) (h : List WireEvent) (x : Link) → LineAgrees at past h x → LineAgrees at past h (record x { limits = any })
 to_limited any at past h x a = record { conn = a.conn; goes_on = a.goes_on; waiting = a.waiting; due = a.due; none_out = a.none_out; unused = a.unused; called = a.called }
 
-from_limited : (any : LinkLimits) (at : ℕ) (past : List Step) (h : List Event) (x : Link) → LineAgrees at past h (record x { limits = any }) → LineAgrees at past h x
+from_limited : (any : LinkLimits) (at : ℕ) (past : List Step) (h : List WireEvent) (x : Link) → LineAgrees at past h (record x { limits = any }) → LineAgrees at past h x
 from_limited any at past h x a = record { conn = a.conn; goes_on = a.goes_on; waiting = a.waiting; due = a.due; none_out = a.none_out; unused = a.unused; called = a.called }
 
 -- what agrees does so with other limits
-agrees_to : (any : LinkLimits) (past : List Step) (core : ServedCore) (h : List Event) (cs : Clients) (ls : List Link) → Agrees past (record { core = core; history = h; clients = cs; links = ls }) → Agrees past (record { core = core; history = h; clients = cs; links = with_limits any ls })
+agrees_to : (any : LinkLimits) (past : List Step) (core : ServedCore) (h : List WireEvent) (cs : Clients) (ls : List Link) → Agrees past (record { core = core; history = h; clients = cs; links = ls }) → Agrees past (record { core = core; history = h; clients = cs; links = with_limits any ls })
 agrees_to any past core h cs ls was = record {
   orderly = was.orderly;
   calls = was.calls;
@@ -233,7 +233,7 @@ agrees_to any past core h cs ls was = record {
     nowhere None e = refl
     nowhere (Some x) e = absurd (none_some (sym e))
 
-agrees_from : (any : LinkLimits) (past : List Step) (core : ServedCore) (h : List Event) (cs : Clients) (ls : List Link) → Agrees past (record { core = core; history = h; clients = cs; links = with_limits any ls }) → Agrees past (record { core = core; history = h; clients = cs; links = ls })
+agrees_from : (any : LinkLimits) (past : List Step) (core : ServedCore) (h : List WireEvent) (cs : Clients) (ls : List Link) → Agrees past (record { core = core; history = h; clients = cs; links = with_limits any ls }) → Agrees past (record { core = core; history = h; clients = cs; links = ls })
 agrees_from any past core h cs ls was = record {
   orderly = was.orderly;
   calls = was.calls;
@@ -249,7 +249,7 @@ agrees_from any past core h cs ls was = record {
 
 -- so ends go on that stay but for limits
 pub limited_grows :
-    {Is : Step → Type 0} {h h' : List Event} {cs cs' : Clients} {ls ls' : List Link} (core : ServedCore) → ((any : LinkLimits) → EndsStay h h' cs cs' (with_limits any ls) (with_limits any ls'))
+    {Is : Step → Type 0} {h h' : List WireEvent} {cs cs' : Clients} {ls ls' : List Link} (core : ServedCore) → ((any : LinkLimits) → EndsStay h h' cs cs' (with_limits any ls) (with_limits any ls'))
     → AllGrow Is (record { core = core; history = h; clients = cs; links = ls }) (record { core = core; history = h'; clients = cs'; links = ls' })
 limited_grows {Is} {h} {h'} {cs} {cs'} {ls} {ls'} core stay =
     record {
@@ -269,14 +269,14 @@ limited_grows {Is} {h} {h'} {cs} {cs'} {ls} {ls'} core stay =
 -- ---- an end that begins
 
 -- a new core has no call out
-pub new_tells : (accepted : List Configuration) (begun : Beginnings) (settings : Settings) (core : ServedCore) → BeginsFresh accepted begun settings core → TellsCalls [] core
+pub new_tells : (accepted : List Configuration) (begun : Beginnings) (settings : Settings) (core : ServedCore) → BeginsFresh accepted begun settings core → TellsCallsOut [] core
 new_tells accepted begun settings core begins = walks_tell_calls.begins begins.config.tree (limits_by settings) core begins.core_is
 
-pub unchecked_tells : (tree : Route) (settings : Settings) (core : ServedCore) → BeginsUnchecked tree settings core → TellsCalls [] core
+pub unchecked_tells : (tree : Route) (settings : Settings) (core : ServedCore) → BeginsUnchecked tree settings core → TellsCallsOut [] core
 unchecked_tells tree settings core begins = walks_tell_calls.begins tree (limits_by settings) core begins.core_is
 
 -- no client is there, and no link has a connection
-pub new_agrees : (h : List Event) (core : ServedCore) (cs : Clients) (ls : List Link) → TellsCalls [] core → cs.all.items ≡ [] → AddsLines [] ls → HasNoConns h → Agrees [] (record { core = core; history = h; clients = cs; links = ls })
+pub new_agrees : (h : List WireEvent) (core : ServedCore) (cs : Clients) (ls : List Link) → TellsCallsOut [] core → cs.all.items ≡ [] → AddsLines [] ls → HasNoConns h → Agrees [] (record { core = core; history = h; clients = cs; links = ls })
 new_agrees h core cs ls tells none adds new = record { orderly = tt; calls = tells; clients = λ id. subst (λ o. IfSome o (EndAgrees h (fed_in []) (gave_in []) id)) (sym (nobody id)) tt; told = λ id. subst (λ o. IfSome o (ClientIsTold [] id)) (sym (nobody id)) tt; links = lines_grow h [] [] ls adds tt (λ at none. (refl, refl)) (λ at link there. absurd (none_some there)); gone = λ conn id is. absurd (none_some (sym (new.0 conn).0 ∙ is)); shown = tt; shut = record { clients = λ id conn is. absurd (none_some (sym (new.0 conn).0 ∙ is)); links = λ at conn is. absurd (none_some (sym (new.0 conn).0 ∙ is)); nobodys = λ conn is. (new.0 conn).1 }; unlinked = λ at none. (refl, refl); clock = sym new.1 }
   where
     nobody : (id : ℕ) → client_of cs id ≡ None

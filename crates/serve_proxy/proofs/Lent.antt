@@ -3,7 +3,7 @@ use Rattle.std.proofs.Common.{◌≡◌, ◌≢◌, ◌⊎◌, inl, inr, ℕ, Bo
 use Rattle.std.proofs.lemmas.Bool.{cases_eq}
 use Rattle.std.specs.Prelude.{OnSome, slice_set}
 use Rattle.std.specs.Option.{option_map}
-use Rattle.serve_wire.specs.Events.{Event}
+use Rattle.serve_wire.specs.Events.{WireEvent}
 use Rattle.serve_clients.specs.declared.clients.Client.{Client}
 use Rattle.serve_clients.specs.declared.clients.Clients.{Clients}
 use Rattle.serve_clients.specs.Marks.{client_of}
@@ -43,5 +43,5 @@ lent_keeps s n id x y was same is k = by_place (cases_eq k id)
 
 -- so all ends are as they were
 pub stay_lent :
-    {h : List Event} {ls : List Link} (s n : Clients) (id : ℕ) (x y : Client) → client_of s id ≡ Some x → end_said_of y ≡ end_said_of x → n ≡ with_client_at s id y → EndsStay h h s n ls ls
+    {h : List WireEvent} {ls : List Link} (s n : Clients) (id : ℕ) (x y : Client) → client_of s id ≡ Some x → end_said_of y ≡ end_said_of x → n ≡ with_client_at s id y → EndsStay h h s n ls ls
 stay_lent {h} {ls} s n id x y was same is = record { quiet = quiet h; clients = lent_keeps s n id x y was same is; links = refl }

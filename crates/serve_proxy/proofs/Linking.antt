@@ -8,7 +8,7 @@ use Rattle.mc_types.specs.declared.ask.Dialect.{Dialect}
 use Rattle.mc_types.specs.declared.ask.Dialect.TheVariants.{Classic}
 use Rattle.wire_parts.specs.Sending.{bytes_of}
 use Rattle.wire_stream.specs.Spelling.{spelling_of}
-use Rattle.serve_wire.specs.Events.{Event, time}
+use Rattle.serve_wire.specs.Events.{WireEvent, time}
 use Rattle.serve_wire.specs.Ends.{HoldsAnew}
 use Rattle.serve_wire.specs.declared.conn.conn.Conn.{Conn}
 use Rattle.serve_wire.proofs.Steps.{untouched}
@@ -39,7 +39,7 @@ use Rattle.serve_links.specs.Links.{CallIsTaken}
 use Rattle.serve_links.specs.Lines.{IsNewEnd, OpensLink, greeting_of}
 use Rattle.serve_links.specs.Shut.{drain_of}
 use Rattle.serve_links.specs.Talks.{SaidAsk, talk_in, IsCalledIn}
-use Rattle.serve_links.specs.Story.{server_of, LineState, line_of, said_asks, said_late, MayGo, LineAgrees, LineLost, LineGoesFrom, LineGoes, AnEnd, Agrees, AgreesBut, AgreesCalled, AgreesSent, AllGoFrom, fed_in, gave_in}
+use Rattle.serve_links.specs.Story.{address_and_limits, LineState, line_of, said_asks, said_late, MayGo, LineAgrees, LineLost, LineGoesFrom, LineGoes, AnEnd, Agrees, AgreesBut, AgreesCalled, AgreesSent, AllGoFrom, fed_in, gave_in}
 use Rattle.serve_links.proofs.LateGoes.{waits_still}
 use Rattle.serve_links.proofs.LinkGoes.{as_lost, line_between, line_settles, line_loses, line_asks, line_waits, line_takes}
 use Rattle.serve_links.proofs.Story.{go_between}
@@ -81,7 +81,7 @@ line_calls x y is sent = ap line_of is ∙ line_parts x.waiting.items x.awaits_d
 -- and one for which as many calls wait
 pub line_waiting : (x y : Link) → y ≡ record x { waiting = y.waiting } → y.waiting.items ≡ x.waiting.items → line_of y ≡ line_of x
 line_waiting x y is waiting =
-    ap line_of is ∙ ap (λ (w : List SentCall). let s : LineState = (server_of x, option_map {U = ℕ × List ℕ × List ℕ} conn_state x.conn, said_asks x.calls.sent.items, w, x.awaits_dialect, x.dialect, said_late x.late.items, drain_of x) in s) waiting
+    ap line_of is ∙ ap (λ (w : List SentCall). let s : LineState = (address_and_limits x, option_map {U = ℕ × List ℕ × List ℕ} conn_state x.conn, said_asks x.calls.sent.items, w, x.awaits_dialect, x.dialect, said_late x.late.items, drain_of x) in s) waiting
 
 -- ---- calls that are handed over
 
@@ -139,7 +139,7 @@ open_still at ls ls' same there = subst (IsOpenAt at) (sym same) there
 pub open_set : (links : List Link) (at : ℕ) (y : Link) → at < length links → IsSome y.conn → IsOpenAt at (set links at y)
 open_set links at y within some = (y, set_here links at y within, some)
 
-pub begun_open : (at : ℕ) (dialect : ServerDialect) (x y : Link) (h h' : List Event) (what : Opening) → OpensLink at dialect what x y h h' → what ≡ opening.Begun → IsSome y.conn
+pub begun_open : (at : ℕ) (dialect : ServerDialect) (x y : Link) (h h' : List WireEvent) (what : Opening) → OpensLink at dialect what x y h h' → what ≡ opening.Begun → IsSome y.conn
 begun_open at dialect x y h h' opening.Begun opens is = has y.conn opens.3.conn
   where
     has : (o : Option Conn) → IsNewEnd opens.0 (greeting_of x dialect) o → IsSome o
@@ -186,12 +186,12 @@ called_at {Q} {Is} {a} {b} at call same shown stands asks g =
 
 -- what agrees may be said to be lost
 pub line_may_lose :
-    {P : ℕ → List Step → List Event → Link → Type 0} {Is : Step → Type 0} {at : ℕ} {a b : ServedCore} {h h' : List Event} {x y : Link} → LineGoesFrom P LineAgrees Is at a h x b h' y → LineGoesFrom P LineLost Is at a h x b h' y
+    {P : ℕ → List Step → List WireEvent → Link → Type 0} {Is : Step → Type 0} {at : ℕ} {a b : ServedCore} {h h' : List WireEvent} {x y : Link} → LineGoesFrom P LineAgrees Is at a h x b h' y → LineGoesFrom P LineLost Is at a h x b h' y
 line_may_lose {at = at} {h' = h'} {y = y} g = line_between (λ past was. was) (λ past was. as_lost at past h' y was) g
 
 -- answers settled calls, and what is left is held
 pub settled :
-    {at : ℕ} {core core' : ServedCore} {h : List Event} (x y : Link) (c d : Conn) (sent : List SentCall) → x.conn ≡ Some c → x.awaits_dialect ≡ None → x.late.items ≡ [] → y.conn ≡ Some d → server_of y ≡ server_of x → y.waiting.items ≡ x.waiting.items
+    {at : ℕ} {core core' : ServedCore} {h : List WireEvent} (x y : Link) (c d : Conn) (sent : List SentCall) → x.conn ≡ Some c → x.awaits_dialect ≡ None → x.late.items ≡ [] → y.conn ≡ Some d → address_and_limits y ≡ address_and_limits x → y.waiting.items ≡ x.waiting.items
     → y.awaits_dialect ≡ x.awaits_dialect → y.dialect ≡ x.dialect → y.late.items ≡ x.late.items → y.calls.sent.items ≡ sent → HoldsAnew c d → SettlesSome x.calls.sent.items c.held.items core sent d.held.items core' → LineGoes IsOfTurn at core h x core' h y
 settled {core = core} {core' = core'} x y c d sent was off alone is server waiting awaits speaks late same holds s =
     line_settles x y c d was is off alone server waiting awaits speaks late (ap (λ (z : Conn). z.number) holds) (ap (λ (z : Conn). bytes_of z.unsent) holds)
@@ -199,7 +199,7 @@ settled {core = core} {core' = core'} x y c d sent was off alone is server waiti
 
 -- or may be lost
 pub settled_some :
-    {at : ℕ} {core core' : ServedCore} {h : List Event} (x y : Link) (c d : Conn) (sent : List SentCall) → x.conn ≡ Some c → x.awaits_dialect ≡ None → x.late.items ≡ [] → y.conn ≡ Some d → server_of y ≡ server_of x → y.waiting.items ≡ x.waiting.items
+    {at : ℕ} {core core' : ServedCore} {h : List WireEvent} (x y : Link) (c d : Conn) (sent : List SentCall) → x.conn ≡ Some c → x.awaits_dialect ≡ None → x.late.items ≡ [] → y.conn ≡ Some d → address_and_limits y ≡ address_and_limits x → y.waiting.items ≡ x.waiting.items
     → y.awaits_dialect ≡ x.awaits_dialect → y.dialect ≡ x.dialect → y.late.items ≡ x.late.items → y.calls.sent.items ≡ sent → HoldsAnew c d → SettlesFront x.calls.sent.items c.held.items core sent core' → LineGoesFrom LineAgrees LineLost IsOfTurn at core h x core' h y
 settled_some {core = core} {core' = core'} x y c d sent was off alone is server waiting awaits speaks late same holds s =
     line_loses x y c d s.0 was is off alone server waiting awaits speaks late (ap (λ (z : Conn). z.number) holds) (ap (λ (z : Conn). bytes_of z.unsent) holds)
@@ -207,7 +207,7 @@ settled_some {core = core} {core' = core'} x y c d sent was off alone is server 
 
 -- clients have the ends that they had, while what one link holds may be lost
 pub but_clients :
-    {This : ℕ → List Step → List Event → Link → Type 0} {P : List Step → AnEnd → Type 0} {Is : Step → Type 0} {a : AnEnd} {core : ServedCore} {h : List Event} {ls : List Link} (at : ℕ) (cs cs' : Clients)
+    {This : ℕ → List Step → List WireEvent → Link → Type 0} {P : List Step → AnEnd → Type 0} {Is : Step → Type 0} {a : AnEnd} {core : ServedCore} {h : List WireEvent} {ls : List Link} (at : ℕ) (cs cs' : Clients)
     → AllGoFrom P (AgreesBut This at) Is a (record { core = core; history = h; clients = cs; links = ls }) → KeepsEnds cs cs'
     → AllGoFrom P (AgreesBut This at) Is a (record { core = core; history = h; clients = cs'; links = ls })
 but_clients {This} {core = core} {h = h} {ls = ls} at cs cs' g keeps = record { steps = g.steps; kinds = g.kinds; walks = g.walks; agree = λ past was. kept (g.steps ++ past) (g.agree past was); servers = g.servers }

@@ -2,10 +2,10 @@
 use Rattle.std.proofs.Common.{◌≡◌, ℕ, zero, suc, Bool, true, false, List, [], ◌∷◌, get_or, Option, Some, None, refl, sym, ap, ◌∙◌, subst}
 use Rattle.std.proofs.Math.ListN.{set}
 use Rattle.wire_parts.specs.Sending.{bytes_of}
-use Rattle.serve_wire.specs.Events.{Event}
+use Rattle.serve_wire.specs.Events.{WireEvent}
 use Rattle.serve_wire.specs.Events.{is_over}
 use Rattle.serve_wire.specs.Flow.{ReadsOn, SendsOn, Stands, HasJustFailed}
-use Rattle.serve_wire.specs.Ends.{Reads}
+use Rattle.serve_wire.specs.Ends.{ReadsConnection}
 use Rattle.serve_wire.specs.declared.conn.conn.Got.{Got}
 use Rattle.serve_wire.specs.declared.conn.conn.Got.TheVariants as got
 use Rattle.serve_wire.proofs.Flows.{reads_on}
@@ -24,7 +24,7 @@ use Rattle.serve_links.specs.declared.link.Opening.{Opening}
 use Rattle.std.specs.Option.{is_some}
 use Rattle.std.specs.Prelude.{map as each}
 use Rattle.serve_links.specs.Lines.{SameLine, KeepsLines, OpensLink}
-use Rattle.serve_links.specs.Story.{server_of, LineState, line_of}
+use Rattle.serve_links.specs.Story.{address_and_limits, LineState, line_of}
 use Rattle.serve_links.proofs.LinkGoes.{keeps_line, line_keeps, line_reads, line_reads_over, line_sends, line_sends_over, line_opens as line_begins, line_shuts}
 use Rattle.serve_proxy.specs.Ends.{link_lines, with_limits, over_by, broken_unless, WireIsQuiet, EndsStay, LineStands, LineStandsUnless}
 
@@ -43,13 +43,13 @@ kept_line x y keeps = keeps_line x y keeps
 -- ---- one link's end
 
 -- it has the line that it had
-pub line_stands : (at : ℕ) (h : List Event) (x y : Link) → line_of y ≡ line_of x → LineStands at h h x y
+pub line_stands : (at : ℕ) (h : List WireEvent) (x y : Link) → line_of y ≡ line_of x → LineStands at h h x y
 line_stands at h x y same = λ core. line_keeps (λ d. untouched d h) same
 
 -- its connection was read, which gave this
 pub line_read :
-    (at : ℕ) (h h' : List Event) (x y : Link) (c d : Conn) (limit : ℕ) (what : Got) → x.conn ≡ Some c → y ≡ record x { conn = Some d } → d.number ≡ c.number → bytes_of d.unsent ≡ bytes_of c.unsent
-    → Reads c.number limit c.held.items what d.held.items h h' → LineStandsUnless (over_by what) at h h' x y
+    (at : ℕ) (h h' : List WireEvent) (x y : Link) (c d : Conn) (limit : ℕ) (what : Got) → x.conn ≡ Some c → y ≡ record x { conn = Some d } → d.number ≡ c.number → bytes_of d.unsent ≡ bytes_of c.unsent
+    → ReadsConnection c.number limit c.held.items what d.held.items h h' → LineStandsUnless (over_by what) at h h' x y
 line_read at h h' x y c d limit got.Bytes was is number unsent r = λ core. line_reads x y c d was is number unsent (reads_on c.number limit c.held.items got.Bytes d.held.items h h' r) (ap (is_over c.number) r.1.noted)
 line_read at h h' x y c d limit got.Nothing was is number unsent r = λ core. line_reads x y c d was is number unsent (reads_on c.number limit c.held.items got.Nothing d.held.items h h' r) (ap (is_over c.number) r.2)
 line_read at h h' x y c d limit got.Full was is number unsent r = λ core. line_reads x y c d was is number unsent (reads_on c.number limit c.held.items got.Full d.held.items h h' r) (ap (is_over c.number) r.2)
@@ -58,13 +58,13 @@ line_read at h h' x y c d limit got.Failed was is number unsent r = λ core. lin
 
 -- it was not, as memory was refused
 pub line_unread :
-    (at : ℕ) (h h' : List Event) (x y : Link) (c d : Conn) → x.conn ≡ Some c → y ≡ record x { conn = Some d } → d.number ≡ c.number → bytes_of d.unsent ≡ bytes_of c.unsent → ReadsOn c.number c.held.items d.held.items h h' → h' ≡ h
+    (at : ℕ) (h h' : List WireEvent) (x y : Link) (c d : Conn) → x.conn ≡ Some c → y ≡ record x { conn = Some d } → d.number ≡ c.number → bytes_of d.unsent ≡ bytes_of c.unsent → ReadsOn c.number c.held.items d.held.items h h' → h' ≡ h
     → LineStands at h h' x y
 line_unread at h h' x y c d was is number unsent r same = λ core. line_reads x y c d was is number unsent r (ap (is_over c.number) same)
 
 -- what was to be sent went, as far as it was taken, and it stands still or has failed
 pub line_sent :
-    (at : ℕ) (h h' : List Event) (x y : Link) (c d : Conn) (has_sent : Bool) → x.conn ≡ Some c → y ≡ record x { conn = Some d } → d.number ≡ c.number → d.held.items ≡ c.held.items
+    (at : ℕ) (h h' : List WireEvent) (x y : Link) (c d : Conn) (has_sent : Bool) → x.conn ≡ Some c → y ≡ record x { conn = Some d } → d.number ≡ c.number → d.held.items ≡ c.held.items
     → SendsOn c.number (bytes_of c.unsent) (bytes_of d.unsent) h h' → (has_sent ≡ true → Stands c.number h h') → (has_sent ≡ false → HasJustFailed c.number h') → LineStandsUnless (broken_unless has_sent) at h h' x y
 line_sent at h h' x y c d true was is number held s stands failed = λ core. line_sends x y c d was is number held s (stands refl)
 line_sent at h h' x y c d false was is number held s stands failed = λ core. line_sends_over (Some causes.Broken) x y c d was is number held s (λ t. ([], (failed refl).0, (failed refl).1))
@@ -85,39 +85,39 @@ none_kept (Some c) p none same = absurd (some_none none)
     some_none e = cc
 
 -- a connection was begun
-pub line_opens : (at : ℕ) (dialect : ServerDialect) (what : Opening) (h h' : List Event) (x y : Link) → OpensLink at dialect what x y h h' → LineStands at h h' x y
+pub line_opens : (at : ℕ) (dialect : ServerDialect) (what : Opening) (h h' : List WireEvent) (x y : Link) → OpensLink at dialect what x y h h' → LineStands at h h' x y
 line_opens at dialect what h h' x y o = λ core. line_begins x y dialect what o
 
 -- or none, and its calls fail for a while
 pub line_opens_not :
-    (at : ℕ) (dialect : ServerDialect) (what : Opening) (h h' : List Event) (x y z : Link) → OpensLink at dialect what x y h h' → y.conn ≡ None → z.conn ≡ None → z.draining ≡ y.draining → server_of z ≡ server_of y → z.waiting.items ≡ y.waiting.items → z.calls.sent.items ≡ y.calls.sent.items → LineStands at h h' x z
+    (at : ℕ) (dialect : ServerDialect) (what : Opening) (h h' : List WireEvent) (x y z : Link) → OpensLink at dialect what x y h h' → y.conn ≡ None → z.conn ≡ None → z.draining ≡ y.draining → address_and_limits z ≡ address_and_limits y → z.waiting.items ≡ y.waiting.items → z.calls.sent.items ≡ y.calls.sent.items → LineStands at h h' x z
 line_opens_not at dialect what h h' x y z o none closed draining server waiting sent = λ core. line_shuts (line_begins x y dialect what o) none closed draining server waiting sent
 
 -- ---- all ends
 
-pub quiet : (h : List Event) → WireIsQuiet h h
+pub quiet : (h : List WireEvent) → WireIsQuiet h h
 quiet h = λ d. untouched d h
 
-pub quiet_as : (h h' : List Event) → h' ≡ h → WireIsQuiet h h'
+pub quiet_as : (h h' : List WireEvent) → h' ≡ h → WireIsQuiet h h'
 quiet_as h h' same = subst (WireIsQuiet h) (sym same) (quiet h)
 
 -- nothing was done
-pub stay_still : (h : List Event) (cs : Clients) (ls : List Link) → EndsStay h h cs cs ls ls
+pub stay_still : (h : List WireEvent) (cs : Clients) (ls : List Link) → EndsStay h h cs cs ls ls
 stay_still h cs ls = record { quiet = quiet h; clients = keeps_none cs; links = refl }
 
-pub stay_clients : (h : List Event) (cs cs' : Clients) (ls : List Link) → KeepsEnds cs cs' → EndsStay h h cs cs' ls ls
+pub stay_clients : (h : List WireEvent) (cs cs' : Clients) (ls : List Link) → KeepsEnds cs cs' → EndsStay h h cs cs' ls ls
 stay_clients h cs cs' ls keeps = record { quiet = quiet h; clients = keeps; links = refl }
 
 -- as many, and each as it was
-pub stay_alike : {h : List Event} {ls : List Link} {cs cs' : Clients} → AreAlike cs cs' → EndsStay h h cs cs' ls ls
+pub stay_alike : {h : List WireEvent} {ls : List Link} {cs cs' : Clients} → AreAlike cs cs' → EndsStay h h cs cs' ls ls
 stay_alike {h} {ls} {cs} {cs'} alike = stay_clients h cs cs' ls (keeps_alike cs cs' alike)
 
-pub stay_links : (h : List Event) (cs : Clients) (ls ls' : List Link) → link_lines ls' ≡ link_lines ls → EndsStay h h cs cs ls ls'
+pub stay_links : (h : List WireEvent) (cs : Clients) (ls ls' : List Link) → link_lines ls' ≡ link_lines ls → EndsStay h h cs cs ls ls'
 stay_links h cs ls ls' keeps = record { quiet = quiet h; clients = keeps_none cs; links = keeps }
 
 -- one after another
 pub stay_then :
-    {h h' h'' : List Event} {cs cs' cs'' : Clients} {ls ls' ls'' : List Link} → EndsStay h h' cs cs' ls ls' → EndsStay h' h'' cs' cs'' ls' ls'' → EndsStay h h'' cs cs'' ls ls''
+    {h h' h'' : List WireEvent} {cs cs' cs'' : Clients} {ls ls' ls'' : List Link} → EndsStay h h' cs cs' ls ls' → EndsStay h' h'' cs' cs'' ls' ls'' → EndsStay h h'' cs cs'' ls ls''
 stay_then {h} {h'} {h''} {cs} {cs'} {cs''} a b = record { quiet = λ d. untouched_twice d h h' h'' (a.quiet d) (b.quiet d); clients = keeps_twice cs cs' cs'' a.clients b.clients; links = b.links ∙ a.links }
 
 -- ---- limits
@@ -131,7 +131,7 @@ limits_lent any limits (first ∷ links) (suc at) x y was is = ap (λ ls. record
 
 -- and so have all, of which nothing else has changed
 pub stay_limits :
-    (h : List Event) (cs : Clients) (ls ls' : List Link) → ((any : LinkLimits) → with_limits any ls' ≡ with_limits any ls) → (any : LinkLimits) → EndsStay h h cs cs (with_limits any ls) (with_limits any ls')
+    (h : List WireEvent) (cs : Clients) (ls ls' : List Link) → ((any : LinkLimits) → with_limits any ls' ≡ with_limits any ls) → (any : LinkLimits) → EndsStay h h cs cs (with_limits any ls) (with_limits any ls')
 stay_limits h cs ls ls' same any = stay_links h cs (with_limits any ls) (with_limits any ls') (ap link_lines (same any))
 
 abbrev limited : LinkLimits → LineState → LineState
@@ -142,5 +142,5 @@ lines_limited any [] = refl
 lines_limited any (link ∷ links) = ap (λ l. line_of (record link { limits = any }) ∷ l) (lines_limited any links)
 
 -- what stays does so whatever limits links have
-pub stay_but_limits : {h h' : List Event} {cs cs' : Clients} {ls ls' : List Link} → EndsStay h h' cs cs' ls ls' → (any : LinkLimits) → EndsStay h h' cs cs' (with_limits any ls) (with_limits any ls')
+pub stay_but_limits : {h h' : List WireEvent} {cs cs' : Clients} {ls ls' : List Link} → EndsStay h h' cs cs' ls ls' → (any : LinkLimits) → EndsStay h h' cs cs' (with_limits any ls) (with_limits any ls')
 stay_but_limits {ls = ls} {ls' = ls'} s any = record { quiet = s.quiet; clients = s.clients; links = lines_limited any ls' ∙ ap (each (limited any)) s.links ∙ sym (lines_limited any ls) }

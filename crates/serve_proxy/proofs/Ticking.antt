@@ -2,7 +2,7 @@
 use Rattle.std.proofs.Common.{◌≡◌, ℕ, List, [], ◌∷◌, ◌++◌, Option, Some, None, refl, sym, subst}
 use Rattle.std.specs.Prelude.{IfSome}
 use Rattle.mc_types.specs.declared.ask.Dialect.{Dialect}
-use Rattle.serve_wire.specs.Events.{Event, ticks}
+use Rattle.serve_wire.specs.Events.{WireEvent, ticks}
 use Rattle.core_accepted.specs.declared.served.ServedCore.{ServedCore}
 use Rattle.serve_clients.specs.declared.clients.Client.{Client}
 use Rattle.serve_clients.specs.declared.clients.Clients.{Clients}
@@ -23,14 +23,14 @@ use Rattle.serve_proxy.proofs.Going.{agree_told}
 
 -- ---- no connection is touched by it
 
-client_ticks : (t : ℕ) (h : List Event) (input output : ℕ → List ℕ) (id : ℕ) (x : Client) → EndAgrees h input output id x → EndAgrees (ticks t ∷ h) input output id x
+client_ticks : (t : ℕ) (h : List WireEvent) (input output : ℕ → List ℕ) (id : ℕ) (x : Client) → EndAgrees h input output id x → EndAgrees (ticks t ∷ h) input output id x
 client_ticks t h input output id x was = record {
   stands = λ is. let w = was.stands is in record { is_its = w.is_its; input_is = w.input_is; output_is = w.output_is };
   lost = λ is. let w = was.lost is in record { is_its = w.is_its; unread = w.unread; input_is = w.input_is; unsent = w.unsent; output_is = w.output_is };
   ended = was.ended;
 }
 
-clients_tick : (t : ℕ) (h : List Event) (input output : ℕ → List ℕ) (cs : Clients) → AllAgree h input output cs → AllAgree (ticks t ∷ h) input output cs
+clients_tick : (t : ℕ) (h : List WireEvent) (input output : ℕ → List ℕ) (cs : Clients) → AllAgree h input output cs → AllAgree (ticks t ∷ h) input output cs
 clients_tick t h input output cs was id = by (client_of cs id) (was id)
   where
     by : (o : Option Client) → IfSome o (EndAgrees h input output id) → IfSome o (EndAgrees (ticks t ∷ h) input output id)
@@ -38,15 +38,15 @@ clients_tick t h input output cs was id = by (client_of cs id) (was id)
     by (Some x) a = client_ticks t h input output id x a
 
 talk_ticks :
-    (t : ℕ) {h : List Event} {at : ℕ} {text : List ℕ} {talk : Talk} {c : ℕ} {held unsent : List ℕ} {out : List SaidAsk} {awaits : Option Greeting} {dialect : Dialect} {late : List SaidAsk}
+    (t : ℕ) {h : List WireEvent} {at : ℕ} {text : List ℕ} {talk : Talk} {c : ℕ} {held unsent : List ℕ} {out : List SaidAsk} {awaits : Option Greeting} {dialect : Dialect} {late : List SaidAsk}
     → TalkAgrees h at text talk c held unsent out awaits dialect late → TalkAgrees (ticks t ∷ h) at text talk c held unsent out awaits dialect late
 talk_ticks t was = record { is_to = was.is_to; address = was.address; sent_is = was.sent_is; told_is = was.told_is; out_is = was.out_is; awaits_is = was.awaits_is; dialect_is = was.dialect_is; late_is = was.late_is }
 
-unused_ticks : (t : ℕ) (h : List Event) (at : ℕ) (text : List ℕ) (talk : Talk) (o : Option ℕ) → Unused h at text talk o → Unused (ticks t ∷ h) at text talk o
+unused_ticks : (t : ℕ) (h : List WireEvent) (at : ℕ) (text : List ℕ) (talk : Talk) (o : Option ℕ) → Unused h at text talk o → Unused (ticks t ∷ h) at text talk o
 unused_ticks t h at text talk None was = was
 unused_ticks t h at text talk (Some c) was = (was.0, was.1, was.2, talk_ticks t was.3)
 
-line_ticks : (t at : ℕ) (past : List Step) (h : List Event) (link : Link) → LineAgrees at past h link → LineAgrees at (Ticked t ∷ past) (ticks t ∷ h) link
+line_ticks : (t at : ℕ) (past : List Step) (h : List WireEvent) (link : Link) → LineAgrees at past h link → LineAgrees at (Ticked t ∷ past) (ticks t ∷ h) link
 line_ticks t at past h link was = record {
   conn = λ conn is. talk_ticks t (was.conn conn is);
   goes_on = was.goes_on;
@@ -61,9 +61,9 @@ line_ticks t at past h link was = record {
 
 -- the clock was looked at, and showed this
 pub ticked :
-    (t : ℕ) (h h' : List Event) {cs : Clients} {ls : List Link} → h' ≡ ticks t ∷ h → (core : ServedCore)
+    (t : ℕ) (h h' : List WireEvent) {cs : Clients} {ls : List Link} → h' ≡ ticks t ∷ h → (core : ServedCore)
     → AllGo IsOfTurn (record { core = core; history = h; clients = cs; links = ls }) (record { core = core; history = h'; clients = cs; links = ls })
-ticked t h h' {cs} {ls} is core = subst (λ (k : List Event). AllGo IsOfTurn (record { core = core; history = h; clients = cs; links = ls }) (record { core = core; history = k; clients = cs; links = ls })) (sym is) (record {
+ticked t h h' {cs} {ls} is core = subst (λ (k : List WireEvent). AllGo IsOfTurn (record { core = core; history = h; clients = cs; links = ls }) (record { core = core; history = k; clients = cs; links = ls })) (sym is) (record {
   steps = Ticked t ∷ [];
   kinds = (tt, tt);
   walks = (core, refl, refl);

@@ -5,14 +5,14 @@ use Rattle.std.specs.Prelude.{◌==◌, ◌||◌, nat_eq, IfSome, IfErr, OnOk, s
 use Rattle.std.specs.Option.{option_map, option_flatten}
 use Rattle.fresh_runs.specs.Overlap as log
 use Rattle.wire_parts.specs.Sending.{bytes_of}
-use Rattle.serve_wire.specs.Events.{Event, admits, looks_up, accepts, role, delivered, taken, is_open, time, IsNew}
+use Rattle.serve_wire.specs.Events.{WireEvent, admits, looks_up, accepts, role, delivered, taken, is_open, time, IsUntold}
 use Rattle.serve_wire.specs.Agreement.{Extends, TouchesOnly, IsUntouched}
 use Rattle.serve_wire.specs.Calls.{Closes}
 use Rattle.serve_wire.proofs.Steps.{equal, unequal, apart, new_apart, untouched, untouched_twice, only_admits, only_accepts, only_after, extends_twice, only_time, none_looks_up}
 use Rattle.serve_wire.proofs.Touching.{only_same, only_closed}
 use Rattle.core_proxy.specs.declared.fault.CoreFault.{CoreFault}
 use Rattle.core_proxy.specs.Faults.{OutputFault}
-use Rattle.core_proxy.specs.CoreState.{Gives, client_at, output_by}
+use Rattle.core_proxy.specs.CoreState.{GivesAll, client_at, output_by}
 use Rattle.core_accepted.specs.Logs.{LogsGoBy}
 use Rattle.core_accepted.specs.declared.served.ServedCore.{ServedCore}
 use Rattle.serve_clients.specs.declared.clients.Client.{Client}
@@ -29,7 +29,7 @@ use Rattle.serve_links.proofs.Shutting.{closed_shut, shut_without, shut_opened, 
 use Rattle.serve_links.proofs.ByLimits.{servers_same, clients_servers}
 use Rattle.serve_links.proofs.Showing.{plain_unlost, shown_later}
 use Rattle.serve_links.specs.Talks.{Talk, IsOfClients}
-use Rattle.serve_links.specs.Called.{TellsCalls, GiveOnce}
+use Rattle.serve_links.specs.Called.{TellsCallsOut, GiveOnce}
 use Rattle.serve_links.proofs.Called.{walks_tell_calls}
 use Rattle.serve_links.proofs.Due.{clients_stay}
 use Rattle.serve_links.proofs.Talking.{IsPlain, plain_talk, clients_orderly, clients_clock}
@@ -41,24 +41,24 @@ use Rattle.serve_proxy.proofs.Going.{IsSilent, tells_none, silent_turn, silent_p
 
 -- ---- what happened on no connection
 
-pub stay_same : (h h' : List Event) (cs : Clients) (ls : List Link) → h' ≡ h → EndsStay h h' cs cs ls ls
+pub stay_same : (h h' : List WireEvent) (cs : Clients) (ls : List Link) → h' ≡ h → EndsStay h h' cs cs ls ls
 stay_same h h' cs ls same = record { quiet = λ d. subst (IsUntouched d h) (sym same) (untouched d h); clients = keeps_none cs; links = refl }
 
-pub stay_looks_up : (text : List ℕ) (h h' : List Event) (cs : Clients) (ls : List Link) → h' ≡ looks_up text ∷ h → EndsStay h h' cs cs ls ls
+pub stay_looks_up : (text : List ℕ) (h h' : List WireEvent) (cs : Clients) (ls : List Link) → h' ≡ looks_up text ∷ h → EndsStay h h' cs cs ls ls
 stay_looks_up text h h' cs ls is = record { quiet = λ d. subst (IsUntouched d h) (sym is) (none_looks_up text d h); clients = keeps_none cs; links = refl }
 
 -- who was accepted is nobody's client yet
-pub accepted_role : (c : ℕ) (h h' : List Event) → IsNew c h × (h' ≡ accepts c ∷ h) → role c h' ≡ None
+pub accepted_role : (c : ℕ) (h h' : List WireEvent) → IsUntold c h × (h' ≡ accepts c ∷ h) → role c h' ≡ None
 accepted_role c h h' is = ap (role c) is.1 ∙ is.0.no_role
 
-pub accepted_only : (c : ℕ) (h h' : List Event) → h' ≡ accepts c ∷ h → TouchesOnly c h h'
+pub accepted_only : (c : ℕ) (h h' : List WireEvent) → h' ≡ accepts c ∷ h → TouchesOnly c h h'
 accepted_only c h h' is = subst (TouchesOnly c h) (sym is) (only_accepts c h)
 
 -- ---- clients among all
 
 -- an end that nothing touched, and of which nothing more was told
 end_moved :
-    (h h' : List Event) (input output input' output' : ℕ → List ℕ) (id : ℕ) (x : Client) → IsUntouched x.conn.number h h' → input' id ≡ input id → output' id ≡ output id
+    (h h' : List WireEvent) (input output input' output' : ℕ → List ℕ) (id : ℕ) (x : Client) → IsUntouched x.conn.number h h' → input' id ≡ input id → output' id ≡ output id
     → EndAgrees h input output id x → EndAgrees h' input' output' id x
 end_moved h h' input output input' output' id x same fed gave was =
     let a = state_stays h h' input output id x.conn.number x.conn.held.items (bytes_of x.conn.unsent) x.is_broken x.is_ended same was in
@@ -69,19 +69,19 @@ end_moved h h' input output input' output' id x same fed gave was =
     }
 
 if_moved :
-    (h h' : List Event) (input output input' output' : ℕ → List ℕ) (id : ℕ) (o : Option Client) → ((c : ℕ) → role c h ≡ Some (0, id) → IsUntouched c h h') → input' id ≡ input id → output' id ≡ output id
+    (h h' : List WireEvent) (input output input' output' : ℕ → List ℕ) (id : ℕ) (o : Option Client) → ((c : ℕ) → role c h ≡ Some (0, id) → IsUntouched c h h') → input' id ≡ input id → output' id ≡ output id
     → IfSome o (EndAgrees h input output id) → IfSome o (EndAgrees h' input' output' id)
 if_moved h h' input output input' output' id None same fed gave was = tt
 if_moved h h' input output input' output' id (Some x) same fed gave was = end_moved h h' input output input' output' id x (same x.conn.number (its h input output id x was)) fed gave was
 
 -- what touches no server's connection leaves all links as they were
 lines_apart :
-    (h h' : List Event) (steps past : List Step) (ls : List Link) → ((d at : ℕ) → role d h ≡ Some (1, at) → IsUntouched d h h') → StepsAreOf IsPlain steps → ((at : ℕ) → StayOut at past (steps ++ past)) → LinesAgree past h ls → LinesAgree (steps ++ past) h' ls
+    (h h' : List WireEvent) (steps past : List Step) (ls : List Link) → ((d at : ℕ) → role d h ≡ Some (1, at) → IsUntouched d h h') → StepsAreOf IsPlain steps → ((at : ℕ) → StayOut at past (steps ++ past)) → LinesAgree past h ls → LinesAgree (steps ++ past) h' ls
 lines_apart h h' steps past ls only plain stay was at link there =
     line_stays h h' at steps past link (λ c of_c. only c at of_c) (plain_talk steps plain past at) (stay at) (was at link there)
 
 -- what touches a new connection alone, which isn't open then, leaves all clients as they were, too: one was turned away
-pub new_touched : {h h' : List Event} {cs : Clients} {ls : List Link} (c : ℕ) → role c h ≡ None → role c h' ≡ None → is_open c h' ≡ false → TouchesOnly c h h' → EndsGo h h' cs cs ls ls
+pub new_touched : {h h' : List WireEvent} {cs : Clients} {ls : List Link} (c : ℕ) → role c h ≡ None → role c h' ≡ None → is_open c h' ≡ false → TouchesOnly c h h' → EndsGo h h' cs cs ls ls
 new_touched {h} {h'} {cs} {ls} c none none_now shut only = λ core. record {
   steps = [];
   kinds = tt;
@@ -108,32 +108,32 @@ number_is : {m n : ℕ} → ◌≡◌ {A = Option ℕ} (Some m) (Some n) → m �
 number_is e = cc
 
 -- what is told of a connection doesn't change when one is closed
-closed_tells : (c d : ℕ) (h h' : List Event) → Closes c h h' → TellsSame d h h'
+closed_tells : (c d : ℕ) (h h' : List WireEvent) → Closes c h h' → TellsSame d h h'
 closed_tells c d h h' (inl closed) = (ap (role d) closed, ap (delivered d) closed, ap (taken d) closed)
 closed_tells c d h h' (inr same) = (ap (role d) same.0, ap (delivered d) same.0, ap (taken d) same.0)
 
-tells_twice : (d : ℕ) (h h' h'' : List Event) → TellsSame d h h' → TellsSame d h' h'' → TellsSame d h h''
+tells_twice : (d : ℕ) (h h' h'' : List WireEvent) → TellsSame d h h' → TellsSame d h' h'' → TellsSame d h h''
 tells_twice d h h' h'' a b = (b.0 ∙ a.0, b.1 ∙ a.1, b.2 ∙ a.2)
 
 -- the connection of a client was closed, if there was one
-pub record IsDropped (kept : Option ℕ) (h h' : List Event) : Type 0 where
+pub record IsDropped (kept : Option ℕ) (h h' : List WireEvent) : Type 0 where
   pub some : IfSome kept (λ c. Closes c h h')
   pub none : kept ≡ None → h' ≡ h
 
-pub dropped_tells : (kept : Option ℕ) (d : ℕ) (h h' : List Event) → IsDropped kept h h' → TellsSame d h h'
+pub dropped_tells : (kept : Option ℕ) (d : ℕ) (h h' : List WireEvent) → IsDropped kept h h' → TellsSame d h h'
 dropped_tells None d h h' q = let same = q.none refl in (ap (role d) same, ap (delivered d) same, ap (taken d) same)
 dropped_tells (Some c) d h h' q = closed_tells c d h h' q.some
 
-dropped_after : (kept : Option ℕ) (h h' : List Event) → IsDropped kept h h' → Extends h h'
+dropped_after : (kept : Option ℕ) (h h' : List WireEvent) → IsDropped kept h h' → Extends h h'
 dropped_after None h h' q = ([], q.none refl)
 dropped_after (Some c) h h' q = only_after c h h' (only_closed c h h' q.some)
 
-dropped_time : (kept : Option ℕ) (h h' : List Event) → IsDropped kept h h' → time h' ≡ time h
+dropped_time : (kept : Option ℕ) (h h' : List WireEvent) → IsDropped kept h h' → time h' ≡ time h
 dropped_time None h h' q = ap time (q.none refl)
 dropped_time (Some c) h h' q = only_time c h h' (only_closed c h h' q.some)
 
 -- a connection that is open still is another one
-dropped_opens : (kept : Option ℕ) (d : ℕ) (h h' : List Event) → IsDropped kept h h' → is_open d h' ≡ true → (is_open d h ≡ true) × (kept ≢ Some d)
+dropped_opens : (kept : Option ℕ) (d : ℕ) (h h' : List WireEvent) → IsDropped kept h h' → is_open d h' ≡ true → (is_open d h ≡ true) × (kept ≢ Some d)
 dropped_opens None d h h' q on = (sym (ap (is_open d) (q.none refl)) ∙ on, λ e. none_is e)
 dropped_opens (Some c) d h h' q on = elim (cases_Bool (nat_eq c d)) [ inl e ↦ absurd (false_true (sym (closed_shut c h h' q.some) ∙ ap (λ k. is_open k h') (eqb-true c d e) ∙ on)) | inr e ↦ (sym (only_closed c h h' q.some d e).same_open ∙ on, λ is. false_true (sym e ∙ eq-eqb c d (number_is is))) ]
   where
@@ -142,14 +142,14 @@ dropped_opens (Some c) d h h' q on = elim (cases_Bool (nat_eq c d)) [ inl e ↦ 
 
 -- no connection of another was touched
 dropped_only :
-    (id : ℕ) (o : Option Client) (h h' : List Event) → IsDropped (option_map (λ (x : Client). x.conn.number) o) h h' → IfSome o (λ x. role x.conn.number h ≡ Some (0, id))
+    (id : ℕ) (o : Option Client) (h h' : List WireEvent) → IsDropped (option_map (λ (x : Client). x.conn.number) o) h h' → IfSome o (λ x. role x.conn.number h ≡ Some (0, id))
     → (d : ℕ) (p : ℕ × ℕ) → role d h ≡ Some p → p ≢ (0, id) → IsUntouched d h h'
 dropped_only id None h h' q is d p of_d other = subst (IsUntouched d h) (sym (q.none refl)) (untouched d h)
 dropped_only id (Some x) h h' q is d p of_d other = only_closed x.conn.number h h' q.some d (apart x.conn.number d h (0, id) p is of_d (λ same. other (sym same)))
 
 -- a client was opened under this id for a peer that was just accepted: the end of that id is gone, if there was one, and the new one has begun, or is not there
 pub opened_go :
-    {h h1 h2 h' : List Event} {cs cs' : Clients} {ls : List Link} (id c : ℕ) (b last : ServedCore) → IsNew c h → h1 ≡ accepts c ∷ h → IsDropped (client_conn cs id) h1 h2 → TouchesOnly c h2 h' → IsUnused c h'
+    {h h1 h2 h' : List WireEvent} {cs cs' : Clients} {ls : List Link} (id c : ℕ) (b last : ServedCore) → IsUntold c h → h1 ≡ accepts c ∷ h → IsDropped (client_conn cs id) h1 h2 → TouchesOnly c h2 h' → IsUnused c h'
     → (is_open c h' ≡ true → (client_conn cs' id ≡ Some c) × (role c h' ≡ Some (0, id))) → ((j : ℕ) → j ≢ id → client_of cs' j ≡ client_of cs j)
     → IfSome (client_of cs' id) (EndAgrees h' (λ j. []) (λ j. []) id) → IfSome (client_of cs' id) (λ x. x.is_broken ≡ false) → GoesBy IsSilent b last → (before : ServedCore) → Does (Opened id) before b
     → AllGo IsOfTurn (record { core = before; history = h; clients = cs; links = ls }) (record { core = last; history = h'; clients = cs'; links = ls })
@@ -173,10 +173,10 @@ opened_go {h} {h1} {h2} {h'} {cs} {cs'} {ls} id c b last new is dropped only unu
 }
   where
     -- the core has those calls out that are told to be
-    had : (past : List Step) → Agrees past (record { core = before; history = h; clients = cs; links = ls }) → TellsCalls (Opened id ∷ past) b
+    had : (past : List Step) → Agrees past (record { core = before; history = h; clients = cs; links = ls }) → TellsCallsOut (Opened id ∷ past) b
     had past was = (walks_tell_calls.goes_on (Opened id ∷ []) past before b was.calls (before, refl, does)).0
 
-    tells_calls : (past : List Step) → Agrees past (record { core = before; history = h; clients = cs; links = ls }) → TellsCalls (q.steps ++ Opened id ∷ past) last × GiveOnce q.steps (Opened id ∷ past)
+    tells_calls : (past : List Step) → Agrees past (record { core = before; history = h; clients = cs; links = ls }) → TellsCallsOut (q.steps ++ Opened id ∷ past) last × GiveOnce q.steps (Opened id ∷ past)
     tells_calls past was = walks_tell_calls.goes_on q.steps (Opened id ∷ past) b last (had past was) q.walks
 
     one_zero : ◌≡◌ {A = ℕ} 1 0 → ⊥
@@ -271,7 +271,7 @@ new_said x c number none stands =
 
 -- its end agrees with nothing fed and nothing given
 pub begun_agrees :
-    (h h' : List Event) (id c : ℕ) (o : Option Client) → IsUnused c h → h' ≡ admits c id ∷ h → option_map end_said_of o ≡ Some (c, [], [], false, false) → IfSome o (EndAgrees h' (λ j. []) (λ j. []) id)
+    (h h' : List WireEvent) (id c : ℕ) (o : Option Client) → IsUnused c h → h' ≡ admits c id ∷ h → option_map end_said_of o ≡ Some (c, [], [], false, false) → IfSome o (EndAgrees h' (λ j. []) (λ j. []) id)
 begun_agrees h h' id c None new is said = tt
 begun_agrees h h' id c (Some x) new is said =
     subst (λ (s : ℕ × List ℕ × List ℕ × Bool × Bool). StateAgrees h' (λ j. []) (λ j. []) id s.0 s.1 s.2 s.3 s.4) (sym (same_some said))
@@ -284,7 +284,7 @@ begun_agrees h h' id c (Some x) new is said =
     false_true : false ≡ true → ⊥
     false_true e = cc
 
-pub none_agrees : (h : List Event) (id : ℕ) (o : Option Client) → o ≡ None → IfSome o (EndAgrees h (λ j. []) (λ j. []) id)
+pub none_agrees : (h : List WireEvent) (id : ℕ) (o : Option Client) → o ≡ None → IfSome o (EndAgrees h (λ j. []) (λ j. []) id)
 none_agrees h id o none = subst (λ p. IfSome p (EndAgrees h (λ j. []) (λ j. []) id)) (sym none) tt
 
 -- a new end isn't broken off
@@ -298,19 +298,19 @@ begun_stands c (Some x) said = ap (λ (s : ℕ × List ℕ × List ℕ × Bool �
 pub none_stands : (o : Option Client) → o ≡ None → IfSome o (λ x. x.is_broken ≡ false)
 none_stands o none = subst (λ p. IfSome p (λ x. x.is_broken ≡ false)) (sym none) tt
 
-pub only_may : (c id : ℕ) (h h' : List Event) → MayAdmit c id h h' → TouchesOnly c h h'
+pub only_may : (c id : ℕ) (h h' : List WireEvent) → MayAdmit c id h h' → TouchesOnly c h h'
 only_may c id h h' (inl is) = subst (TouchesOnly c h) (sym is) (only_admits c id h)
 only_may c id h h' (inr same) = only_same c h h' same
 
 -- nothing came or went over it, before and after
-pub unused_new : (c : ℕ) (kept : Option ℕ) (h h1 h2 : List Event) → IsNew c h → h1 ≡ accepts c ∷ h → IsDropped kept h1 h2 → IsUnused c h2
+pub unused_new : (c : ℕ) (kept : Option ℕ) (h h1 h2 : List WireEvent) → IsUntold c h → h1 ≡ accepts c ∷ h → IsDropped kept h1 h2 → IsUnused c h2
 unused_new c kept h h1 h2 new is dropped = let same = dropped_tells kept c h1 h2 dropped in (same.1 ∙ ap (delivered c) is ∙ new.none_came, same.2 ∙ ap (taken c) is ∙ new.none_went)
 
-pub unused_may : (c id : ℕ) (h h' : List Event) → MayAdmit c id h h' → IsUnused c h → IsUnused c h'
+pub unused_may : (c id : ℕ) (h h' : List WireEvent) → MayAdmit c id h h' → IsUnused c h → IsUnused c h'
 unused_may c id h h' (inl is) was = (ap (delivered c) is ∙ was.0, ap (taken c) is ∙ was.1)
 unused_may c id h h' (inr same) was = (ap (delivered c) same ∙ was.0, ap (taken c) same ∙ was.1)
 
-pub unused_closed : (c : ℕ) (h h' : List Event) → Closes c h h' → IsUnused c h → IsUnused c h'
+pub unused_closed : (c : ℕ) (h h' : List WireEvent) → Closes c h h' → IsUnused c h → IsUnused c h'
 unused_closed c h h' closes was = let same = closed_tells c c h h' closes in (same.1 ∙ was.0, same.2 ∙ was.1)
 
 -- the connection that a new end has
@@ -335,7 +335,7 @@ gone_others cs cs' id gone j other = kept cs.all.items cs'.all.items id j None o
 
 -- one was closed by the core, and is gone, and its connection was closed
 pub gone_go :
-    {h h' : List Event} {cs cs' : Clients} {ls : List Link} (id : ℕ) → cs'.all.items ≡ slice_set cs.all.items id None → IsDropped (client_conn cs id) h h' → (before core : ServedCore) → Does (Closed id) before core → IsAllSentTo id cs
+    {h h' : List WireEvent} {cs cs' : Clients} {ls : List Link} (id : ℕ) → cs'.all.items ≡ slice_set cs.all.items id None → IsDropped (client_conn cs id) h h' → (before core : ServedCore) → Does (Closed id) before core → IsAllSentTo id cs
     → AllGoFrom (AgreesGiven id) Agrees (IsClosing id) (record { core = before; history = h; clients = cs; links = ls }) (record { core = core; history = h'; clients = cs'; links = ls })
 gone_go {h} {h'} {cs} {cs'} {ls} id gone dropped before core does sent = record {
   steps = Closed id ∷ [];
@@ -411,13 +411,13 @@ gone_go {h} {h'} {cs} {cs'} {ls} id gone dropped before core does sent = record 
 -- ---- what the core gave
 
 -- nothing more is read of it
-pub ended_agrees : (h : List Event) (x y : Client) → y ≡ record x { is_ended = true } → GoesOnAgreeing h h x y
+pub ended_agrees : (h : List WireEvent) (x y : Client) → y ≡ record x { is_ended = true } → GoesOnAgreeing h h x y
 ended_agrees h x y is = λ input output id was.
     subst (λ z. EndAgrees h input output id z) (sym is) (record { stands = was.stands; lost = was.lost; ended = λ on. ((was.ended on).0, refl) })
 
 -- the core gave what it had, and the end was broken off
 pub one_lost :
-    {id : ℕ} {a b : ServedCore} {h : List Event} (x y : Client) (r : Result (Unit {0}) CoreFault) → OnOk r (Gives a.core id (output_by (client_at a.core id)) b.core)
+    {id : ℕ} {a b : ServedCore} {h : List WireEvent} (x y : Client) (r : Result (Unit {0}) CoreFault) → OnOk r (GivesAll a.core id (output_by (client_at a.core id)) b.core)
     → IfErr r (λ fault. OutputFault a.core id fault × (b ≡ a)) → OnOk r (LogsGoBy a (λ entries. entries ≡ log.Gives id (output_by (client_at a.core id)) ∷ []) b)
     → Breaks x y → OneGoes IsOfTurn id a h x b h y
 one_lost {id} {a} {b} {h} x y (Ok done) ok err fresh breaks =
@@ -431,7 +431,7 @@ one_lost {id} {a} {b} {h} x y (Err fault) ok err fresh breaks = one_breaks x y e
 
 -- the core gave nothing, as nothing stands where that would
 pub one_empty :
-    {id : ℕ} {a b : ServedCore} {h : List Event} (x : Client) (r : Result (Unit {0}) CoreFault) (out out' : List ℕ) → OnOk r (Gives a.core id (output_by (client_at a.core id)) b.core)
+    {id : ℕ} {a b : ServedCore} {h : List WireEvent} (x : Client) (r : Result (Unit {0}) CoreFault) (out out' : List ℕ) → OnOk r (GivesAll a.core id (output_by (client_at a.core id)) b.core)
     → IfErr r (λ fault. OutputFault a.core id fault × (b ≡ a)) → OnOk r (LogsGoBy a (λ entries. entries ≡ log.Gives id (output_by (client_at a.core id)) ∷ []) b)
     → OnOk r (out' ≡ out ++ output_by (client_at a.core id)) → out' ≡ [] → OneGoes IsOfTurn id a h x b h x
 one_empty {id} {a} {b} {h} x (Ok done) out out' ok err fresh more none =

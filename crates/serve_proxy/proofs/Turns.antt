@@ -3,9 +3,9 @@ use Rattle.std.proofs.Common.{◌≡◌, ℕ, zero, suc, ◌+◌, ◌<◌, Bool,
 use Rattle.std.proofs.Math.ListN.{set}
 use Rattle.std.specs.Prelude.{slice_get, not}
 use Rattle.route_json.specs.NumberedServers.{Addresses}
-use Rattle.route_json.specs.ServerNames.{is_over}
+use Rattle.route_json.specs.ServerNames.{epoch_is_over}
 use Rattle.serve_links.specs.declared.link.Link.{Link}
-use Rattle.serve_links.specs.Epochs.{is_retired, with_retired, IsQuiet}
+use Rattle.serve_links.specs.Epochs.{is_retired, with_retired, LinkIsQuiet}
 use Rattle.serve_proxy.specs.Epochs.{share_address, HaveEnded, EpochIsInTurn, Retires}
 use Rattle.serve_links.specs.declared.settings.LinkLimits.{LinkLimits}
 use Rattle.serve_proxy.specs.Emptying.{EmptiesAt}
@@ -85,8 +85,8 @@ retires_none links at b none = record {
 
 -- ---- what is kept then
 
-still_quiet : (was link : Link) → link ≡ with_retired (is_retired link) was → IsQuiet was → IsQuiet link
-still_quiet was link same quiet = subst IsQuiet (sym same) (record { sent = quiet.sent; waiting = quiet.waiting; late = quiet.late; draining = quiet.draining })
+still_quiet : (was link : Link) → link ≡ with_retired (is_retired link) was → LinkIsQuiet was → LinkIsQuiet link
+still_quiet was link same quiet = subst LinkIsQuiet (sym same) (record { sent = quiet.sent; waiting = quiet.waiting; late = quiet.late; draining = quiet.draining })
 
 still_ended : (names : Addresses) (at k : ℕ) (b : Bool) (old new : List Link) → Retires k b old new → HaveEnded names at old → HaveEnded names at new
 still_ended names at k b old new r ended = λ earlier before shares link is.
@@ -101,7 +101,7 @@ still_in_turn names at k b old new r other turn = λ link is used.
 
 -- this one is
 pub now_in_turn :
-    (names : Addresses) (at : ℕ) (b : Bool) (old new : List Link) → Retires at b old new → (b ≡ false → (is_over names at ≡ false) × HaveEnded names at old) → EpochIsInTurn names new at
+    (names : Addresses) (at : ℕ) (b : Bool) (old new : List Link) → Retires at b old new → (b ≡ false → (epoch_is_over names at ≡ false) × HaveEnded names at old) → EpochIsInTurn names new at
 now_in_turn names at b old new r when = λ link is used.
     let was = when (sym (r.one link is) ∙ used) in
     (was.0, still_ended names at at b old new r was.1)
@@ -129,14 +129,14 @@ one_more names at b old new r here before = λ k within. by k (split_last k at w
 
 -- one more server has left
 pub ended_more :
-    (names : Addresses) (at i : ℕ) (links : List Link) → ((e : ℕ) → e < i → share_address names e at ≡ true → (link : Link) → slice_get links e ≡ Some link → IsQuiet link)
-    → (share_address names i at ≡ true → (link : Link) → slice_get links i ≡ Some link → IsQuiet link)
-    → (e : ℕ) → e < i + 1 → share_address names e at ≡ true → (link : Link) → slice_get links e ≡ Some link → IsQuiet link
+    (names : Addresses) (at i : ℕ) (links : List Link) → ((e : ℕ) → e < i → share_address names e at ≡ true → (link : Link) → slice_get links e ≡ Some link → LinkIsQuiet link)
+    → (share_address names i at ≡ true → (link : Link) → slice_get links i ≡ Some link → LinkIsQuiet link)
+    → (e : ℕ) → e < i + 1 → share_address names e at ≡ true → (link : Link) → slice_get links e ≡ Some link → LinkIsQuiet link
 ended_more names at i links before here = λ e within. by e (split_last e i within)
   where
-    by : (e : ℕ) → (e < i) ⊎ (e ≡ i) → share_address names e at ≡ true → (link : Link) → slice_get links e ≡ Some link → IsQuiet link
+    by : (e : ℕ) → (e < i) ⊎ (e ≡ i) → share_address names e at ≡ true → (link : Link) → slice_get links e ≡ Some link → LinkIsQuiet link
     by e (inl less) = before e less
-    by e (inr same) = subst (λ (k : ℕ). share_address names k at ≡ true → (link : Link) → slice_get links k ≡ Some link → IsQuiet link) (sym same) here
+    by e (inr same) = subst (λ (k : ℕ). share_address names k at ≡ true → (link : Link) → slice_get links k ≡ Some link → LinkIsQuiet link) (sym same) here
 
 not_false : (b : Bool) → not b ≡ false → b ≡ true
 not_false true is = refl
@@ -144,5 +144,5 @@ not_false false is = sym is
 
 -- this one is in turn if that was so before
 pub in_turn_if :
-    (names : Addresses) (at : ℕ) (b : Bool) (old new : List Link) → Retires at (not b) old new → (b ≡ true → (is_over names at ≡ false) × HaveEnded names at old) → EpochIsInTurn names new at
+    (names : Addresses) (at : ℕ) (b : Bool) (old new : List Link) → Retires at (not b) old new → (b ≡ true → (epoch_is_over names at ≡ false) × HaveEnded names at old) → EpochIsInTurn names new at
 in_turn_if names at b old new r when = now_in_turn names at (not b) old new r (λ is. when (not_false b is))

@@ -3,7 +3,7 @@ use Rattle.std.specs.Prelude.{Bool, ◌≡◌, ◌≢◌, ℕ, List, [], ◌∷�
 use Rattle.wire_parts.specs.Sending.{bytes_of}
 use Rattle.mc_types.specs.declared.ask.Dialect.{Dialect}
 use Rattle.mc_types.specs.declared.ask.Dialect.TheVariants.{Classic}
-use Rattle.serve_wire.specs.Events.{Event, accepts, admits, role, is_open, time, IsNew}
+use Rattle.serve_wire.specs.Events.{WireEvent, accepts, admits, role, is_open, time, IsUntold}
 use Rattle.serve_wire.specs.Agreement.{IsUntouched}
 use Rattle.core_commands.specs.declared.ticket.Ticket.{Ticket}
 use Rattle.route_json.specs.Configuration.{Configuration}
@@ -30,21 +30,21 @@ abbrev pub link_lines : List Link → List LineState
 link_lines links = each line_of links
 
 -- of no connection anything has changed, and the clock wasn't looked at
-abbrev pub WireIsQuiet : List Event → List Event → Type 0
+abbrev pub WireIsQuiet : List WireEvent → List WireEvent → Type 0
 WireIsQuiet h h' = (d : ℕ) → IsUntouched d h h'
 
 -- nothing happened on any connection, each client has the end that it had, and each link the line
-pub record EndsStay (h h' : List Event) (cs cs' : Clients) (ls ls' : List Link) : Type 0 where
+pub record EndsStay (h h' : List WireEvent) (cs cs' : Clients) (ls ls' : List Link) : Type 0 where
   pub quiet : WireIsQuiet h h'
   pub clients : KeepsEnds cs cs'
   pub links : link_lines ls' ≡ link_lines ls
 
 -- whatever a core is, without a call of it the ends go on: where the one held of them and of all calls before, the other holds of them and of all calls after
-abbrev pub EndsGoFrom : (Before After : List Step → AnEnd → Type 0) (h h' : List Event) (cs cs' : Clients) (ls ls' : List Link) → Type 0
+abbrev pub EndsGoFrom : (Before After : List Step → AnEnd → Type 0) (h h' : List WireEvent) (cs cs' : Clients) (ls ls' : List Link) → Type 0
 EndsGoFrom Before After h h' cs cs' ls ls' =
     (core : ServedCore) → AllGoFrom Before After IsSending (record { core = core; history = h; clients = cs; links = ls }) (record { core = core; history = h'; clients = cs'; links = ls' })
 
-abbrev pub EndsGo : (h h' : List Event) (cs cs' : Clients) (ls ls' : List Link) → Type 0
+abbrev pub EndsGo : (h h' : List WireEvent) (cs cs' : Clients) (ls ls' : List Link) → Type 0
 EndsGo = EndsGoFrom Agrees Agrees
 
 -- the ends agree, and the core gave out this call for this server
@@ -79,21 +79,21 @@ HoldsAwaitedAt at links = IfSome (slice_get links at) HoldsAwaited
 
 -- of links alone: this call, which may go to this server, was taken over by its link; or it was taken from there
 abbrev pub LinksTake : ℕ → SentCall → List Link → List Link → Type 0
-LinksTake at call ls ls' = (h : List Event) (cs : Clients) → EndsGoFrom (AgreesSent at call) Agrees h h cs cs ls ls'
+LinksTake at call ls ls' = (h : List WireEvent) (cs : Clients) → EndsGoFrom (AgreesSent at call) Agrees h h cs cs ls ls'
 
 abbrev pub LinksGive : ℕ → SentCall → List Link → List Link → Type 0
-LinksGive at call ls ls' = (h : List Event) (cs : Clients) → EndsGoFrom Agrees (AgreesSent at call) h h cs cs ls ls'
+LinksGive at call ls ls' = (h : List WireEvent) (cs : Clients) → EndsGoFrom Agrees (AgreesSent at call) h h cs cs ls ls'
 
 -- whatever a core is, without a call of it a link's end goes on
-abbrev pub LineStands : ℕ → List Event → List Event → Link → Link → Type 0
+abbrev pub LineStands : ℕ → List WireEvent → List WireEvent → Link → Link → Type 0
 LineStands at h h' old new = (core : ServedCore) → LineGoes IsSending at core h old core h' new
 
 -- the same of one that is to be given up for a cause, if there is one
-abbrev pub LineUnless : Option Cause → ℕ → List Step → List Event → Link → Type 0
+abbrev pub LineUnless : Option Cause → ℕ → List Step → List WireEvent → Link → Type 0
 LineUnless None = LineAgrees
 LineUnless (Some cause) = LineFails (Some cause)
 
-abbrev pub LineStandsUnless : Option Cause → ℕ → List Event → List Event → Link → Link → Type 0
+abbrev pub LineStandsUnless : Option Cause → ℕ → List WireEvent → List WireEvent → Link → Link → Type 0
 LineStandsUnless cause at h h' old new = (core : ServedCore) → LineGoesFrom LineAgrees (LineUnless cause) IsSending at core h old core h' new
 
 -- why a link's connection is over by what a read gave, if it is
@@ -124,14 +124,14 @@ broken_unless false = Some causes.Broken
 
 -- wherever it stands, a link takes over this call, which may go to its server
 abbrev pub LineTakes : SentCall → Link → Link → Type 0
-LineTakes call old new = (at : ℕ) (h : List Event) (core : ServedCore) → LineGoesFrom (LineCalled call) LineAgrees IsSending at core h old core h new
+LineTakes call old new = (at : ℕ) (h : List WireEvent) (core : ServedCore) → LineGoesFrom (LineCalled call) LineAgrees IsSending at core h old core h new
 
 -- wherever it stands, a link's end goes on by calls of the core, or is to be given up then for a cause
 abbrev pub LineGoesUnless : Option Cause → ServedCore → Link → ServedCore → Link → Type 0
-LineGoesUnless cause core old core' new = (at : ℕ) (h : List Event) → LineGoesFrom LineAgrees (LineUnless cause) IsOfTurn at core h old core' h new
+LineGoesUnless cause core old core' new = (at : ℕ) (h : List WireEvent) → LineGoesFrom LineAgrees (LineUnless cause) IsOfTurn at core h old core' h new
 
 -- of all but a core the ends are as they were
-abbrev pub Stay : {W : Type 0} → (W → List Event) → Sockets W → Sockets W → Type 0
+abbrev pub Stay : {W : Type 0} → (W → List WireEvent) → Sockets W → Sockets W → Type 0
 Stay history old new = EndsStay (history old.wire) (history new.wire) old.clients new.clients old.links.all.items new.links.all.items
 
 -- these links, but that each has these limits
@@ -139,16 +139,16 @@ abbrev pub with_limits : LinkLimits → List Link → List Link
 with_limits limits links = each (λ (link : Link). record link { limits = limits }) links
 
 -- of all but a core the ends are as they were, whatever limits links had and have
-abbrev pub StayButLimits : {W : Type 0} → (W → List Event) → Sockets W → Sockets W → Type 0
+abbrev pub StayButLimits : {W : Type 0} → (W → List WireEvent) → Sockets W → Sockets W → Type 0
 StayButLimits history old new =
     (limits : LinkLimits) → EndsStay (history old.wire) (history new.wire) old.clients new.clients (with_limits limits old.links.all.items) (with_limits limits new.links.all.items)
 
 -- whatever a core is, the ends go on once the clock was looked at, or without that
-abbrev pub AllTick : {W : Type 0} → (W → List Event) → Sockets W → Sockets W → Type 0
+abbrev pub AllTick : {W : Type 0} → (W → List WireEvent) → Sockets W → Sockets W → Type 0
 AllTick history old new = (core : ServedCore) → AllGo IsOfTurn (record { core = core; history = history old.wire; clients = old.clients; links = old.links.all.items }) (record { core = core; history = history new.wire; clients = new.clients; links = new.links.all.items })
 
 -- of all but a core the ends go on
-abbrev pub GoAlone : {W : Type 0} → (W → List Event) → Sockets W → Sockets W → Type 0
+abbrev pub GoAlone : {W : Type 0} → (W → List WireEvent) → Sockets W → Sockets W → Type 0
 GoAlone history old new = EndsGo (history old.wire) (history new.wire) old.clients new.clients old.links.all.items new.links.all.items
 
 -- all agree; only where the link at this place is to be given up for a cause, what it holds may be lost, and its connection shows why
@@ -156,57 +156,57 @@ abbrev pub AgreesUnless : ℕ → Option Cause → List Step → AnEnd → Type 
 AgreesUnless at None = Agrees
 AgreesUnless at (Some cause) = AgreesBut (LineFails (Some cause)) at
 
-abbrev pub GoAloneUnless : {W : Type 0} → ℕ → Option Cause → (W → List Event) → Sockets W → Sockets W → Type 0
+abbrev pub GoAloneUnless : {W : Type 0} → ℕ → Option Cause → (W → List WireEvent) → Sockets W → Sockets W → Type 0
 GoAloneUnless at cause history old new = EndsGoFrom Agrees (AgreesUnless at cause) (history old.wire) (history new.wire) old.clients new.clients old.links.all.items new.links.all.items
 
 -- a core, and the ends beside it
-abbrev pub end_of : {W : Type 0} → (W → List Event) → ServedCore → Sockets W → AnEnd
+abbrev pub end_of : {W : Type 0} → (W → List WireEvent) → ServedCore → Sockets W → AnEnd
 end_of history core sockets = record { core = core; history = history sockets.wire; clients = sockets.clients; links = sockets.links.all.items }
 
 -- the core goes on by calls of it alone, and the ends with it
-abbrev pub AllGoOn : {W : Type 0} → (W → List Event) → ServedCore → Sockets W → ServedCore → Sockets W → Type 0
+abbrev pub AllGoOn : {W : Type 0} → (W → List WireEvent) → ServedCore → Sockets W → ServedCore → Sockets W → Type 0
 AllGoOn history core sockets core' sockets' = AllGo IsOfTurn (end_of history core sockets) (end_of history core' sockets')
 
 -- nothing is done with the core but that calls fail; others go out, and the ends go on with that
-abbrev pub AllSendFrom : {W : Type 0} → (Before : List Step → AnEnd → Type 0) → (W → List Event) → ServedCore → Sockets W → ServedCore → Sockets W → Type 0
+abbrev pub AllSendFrom : {W : Type 0} → (Before : List Step → AnEnd → Type 0) → (W → List WireEvent) → ServedCore → Sockets W → ServedCore → Sockets W → Type 0
 AllSendFrom Before history core sockets core' sockets' = AllGoFrom Before Agrees IsSending (end_of history core sockets) (end_of history core' sockets')
 
-abbrev pub AllFailOn : {W : Type 0} → (W → List Event) → ServedCore → Sockets W → ServedCore → Sockets W → Type 0
+abbrev pub AllFailOn : {W : Type 0} → (W → List WireEvent) → ServedCore → Sockets W → ServedCore → Sockets W → Type 0
 AllFailOn history core sockets core' sockets' = AllSendFrom Agrees history core sockets core' sockets'
 
 -- the link at this place, whose bytes may be lost, is given up, for whatever its connection shows that leaves it so: its calls fail, and nothing else is done with the core
-abbrev pub AllLeave : {W : Type 0} → Standing → ℕ → (W → List Event) → ServedCore → Sockets W → ServedCore → Sockets W → Type 0
+abbrev pub AllLeave : {W : Type 0} → Standing → ℕ → (W → List WireEvent) → ServedCore → Sockets W → ServedCore → Sockets W → Type 0
 AllLeave standing at history core sockets core' sockets' =
     (why : Option Cause) → standing_after why ≡ standing → AllGoFrom (AgreesBut (LineFails why) at) Agrees (IsGivingUp why) (end_of history core sockets) (end_of history core' sockets')
 
 -- it is given up for this cause, and where it can't be kept its end may be seen with that
-abbrev pub AllGiveUp : {W : Type 0} → ℕ → Cause → (W → List Event) → ServedCore → Sockets W → ServedCore → Sockets W → Type 0
+abbrev pub AllGiveUp : {W : Type 0} → ℕ → Cause → (W → List WireEvent) → ServedCore → Sockets W → ServedCore → Sockets W → Type 0
 AllGiveUp at cause history core sockets core' sockets' = AllSendFrom (AgreesBut (LineFails (Some cause)) at) history core sockets core' sockets'
 
 -- so it is with one that agrees, as that is wanted
-abbrev pub AllDrop : {W : Type 0} → (W → List Event) → ServedCore → Sockets W → ServedCore → Sockets W → Type 0
+abbrev pub AllDrop : {W : Type 0} → (W → List WireEvent) → ServedCore → Sockets W → ServedCore → Sockets W → Type 0
 AllDrop history core sockets core' sockets' = AllGo (IsGivingUp None) (end_of history core sockets) (end_of history core' sockets')
 
 -- from where this holds the ends go on; only where the link at this place is to be given up for a cause, what that link holds may be lost
-abbrev pub AllGoFromUnless : {W : Type 0} → (Before : List Step → AnEnd → Type 0) → ℕ → Option Cause → (W → List Event) → ServedCore → Sockets W → ServedCore → Sockets W → Type 0
+abbrev pub AllGoFromUnless : {W : Type 0} → (Before : List Step → AnEnd → Type 0) → ℕ → Option Cause → (W → List WireEvent) → ServedCore → Sockets W → ServedCore → Sockets W → Type 0
 AllGoFromUnless Before at cause history core sockets core' sockets' = AllGoFrom Before (AgreesUnless at cause) IsOfTurn (end_of history core sockets) (end_of history core' sockets')
 
 -- the same where all agree before
-abbrev pub AllGoUnless : {W : Type 0} → ℕ → Option Cause → (W → List Event) → ServedCore → Sockets W → ServedCore → Sockets W → Type 0
+abbrev pub AllGoUnless : {W : Type 0} → ℕ → Option Cause → (W → List WireEvent) → ServedCore → Sockets W → ServedCore → Sockets W → Type 0
 AllGoUnless at cause history core sockets core' sockets' = AllGoFromUnless Agrees at cause history core sockets core' sockets'
 
 -- a peer was just accepted by this new connection, and all go on from before that
-abbrev pub AllGoAccepted : {W : Type 0} → (W → List Event) → (conn : ℕ) → ServedCore → Sockets W → ServedCore → Sockets W → Type 0
+abbrev pub AllGoAccepted : {W : Type 0} → (W → List WireEvent) → (conn : ℕ) → ServedCore → Sockets W → ServedCore → Sockets W → Type 0
 AllGoAccepted history conn core sockets core' sockets' =
-    (h : List Event) → IsNew conn h → history sockets.wire ≡ accepts conn ∷ h
+    (h : List WireEvent) → IsUntold conn h → history sockets.wire ≡ accepts conn ∷ h
     → AllGo IsOfTurn (record { core = core; history = h; clients = sockets.clients; links = sockets.links.all.items }) (end_of history core' sockets')
 
 -- and then a client was opened under this id in a core that is so now: all go on from before both
-abbrev pub AllGoOpened : {W : Type 0} → (W → List Event) → (id conn : ℕ) → ServedCore → Sockets W → ServedCore → Sockets W → Type 0
+abbrev pub AllGoOpened : {W : Type 0} → (W → List WireEvent) → (id conn : ℕ) → ServedCore → Sockets W → ServedCore → Sockets W → Type 0
 AllGoOpened history id conn core sockets core' sockets' = (before : ServedCore) → Does (Opened id) before core → AllGoAccepted history conn before sockets core' sockets'
 
 -- the connection may be this client's now, and nothing else happened
-abbrev pub MayAdmit : ℕ → ℕ → List Event → List Event → Type 0
+abbrev pub MayAdmit : ℕ → ℕ → List WireEvent → List WireEvent → Type 0
 MayAdmit conn id h h' = (h' ≡ admits conn id ∷ h) ⊎ (h' ≡ h)
 
 -- nothing is to be sent to a client, or it is broken off
@@ -222,27 +222,27 @@ abbrev pub IsClosing : ℕ → Step → Type 0
 IsClosing id step = ((bytes : List ℕ) × (step ≡ Gave id bytes)) ⊎ (step ≡ Closed id)
 
 -- nothing else is done with the core, and the ends go on with that
-abbrev pub AllClose : {W : Type 0} → (W → List Event) → (id : ℕ) → ServedCore → Sockets W → ServedCore → Sockets W → Type 0
+abbrev pub AllClose : {W : Type 0} → (W → List WireEvent) → (id : ℕ) → ServedCore → Sockets W → ServedCore → Sockets W → Type 0
 AllClose history id core sockets core' sockets' = AllGo (IsClosing id) (end_of history core sockets) (end_of history core' sockets')
 
 -- the core gave all that it had for this client, and nothing else is done with it
-abbrev pub AllGiven : {W : Type 0} → (W → List Event) → (id : ℕ) → ServedCore → Sockets W → ServedCore → Sockets W → Type 0
+abbrev pub AllGiven : {W : Type 0} → (W → List WireEvent) → (id : ℕ) → ServedCore → Sockets W → ServedCore → Sockets W → Type 0
 AllGiven history id core sockets core' sockets' = AllGoFrom Agrees (AgreesGiven id) (IsClosing id) (end_of history core sockets) (end_of history core' sockets')
 
 -- so it is with one client's end
-abbrev pub OneGives : ℕ → ServedCore → List Event → Client → ServedCore → List Event → Client → Type 0
+abbrev pub OneGives : ℕ → ServedCore → List WireEvent → Client → ServedCore → List WireEvent → Client → Type 0
 OneGives id core h x core' h' y = (g : OneGoes (IsClosing id) id core h x core' h' y) × (bytes : List ℕ) × (g.steps ≡ Gave id bytes ∷ [])
 
 -- whatever core has closed a client of this id, all go on from before that, where it just gave all that it had for it, and all was sent
-abbrev pub AllGoClosed : {W : Type 0} → (W → List Event) → (id : ℕ) → Sockets W → Sockets W → Type 0
+abbrev pub AllGoClosed : {W : Type 0} → (W → List WireEvent) → (id : ℕ) → Sockets W → Sockets W → Type 0
 AllGoClosed history id sockets sockets' = (before core : ServedCore) → Does (Closed id) before core → IsAllSentTo id sockets.clients → AllGoFrom (AgreesGiven id) Agrees (IsClosing id) (end_of history before sockets) (end_of history core sockets')
 
 -- nothing is done with the core; the client of this id may be broken off, and the ends go on with that
-abbrev pub AllGoBreaking : {W : Type 0} → (W → List Event) → (id : ℕ) → Sockets W → Sockets W → Type 0
+abbrev pub AllGoBreaking : {W : Type 0} → (W → List WireEvent) → (id : ℕ) → Sockets W → Sockets W → Type 0
 AllGoBreaking history id sockets sockets' = (core : ServedCore) → AllGo (λ step. step ≡ Broke id) (end_of history core sockets) (end_of history core sockets')
 
 -- no connection is anybody's, none is open, and the clock wasn't looked at
-abbrev pub HasNoConns : List Event → Type 0
+abbrev pub HasNoConns : List WireEvent → Type 0
 HasNoConns h = ((conn : ℕ) → (role conn h ≡ None) × (is_open conn h ≡ false)) × (time h ≡ 0)
 
 -- the line of a link to the server at the address that its text names, with its limits, without a connection, and without calls
@@ -269,5 +269,5 @@ abbrev pub IsLoadOf : Configuration → Step → Type 0
 IsLoadOf configuration step = (generation : ℕ) × (step ≡ Loaded configuration generation)
 
 -- nothing is done with the core but that this configuration is loaded, and the ends go on with that
-abbrev pub AllLoad : {W : Type 0} → (W → List Event) → Configuration → ServedCore → Sockets W → ServedCore → Sockets W → Type 0
+abbrev pub AllLoad : {W : Type 0} → (W → List WireEvent) → Configuration → ServedCore → Sockets W → ServedCore → Sockets W → Type 0
 AllLoad history configuration core sockets core' sockets' = AllGrow (IsLoadOf configuration) (end_of history core sockets) (end_of history core' sockets')

@@ -2,9 +2,9 @@
 use Rattle.std.specs.Prelude.{◌≡◌, ℕ, ◌<◌, Bool, true, false, List, length, Option, Some, None, slice_get}
 use Rattle.std.specs.Str.{bytes_eq}
 use Rattle.route_json.specs.NumberedServers.{Addresses}
-use Rattle.route_json.specs.ServerNames.{address_in, have_epochs, is_over}
+use Rattle.route_json.specs.ServerNames.{address_in, have_epochs, epoch_is_over}
 use Rattle.serve_links.specs.declared.link.Link.{Link}
-use Rattle.serve_links.specs.Epochs.{is_retired, with_retired, IsQuiet}
+use Rattle.serve_links.specs.Epochs.{is_retired, with_retired, LinkIsQuiet}
 
 -- two names have one address
 abbrev pub have_one_address : Option (List ℕ) → Option (List ℕ) → Bool
@@ -19,11 +19,11 @@ share_address names one other = have_one_address (slice_get names one) (slice_ge
 -- the servers before this one at its address have no calls any more
 abbrev pub HaveEnded : Addresses → ℕ → List Link → Type 0
 HaveEnded names at links =
-    (earlier : ℕ) → earlier < at → share_address names earlier at ≡ true → (link : Link) → slice_get links earlier ≡ Some link → IsQuiet link
+    (earlier : ℕ) → earlier < at → share_address names earlier at ≡ true → (link : Link) → slice_get links earlier ≡ Some link → LinkIsQuiet link
 
 -- calls go to this server only once those before it at its address have none any more, and while none comes after it there
 abbrev pub EpochIsInTurn : Addresses → List Link → ℕ → Type 0
-EpochIsInTurn names links at = (link : Link) → slice_get links at ≡ Some link → is_retired link ≡ false → (is_over names at ≡ false) × HaveEnded names at links
+EpochIsInTurn names links at = (link : Link) → slice_get links at ≡ Some link → is_retired link ≡ false → (epoch_is_over names at ≡ false) × HaveEnded names at links
 
 -- so it is with each of these servers, if some have epochs
 abbrev pub EpochsAreInTurn : Addresses → List Link → Type 0

@@ -26,5 +26,5 @@ abbrev pub AreStill : {W : Type 0} → ℕ → Sockets W → Type 0
 AreStill calls sockets = HasNoWork sockets × (calls_out sockets.links.all.items ≡ calls)
 
 -- so it is with a proxy's end
-abbrev pub IsStill : {W : Type 0} → ℕ → ProxyEnd W → Type 0
-IsStill calls end = AreStill calls end.sockets
+abbrev pub EndIsStill : {W : Type 0} → ℕ → ProxyEnd W → Type 0
+EndIsStill calls end = AreStill calls end.sockets

@@ -7,8 +7,8 @@ ghost use Rattle.serve_links.specs.declared.link.Link.{Link};
 ghost use Rattle.serve_clients.specs.declared.clients.Clients.{Clients};
 ghost use Rattle.serve_links.specs.Lateness.{IsConnectLateAt, LinkIsRead};
 ghost use Rattle.serve_links.specs.Links.{calls_out};
-ghost use Rattle.serve_links.specs.Epochs.{IsQuiet};
-ghost use Rattle.route_json.specs.ServerNames.{is_over};
+ghost use Rattle.serve_links.specs.Epochs.{LinkIsQuiet};
+ghost use Rattle.route_json.specs.ServerNames.{epoch_is_over};
 ghost use Rattle.serve_proxy.specs.Epochs.{share_address, HaveEnded, EpochIsInTurn, EpochsAreInTurn, Retires};
 ghost use Rattle.serve_proxy.specs.Emptying.{AddsEach, EmptiesAt};
 ghost use Rattle.serve_proxy.specs.Limiting.{LimitsAt};
@@ -290,7 +290,7 @@ impl Links {
 
     // Whether no call is out at this server or waits for it, and none is late there.
     fn is_quiet(&self, at: usize) -> bool
-        ensures { result ≡ true → (link : Link) → slice_get self.now.all.items at ≡ Some link → IsQuiet link }
+        ensures { result ≡ true → (link : Link) → slice_get self.now.all.items at ≡ Some link → LinkIsQuiet link }
     {
         match self.all.get(at) {
             Some(link) => link.is_quiet(),
@@ -300,7 +300,7 @@ impl Links {
 
     // Whether the first of these servers isn't at the address of the other, or has no calls any more.
     fn has_left(&self, servers: &Servers, earlier: usize, at: usize) -> bool
-        ensures { result ≡ true → share_address servers.now earlier at ≡ true → (link : Link) → slice_get self.now.all.items earlier ≡ Some link → IsQuiet link }
+        ensures { result ≡ true → share_address servers.now earlier at ≡ true → (link : Link) → slice_get self.now.all.items earlier ≡ Some link → LinkIsQuiet link }
     {
         !share_address(servers, earlier, at) || self.is_quiet(earlier)
     }
@@ -319,7 +319,7 @@ impl Links {
 
     // Whether calls may go to this server: no later one has its address, and earlier ones there have no calls any more.
     fn is_in_turn(&self, servers: &Servers, at: usize) -> bool
-        ensures { result ≡ true → (is_over servers.now at ≡ false) × HaveEnded servers.now at self.now.all.items }
+        ensures { result ≡ true → (epoch_is_over servers.now at ≡ false) × HaveEnded servers.now at self.now.all.items }
     {
         !is_over(servers, at) && self.have_ended(servers, at)
     }

@@ -4,7 +4,7 @@
 ghost use Rattle.std.specs.Prelude.{◌≡◌, ◌↔◌, ◌≤◌, [], ◌∷◌, ◌++◌, drop, length, true, IsTrue, IfOk, IfErr, OnOk, OnErr};
 ghost use Rattle.core_accepted.specs.Loading.{IsLoaded};
 ghost use Rattle.serve_wire.specs.Events.{looks_up};
-ghost use Rattle.serve_links.specs.CoreSteps.{GoesOn, Fails};
+ghost use Rattle.serve_links.specs.CoreSteps.{GoesOn, OnlyFails};
 ghost use Rattle.serve_links.specs.Lateness.{usual_limits};
 ghost use Rattle.serve_links.specs.Links.{IsDownAt, IsClosedAt};
 ghost use Rattle.serve_links.specs.Story.{Agrees, texts_of};
@@ -12,7 +12,7 @@ ghost use Rattle.serve_proxy.specs.Ends.{Stay, StayButLimits, end_of, AllGoOn, A
 ghost use Rattle.core_accepted.specs.Logs.{TreesAreSound};
 ghost use Rattle.serve_proxy.specs.LogsGoOn.{LogsAreFresh};
 ghost use Rattle.serve_proxy.specs.Stalls.{held_by_all};
-ghost use Rattle.serve_proxy.specs.Stillness.{IsStill};
+ghost use Rattle.serve_proxy.specs.Stillness.{EndIsStill};
 ghost use Rattle.serve_proxy.specs.Beginning.{BeginsFresh, BeginsUnchecked, LoadStops};
 ghost use Rattle.serve_proxy.specs.Emptying.{EmptiesAt};
 ghost use Rattle.serve_proxy.specs.Limiting.{LimitsAt};
@@ -320,14 +320,14 @@ impl<W: Wire> ProxyEnd<W> {
 
     /// Whether so many calls are out, and nothing is left to do until something comes.
     pub fn is_still(&self, calls: usize) -> bool
-        ensures { IsTrue result ↔ IsStill calls self.now }
+        ensures { IsTrue result ↔ EndIsStill calls self.now }
     {
         self.sockets.is_still(calls)
     }
 
     /// The connection to a server is closed, and what came over it is never read: the calls that are out on it have failed.
     pub fn drop_link(&mut self, server: usize)
-        ensures core { Fails self.old.core.value self.new.core.value }
+        ensures core { OnlyFails self.old.core.value self.new.core.value }
         ensures ends { AllDrop W.history self.old.core.value self.old.sockets self.new.core.value self.new.sockets }
         ensures down { IsDownAt server self.new.sockets.links.all.items }
         ensures closed { IsClosedAt server self.new.sockets.links.all.items }

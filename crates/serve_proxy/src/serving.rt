@@ -2,7 +2,7 @@
 
 ghost use Rattle.std.specs.Prelude.{◌≡◌, ◌==◌, ◌||◌, ℕ, List, true, length};
 ghost use Rattle.wire_parts.specs.Sending.{bytes_of};
-ghost use Rattle.serve_wire.specs.Events.{Event};
+ghost use Rattle.serve_wire.specs.Events.{WireEvent};
 ghost use Rattle.core_accepted.specs.declared.served.ServedCore.{ServedCore};
 ghost use Rattle.serve_links.specs.CoreSteps.{IsOfTurn, Broke};
 ghost use Rattle.serve_clients.specs.Agrees.{end_said_of, KeepsEnds};
@@ -151,7 +151,7 @@ fn read_end<W: Wire>(client: &mut Client, wire: &mut W, rooms: &mut Rooms, tally
 
 // What it holds is given to the core, and the room that was lent comes back.
 fn feed_end(core: &mut ServedCore, id: usize, client: &mut Client, rooms: &mut Rooms)
-    ensures one { (h : List Event) → OneGoes IsOfTurn id core.old h client.old core.new h client.new }
+    ensures one { (h : List WireEvent) → OneGoes IsOfTurn id core.old h client.old core.new h client.new }
 {
     let before = client.conn.held.len();
     feed_held(core, id, client);
@@ -299,8 +299,8 @@ fn has_all<W: Wire>(core: &mut ServedCore, sockets: &mut Sockets<W>, id: usize) 
 
 // The same of its end.
 fn end_has_all(core: &mut ServedCore, id: usize, client: &mut Client) -> bool
-    ensures one { (h : List Event) → OneGoes (IsClosing id) id core.old h client.old core.new h client.new }
-    ensures given { result ≡ true → (h : List Event) → OneGives id core.old h client.old core.new h client.new }
+    ensures one { (h : List WireEvent) → OneGoes (IsClosing id) id core.old h client.old core.new h client.new }
+    ensures given { result ≡ true → (h : List WireEvent) → OneGives id core.old h client.old core.new h client.new }
     ensures sent { result ≡ true → IsAllSent client.new }
 {
     match show(core, id, client) {

@@ -1,7 +1,7 @@
 //! What the core has for a client goes to its end, and the room for that comes and goes.
 
 ghost use Rattle.std.specs.Prelude.{List};
-ghost use Rattle.serve_wire.specs.Events.{Event};
+ghost use Rattle.serve_wire.specs.Events.{WireEvent};
 ghost use Rattle.serve_links.specs.CoreSteps.{IsOfTurn};
 ghost use Rattle.serve_links.specs.Story.{OneGoes};
 ghost use Rattle.serve_proxy.specs.Ends.{Stay, AllGoOn};
@@ -28,7 +28,7 @@ pub fn show_client<W: Wire>(core: &mut ServedCore, sockets: &mut Sockets<W>, id:
 // What the core has for the client goes after what is to be sent by its end: how many bytes that is. Where memory is refused for it, the
 // client is broken off.
 fn show_end(core: &mut ServedCore, id: usize, client: &mut Client) -> usize
-    ensures one { (h : List Event) → OneGoes IsOfTurn id core.old h client.old core.new h client.new }
+    ensures one { (h : List WireEvent) → OneGoes IsOfTurn id core.old h client.old core.new h client.new }
 {
     match show(core, id, client) {
         Ok(shown) => {
@@ -108,7 +108,7 @@ fn exchange_at<W: Wire>(
 
 // The same of its end. Where the core has something for the client after all, that is lost, and so the client is broken off.
 fn exchange_end(core: &mut ServedCore, id: usize, client: &mut Client, buffer: &mut SendBuffer)
-    ensures one { (h : List Event) → OneGoes IsOfTurn id core.old h client.old core.new h client.new }
+    ensures one { (h : List WireEvent) → OneGoes IsOfTurn id core.old h client.old core.new h client.new }
 {
     let _ = core.move_output(id, buffer);
     if buffer.is_empty() {

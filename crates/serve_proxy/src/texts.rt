@@ -1,7 +1,7 @@
 //! The texts that name the addresses of servers.
 
 ghost use Rattle.std.specs.Prelude.{◌≡◌, Some, None, IfSome, slice_get};
-ghost use Rattle.route_json.specs.ServerNames.{is_over};
+ghost use Rattle.route_json.specs.ServerNames.{epoch_is_over};
 ghost use Rattle.serve_proxy.specs.Epochs.{share_address};
 
 use mc_types::ServerId;
@@ -20,7 +20,7 @@ pub fn text_at(servers: &Servers, at: usize) -> Option<&str>
 
 /// Whether the epoch of the server of this number is over.
 pub fn is_over(servers: &Servers, at: usize) -> bool
-    ensures { result ≡ is_over servers.now at }
+    ensures { result ≡ epoch_is_over servers.now at }
 {
     if at >= servers.len() {
         return false;

@@ -1,10 +1,10 @@
 -- What reads and writes of one end come to, and what they do to what agrees.
 use Rattle.std.proofs.Common.{◌≡◌, ◌⊎◌, inl, inr, ℕ, if◌then◌else◌, List, [], ◌++◌, take, drop, refl, sym, ap, ◌∙◌, subst, append_assoc, append-nil}
 use Rattle.std.proofs.lemmas.List.{take-append-drop}
-use Rattle.serve_wire.specs.Events.{Event, role, address_of, delivered, taken, is_over}
+use Rattle.serve_wire.specs.Events.{WireEvent, role, address_of, delivered, taken, is_over}
 use Rattle.serve_wire.specs.Agreement.{ClientAgrees, LinkAgrees, TouchesOnly}
 use Rattle.serve_wire.proofs.Steps.{equal, untouched, only_twice, only_takes, only_delivers, only_ends, only_fails}
-use Rattle.serve_wire.specs.Ends.{Reads, Sends}
+use Rattle.serve_wire.specs.Ends.{ReadsConnection, Sends}
 use Rattle.serve_wire.specs.Flow.{ReadsOn, SendsOn, Stands}
 use Rattle.serve_wire.specs.declared.conn.conn.Got.{Got}
 use Rattle.serve_wire.specs.declared.conn.conn.Got.TheVariants as got
@@ -13,7 +13,7 @@ use Rattle.serve_wire.specs.declared.conn.conn.Sent.TheVariants as sent
 
 -- ---- reads
 
-read_nothing : (c : ℕ) (held held' : List ℕ) (h h' : List Event) → held' ≡ held → h' ≡ h → ReadsOn c held held' h h'
+read_nothing : (c : ℕ) (held held' : List ℕ) (h h' : List WireEvent) → held' ≡ held → h' ≡ h → ReadsOn c held held' h h'
 read_nothing c held held' h h' same still =
     record {
       bytes = [];
@@ -25,7 +25,7 @@ read_nothing c held held' h h' same still =
       elsewhere = subst (TouchesOnly c h) (sym still) (λ d other. untouched d h);
     }
 
-pub reads_on : (c limit : ℕ) (held : List ℕ) (what : Got) (held' : List ℕ) (h h' : List Event) → Reads c limit held what held' h h' → ReadsOn c held held' h h'
+pub reads_on : (c limit : ℕ) (held : List ℕ) (what : Got) (held' : List ℕ) (h h' : List WireEvent) → ReadsConnection c limit held what held' h h' → ReadsOn c held held' h h'
 reads_on c limit held got.Bytes held' h h' r =
     record {
       bytes = r.1.bytes;
@@ -61,7 +61,7 @@ reads_on c limit held got.Failed held' h h' r =
 
 -- ---- writes
 
-send_nothing : (c : ℕ) (unsent unsent' : List ℕ) (h h' : List Event) → unsent' ≡ unsent → h' ≡ h → SendsOn c unsent unsent' h h'
+send_nothing : (c : ℕ) (unsent unsent' : List ℕ) (h h' : List WireEvent) → unsent' ≡ unsent → h' ≡ h → SendsOn c unsent unsent' h h'
 send_nothing c unsent unsent' h h' same still =
     record {
       went = ap (λ l. taken c h ++ l) (sym same) ∙ ap (λ x. taken c x ++ unsent') (sym still);
@@ -71,10 +71,10 @@ send_nothing c unsent unsent' h h' same still =
       elsewhere = subst (TouchesOnly c h) (sym still) (λ d other. untouched d h);
     }
 
-pub sends_none : (c : ℕ) (unsent : List ℕ) (h : List Event) → SendsOn c unsent unsent h h
+pub sends_none : (c : ℕ) (unsent : List ℕ) (h : List WireEvent) → SendsOn c unsent unsent h h
 sends_none c unsent h = send_nothing c unsent unsent h h refl refl
 
-pub sends_on : (c : ℕ) (unsent : List ℕ) (what : Sent) (unsent' : List ℕ) (h h' : List Event) → Sends c unsent what unsent' h h' → SendsOn c unsent unsent' h h'
+pub sends_on : (c : ℕ) (unsent : List ℕ) (what : Sent) (unsent' : List ℕ) (h h' : List WireEvent) → Sends c unsent what unsent' h h' → SendsOn c unsent unsent' h h'
 sends_on c unsent sent.Bytes unsent' h h' s =
     let n = s.count in
     record {
@@ -96,25 +96,25 @@ sends_on c unsent sent.Failed unsent' h h' s =
       elsewhere = subst (TouchesOnly c h) (sym s.1) (only_fails c h);
     }
 
-pub sends_twice : (c : ℕ) (unsent unsent' unsent'' : List ℕ) (h h' h'' : List Event) → SendsOn c unsent unsent' h h' → SendsOn c unsent' unsent'' h' h'' → SendsOn c unsent unsent'' h h''
+pub sends_twice : (c : ℕ) (unsent unsent' unsent'' : List ℕ) (h h' h'' : List WireEvent) → SendsOn c unsent unsent' h h' → SendsOn c unsent' unsent'' h' h'' → SendsOn c unsent unsent'' h h''
 sends_twice c unsent unsent' unsent'' h h' h'' a b =
     record { went = a.went ∙ b.went; same_role = b.same_role ∙ a.same_role; same_address = b.same_address ∙ a.same_address; same_came = b.same_came ∙ a.same_came; elsewhere = only_twice c h h' h'' a.elsewhere b.elsewhere }
 
 -- bytes that went, and writes that took nothing, leave it standing
-pub bytes_stand : (c : ℕ) (unsent unsent' : List ℕ) (h h' : List Event) → Sends c unsent sent.Bytes unsent' h h' → Stands c h h'
+pub bytes_stand : (c : ℕ) (unsent unsent' : List ℕ) (h h' : List WireEvent) → Sends c unsent sent.Bytes unsent' h h' → Stands c h h'
 bytes_stand c unsent unsent' h h' s = ap (is_over c) s.noted
 
-pub nothing_stands : (c : ℕ) (unsent unsent' : List ℕ) (h h' : List Event) → Sends c unsent sent.Nothing unsent' h h' → Stands c h h'
+pub nothing_stands : (c : ℕ) (unsent unsent' : List ℕ) (h h' : List WireEvent) → Sends c unsent sent.Nothing unsent' h h' → Stands c h h'
 nothing_stands c unsent unsent' h h' s = ap (is_over c) s.1
 
 -- the same, one write after others, in the words of a loop
 pub sends_then :
-    (c c' : ℕ) (unsent unsent' unsent'' : List ℕ) (h h' h'' : List Event) (what : Sent) → c' ≡ c → SendsOn c unsent unsent' h h' → Sends c' unsent' what unsent'' h' h'' → SendsOn c unsent unsent'' h h''
+    (c c' : ℕ) (unsent unsent' unsent'' : List ℕ) (h h' h'' : List WireEvent) (what : Sent) → c' ≡ c → SendsOn c unsent unsent' h h' → Sends c' unsent' what unsent'' h' h'' → SendsOn c unsent unsent'' h h''
 sends_then c c' unsent unsent' unsent'' h h' h'' what same a s =
     sends_twice c unsent unsent' unsent'' h h' h'' a (subst (λ n. SendsOn n unsent' unsent'' h' h'') same (sends_on c' unsent' what unsent'' h' h'' s))
 
 pub stands_then :
-    (c c' : ℕ) (unsent' unsent'' : List ℕ) (h h' h'' : List Event) (what : Sent) → c' ≡ c → (what ≡ sent.Bytes) ⊎ (what ≡ sent.Nothing) → Stands c h h' → Sends c' unsent' what unsent'' h' h'' → Stands c h h''
+    (c c' : ℕ) (unsent' unsent'' : List ℕ) (h h' h'' : List WireEvent) (what : Sent) → c' ≡ c → (what ≡ sent.Bytes) ⊎ (what ≡ sent.Nothing) → Stands c h h' → Sends c' unsent' what unsent'' h' h'' → Stands c h h''
 stands_then c c' unsent' unsent'' h h' h'' what same is a s = subst (λ n. Stands n h' h'') same (by is) ∙ a
   where
     by : (what ≡ sent.Bytes) ⊎ (what ≡ sent.Nothing) → Stands c' h' h''
@@ -123,18 +123,18 @@ stands_then c c' unsent' unsent'' h h' h'' what same is a s = subst (λ n. Stand
 
 -- ---- what agrees
 
-pub client_reads : (h h' : List Event) (input output : ℕ → List ℕ) (i c : ℕ) (held held' unsent : List ℕ) → ReadsOn c held held' h h' → ClientAgrees h input output i c held unsent → ClientAgrees h' input output i c held' unsent
+pub client_reads : (h h' : List WireEvent) (input output : ℕ → List ℕ) (i c : ℕ) (held held' unsent : List ℕ) → ReadsOn c held held' h h' → ClientAgrees h input output i c held unsent → ClientAgrees h' input output i c held' unsent
 client_reads h h' input output i c held held' unsent r was =
     record { is_its = r.same_role ∙ was.is_its; input_is = r.came ∙ ap (λ l. l ++ r.bytes) was.input_is ∙ append_assoc (input i) held r.bytes ∙ ap (λ l. input i ++ l) (sym r.held_is); output_is = was.output_is ∙ ap (λ l. l ++ unsent) (sym r.same_went) }
 
-pub client_sends : (h h' : List Event) (input output : ℕ → List ℕ) (i c : ℕ) (held unsent unsent' : List ℕ) → SendsOn c unsent unsent' h h' → ClientAgrees h input output i c held unsent → ClientAgrees h' input output i c held unsent'
+pub client_sends : (h h' : List WireEvent) (input output : ℕ → List ℕ) (i c : ℕ) (held unsent unsent' : List ℕ) → SendsOn c unsent unsent' h h' → ClientAgrees h input output i c held unsent → ClientAgrees h' input output i c held unsent'
 client_sends h h' input output i c held unsent unsent' s was =
     record { is_its = s.same_role ∙ was.is_its; input_is = s.same_came ∙ was.input_is; output_is = was.output_is ∙ s.went }
 
-pub link_reads : (h h' : List Event) (asked answered : ℕ → List ℕ) (i c : ℕ) (held held' unsent : List ℕ) → ReadsOn c held held' h h' → Stands c h h' → LinkAgrees h asked answered i c held unsent → LinkAgrees h' asked answered i c held' unsent
+pub link_reads : (h h' : List WireEvent) (asked answered : ℕ → List ℕ) (i c : ℕ) (held held' unsent : List ℕ) → ReadsOn c held held' h h' → Stands c h h' → LinkAgrees h asked answered i c held unsent → LinkAgrees h' asked answered i c held' unsent
 link_reads h h' asked answered i c held held' unsent r stands was =
     record { is_to = r.same_role ∙ was.is_to; goes_on = stands ∙ was.goes_on; asked_is = was.asked_is ∙ ap (λ l. l ++ unsent) (sym r.same_went); answered_is = r.came ∙ ap (λ l. l ++ r.bytes) was.answered_is ∙ append_assoc (answered i) held r.bytes ∙ ap (λ l. answered i ++ l) (sym r.held_is) }
 
-pub link_sends : (h h' : List Event) (asked answered : ℕ → List ℕ) (i c : ℕ) (held unsent unsent' : List ℕ) → SendsOn c unsent unsent' h h' → Stands c h h' → LinkAgrees h asked answered i c held unsent → LinkAgrees h' asked answered i c held unsent'
+pub link_sends : (h h' : List WireEvent) (asked answered : ℕ → List ℕ) (i c : ℕ) (held unsent unsent' : List ℕ) → SendsOn c unsent unsent' h h' → Stands c h h' → LinkAgrees h asked answered i c held unsent → LinkAgrees h' asked answered i c held unsent'
 link_sends h h' asked answered i c held unsent unsent' s stands was =
     record { is_to = s.same_role ∙ was.is_to; goes_on = stands ∙ was.goes_on; asked_is = was.asked_is ∙ s.went; answered_is = s.same_came ∙ was.answered_is }

@@ -7,7 +7,7 @@ use Rattle.std.proofs.Math.Seq.{drop-cons}
 use Rattle.std.specs.Io.Slices.{io_slice_bytes, io_slices_bytes}
 use Rattle.std.specs.declared.io.slices.IoSlice.{IoSlice}
 use Rattle.bytes.proofs.Ranges.{take-append_past}
-use Rattle.serve_wire.specs.Events.{Event, with_more}
+use Rattle.serve_wire.specs.Events.{WireEvent, with_more}
 
 -- the first n of two lists
 pub take_both : (n k : ℕ) (xs ys : List ℕ) → k ≡ min (length xs) n → take k xs ++ take (n - k) ys ≡ take n (xs ++ ys)
@@ -22,7 +22,7 @@ take_both n k xs ys is = by_len (cases_lt (length xs) n)
         ap (λ m. take m xs ++ take (n - k) ys) e ∙ ap (λ l. l ++ take (n - k) ys) (take-length xs) ∙ sym (take-append_past xs ys (n - k) n s)
 
 -- two notes are one
-pub more_and_more : (a b : List ℕ) (h : List Event) → with_more b (with_more a h) ≡ with_more (a ++ b) h
+pub more_and_more : (a b : List ℕ) (h : List WireEvent) → with_more b (with_more a h) ≡ with_more (a ++ b) h
 more_and_more a b [] = refl
 more_and_more a b (e ∷ h) = ap (λ l. (e.0, e.1, e.2, l) ∷ h) (append_assoc e.3 a b)
 

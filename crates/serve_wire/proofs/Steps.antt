@@ -2,7 +2,7 @@
 use Rattle.std.proofs.Common.{◌≡◌, ◌≢◌, ℕ, suc, ◌==◌, true, false, if◌then◌else◌, Some, None, List, [], ◌∷◌, ◌++◌, take, drop, refl, sym, ap, ◌∙◌, append_assoc, append-nil, arith}
 use Rattle.std.proofs.lemmas.Bool.{eq-eqb, eqb-true}
 use Rattle.std.proofs.lemmas.List.{take-append-drop}
-use Rattle.serve_wire.specs.Events.{Event, admits, connects, delivers, takes, ends, fails, closes, accepts, looks_up, delivered, taken, role, address_of, is_over, is_open, time, IsNew}
+use Rattle.serve_wire.specs.Events.{WireEvent, admits, connects, delivers, takes, ends, fails, closes, accepts, looks_up, delivered, taken, role, address_of, is_over, is_open, time, IsUntold}
 use Rattle.serve_wire.specs.Agreement.{ClientAgrees, LinkAgrees, AddressAgrees, Extends, IsUntouched, TouchesOnly}
 
 pub equal : (c : ℕ) → (c == c) ≡ true
@@ -15,14 +15,14 @@ unequal c d h = grind (arith, eqb-true)
 -- ---- connections that are apart
 
 -- connections with different roles
-pub apart : (c d : ℕ) (h : List Event) (p q : ℕ × ℕ) → role c h ≡ Some p → role d h ≡ Some q → p ≢ q → (c == d) ≡ false
+pub apart : (c d : ℕ) (h : List WireEvent) (p q : ℕ × ℕ) → role c h ≡ Some p → role d h ≡ Some q → p ≢ q → (c == d) ≡ false
 apart c d h p q of_c of_d other = unequal c d (λ e. other (some_is (sym of_c ∙ ap (λ x. role x h) e ∙ of_d)))
   where
     some_is : Some p ≡ Some q → p ≡ q
     some_is e = cc
 
 -- a new connection, and one with a role
-pub new_apart : (c d : ℕ) (h : List Event) (p : ℕ × ℕ) → role d h ≡ Some p → role c h ≡ None → (c == d) ≡ false
+pub new_apart : (c d : ℕ) (h : List WireEvent) (p : ℕ × ℕ) → role d h ≡ Some p → role c h ≡ None → (c == d) ≡ false
 new_apart c d h p of_d none = unequal c d (λ e. none_some (sym none ∙ ap (λ x. role x h) e ∙ of_d))
   where
     none_some : None ≡ Some p → ⊥
@@ -30,127 +30,127 @@ new_apart c d h p of_d none = unequal c d (λ e. none_some (sym none ∙ ap (λ 
 
 -- ---- all others
 
-pub extends_twice : (h h' h'' : List Event) → Extends h h' → Extends h' h'' → Extends h h''
+pub extends_twice : (h h' h'' : List WireEvent) → Extends h h' → Extends h' h'' → Extends h h''
 extends_twice h h' h'' a b = (b.0 ++ a.0, b.1 ∙ ap (λ l. b.0 ++ l) a.1 ∙ sym (append_assoc b.0 a.0 h))
 
-pub untouched : (d : ℕ) (h : List Event) → IsUntouched d h h
+pub untouched : (d : ℕ) (h : List WireEvent) → IsUntouched d h h
 untouched d h = record { same_role = refl; same_address = refl; same_came = refl; same_went = refl; same_over = refl; same_open = refl; same_time = refl; after = ([], refl) }
 
-pub untouched_twice : (d : ℕ) (h h' h'' : List Event) → IsUntouched d h h' → IsUntouched d h' h'' → IsUntouched d h h''
+pub untouched_twice : (d : ℕ) (h h' h'' : List WireEvent) → IsUntouched d h h' → IsUntouched d h' h'' → IsUntouched d h h''
 untouched_twice d h h' h'' a b =
     record { same_role = b.same_role ∙ a.same_role; same_address = b.same_address ∙ a.same_address; same_came = b.same_came ∙ a.same_came; same_went = b.same_went ∙ a.same_went; same_over = b.same_over ∙ a.same_over; same_open = b.same_open ∙ a.same_open; same_time = b.same_time ∙ a.same_time; after = extends_twice h h' h'' a.after b.after }
 
-pub only_twice : (c : ℕ) (h h' h'' : List Event) → TouchesOnly c h h' → TouchesOnly c h' h'' → TouchesOnly c h h''
+pub only_twice : (c : ℕ) (h h' h'' : List WireEvent) → TouchesOnly c h h' → TouchesOnly c h' h'' → TouchesOnly c h h''
 only_twice c h h' h'' a b = λ d other. untouched_twice d h h' h'' (a d other) (b d other)
 
 -- some connection is another one
-pub only_after : (c : ℕ) (h h' : List Event) → TouchesOnly c h h' → Extends h h'
+pub only_after : (c : ℕ) (h h' : List WireEvent) → TouchesOnly c h h' → Extends h h'
 only_after c h h' only = (only (suc c) (unequal c (suc c) (λ e. absurd (omega (arith, e))))).after
 
 -- nor was the clock looked at
-pub only_time : (c : ℕ) (h h' : List Event) → TouchesOnly c h h' → time h' ≡ time h
+pub only_time : (c : ℕ) (h h' : List WireEvent) → TouchesOnly c h h' → time h' ≡ time h
 only_time c h h' only = (only (suc c) (unequal c (suc c) (λ e. absurd (omega (arith, e))))).same_time
 
-pub only_delivers : (c : ℕ) (bytes : List ℕ) (h : List Event) → TouchesOnly c h (delivers c bytes ∷ h)
+pub only_delivers : (c : ℕ) (bytes : List ℕ) (h : List WireEvent) → TouchesOnly c h (delivers c bytes ∷ h)
 only_delivers c bytes h = λ d other. record { same_role = refl; same_address = refl; same_came = ap (λ b. if b then delivered d h ++ bytes else delivered d h) other; same_went = refl; same_over = refl; same_open = refl; same_time = refl; after = (delivers c bytes ∷ [], refl) }
 
-pub only_takes : (c : ℕ) (bytes : List ℕ) (h : List Event) → TouchesOnly c h (takes c bytes ∷ h)
+pub only_takes : (c : ℕ) (bytes : List ℕ) (h : List WireEvent) → TouchesOnly c h (takes c bytes ∷ h)
 only_takes c bytes h = λ d other. record { same_role = refl; same_address = refl; same_came = refl; same_went = ap (λ b. if b then taken d h ++ bytes else taken d h) other; same_over = refl; same_open = refl; same_time = refl; after = (takes c bytes ∷ [], refl) }
 
-pub only_ends : (c : ℕ) (h : List Event) → TouchesOnly c h (ends c ∷ h)
+pub only_ends : (c : ℕ) (h : List WireEvent) → TouchesOnly c h (ends c ∷ h)
 only_ends c h = λ d other. record { same_role = refl; same_address = refl; same_came = refl; same_went = refl; same_over = ap (λ b. if b then true else is_over d h) other; same_open = refl; same_time = refl; after = (ends c ∷ [], refl) }
 
-pub only_fails : (c : ℕ) (h : List Event) → TouchesOnly c h (fails c ∷ h)
+pub only_fails : (c : ℕ) (h : List WireEvent) → TouchesOnly c h (fails c ∷ h)
 only_fails c h = λ d other. record { same_role = refl; same_address = refl; same_came = refl; same_went = refl; same_over = ap (λ b. if b then true else is_over d h) other; same_open = refl; same_time = refl; after = (fails c ∷ [], refl) }
 
-pub only_closes : (c : ℕ) (h : List Event) → TouchesOnly c h (closes c ∷ h)
+pub only_closes : (c : ℕ) (h : List WireEvent) → TouchesOnly c h (closes c ∷ h)
 only_closes c h = λ d other. record { same_role = refl; same_address = refl; same_came = refl; same_went = refl; same_over = ap (λ b. if b then true else is_over d h) other; same_open = ap (λ b. if b then false else is_open d h) other; same_time = refl; after = (closes c ∷ [], refl) }
 
-pub only_admits : (c i : ℕ) (h : List Event) → TouchesOnly c h (admits c i ∷ h)
+pub only_admits : (c i : ℕ) (h : List WireEvent) → TouchesOnly c h (admits c i ∷ h)
 only_admits c i h = λ d other. record { same_role = ap (λ b. if b then Some (0, i) else role d h) other; same_address = refl; same_came = refl; same_went = refl; same_over = refl; same_open = refl; same_time = refl; after = (admits c i ∷ [], refl) }
 
-pub only_connects : (c i : ℕ) (text : List ℕ) (h : List Event) → TouchesOnly c h (connects c i text ∷ h)
+pub only_connects : (c i : ℕ) (text : List ℕ) (h : List WireEvent) → TouchesOnly c h (connects c i text ∷ h)
 only_connects c i text h = λ d other. record { same_role = ap (λ b. if b then Some (1, i) else role d h) other; same_address = ap (λ b. if b then Some text else address_of d h) other; same_came = refl; same_went = refl; same_over = refl; same_open = ap (λ b. if b then true else is_open d h) other; same_time = refl; after = (connects c i text ∷ [], refl) }
 
-pub only_accepts : (c : ℕ) (h : List Event) → TouchesOnly c h (accepts c ∷ h)
+pub only_accepts : (c : ℕ) (h : List WireEvent) → TouchesOnly c h (accepts c ∷ h)
 only_accepts c h = λ d other. record { same_role = refl; same_address = refl; same_came = refl; same_went = refl; same_over = refl; same_open = ap (λ b. if b then true else is_open d h) other; same_time = refl; after = (accepts c ∷ [], refl) }
 
 -- by a look-up no connection is touched
-pub none_looks_up : (text : List ℕ) (d : ℕ) (h : List Event) → IsUntouched d h (looks_up text ∷ h)
+pub none_looks_up : (text : List ℕ) (d : ℕ) (h : List WireEvent) → IsUntouched d h (looks_up text ∷ h)
 none_looks_up text d h = record { same_role = refl; same_address = refl; same_came = refl; same_went = refl; same_over = refl; same_open = refl; same_time = refl; after = (looks_up text ∷ [], refl) }
 
 -- what agrees goes on to agree where nothing touched it
-pub client_stays : (h h' : List Event) (input output : ℕ → List ℕ) (i conn : ℕ) (held unsent : List ℕ) → IsUntouched conn h h' → ClientAgrees h input output i conn held unsent → ClientAgrees h' input output i conn held unsent
+pub client_stays : (h h' : List WireEvent) (input output : ℕ → List ℕ) (i conn : ℕ) (held unsent : List ℕ) → IsUntouched conn h h' → ClientAgrees h input output i conn held unsent → ClientAgrees h' input output i conn held unsent
 client_stays h h' input output i conn held unsent same was =
     record { is_its = same.same_role ∙ was.is_its; input_is = same.same_came ∙ was.input_is; output_is = was.output_is ∙ ap (λ l. l ++ unsent) (sym same.same_went) }
 
-pub link_stays : (h h' : List Event) (asked answered : ℕ → List ℕ) (i conn : ℕ) (held unsent : List ℕ) → IsUntouched conn h h' → LinkAgrees h asked answered i conn held unsent → LinkAgrees h' asked answered i conn held unsent
+pub link_stays : (h h' : List WireEvent) (asked answered : ℕ → List ℕ) (i conn : ℕ) (held unsent : List ℕ) → IsUntouched conn h h' → LinkAgrees h asked answered i conn held unsent → LinkAgrees h' asked answered i conn held unsent
 link_stays h h' asked answered i conn held unsent same was =
     record { is_to = same.same_role ∙ was.is_to; goes_on = same.same_over ∙ was.goes_on; asked_is = was.asked_is ∙ ap (λ l. l ++ unsent) (sym same.same_went); answered_is = same.same_came ∙ was.answered_is }
 
-pub address_stays : (h h' : List Event) (text : List ℕ) (conn : ℕ) → IsUntouched conn h h' → AddressAgrees h text conn → AddressAgrees h' text conn
+pub address_stays : (h h' : List WireEvent) (text : List ℕ) (conn : ℕ) → IsUntouched conn h h' → AddressAgrees h text conn → AddressAgrees h' text conn
 address_stays h h' text conn same was = same.same_address ∙ was
 
 -- ---- one client
 
 -- it was admitted, before anything was read or written
-pub client_begins : (h : List Event) (input output : ℕ → List ℕ) (i conn : ℕ) → IsNew conn h → input i ≡ [] → output i ≡ [] → ClientAgrees (admits conn i ∷ h) input output i conn [] []
+pub client_begins : (h : List WireEvent) (input output : ℕ → List ℕ) (i conn : ℕ) → IsUntold conn h → input i ≡ [] → output i ≡ [] → ClientAgrees (admits conn i ∷ h) input output i conn [] []
 client_begins h input output i conn new no_input no_output =
     record { is_its = ap (λ b. if b then Some (0, i) else role conn h) (equal conn); input_is = new.none_came ∙ sym no_input ∙ sym (append-nil (input i)); output_is = no_output ∙ sym new.none_went ∙ sym (append-nil (taken conn h)) }
 
 -- what was accepted is as new as before
-pub new_accepted : (c d : ℕ) (h : List Event) → IsNew c h → IsNew c (accepts d ∷ h)
+pub new_accepted : (c d : ℕ) (h : List WireEvent) → IsUntold c h → IsUntold c (accepts d ∷ h)
 new_accepted c d h new = record { no_role = new.no_role; none_came = new.none_came; none_went = new.none_went; goes_on = new.goes_on }
 
 -- bytes came
-pub client_came : (h : List Event) (input output : ℕ → List ℕ) (i conn : ℕ) (held unsent bytes : List ℕ) → ClientAgrees h input output i conn held unsent → ClientAgrees (delivers conn bytes ∷ h) input output i conn (held ++ bytes) unsent
+pub client_came : (h : List WireEvent) (input output : ℕ → List ℕ) (i conn : ℕ) (held unsent bytes : List ℕ) → ClientAgrees h input output i conn held unsent → ClientAgrees (delivers conn bytes ∷ h) input output i conn (held ++ bytes) unsent
 client_came h input output i conn held unsent bytes was =
     record { is_its = was.is_its; input_is = ap (λ b. if b then delivered conn h ++ bytes else delivered conn h) (equal conn) ∙ ap (λ l. l ++ bytes) was.input_is ∙ append_assoc (input i) held bytes; output_is = was.output_is }
 
 -- its first bytes went
-pub client_went : (h : List Event) (input output : ℕ → List ℕ) (i conn n : ℕ) (held unsent : List ℕ) → ClientAgrees h input output i conn held unsent → ClientAgrees (takes conn (take n unsent) ∷ h) input output i conn held (drop n unsent)
+pub client_went : (h : List WireEvent) (input output : ℕ → List ℕ) (i conn n : ℕ) (held unsent : List ℕ) → ClientAgrees h input output i conn held unsent → ClientAgrees (takes conn (take n unsent) ∷ h) input output i conn held (drop n unsent)
 client_went h input output i conn n held unsent was =
     record { is_its = was.is_its; input_is = was.input_is; output_is = was.output_is ∙ went h conn n unsent }
   where
-    went : (h : List Event) (c n : ℕ) (unsent : List ℕ) → taken c h ++ unsent ≡ taken c (takes c (take n unsent) ∷ h) ++ drop n unsent
+    went : (h : List WireEvent) (c n : ℕ) (unsent : List ℕ) → taken c h ++ unsent ≡ taken c (takes c (take n unsent) ∷ h) ++ drop n unsent
     went h c n unsent = ap (λ l. taken c h ++ l) (sym (take-append-drop n unsent)) ∙ sym (append_assoc (taken c h) (take n unsent) (drop n unsent)) ∙ ap (λ b. (if b then taken c h ++ take n unsent else taken c h) ++ drop n unsent) (sym (equal c))
 
 -- the first of what is held was fed to the core
-pub client_fed : (h : List Event) (input input' output : ℕ → List ℕ) (i conn : ℕ) (bytes held unsent : List ℕ) → input' i ≡ input i ++ bytes → ClientAgrees h input output i conn (bytes ++ held) unsent → ClientAgrees h input' output i conn held unsent
+pub client_fed : (h : List WireEvent) (input input' output : ℕ → List ℕ) (i conn : ℕ) (bytes held unsent : List ℕ) → input' i ≡ input i ++ bytes → ClientAgrees h input output i conn (bytes ++ held) unsent → ClientAgrees h input' output i conn held unsent
 client_fed h input input' output i conn bytes held unsent fed was =
     record { is_its = was.is_its; input_is = was.input_is ∙ sym (append_assoc (input i) bytes held) ∙ ap (λ l. l ++ held) (sym fed); output_is = was.output_is }
 
 -- what the core has for it is to be sent
-pub client_shown : (h : List Event) (input output output' : ℕ → List ℕ) (i conn : ℕ) (held unsent bytes : List ℕ) → output' i ≡ output i ++ bytes → ClientAgrees h input output i conn held unsent → ClientAgrees h input output' i conn held (unsent ++ bytes)
+pub client_shown : (h : List WireEvent) (input output output' : ℕ → List ℕ) (i conn : ℕ) (held unsent bytes : List ℕ) → output' i ≡ output i ++ bytes → ClientAgrees h input output i conn held unsent → ClientAgrees h input output' i conn held (unsent ++ bytes)
 client_shown h input output output' i conn held unsent bytes shown was =
     record { is_its = was.is_its; input_is = was.input_is; output_is = shown ∙ ap (λ l. l ++ bytes) was.output_is ∙ append_assoc (taken conn h) unsent bytes }
 
 -- ---- one link
 
 -- its connection was begun, and these bytes are to be sent first
-pub link_begins : (h : List Event) (text : List ℕ) (asked answered : ℕ → List ℕ) (i conn : ℕ) (unsent : List ℕ) → IsNew conn h → asked i ≡ unsent → answered i ≡ [] → LinkAgrees (connects conn i text ∷ h) asked answered i conn [] unsent
+pub link_begins : (h : List WireEvent) (text : List ℕ) (asked answered : ℕ → List ℕ) (i conn : ℕ) (unsent : List ℕ) → IsUntold conn h → asked i ≡ unsent → answered i ≡ [] → LinkAgrees (connects conn i text ∷ h) asked answered i conn [] unsent
 link_begins h text asked answered i conn unsent new first none =
     record { is_to = ap (λ b. if b then Some (1, i) else role conn h) (equal conn); goes_on = new.goes_on; asked_is = first ∙ ap (λ l. l ++ unsent) (sym new.none_went); answered_is = new.none_came ∙ sym none ∙ sym (append-nil (answered i)) }
 
-pub address_begins : (h : List Event) (text : List ℕ) (i conn : ℕ) → AddressAgrees (connects conn i text ∷ h) text conn
+pub address_begins : (h : List WireEvent) (text : List ℕ) (i conn : ℕ) → AddressAgrees (connects conn i text ∷ h) text conn
 address_begins h text i conn = ap (λ b. if b then Some text else address_of conn h) (equal conn)
 
 -- bytes came
-pub link_came : (h : List Event) (asked answered : ℕ → List ℕ) (i conn : ℕ) (held unsent bytes : List ℕ) → LinkAgrees h asked answered i conn held unsent → LinkAgrees (delivers conn bytes ∷ h) asked answered i conn (held ++ bytes) unsent
+pub link_came : (h : List WireEvent) (asked answered : ℕ → List ℕ) (i conn : ℕ) (held unsent bytes : List ℕ) → LinkAgrees h asked answered i conn held unsent → LinkAgrees (delivers conn bytes ∷ h) asked answered i conn (held ++ bytes) unsent
 link_came h asked answered i conn held unsent bytes was =
     record { is_to = was.is_to; goes_on = was.goes_on; asked_is = was.asked_is; answered_is = ap (λ b. if b then delivered conn h ++ bytes else delivered conn h) (equal conn) ∙ ap (λ l. l ++ bytes) was.answered_is ∙ append_assoc (answered i) held bytes }
 
 -- its first bytes went
-pub link_went : (h : List Event) (asked answered : ℕ → List ℕ) (i conn n : ℕ) (held unsent : List ℕ) → LinkAgrees h asked answered i conn held unsent → LinkAgrees (takes conn (take n unsent) ∷ h) asked answered i conn held (drop n unsent)
+pub link_went : (h : List WireEvent) (asked answered : ℕ → List ℕ) (i conn n : ℕ) (held unsent : List ℕ) → LinkAgrees h asked answered i conn held unsent → LinkAgrees (takes conn (take n unsent) ∷ h) asked answered i conn held (drop n unsent)
 link_went h asked answered i conn n held unsent was =
     record { is_to = was.is_to; goes_on = was.goes_on; answered_is = was.answered_is; asked_is = was.asked_is ∙ ap (λ l. taken conn h ++ l) (sym (take-append-drop n unsent)) ∙ sym (append_assoc (taken conn h) (take n unsent) (drop n unsent)) ∙ ap (λ b. (if b then taken conn h ++ take n unsent else taken conn h) ++ drop n unsent) (sym (equal conn)) }
 
 -- calls are to be sent
-pub link_asked : (h : List Event) (asked asked' answered : ℕ → List ℕ) (i conn : ℕ) (held unsent bytes : List ℕ) → asked' i ≡ asked i ++ bytes → LinkAgrees h asked answered i conn held unsent → LinkAgrees h asked' answered i conn held (unsent ++ bytes)
+pub link_asked : (h : List WireEvent) (asked asked' answered : ℕ → List ℕ) (i conn : ℕ) (held unsent bytes : List ℕ) → asked' i ≡ asked i ++ bytes → LinkAgrees h asked answered i conn held unsent → LinkAgrees h asked' answered i conn held (unsent ++ bytes)
 link_asked h asked asked' answered i conn held unsent bytes more was =
     record { is_to = was.is_to; goes_on = was.goes_on; answered_is = was.answered_is; asked_is = more ∙ ap (λ l. l ++ bytes) was.asked_is ∙ append_assoc (taken conn h) unsent bytes }
 
 -- the first of what is held settled calls
-pub link_settled : (h : List Event) (asked answered answered' : ℕ → List ℕ) (i conn : ℕ) (bytes held unsent : List ℕ) → answered' i ≡ answered i ++ bytes → LinkAgrees h asked answered i conn (bytes ++ held) unsent → LinkAgrees h asked answered' i conn held unsent
+pub link_settled : (h : List WireEvent) (asked answered answered' : ℕ → List ℕ) (i conn : ℕ) (bytes held unsent : List ℕ) → answered' i ≡ answered i ++ bytes → LinkAgrees h asked answered i conn (bytes ++ held) unsent → LinkAgrees h asked answered' i conn held unsent
 link_settled h asked answered answered' i conn bytes held unsent more was =
     record { is_to = was.is_to; goes_on = was.goes_on; asked_is = was.asked_is; answered_is = was.answered_is ∙ sym (append_assoc (answered i) bytes held) ∙ ap (λ l. l ++ held) (sym more) }

@@ -1,17 +1,17 @@
 -- What the ends of connections and the wire have to do with each other. Source: mcgate's own.
 use Rattle.std.specs.Prelude.{◌≡◌, false, ◌==◌, if◌then◌else◌, Some, List, [], ◌++◌, ℕ}
-use Rattle.serve_wire.specs.Events.{Event, role, address_of, delivered, taken, is_over, is_open, time}
+use Rattle.serve_wire.specs.Events.{WireEvent, role, address_of, delivered, taken, is_over, is_open, time}
 
 -- what came from client i is what is known of it as its input, and then what is held; what was put out for it is what it took, and then
 -- what is unsent
-pub record ClientAgrees (h : List Event) (input output : ℕ → List ℕ) (i conn : ℕ) (held unsent : List ℕ) : Type 0 where
+pub record ClientAgrees (h : List WireEvent) (input output : ℕ → List ℕ) (i conn : ℕ) (held unsent : List ℕ) : Type 0 where
   pub is_its : role conn h ≡ Some (0, i)
   pub input_is : delivered conn h ≡ input i ++ held
   pub output_is : output i ≡ taken conn h ++ unsent
 
 -- so much agrees of a client whose end was broken off: what is known of it as its input is the first of what came from it, and it took the
 -- first of what was put out for it
-pub record ClientLost (h : List Event) (input output : ℕ → List ℕ) (i conn : ℕ) : Type 0 where
+pub record ClientLost (h : List WireEvent) (input output : ℕ → List ℕ) (i conn : ℕ) : Type 0 where
   pub is_its : role conn h ≡ Some (0, i)
   pub unread : List ℕ
   pub input_is : delivered conn h ≡ input i ++ unread
@@ -20,14 +20,14 @@ pub record ClientLost (h : List Event) (input output : ℕ → List ℕ) (i conn
 
 -- a link stands, and is to its own server: what was asked there is what it took, and then what is unsent; what came from there settled
 -- calls of this server, and is else held
-pub record LinkAgrees (h : List Event) (asked answered : ℕ → List ℕ) (i conn : ℕ) (held unsent : List ℕ) : Type 0 where
+pub record LinkAgrees (h : List WireEvent) (asked answered : ℕ → List ℕ) (i conn : ℕ) (held unsent : List ℕ) : Type 0 where
   pub is_to : role conn h ≡ Some (1, i)
   pub goes_on : is_over conn h ≡ false
   pub asked_is : asked i ≡ taken conn h ++ unsent
   pub answered_is : delivered conn h ≡ answered i ++ held
 
 -- a connection was begun at the address that this text names
-abbrev pub AddressAgrees : List Event → List ℕ → ℕ → Type 0
+abbrev pub AddressAgrees : List WireEvent → List ℕ → ℕ → Type 0
 AddressAgrees h text conn = address_of conn h ≡ Some text
 
 -- at one place these bytes are added, and nothing elsewhere
@@ -39,11 +39,11 @@ abbrev pub Empties : ℕ → (ℕ → List ℕ) → (ℕ → List ℕ) → Type 
 Empties at old new = (j : ℕ) → new j ≡ (if at == j then [] else old j)
 
 -- what has happened is what had happened before, and perhaps more
-abbrev pub Extends : List Event → List Event → Type 0
-Extends h h' = (more : List Event) × (h' ≡ more ++ h)
+abbrev pub Extends : List WireEvent → List WireEvent → Type 0
+Extends h h' = (more : List WireEvent) × (h' ≡ more ++ h)
 
 -- of this connection all is as it was, whatever else happened, but that the clock wasn't looked at
-pub record IsUntouched (d : ℕ) (h h' : List Event) : Type 0 where
+pub record IsUntouched (d : ℕ) (h h' : List WireEvent) : Type 0 where
   pub same_role : role d h' ≡ role d h
   pub same_address : address_of d h' ≡ address_of d h
   pub same_came : delivered d h' ≡ delivered d h
@@ -54,5 +54,5 @@ pub record IsUntouched (d : ℕ) (h h' : List Event) : Type 0 where
   pub after : Extends h h'
 
 -- of all connections but this one all is as it was, and the clock wasn't looked at
-abbrev pub TouchesOnly : ℕ → List Event → List Event → Type 0
+abbrev pub TouchesOnly : ℕ → List WireEvent → List WireEvent → Type 0
 TouchesOnly c h h' = (d : ℕ) → (c == d) ≡ false → IsUntouched d h h'

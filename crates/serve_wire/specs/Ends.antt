@@ -1,6 +1,6 @@
 -- What one read and one write of an end do. Source: mcgate's own.
 use Rattle.std.specs.Prelude.{◌≡◌, ℕ, ◌<◌, ◌≤◌, nat_eq, Bool, false, ◌&&◌, ◌||◌, ◌⊎◌, ◌∷◌, ◌++◌, List, length, take, drop}
-use Rattle.serve_wire.specs.Events.{Event, delivers, takes, ends, fails}
+use Rattle.serve_wire.specs.Events.{WireEvent, delivers, takes, ends, fails}
 use Rattle.serve_wire.specs.declared.conn.conn.Conn.{Conn}
 use Rattle.serve_wire.specs.declared.conn.conn.Got.{Got}
 use Rattle.serve_wire.specs.declared.conn.conn.Got.TheVariants as got
@@ -12,19 +12,19 @@ abbrev pub HoldsAnew : Conn → Conn → Type 0
 HoldsAnew x y = y ≡ record x { held = y.held; other = y.other; is_cut = y.is_cut }
 
 -- bytes came over the connection, and stand after those that are held
-pub record Comes (c : ℕ) (held held' : List ℕ) (h h' : List Event) : Type 0 where
+pub record ComesOver (c : ℕ) (held held' : List ℕ) (h h' : List WireEvent) : Type 0 where
   pub bytes : List ℕ
   pub some : 0 < length bytes
   pub held_is : held' ≡ held ++ bytes
   pub noted : h' ≡ delivers c bytes ∷ h
 
 -- what is held, and what has happened, before and after a read of a connection, where so many bytes may be held
-abbrev pub Reads : ℕ → ℕ → List ℕ → Got → List ℕ → List Event → List Event → Type 0
-Reads c limit held got.Bytes held' h h' = (length held < limit) × Comes c held held' h h'
-Reads c limit held got.Nothing held' h h' = (length held < limit) × (held' ≡ held) × (h' ≡ h)
-Reads c limit held got.Full held' h h' = (limit ≤ length held) × (held' ≡ held) × (h' ≡ h)
-Reads c limit held got.Ended held' h h' = (length held < limit) × (held' ≡ held) × (h' ≡ ends c ∷ h)
-Reads c limit held got.Failed held' h h' = (length held < limit) × (held' ≡ held) × (h' ≡ fails c ∷ h)
+abbrev pub ReadsConnection : ℕ → ℕ → List ℕ → Got → List ℕ → List WireEvent → List WireEvent → Type 0
+ReadsConnection c limit held got.Bytes held' h h' = (length held < limit) × ComesOver c held held' h h'
+ReadsConnection c limit held got.Nothing held' h h' = (length held < limit) × (held' ≡ held) × (h' ≡ h)
+ReadsConnection c limit held got.Full held' h h' = (limit ≤ length held) × (held' ≡ held) × (h' ≡ h)
+ReadsConnection c limit held got.Ended held' h h' = (length held < limit) × (held' ≡ held) × (h' ≡ ends c ∷ h)
+ReadsConnection c limit held got.Failed held' h h' = (length held < limit) × (held' ≡ held) × (h' ≡ fails c ∷ h)
 
 -- `readable` before and after a read that leaves so much room: bytes clear it if room is left and the peer isn't closing, `Nothing` may clear it, and else it stays
 abbrev pub StaysReadable : Got → Bool → ℕ → Bool → Bool → Type 0
@@ -35,7 +35,7 @@ StaysReadable got.Ended closing left readable readable' = readable' ≡ readable
 StaysReadable got.Failed closing left readable readable' = readable' ≡ readable
 
 -- the connection took the first bytes of what is to be sent, and the others stay
-pub record Goes (c : ℕ) (unsent unsent' : List ℕ) (h h' : List Event) : Type 0 where
+pub record GoesOut (c : ℕ) (unsent unsent' : List ℕ) (h h' : List WireEvent) : Type 0 where
   pub count : ℕ
   pub some : 0 < count
   pub few : count ≤ length unsent
@@ -43,8 +43,8 @@ pub record Goes (c : ℕ) (unsent unsent' : List ℕ) (h h' : List Event) : Type
   pub noted : h' ≡ takes c (take count unsent) ∷ h
 
 -- what is to be sent, and what has happened, before and after a write
-abbrev pub Sends : ℕ → List ℕ → Sent → List ℕ → List Event → List Event → Type 0
-Sends c unsent sent.Bytes unsent' h h' = Goes c unsent unsent' h h'
+abbrev pub Sends : ℕ → List ℕ → Sent → List ℕ → List WireEvent → List WireEvent → Type 0
+Sends c unsent sent.Bytes unsent' h h' = GoesOut c unsent unsent' h h'
 Sends c unsent sent.Nothing unsent' h h' = (unsent' ≡ unsent) × (h' ≡ h)
 Sends c unsent sent.Failed unsent' h h' = (unsent' ≡ unsent) × (h' ≡ fails c ∷ h)
 

@@ -2,7 +2,7 @@
 
 ghost use Rattle.std.specs.Prelude.{◌≡◌, List, [], ◌∷◌};
 ghost use Rattle.std.specs.Borrow.{ftrue};
-ghost use Rattle.serve_wire.specs.Events.{Event, event_of, with_more};
+ghost use Rattle.serve_wire.specs.Events.{WireEvent, event_of, with_more};
 
 use std::marker::{Model, PhantomData};
 
@@ -10,7 +10,7 @@ use std::marker::{Model, PhantomData};
 #[derive(Drop)]
 pub struct Record {
     marker: PhantomData<u8>,
-    pub ghost events: { List Event },
+    pub ghost events: { List WireEvent },
 }
 
 impl Model for Record {

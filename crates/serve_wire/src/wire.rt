@@ -2,8 +2,8 @@
 
 ghost use Rattle.std.specs.Prelude.{◌≡◌, ◌<◌, None, List, ◌∷◌, length, IfOk, OnOk, OnErr};
 ghost use Rattle.std.specs.Io.Slices.{io_slices_bytes};
-ghost use Rattle.serve_wire.specs.Events.{Event, admits, ticks, looks_up, role, time};
-ghost use Rattle.serve_wire.specs.Calls.{Accepts, Connects, Reads, Writes, Closes};
+ghost use Rattle.serve_wire.specs.Events.{WireEvent, admits, ticks, looks_up, role, time};
+ghost use Rattle.serve_wire.specs.Calls.{Accepts, Connects, ReadsBehind, Writes, Closes};
 
 use crate::outcomes::{Accepted, Connected, Lead, ReadOutcome, Report, WriteOutcome};
 use bytes::BytesMut;
@@ -18,7 +18,7 @@ use std::time::Duration;
 /// Source: mcgate's own.
 pub trait Wire {
     /// All that has happened, newest first.
-    ghost history: { Self → List Event };
+    ghost history: { Self → List WireEvent };
 
     /// How many milliseconds have gone by.
     fn millis<C: Clock>(&mut self, clock: &C) -> io::Result<u64>
@@ -70,7 +70,7 @@ pub trait Wire {
     /// One read into the spare room of a buffer.
     fn read(&mut self, conn: usize, into: &mut BytesMut) -> ReadOutcome
         requires { 0 < into.old.spare }
-        ensures { Reads conn result into.old.items into.new.items into.old.spare into.new.spare (history self.old) (history self.new) };
+        ensures { ReadsBehind conn result into.old.items into.new.items into.old.spare into.new.spare (history self.old) (history self.new) };
 
     /// One write of bytes.
     fn write(&mut self, conn: usize, bytes: &[u8]) -> WriteOutcome

@@ -15,7 +15,7 @@ use Rattle.std.proofs.lemmas.List.Splits.{slice_split_at}
 use Rattle.std.proofs.Math.Seq.{get_or-append_seam}
 use Rattle.text_words.specs.Line.{IsOneLine, IsLine, LF, CR, without_cr}
 use Rattle.text_words.specs.Word.{words, is_space, is_filled}
-use Rattle.text_words.specs.Spelling.{IsWord, AreWords, AreOneLine, spaced, line_of}
+use Rattle.text_words.specs.Spelling.{IsWord, AreWords, AreOneLine, spaced, words_line}
 use Rattle.text_words.proofs.WordLemmas.{words-one, filled_first}
 
 -- what codecs write: a word without a byte below 33
@@ -90,7 +90,7 @@ without_cr-text t =
     let last : get_or (t ++ CR ∷ []) (length t) 0 ≡ CR = get_or-append_seam t CR [] 0 in
     rw (len, last) (take_at t (CR ∷ []) (length t) refl)
 
-pub is_line : (ws : List (List ℕ)) (more : List ℕ) → AreOneLine ws → length (spaced ws) < 65535 → IsLine (line_of ws ++ more) (spaced ws ++ CR ∷ []) more
+pub is_line : (ws : List (List ℕ)) (more : List ℕ) → AreOneLine ws → length (spaced ws) < 65535 → IsLine (words_line ws ++ more) (spaced ws ++ CR ∷ []) more
 is_line ws more h short = record {
   whole = append_assoc (spaced ws) (CR ∷ LF ∷ []) more ∙ sym (append_assoc (spaced ws) (CR ∷ []) (LF ∷ more));
   one = All-append (λ b. b ≢ LF) (spaced ws) (CR ∷ []) (spaced_line ws h) (All-cons (λ b. b ≢ LF) CR [] (λ e. cc) (All-nil (λ b. b ≢ LF)));

@@ -6,7 +6,7 @@ use Rattle.text_words.specs.declared.reading.TheConstants.{LINE_LIMIT}
 use Rattle.text_words.specs.Line.{IsLine, CR, without_cr}
 use Rattle.text_words.specs.Word.{words}
 use Rattle.text_words.specs.Number.{number_below, signed_number}
-use Rattle.text_words.specs.Spelling.{AreWords, AreOneLine, spaced, line_of}
+use Rattle.text_words.specs.Spelling.{AreWords, AreOneLine, spaced, words_line}
 
 -- the words of spaced words are those words
 abbrev pub WordsAreReadBack : Type 0
@@ -15,7 +15,7 @@ WordsAreReadBack = (ws : List (List ℕ)) → AreWords ws → words (spaced ws) 
 -- bytes that begin with a line of words begin with the line of these words' text
 abbrev pub LinesAreReadBack : Type 0
 LinesAreReadBack = (ws : List (List ℕ)) (more : List ℕ) → AreOneLine ws → length (spaced ws) + 1 < LINE_LIMIT
-    → IsLine (line_of ws ++ more) (spaced ws ++ CR ∷ []) more × (without_cr (spaced ws ++ CR ∷ []) ≡ spaced ws)
+    → IsLine (words_line ws ++ more) (spaced ws ++ CR ∷ []) more × (without_cr (spaced ws ++ CR ∷ []) ≡ spaced ws)
 
 -- a number below a limit, in decimal, is read as that number below the limit
 abbrev pub NumbersAreReadBack : Type 0

@@ -23,5 +23,5 @@ spaced (word ∷ []) = word
 spaced (word ∷ other ∷ more) = word ++ 32 ∷ spaced (other ∷ more)
 
 -- a line of these words, ended as memcached's protocol.txt says, "Protocol"
-abbrev pub line_of : List (List ℕ) → List ℕ
-line_of words = spaced words ++ codes "\r\n"
+abbrev pub words_line : List (List ℕ) → List ℕ
+words_line words = spaced words ++ codes "\r\n"

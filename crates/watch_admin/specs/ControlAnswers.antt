@@ -11,5 +11,5 @@ digit_of verdicts.Unknown = 50
 digit_of verdicts.Failed = 51
 
 -- the digit, the end of a line, and the text
-abbrev pub answer_of : Ruling → List ℕ → List ℕ
-answer_of verdict text = digit_of verdict ∷ 10 ∷ text
+abbrev pub control_answer : Ruling → List ℕ → List ℕ
+control_answer verdict text = digit_of verdict ∷ 10 ∷ text

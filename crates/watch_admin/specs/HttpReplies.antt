@@ -7,11 +7,11 @@ use Rattle.watch_admin.specs.declared.http.request.Refusal.TheVariants.{Bad, Not
 use Rattle.watch_admin.specs.declared.http.request.AskedPage.TheVariants.{For, Refused}
 use Rattle.watch_admin.specs.HttpRequests.{AsksPage}
 
-abbrev pub kind_of : Page → List ℕ
-kind_of Home = codes "text/html; charset=utf-8"
-kind_of Config = codes "application/json"
-kind_of Metrics = codes "text/plain; version=0.0.4; charset=utf-8"
-kind_of Stats = codes "application/json"
+abbrev pub page_kind : Page → List ℕ
+page_kind Home = codes "text/html; charset=utf-8"
+page_kind Config = codes "application/json"
+page_kind Metrics = codes "text/plain; version=0.0.4; charset=utf-8"
+page_kind Stats = codes "application/json"
 
 abbrev pub refusal_words : Refusal → List ℕ
 refusal_words Bad = codes "400 Bad Request"
@@ -50,7 +50,7 @@ unfoldable pub answer_text : List ℕ → List ℕ → List ℕ → List ℕ →
 answer_text words fields kind body = front_text words fields kind ++ body_text body
 
 abbrev pub page_text : Page → List ℕ → List ℕ
-page_text page body = answer_text (codes "200 OK") [] (kind_of page) body
+page_text page body = answer_text (codes "200 OK") [] (page_kind page) body
 
 -- the body is the status
 abbrev pub http_refusal_text : Refusal → List ℕ
@@ -63,5 +63,5 @@ abbrev pub RefusalAnswers : List ℕ → List ℕ → Type 0
 RefusalAnswers came answer = (refusal : Refusal) × AsksPage came (Refused refusal) × (answer ≡ http_refusal_text refusal)
 
 -- to these bytes of a client this answers: the page that they ask for, with some body, or why there is none
-abbrev pub Answers : List ℕ → List ℕ → Type 0
-Answers came answer = PageAnswers came answer ⊎ RefusalAnswers came answer
+abbrev pub AnswersVisitor : List ℕ → List ℕ → Type 0
+AnswersVisitor came answer = PageAnswers came answer ⊎ RefusalAnswers came answer

@@ -26,12 +26,12 @@ labels_text (label ∷ labels) = label_text label ++ flat_map next_label_text la
 abbrev pub braced_text : List Label → List ℕ
 braced_text labels = if length labels == 0 then [] else codes "{" ++ labels_text labels ++ codes "}"
 
-abbrev pub end_text : Amount → List ℕ
-end_text amount = codes " " ++ amount_text amount ++ codes "\n"
+abbrev pub amount_end : Amount → List ℕ
+amount_end amount = codes " " ++ amount_text amount ++ codes "\n"
 
 -- NAMEPART{LABELS} AMOUNT, or NAMEPART AMOUNT
 abbrev pub sample_text : List ℕ → List ℕ → Sample → List ℕ
-sample_text name part sample = name ++ part ++ braced_text sample.labels.items ++ end_text sample.amount
+sample_text name part sample = name ++ part ++ braced_text sample.labels.items ++ amount_end sample.amount
 
 abbrev pub each_text : List ℕ → List ℕ → List Sample → List ℕ
 each_text name part samples = flat_map (sample_text name part) samples

@@ -2,7 +2,7 @@
 
 ghost use Rattle.std.specs.Prelude.{OnOk, ◌++◌};
 ghost use Rattle.std.specs.Io.KnownBytes.{Appends};
-ghost use Rattle.watch_admin.specs.Prometheus.{label_text, labels_text, braced_text, end_text, sample_text, each_text, amount_line, spread_text, samples_text, help_text, type_text, family_text, families_text};
+ghost use Rattle.watch_admin.specs.Prometheus.{label_text, labels_text, braced_text, amount_end, sample_text, each_text, amount_line, spread_text, samples_text, help_text, type_text, family_text, families_text};
 
 use crate::families::{Amount, Family, Label, Sample, Samples, Spread};
 use crate::quoted::Quoted;
@@ -51,7 +51,7 @@ fn write_name<W: Write>(name: &str, part: &str, out: &mut W) -> io::Result<()>
 }
 
 fn write_amount<W: Write>(amount: Amount, out: &mut W) -> io::Result<()>
-    ensures { OnOk result (Appends (W.contents out.old) (W.contents out.new) (end_text amount)) }
+    ensures { OnOk result (Appends (W.contents out.old) (W.contents out.new) (amount_end amount)) }
 {
     writeln!(out, " {amount}")
 }

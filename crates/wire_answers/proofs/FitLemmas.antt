@@ -20,9 +20,9 @@ use Rattle.mc_types.specs.declared.answer.Answer.TheVariants as answers
 use Rattle.wire_answers.specs.declared.line_kinds.FirstLine.{FirstLine}
 use Rattle.wire_answers.specs.declared.line_kinds.FirstLine.TheVariants.{Whole, Hit, Value, Foreign}
 use Rattle.wire_answers.specs.declared.line_kinds.HitLine.{HitLine}
-use Rattle.wire_answers.specs.Table.{looked_up, of_store, of_cas, of_fetch, of_delete, of_touch, of_count, number_or, word_answer}
-use Rattle.wire_answers.specs.FirstLine.{kind_of_line, words_said, error_said, error_text, is_error_text, after_word, cas_said, hit_said, is_fetch, hit_or_foreign, whole_or_foreign, alone, in_dialect}
-use Rattle.wire_answers.specs.Reading.{Follows}
+use Rattle.wire_answers.specs.Table.{looked_up, store_answers, of_cas, of_fetch, delete_answers, of_touch, count_answers, number_or, word_answer}
+use Rattle.wire_answers.specs.FirstLine.{kind_of_line, words_said, error_said, error_text, is_error_text, after_word, cas_said, hit_said, is_fetch, hit_or_foreign, whole_or_foreign, one_word_line, in_dialect}
+use Rattle.wire_answers.specs.Reading.{FollowsLine}
 
 both : (a b : Bool) → (a && b) ≡ true → (a ≡ true) × (b ≡ true)
 both true b e = (refl, e)
@@ -64,18 +64,18 @@ number_taken P w None all h = go (number_below (2 ^ 64) w) (below_limit (2 ^ 64)
 word_taken : (op : Op) (wc : Bool) (w : List ℕ) → IfSome (word_answer op w) (Taken op wc)
 word_taken Get wc w = found (Taken Get wc) of_fetch w ((tt, tt), ((tt, refl), tt))
 word_taken Gat wc w = found (Taken Gat wc) of_fetch w ((tt, tt), ((tt, refl), tt))
-word_taken Set wc w = found (Taken Set wc) of_store w ((tt, tt), ((tt, tt), ((tt, refl), tt)))
-word_taken Add wc w = found (Taken Add wc) of_store w ((tt, tt), ((tt, tt), ((tt, refl), tt)))
-word_taken Replace wc w = found (Taken Replace wc) of_store w ((tt, tt), ((tt, tt), ((tt, refl), tt)))
-word_taken Append wc w = found (Taken Append wc) of_store w ((tt, tt), ((tt, tt), ((tt, refl), tt)))
-word_taken Prepend wc w = found (Taken Prepend wc) of_store w ((tt, tt), ((tt, tt), ((tt, refl), tt)))
+word_taken Set wc w = found (Taken Set wc) store_answers w ((tt, tt), ((tt, tt), ((tt, refl), tt)))
+word_taken Add wc w = found (Taken Add wc) store_answers w ((tt, tt), ((tt, tt), ((tt, refl), tt)))
+word_taken Replace wc w = found (Taken Replace wc) store_answers w ((tt, tt), ((tt, tt), ((tt, refl), tt)))
+word_taken Append wc w = found (Taken Append wc) store_answers w ((tt, tt), ((tt, tt), ((tt, refl), tt)))
+word_taken Prepend wc w = found (Taken Prepend wc) store_answers w ((tt, tt), ((tt, tt), ((tt, refl), tt)))
 word_taken Cas wc w = found (Taken Cas wc) of_cas w ((tt, tt), ((tt, tt), ((tt, tt), ((tt, refl), tt))))
-word_taken Delete wc w = found (Taken Delete wc) of_delete w ((tt, tt), ((tt, tt), ((tt, refl), tt)))
-word_taken Incr wc w = number_taken (Taken Incr wc) w (looked_up of_count w) (λ n lt. (lt, tt)) (found (Taken Incr wc) of_count w ((tt, tt), ((tt, refl), tt)))
-word_taken Decr wc w = number_taken (Taken Decr wc) w (looked_up of_count w) (λ n lt. (lt, tt)) (found (Taken Decr wc) of_count w ((tt, tt), ((tt, refl), tt)))
+word_taken Delete wc w = found (Taken Delete wc) delete_answers w ((tt, tt), ((tt, tt), ((tt, refl), tt)))
+word_taken Incr wc w = number_taken (Taken Incr wc) w (looked_up count_answers w) (λ n lt. (lt, tt)) (found (Taken Incr wc) count_answers w ((tt, tt), ((tt, refl), tt)))
+word_taken Decr wc w = number_taken (Taken Decr wc) w (looked_up count_answers w) (λ n lt. (lt, tt)) (found (Taken Decr wc) count_answers w ((tt, tt), ((tt, refl), tt)))
 word_taken Touch wc w = found (Taken Touch wc) of_touch w ((tt, tt), ((tt, tt), ((tt, refl), tt)))
 
-alone_taken : (op : Op) (wc : Bool) (w : List ℕ) (more : List (List ℕ)) → SaidFits op wc (alone op w more)
+alone_taken : (op : Op) (wc : Bool) (w : List ℕ) (more : List (List ℕ)) → SaidFits op wc (one_word_line op w more)
 alone_taken op wc w (o ∷ more) = tt
 alone_taken op wc w [] = go (word_answer op w) (word_taken op wc w) where
   go : (o : Option Answer) → IfSome o (Taken op wc) → SaidFits op wc (whole_or_foreign o)
@@ -163,12 +163,12 @@ hit_listed Get wc flags body cas e h = h
 hit_listed Gat wc flags body cas e h = h
 hit_listed _ wc flags body cas e h = absurd cc
 
-follows_fit : (op : Op) (wc : Bool) (s : FirstLine) (rest : List ℕ) (answer : Answer) (used : ℕ) → SaidFits op wc s → Follows s rest answer used → Taken op wc answer
+follows_fit : (op : Op) (wc : Bool) (s : FirstLine) (rest : List ℕ) (answer : Answer) (used : ℕ) → SaidFits op wc s → FollowsLine s rest answer used → Taken op wc answer
 follows_fit op wc (Whole x) rest answer used h f = subst (Taken op wc) (sym f.0) h
 follows_fit op wc (Hit hit) rest answer used h f =
     subst (Taken op wc) (sym f.3) ((h.0.0, omega (arith, f.4, h.0.1), h.0.2), hit_listed op wc hit.flags f.0 hit.cas h.1 h.0.3)
 follows_fit op wc (Value line) rest answer used h f = absurd h
 follows_fit op wc Foreign rest answer used h f = absurd f
 
-pub classic_taken : (ask : Ask) → ask.dialect ≡ Classic → (line rest : List ℕ) (answer : Answer) (used : ℕ) → Follows (kind_of_line ask line) rest answer used → Taken ask.op ask.with_cas answer
+pub classic_taken : (ask : Ask) → ask.dialect ≡ Classic → (line rest : List ℕ) (answer : Answer) (used : ℕ) → FollowsLine (kind_of_line ask line) rest answer used → Taken ask.op ask.with_cas answer
 classic_taken ask classic line rest answer used f = follows_fit ask.op ask.with_cas (kind_of_line ask line) rest answer used (said_fits ask line classic) f

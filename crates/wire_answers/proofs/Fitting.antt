@@ -14,7 +14,7 @@ use Rattle.mc_types.specs.declared.answer.Code.{Code}
 use Rattle.mc_types.specs.declared.answer.Code.TheVariants.{Hd, Va, En, Ns, Ex, Nf}
 use Rattle.mc_types.specs.declared.answer.Fields.{Fields}
 use Rattle.wire_answers.specs.Told.{none_told, fields_told}
-use Rattle.wire_answers.specs.Line.{takes, is_count, is_size}
+use Rattle.wire_answers.specs.Line.{takes_code, is_count, is_size}
 use Rattle.wire_answers.proofs.MetaFitLemmas.{is_bare}
 
 second : (a b : Bool) → (a && b) ≡ true → b ≡ true
@@ -51,7 +51,7 @@ none_bare = record { body_is = refl; cas = refl; flags = refl; size = refl; ttl 
 pub none_range : AreFieldsInRange (fields_told none_told None)
 none_range = record { body = tt; cas = tt; flags = tt; size = tt; ttl = tt }
 
-pub hd_fits : (op : Op) (ts : List Token) (fields : Fields) (ask : Ask) → ask.tokens ≡ ts → HasShapeOf ask (meta_shape op) → takes op (wants ts LetterV) Hd ≡ true → StandAs ts false fields → FitsMetaCode op ts Hd fields
+pub hd_fits : (op : Op) (ts : List Token) (fields : Fields) (ask : Ask) → ask.tokens ≡ ts → HasShapeOf ask (meta_shape op) → takes_code op (wants ts LetterV) Hd ≡ true → StandAs ts false fields → FitsMetaCode op ts Hd fields
 hd_fits Get ts fields ask same s t h = (not_true (wants ts LetterV) t, h)
 hd_fits Gat ts fields ask same s t h = (not_true (wants ts LetterV) t, h)
 hd_fits Set ts fields ask same s t h = h
@@ -65,7 +65,7 @@ hd_fits Incr ts fields ask same s t h = (not_true (wants ts LetterV) t, h)
 hd_fits Decr ts fields ask same s t h = (not_true (wants ts LetterV) t, h)
 hd_fits Touch ts fields ask same s t h = absurd cc
 
-pub bare_fits : (op : Op) (ts : List Token) (code : Code) (fields : Fields) → is_bare code ≡ true → takes op (wants ts LetterV) code ≡ true → AreBare fields → FitsMetaCode op ts code fields
+pub bare_fits : (op : Op) (ts : List Token) (code : Code) (fields : Fields) → is_bare code ≡ true → takes_code op (wants ts LetterV) code ≡ true → AreBare fields → FitsMetaCode op ts code fields
 bare_fits Get ts En fields b t h = h
 bare_fits Gat ts En fields b t h = h
 bare_fits Set ts Ns fields b t h = h
@@ -104,7 +104,7 @@ sized (Some n) body len e same = eqb-true n len e ∙ sym same
 number_is : (body : List ℕ) → is_some (number_below (2 ^ 64) body) ≡ true → IsNumberText (Some body)
 number_is body e = e
 
-pub va_fits : (op : Op) (ts : List Token) (fields : Fields) (body : List ℕ) (len : ℕ) → fields.body ≡ Some body → takes op (wants ts LetterV) Va ≡ true → StandAs ts true fields → is_size fields.size len ≡ true → length body ≡ len
+pub va_fits : (op : Op) (ts : List Token) (fields : Fields) (body : List ℕ) (len : ℕ) → fields.body ≡ Some body → takes_code op (wants ts LetterV) Va ≡ true → StandAs ts true fields → is_size fields.size len ≡ true → length body ≡ len
     → (is_count op ≡ true → is_some (number_below (2 ^ 64) body) ≡ true) → FitsMetaCode op ts Va fields
 va_fits Get ts fields body len at t h size same number = (t, h, subst (λ (o : Option (List ℕ)). IsSizeOf fields.size o) (sym at) (sized fields.size body len size same))
 va_fits Gat ts fields body len at t h size same number = (t, h, subst (λ (o : Option (List ℕ)). IsSizeOf fields.size o) (sym at) (sized fields.size body len size same))

@@ -21,9 +21,9 @@ use Rattle.mc_types.specs.declared.answer.Answer.TheVariants as answers
 use Rattle.wire_answers.specs.declared.line_kinds.FirstLine.{FirstLine}
 use Rattle.wire_answers.specs.declared.line_kinds.FirstLine.TheVariants.{Hit}
 use Rattle.wire_answers.specs.declared.line_kinds.HitLine.{HitLine}
-use Rattle.wire_answers.specs.Spelling.{cas_words, end_text, spelling_of}
+use Rattle.wire_answers.specs.Spelling.{cas_words, end_text, answer_spelling}
 use Rattle.wire_answers.specs.FirstLine.{kind_of_line, words_said, error_text, hit_said, is_fetch}
-use Rattle.wire_answers.specs.Reading.{IsBlockEnd, Follows, Spells}
+use Rattle.wire_answers.specs.Reading.{IsBlockEnd, FollowsLine, Spells}
 use Rattle.wire_answers.proofs.WordBack.{spelled}
 
 -- keys
@@ -96,7 +96,7 @@ end_read more =
     }
 
 pub hit_back : (ask : Ask) (flags : ℕ) (body : List ℕ) (cas : Option ℕ) (more : List ℕ) → ask.dialect ≡ Classic → IsKey ask.key → IsAnswer (answers.Hit flags body cas) → FitsClassic ask.op ask.with_cas (answers.Hit flags body cas)
-    → Spells ask (spelling_of ask (answers.Hit flags body cas) ++ more) (answers.Hit flags body cas) (length (spelling_of ask (answers.Hit flags body cas)))
+    → Spells ask (answer_spelling ask (answers.Hit flags body cas) ++ more) (answers.Hit flags body cas) (length (answer_spelling ask (answers.Hit flags body cas)))
 hit_back ask flags body cas more classic k ranges fits =
     let n = length body in
     let line = spaced (hit_words ask.key flags n cas) in
@@ -107,11 +107,11 @@ hit_back ask flags body cas more classic k ranges fits =
     let hit : HitLine = record { flags = flags; len = n; cas = cas } in
     let says : kind_of_line ask line ≡ Hit hit = value_said ask line (ask.key ∷ decimal flags ∷ decimal n ∷ cas_words cas) hit classic are only.0 (hit_read ask.key ask.with_cas flags n cas ranges.0 ranges.1 ranges.2 only.1) in
     let rest = body ++ (codes "\r\n" ++ (end_text ++ more)) in
-    let there : Follows (Hit hit) rest (answers.Hit flags body cas) (n + 7) = (body, codes "\r\n" ++ (end_text ++ more), 7, refl, refl, refl, end_read more, refl) in
-    let follows : Follows (kind_of_line ask line) rest (answers.Hit flags body cas) (n + 7) = subst (λ (s : FirstLine). Follows s rest (answers.Hit flags body cas) (n + 7)) (sym says) there in
+    let there : FollowsLine (Hit hit) rest (answers.Hit flags body cas) (n + 7) = (body, codes "\r\n" ++ (end_text ++ more), 7, refl, refl, refl, end_read more, refl) in
+    let follows : FollowsLine (kind_of_line ask line) rest (answers.Hit flags body cas) (n + 7) = subst (λ (s : FirstLine). FollowsLine s rest (answers.Hit flags body cas) (n + 7)) (sym says) there in
     let all = spelled ask line rest (answers.Hit flags body cas) (n + 7) one (hit_short ask.key flags n cas k ranges.0 ranges.1 ranges.2) follows in
-    let whole : spelling_of ask (answers.Hit flags body cas) ++ more ≡ (line ++ codes "\r\n") ++ rest = regroup (line ++ codes "\r\n") body (codes "\r\n") end_text more in
-    let long : length (spelling_of ask (answers.Hit flags body cas)) ≡ length line + 2 + (n + 7) =
+    let whole : answer_spelling ask (answers.Hit flags body cas) ++ more ≡ (line ++ codes "\r\n") ++ rest = regroup (line ++ codes "\r\n") body (codes "\r\n") end_text more in
+    let long : length (answer_spelling ask (answers.Hit flags body cas)) ≡ length line + 2 + (n + 7) =
     omega (arith, hit_len (line ++ codes "\r\n") body (codes "\r\n") end_text, length-append line (codes "\r\n")) in
-    subst (λ (t : List ℕ). Spells ask t (answers.Hit flags body cas) (length (spelling_of ask (answers.Hit flags body cas)))) (sym whole)
+    subst (λ (t : List ℕ). Spells ask t (answers.Hit flags body cas) (length (answer_spelling ask (answers.Hit flags body cas)))) (sym whole)
     (subst (λ (u : ℕ). Spells ask ((line ++ codes "\r\n") ++ rest) (answers.Hit flags body cas) u) (sym long) all)

@@ -19,7 +19,7 @@ use Rattle.wire_answers.specs.declared.meta.told.Told.{Told}
 use Rattle.wire_answers.specs.declared.meta.line.MetaLine.TheVariants.{Done, Value, Other}
 use Rattle.wire_answers.specs.Told.{none_told, fields_told}
 use Rattle.wire_answers.specs.Tokens.{with_words}
-use Rattle.wire_answers.specs.Line.{takes, is_count, as_asked, all_stand, is_size, code_word, meta_said}
+use Rattle.wire_answers.specs.Line.{takes_code, is_count, as_asked, all_stand, is_size, code_word, meta_said}
 use Rattle.wire_answers.specs.MetaSpelling.{tokens_words}
 use Rattle.wire_answers.proofs.MetaFitLemmas.{is_bare}
 use Rattle.wire_answers.proofs.Fitting.{AsksNone, of_a_delete}
@@ -33,7 +33,7 @@ not_wanted : (b : Bool) → b ≡ false → not b ≡ true
 not_wanted true e = absurd cc
 not_wanted false e = refl
 
-takes_of : (op : Op) (ts : List Token) (code : Code) (fields : Fields) → FitsMetaCode op ts code fields → takes op (wants ts LetterV) code ≡ true
+takes_of : (op : Op) (ts : List Token) (code : Code) (fields : Fields) → FitsMetaCode op ts code fields → takes_code op (wants ts LetterV) code ≡ true
 takes_of Get ts Va fields h = h.0
 takes_of Get ts Hd fields h = not_wanted (wants ts LetterV) h.0
 takes_of Get ts En fields h = refl
@@ -330,7 +330,7 @@ module _ (ask : Ask) (fields : Fields) (range : AreFieldsInRange fields) where
   bare_same : AreBare fields → fields_told none_told None ≡ fields
   bare_same b = λ i. record { body = sym (no_body fields.body b.body_is) i; cas = sym (nothing fields.cas b.cas) i; flags = sym (nothing fields.flags b.flags) i; size = sym (nothing fields.size b.size) i; ttl = sym (nothing fields.ttl b.ttl) i }
 
-  bare_said_so : (served : List Letter) (code : Code) → are_served served ask.tokens ≡ true → is_bare code ≡ true → takes ask.op (wants ask.tokens LetterV) code ≡ true
+  bare_said_so : (served : List Letter) (code : Code) → are_served served ask.tokens ≡ true → is_bare code ≡ true → takes_code ask.op (wants ask.tokens LetterV) code ≡ true
       → meta_said ask (code_word code) (tokens_words ask.key fields ask.tokens) ≡ Some (Other code)
   bare_said_so served En e b t = rw (t, read served e) refl
   bare_said_so served Ns e b t = rw (t, read served e) refl

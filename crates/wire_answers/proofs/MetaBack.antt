@@ -3,7 +3,7 @@ use Rattle.std.proofs.Common.{◌≡◌, ℕ, ◌+◌, ◌<◌, Bool, true, fals
 use Rattle.std.specs.Prelude.{codes, decimal}
 use Rattle.std.proofs.lemmas.List.{length-append}
 use Rattle.text_words.specs.Word.{words}
-use Rattle.text_words.specs.Spelling.{spaced, line_of}
+use Rattle.text_words.specs.Spelling.{spaced, words_line}
 use Rattle.text_words.proofs.Spaced.{IsPlain, ArePlain, literal, plain_words, plain_line, plain_lines, words-spaced, spaced_line}
 use Rattle.mc_types.specs.KeyText.{IsKey}
 use Rattle.mc_types.specs.Asks.{HasShapeOf, Shape, meta_shape}
@@ -23,14 +23,14 @@ use Rattle.wire_answers.specs.declared.meta.line.MetaLine.TheVariants as lines
 use Rattle.wire_answers.specs.Fitting.{AreTexts}
 use Rattle.wire_answers.specs.Told.{none_told, fields_told}
 use Rattle.wire_answers.specs.Line.{code_word, is_count, meta_said}
-use Rattle.wire_answers.specs.MetaSpelling.{tokens_words, meta_words, meta_spelling}
+use Rattle.wire_answers.specs.MetaSpelling.{tokens_words, meta_line_words, meta_spelling}
 use Rattle.wire_answers.proofs.TokensBack.{telling_all}
 use Rattle.wire_answers.proofs.LineBack.{done_back, value_back, bare_back, is_data_of, va_number, va_stands}
 use Rattle.wire_answers.proofs.Plain.{words_plain, words_short}
 use Rattle.wire_answers.specs.declared.line_kinds.FirstLine.{FirstLine}
 use Rattle.wire_answers.specs.declared.line_kinds.FirstLine.TheVariants.{Whole, Value}
 use Rattle.wire_answers.specs.FirstLine.{kind_of_line, words_said, error_text, is_error_word, line_said}
-use Rattle.wire_answers.specs.Reading.{Follows, Spells, is_data}
+use Rattle.wire_answers.specs.Reading.{FollowsLine, Spells, is_data}
 use Rattle.wire_answers.proofs.WordBack.{spelled}
 
 -- the flags that are served of an operation
@@ -69,14 +69,14 @@ line_says ask code ws line plain is e =
 
 -- a line that is the whole answer
 whole_back : (ask : Ask) (ws : List (List ℕ)) (answer : Answer) (more : List ℕ) → ArePlain ws → length (spaced ws) < 65535 → kind_of_line ask (spaced ws) ≡ Whole answer
-    → Spells ask ((line_of ws ++ []) ++ more) answer (length (line_of ws ++ []))
+    → Spells ask ((words_line ws ++ []) ++ more) answer (length (words_line ws ++ []))
 whole_back ask ws answer more plain short says =
     let line = spaced ws in
-    let follows : Follows (kind_of_line ask line) more answer 0 = subst (λ (s : FirstLine). Follows s more answer 0) (sym says) (refl, refl) in
+    let follows : FollowsLine (kind_of_line ask line) more answer 0 = subst (λ (s : FirstLine). FollowsLine s more answer 0) (sym says) (refl, refl) in
     let all = spelled ask line more answer 0 (spaced_line ws (plain_lines ws plain)) short follows in
-    let same : line_of ws ++ [] ≡ line ++ codes "\r\n" = append-nil (line_of ws) in
-    let long : length (line_of ws ++ []) ≡ length line + 2 + 0 = omega (arith, ap length same, length-append line (codes "\r\n")) in
-    subst (λ (n : ℕ). Spells ask ((line_of ws ++ []) ++ more) answer n) (sym long)
+    let same : words_line ws ++ [] ≡ line ++ codes "\r\n" = append-nil (words_line ws) in
+    let long : length (words_line ws ++ []) ≡ length line + 2 + 0 = omega (arith, ap length same, length-append line (codes "\r\n")) in
+    subst (λ (n : ℕ). Spells ask ((words_line ws ++ []) ++ more) answer n) (sym long)
     (subst (λ (t : List ℕ). Spells ask (t ++ more) answer (length line + 2 + 0)) (sym same) all)
 
 regroup : (l body c more : List ℕ) → (l ++ (body ++ c)) ++ more ≡ l ++ (body ++ (c ++ more))
@@ -84,18 +84,18 @@ regroup l body c more = simp append_assoc
 
 -- a line and its data
 pub data_back : (ask : Ask) (ws : List (List ℕ)) (line : ValueLine) (body more : List ℕ) → ArePlain ws → length (spaced ws) < 65535 → kind_of_line ask (spaced ws) ≡ Value line → length body ≡ line.len → is_data line.is_number body ≡ true
-    → Spells ask ((line_of ws ++ (body ++ codes "\r\n")) ++ more) (answers.Meta Va (fields_told line.told (Some body))) (length (line_of ws ++ (body ++ codes "\r\n")))
+    → Spells ask ((words_line ws ++ (body ++ codes "\r\n")) ++ more) (answers.Meta Va (fields_told line.told (Some body))) (length (words_line ws ++ (body ++ codes "\r\n")))
 data_back ask ws line body more plain short says len is =
     let text = spaced ws in
     let answer : Answer = answers.Meta Va (fields_told line.told (Some body)) in
     let rest = body ++ (codes "\r\n" ++ more) in
-    let there : Follows (Value line) rest answer (line.len + 2) = (body, codes "\r\n" ++ more, refl, len, refl, (more, refl), is, refl) in
-    let follows : Follows (kind_of_line ask text) rest answer (line.len + 2) = subst (λ (s : FirstLine). Follows s rest answer (line.len + 2)) (sym says) there in
+    let there : FollowsLine (Value line) rest answer (line.len + 2) = (body, codes "\r\n" ++ more, refl, len, refl, (more, refl), is, refl) in
+    let follows : FollowsLine (kind_of_line ask text) rest answer (line.len + 2) = subst (λ (s : FirstLine). FollowsLine s rest answer (line.len + 2)) (sym says) there in
     let all = spelled ask text rest answer (line.len + 2) (spaced_line ws (plain_lines ws plain)) short follows in
-    let whole : (line_of ws ++ (body ++ codes "\r\n")) ++ more ≡ (text ++ codes "\r\n") ++ rest = regroup (line_of ws) body (codes "\r\n") more in
-    let long : length (line_of ws ++ (body ++ codes "\r\n")) ≡ length text + 2 + (line.len + 2) =
-    omega (arith, length-append (line_of ws) (body ++ codes "\r\n"), length-append text (codes "\r\n"), length-append body (codes "\r\n"), len) in
-    subst (λ (t : List ℕ). Spells ask t answer (length (line_of ws ++ (body ++ codes "\r\n")))) (sym whole)
+    let whole : (words_line ws ++ (body ++ codes "\r\n")) ++ more ≡ (text ++ codes "\r\n") ++ rest = regroup (words_line ws) body (codes "\r\n") more in
+    let long : length (words_line ws ++ (body ++ codes "\r\n")) ≡ length text + 2 + (line.len + 2) =
+    omega (arith, length-append (words_line ws) (body ++ codes "\r\n"), length-append text (codes "\r\n"), length-append body (codes "\r\n"), len) in
+    subst (λ (t : List ℕ). Spells ask t answer (length (words_line ws ++ (body ++ codes "\r\n")))) (sym whole)
     (subst (λ (u : ℕ). Spells ask ((text ++ codes "\r\n") ++ rest) answer u) (sym long) all)
 
 same_data : (b : Bool) (body : List ℕ) → is_data_of b body ≡ true → is_data b body ≡ true
@@ -116,7 +116,7 @@ module _ (ask : Ask) (more : List ℕ) (is : ask.dialect ≡ dialects.Meta) (key
       let plain = words_plain ask.key f key range code ask.tokens texts in
       let short = words_short ask.key f key range code (served_of (meta_shape ask.op)) ask.tokens (served_is ask (meta_shape ask.op) shape) texts in
       subst (Back ask more code) same
-      (whole_back ask (meta_words ask code f) (answers.Meta code f) more plain short (line_says ask code (tokens_words ask.key f ask.tokens) line plain is e ∙ says))
+      (whole_back ask (meta_line_words ask code f) (answers.Meta code f) more plain short (line_says ask code (tokens_words ask.key f ask.tokens) line plain is e ∙ says))
 
   in_range : (fields g : Fields) → g ≡ fields → AreFieldsInRange fields → AreFieldsInRange g
   in_range fields g same range = subst AreFieldsInRange (sym same) range
@@ -149,7 +149,7 @@ module _ (ask : Ask) (more : List ℕ) (is : ask.dialect ≡ dialects.Meta) (key
       subst (λ (g : Fields). meta_said ask (code_word Va) (decimal (length body) ∷ tokens_words ask.key g ask.tokens) ≡ Some (lines.Value line)) (sym back.fields_are) back.said in
       let number : is_data (is_count ask.op) body ≡ true = same_data (is_count ask.op) body (va_number ask.op ask.tokens fields body at h) in
       subst (Back ask more Va) back.fields_are
-      (data_back ask (meta_words ask Va f) line body more plain short (line_says ask Va (decimal (length body) ∷ tokens_words ask.key f ask.tokens) (lines.Value line) plain is e) refl number)
+      (data_back ask (meta_line_words ask Va f) line body more plain short (line_says ask Va (decimal (length body) ∷ tokens_words ask.key f ask.tokens) (lines.Value line) plain is e) refl number)
   go Va fields None at range h =
       let stands = va_stands ask.op ask.tokens fields h in
       let f : false ≡ true = sym (ap (λ (o : Option (List ℕ)). is_some o) at) ∙ stands.body_is in
@@ -160,10 +160,10 @@ pub meta_back : (ask : Ask) (code : Code) (fields : Fields) (more : List ℕ) �
 meta_back ask code fields more is key texts shape range h = go ask more is key texts shape code fields fields.body refl range h
 
 -- the line ERROR
-pub meta_error_back : (ask : Ask) (more : List ℕ) → ask.dialect ≡ dialects.Meta → Spells ask (line_of (codes "ERROR" ∷ []) ++ more) answers.Error (length (line_of (codes "ERROR" ∷ [])))
+pub meta_error_back : (ask : Ask) (more : List ℕ) → ask.dialect ≡ dialects.Meta → Spells ask (words_line (codes "ERROR" ∷ []) ++ more) answers.Error (length (words_line (codes "ERROR" ∷ [])))
 meta_error_back ask more is =
     let word = codes "ERROR" in
     let plain : IsPlain word = literal word refl (omega arith) in
     let says : kind_of_line ask word ≡ Whole answers.Error = ap (words_said ask (error_text word)) (words-spaced (word ∷ []) (plain_words (word ∷ []) (plain, tt))) ∙ rw is refl in
-    let follows : Follows (kind_of_line ask word) more answers.Error 0 = subst (λ (s : FirstLine). Follows s more answers.Error 0) (sym says) (refl, refl) in
+    let follows : FollowsLine (kind_of_line ask word) more answers.Error 0 = subst (λ (s : FirstLine). FollowsLine s more answers.Error 0) (sym says) (refl, refl) in
     spelled ask word more answers.Error 0 (plain_line word plain) (omega arith) follows

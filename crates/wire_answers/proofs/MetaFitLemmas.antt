@@ -19,7 +19,7 @@ use Rattle.wire_answers.specs.declared.meta.line.MetaLine.{MetaLine}
 use Rattle.wire_answers.specs.declared.meta.line.MetaLine.TheVariants.{Done, Value, Other}
 use Rattle.wire_answers.specs.Told.{none_told, fields_told}
 use Rattle.wire_answers.specs.Tokens.{letter_c, letter_f, letter_k, letter_s, letter_t, letter_o, ttl_in, asks_opaque, once, with_token, with_word, with_words}
-use Rattle.wire_answers.specs.Line.{takes, is_count, as_asked, all_stand, is_size, done_said, value_said, value_words, bare_said, coded, meta_said, code_of}
+use Rattle.wire_answers.specs.Line.{takes_code, is_count, as_asked, all_stand, is_size, done_said, value_said, value_line_words, bare_said, coded, meta_said, code_of}
 
 pub both : (a b : Bool) → (a && b) ≡ true → (a ≡ true) × (b ≡ true)
 both true b e = (refl, e)
@@ -118,14 +118,14 @@ module _ (ask : Ask) where
 
   -- what the lines say
   abbrev pub IsLineOf : MetaLine → Type 0
-  IsLineOf (Done told) = AreTold told × (takes ask.op (wants ask.tokens LetterV) Hd ≡ true)
-  IsLineOf (Value line) = AreTold line.told × (takes ask.op (wants ask.tokens LetterV) Va ≡ true) × (line.len ≤ data_limit) × (is_size line.told.size line.len ≡ true) × (line.is_number ≡ is_count ask.op)
-  IsLineOf (Other code) = (takes ask.op (wants ask.tokens LetterV) code ≡ true) × (is_bare code ≡ true)
+  IsLineOf (Done told) = AreTold told × (takes_code ask.op (wants ask.tokens LetterV) Hd ≡ true)
+  IsLineOf (Value line) = AreTold line.told × (takes_code ask.op (wants ask.tokens LetterV) Va ≡ true) × (line.len ≤ data_limit) × (is_size line.told.size line.len ≡ true) × (line.is_number ≡ is_count ask.op)
+  IsLineOf (Other code) = (takes_code ask.op (wants ask.tokens LetterV) code ≡ true) × (is_bare code ≡ true)
 
-  done_is : (told : Told) → takes ask.op (wants ask.tokens LetterV) Hd ≡ true → IsTold told → IfSome (done_said ask told) IsLineOf
+  done_is : (told : Told) → takes_code ask.op (wants ask.tokens LetterV) Hd ≡ true → IsTold told → IfSome (done_said ask told) IsLineOf
   done_is told t h = cond_both (all_stand ask.tokens told) (Some (Done told)) None (λ (o : Option MetaLine). IfSome o IsLineOf) (λ yes. ((h, yes), t)) (λ no. tt)
 
-  value_is : (n : ℕ) (told : Told) → takes ask.op (wants ask.tokens LetterV) Va ≡ true → n < data_limit + 1 → IsTold told → IfSome (value_said ask n told) IsLineOf
+  value_is : (n : ℕ) (told : Told) → takes_code ask.op (wants ask.tokens LetterV) Va ≡ true → n < data_limit + 1 → IsTold told → IfSome (value_said ask n told) IsLineOf
   value_is n told t lt h = cond_both (all_stand ask.tokens told && is_size told.size n) _ None (λ (o : Option MetaLine). IfSome o IsLineOf)
       (λ yes. let parts = both (all_stand ask.tokens told) (is_size told.size n) yes in ((h, parts.0), t, omega arith, parts.1, refl)) (λ no. tt)
 
@@ -133,14 +133,14 @@ module _ (ask : Ask) where
   then_some_is None f h on = tt
   then_some_is (Some told) f h on = on told h
 
-  bare_is : (code : Code) (o : Option Told) → takes ask.op (wants ask.tokens LetterV) code ≡ true → is_bare code ≡ true → IfSome (bare_said code o) IsLineOf
+  bare_is : (code : Code) (o : Option Told) → takes_code ask.op (wants ask.tokens LetterV) code ≡ true → is_bare code ≡ true → IfSome (bare_said code o) IsLineOf
   bare_is code None t b = tt
   bare_is code (Some told) t b = (t, b)
 
   told_of : (ws : List (List ℕ)) → IfSome (with_words ask ws none_told) IsTold
   told_of ws = words_told ws none_told none_is
 
-  values_are : (ws : List (List ℕ)) → takes ask.op (wants ask.tokens LetterV) Va ≡ true → IfSome (value_words ask ws) IsLineOf
+  values_are : (ws : List (List ℕ)) → takes_code ask.op (wants ask.tokens LetterV) Va ≡ true → IfSome (value_line_words ask ws) IsLineOf
   values_are [] t = tt
   values_are (len ∷ ws) t = go (number_below (data_limit + 1) len) (below_limit (data_limit + 1) len)
     where
@@ -148,7 +148,7 @@ module _ (ask : Ask) where
       go None h = tt
       go (Some n) lt = then_some_is (with_words ask ws none_told) (value_said ask n) (told_of ws) (λ told h. value_is n told t lt h)
 
-  coded_is : (ws : List (List ℕ)) (code : Code) → takes ask.op (wants ask.tokens LetterV) code ≡ true → IfSome (coded ask ws code) IsLineOf
+  coded_is : (ws : List (List ℕ)) (code : Code) → takes_code ask.op (wants ask.tokens LetterV) code ≡ true → IfSome (coded ask ws code) IsLineOf
   coded_is ws Hd t = then_some_is (with_words ask ws none_told) (done_said ask) (told_of ws) (λ told h. done_is told t h)
   coded_is ws Va t = values_are ws t
   coded_is ws En t = bare_is En (with_words ask ws none_told) t refl
@@ -160,6 +160,6 @@ module _ (ask : Ask) where
   pub said_is : (word : List ℕ) (ws : List (List ℕ)) → IfSome (meta_said ask word ws) IsLineOf
   said_is word ws = go (code_of word)
     where
-      go : (o : Option Code) → IfSome (option_and_then (λ code. if takes ask.op (wants ask.tokens LetterV) code then coded ask ws code else None) o) IsLineOf
+      go : (o : Option Code) → IfSome (option_and_then (λ code. if takes_code ask.op (wants ask.tokens LetterV) code then coded ask ws code else None) o) IsLineOf
       go None = tt
-      go (Some code) = cond_both (takes ask.op (wants ask.tokens LetterV) code) (coded ask ws code) None (λ (o : Option MetaLine). IfSome o IsLineOf) (λ yes. coded_is ws code yes) (λ no. tt)
+      go (Some code) = cond_both (takes_code ask.op (wants ask.tokens LetterV) code) (coded ask ws code) None (λ (o : Option MetaLine). IfSome o IsLineOf) (λ yes. coded_is ws code yes) (λ no. tt)

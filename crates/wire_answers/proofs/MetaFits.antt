@@ -21,7 +21,7 @@ use Rattle.wire_answers.proofs.Fitting.{none_bare, none_range, hd_fits, bare_fit
 use Rattle.wire_answers.specs.declared.line_kinds.FirstLine.{FirstLine}
 use Rattle.wire_answers.specs.declared.line_kinds.FirstLine.TheVariants.{Whole, Hit, Value, Foreign}
 use Rattle.wire_answers.specs.FirstLine.{kind_of_line, words_said, error_said, error_text, is_error_word, line_or_foreign, meta_or_error, in_dialect}
-use Rattle.wire_answers.specs.Reading.{Follows, is_data}
+use Rattle.wire_answers.specs.Reading.{FollowsLine, is_data}
 use Rattle.wire_answers.proofs.FitLemmas.{text_is, classic_taken}
 use Rattle.wire_answers.specs.Laws.{SpelledAnswersFit}
 use Rattle.text_words.specs.Line.{without_cr}
@@ -64,7 +64,7 @@ module _ (ask : Ask) (shape : HasShapeOf ask (meta_shape ask.op)) where
   is_number true body e at = e
   is_number false body e at = absurd cc
 
-  follows_fit : (s : FirstLine) (rest : List ℕ) (answer : Answer) (used : ℕ) → SaidFits s → Follows s rest answer used → Taken answer
+  follows_fit : (s : FirstLine) (rest : List ℕ) (answer : Answer) (used : ℕ) → SaidFits s → FollowsLine s rest answer used → Taken answer
   follows_fit (Whole x) rest answer used h f = subst Taken (sym f.0) h
   follows_fit (Hit hit) rest answer used h f = absurd h
   follows_fit (Value line) rest answer used h f =
@@ -75,10 +75,10 @@ module _ (ask : Ask) (shape : HasShapeOf ask (meta_shape ask.op)) where
       )
   follows_fit Foreign rest answer used h f = absurd f
 
-  pub meta_taken : ask.dialect ≡ dialects.Meta → (line rest : List ℕ) (answer : Answer) (used : ℕ) → Follows (kind_of_line ask line) rest answer used → Taken answer
+  pub meta_taken : ask.dialect ≡ dialects.Meta → (line rest : List ℕ) (answer : Answer) (used : ℕ) → FollowsLine (kind_of_line ask line) rest answer used → Taken answer
   meta_taken is line rest answer used f = follows_fit (kind_of_line ask line) rest answer used (words_fit is (error_text line) (words line) (text_is line)) f
 
-fits_in : (ask : Ask) (dialect : Dialect) → ask.dialect ≡ dialect → HasShapeOf ask (shape_of dialect ask.op) → (line rest : List ℕ) (answer : Answer) (used : ℕ) → Follows (kind_of_line ask line) rest answer used
+fits_in : (ask : Ask) (dialect : Dialect) → ask.dialect ≡ dialect → HasShapeOf ask (shape_of dialect ask.op) → (line rest : List ℕ) (answer : Answer) (used : ℕ) → FollowsLine (kind_of_line ask line) rest answer used
     → IsAnswer answer × FitsIn dialect ask answer
 fits_in ask dialects.Classic is shape line rest answer used f = classic_taken ask is line rest answer used f
 fits_in ask dialects.Meta is shape line rest answer used f = meta_taken ask shape is line rest answer used f

@@ -1,12 +1,12 @@
 -- The pieces that a line is written in.
 use Rattle.std.proofs.Common.{◌≡◌, ℕ, List, [], ◌∷◌, ◌++◌, refl, sym, ap, ◌∙◌, append_assoc, append-nil}
 use Rattle.std.specs.Prelude.{codes}
-use Rattle.text_words.specs.Spelling.{spaced, line_of}
+use Rattle.text_words.specs.Spelling.{spaced, words_line}
 use Rattle.mc_types.specs.declared.ask.Ask.{Ask}
 use Rattle.mc_types.specs.declared.answer.Code.{Code}
 use Rattle.mc_types.specs.declared.answer.Fields.{Fields}
 use Rattle.wire_answers.specs.Line.{code_word}
-use Rattle.wire_answers.specs.MetaSpelling.{tokens_words, len_words, meta_words, led}
+use Rattle.wire_answers.specs.MetaSpelling.{tokens_words, len_words, meta_line_words, led}
 
 pub led-append : (a b : List (List ℕ)) → led (a ++ b) ≡ led a ++ led b
 led-append [] b = refl
@@ -28,5 +28,5 @@ pieces old w e x y = regroup old w (led x) (led y) e ∙ ap (λ (t : List ℕ). 
 
 -- the line of a meta answer as it is written, piece by piece
 pub line_pieces : (old : List ℕ) (ask : Ask) (code : Code) (fields : Fields)
-    → (((old ++ code_word code) ++ led (len_words fields.body)) ++ led (tokens_words ask.key fields ask.tokens)) ++ codes "\r\n" ≡ old ++ line_of (meta_words ask code fields)
+    → (((old ++ code_word code) ++ led (len_words fields.body)) ++ led (tokens_words ask.key fields ask.tokens)) ++ codes "\r\n" ≡ old ++ words_line (meta_line_words ask code fields)
 line_pieces old ask code fields = pieces old (code_word code) (codes "\r\n") (len_words fields.body) (tokens_words ask.key fields ask.tokens)

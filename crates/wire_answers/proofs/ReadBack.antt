@@ -25,9 +25,9 @@ use Rattle.mc_types.specs.declared.answer.Answer.TheVariants as answers
 use Rattle.mc_types.specs.declared.answer.Answer.TheVariants.{Stored, NotStored, Exists, NotFound, Deleted, Touched, Number, Miss, Meta, ClientError, Error, ServerError}
 use Rattle.wire_answers.specs.declared.line_kinds.FirstLine.{FirstLine}
 use Rattle.wire_answers.specs.declared.line_kinds.FirstLine.TheVariants.{Whole}
-use Rattle.wire_answers.specs.Spelling.{error_words, error_line, spelling_of}
+use Rattle.wire_answers.specs.Spelling.{error_words, error_line, answer_spelling}
 use Rattle.wire_answers.specs.FirstLine.{kind_of_line, is_error_text}
-use Rattle.wire_answers.specs.Reading.{Follows, Spells}
+use Rattle.wire_answers.specs.Reading.{FollowsLine, Spells}
 use Rattle.wire_answers.specs.Laws.{AnswersAreReadBack}
 use Rattle.wire_answers.proofs.WordBack.{spelled, alone_back}
 use Rattle.wire_answers.proofs.HitBack.{hit_back}
@@ -51,13 +51,13 @@ text_line (b ∷ text) e = let parts = both (is_text_byte b) (list_all is_text_b
 error_back : (ask : Ask) (word text more : List ℕ) (error : List ℕ → Answer) → IsPlain word → length word ≤ 20 → IsErrorText text
     → kind_of_line ask (spaced (error_words word text)) ≡ Whole (error text) → Spells ask (error_line word text ++ more) (error text) (length (error_line word text))
 error_back ask word [] more error plain len is says =
-    let all = spelled ask word more (error []) 0 (plain_line word plain) (omega arith) (subst (λ (s : FirstLine). Follows s more (error []) 0) (sym says) (refl, refl)) in
+    let all = spelled ask word more (error []) 0 (plain_line word plain) (omega arith) (subst (λ (s : FirstLine). FollowsLine s more (error []) 0) (sym says) (refl, refl)) in
     subst (λ (n : ℕ). Spells ask (error_line word [] ++ more) (error []) n) (omega (arith, length-append word (codes "\r\n"))) all
 error_back ask word (b ∷ text) more error plain len is says =
     let line = word ++ 32 ∷ (b ∷ text) in
     let one : IsOneLine line = All-append (λ c. c ≢ LF) word (32 ∷ (b ∷ text)) (plain_line word plain) (All-cons (λ c. c ≢ LF) 32 (b ∷ text) (λ e. cc) (text_line (b ∷ text) is.bytes)) in
     let short = is.short in
-    let all = spelled ask line more (error (b ∷ text)) 0 one (omega (arith, length-append word (32 ∷ (b ∷ text)))) (subst (λ (s : FirstLine). Follows s more (error (b ∷ text)) 0) (sym says) (refl, refl)) in
+    let all = spelled ask line more (error (b ∷ text)) 0 one (omega (arith, length-append word (32 ∷ (b ∷ text)))) (subst (λ (s : FirstLine). FollowsLine s more (error (b ∷ text)) 0) (sym says) (refl, refl)) in
     subst (λ (n : ℕ). Spells ask (error_line word (b ∷ text) ++ more) (error (b ∷ text)) n) (omega (arith, length-append line (codes "\r\n"))) all
 
 client_said : (ask : Ask) (text : List ℕ) → IsErrorText text → kind_of_line ask (spaced (error_words (codes "CLIENT_ERROR") text)) ≡ Whole (ClientError text)
@@ -82,7 +82,7 @@ meta_never Incr wc code fields f = cc
 meta_never Decr wc code fields f = cc
 meta_never Touch wc code fields f = cc
 
-go : (ask : Ask) (answer : Answer) (more : List ℕ) → ask.dialect ≡ Classic → IsKey ask.key → IsAnswer answer → FitsClassic ask.op ask.with_cas answer → Spells ask (spelling_of ask answer ++ more) answer (length (spelling_of ask answer))
+go : (ask : Ask) (answer : Answer) (more : List ℕ) → ask.dialect ≡ Classic → IsKey ask.key → IsAnswer answer → FitsClassic ask.op ask.with_cas answer → Spells ask (answer_spelling ask answer ++ more) answer (length (answer_spelling ask answer))
 go ask Stored more classic k r f = alone_back ask Stored more classic r f tt
 go ask NotStored more classic k r f = alone_back ask NotStored more classic r f tt
 go ask Exists more classic k r f = alone_back ask Exists more classic r f tt
@@ -98,12 +98,12 @@ go ask Error more classic k r f = alone_back ask Error more classic r f tt
 go ask (ServerError text) more classic k r f = error_back ask (codes "SERVER_ERROR") text more ServerError (literal (codes "SERVER_ERROR") refl (omega arith)) (omega arith) r (server_said ask text r)
 
 in_dialect : (ask : Ask) (answer : Answer) (more : List ℕ) (dialect : Dialect) → ask.dialect ≡ dialect → IsKey ask.key → AreTexts ask.tokens → HasShapeOf ask (shape_of dialect ask.op) → IsAnswer answer → FitsIn dialect ask answer
-    → Spells ask (spelling_of ask answer ++ more) answer (length (spelling_of ask answer))
+    → Spells ask (answer_spelling ask answer ++ more) answer (length (answer_spelling ask answer))
 in_dialect ask answer more Classic is key texts shape ranges fits = go ask answer more is key ranges fits
 in_dialect ask answer more dialects.Meta is key texts shape ranges fits = meta ask answer more is key texts shape ranges fits
   where
     meta : (ask : Ask) (answer : Answer) (more : List ℕ) → ask.dialect ≡ dialects.Meta → IsKey ask.key → AreTexts ask.tokens → HasShapeOf ask (meta_shape ask.op) → IsAnswer answer → FitsMeta ask.op ask.tokens answer
-        → Spells ask (spelling_of ask answer ++ more) answer (length (spelling_of ask answer))
+        → Spells ask (answer_spelling ask answer ++ more) answer (length (answer_spelling ask answer))
     meta ask (Meta code fields) more is k x s r f = meta_back ask code fields more is k x s r f
     meta ask (ClientError text) more is k x s r f = error_back ask (codes "CLIENT_ERROR") text more ClientError (literal (codes "CLIENT_ERROR") refl (omega arith)) (omega arith) r (client_said ask text r)
     meta ask (ServerError text) more is k x s r f = error_back ask (codes "SERVER_ERROR") text more ServerError (literal (codes "SERVER_ERROR") refl (omega arith)) (omega arith) r (server_said ask text r)

@@ -16,7 +16,7 @@ use Rattle.mc_types.specs.declared.answer.Answer.TheVariants as answers
 use Rattle.wire_answers.specs.declared.meta.line.ValueLine.{ValueLine}
 use Rattle.wire_answers.specs.Told.{fields_told}
 use Rattle.wire_answers.specs.FirstLine.{kind_of_line}
-use Rattle.wire_answers.specs.Reading.{IsDataEnd, IsCutDataEnd, is_data, IsBlockEnd, IsCutEnd, IsCutAfter, IsCut, Follows, Spells, Reads, ReadsAfter, LiesWithin}
+use Rattle.wire_answers.specs.Reading.{IsDataEnd, IsCutDataEnd, is_data, IsBlockEnd, IsCutEnd, IsCutAfter, IsCut, FollowsLine, Spells, ReadsAnswer, ReadsAfter, LiesWithin}
 use Rattle.wire_answers.specs.declared.reader.AnswerRead.{AnswerRead}
 use Rattle.wire_answers.specs.declared.reader.AnswerRead.TheVariants as reads
 use Rattle.wire_answers.proofs.EndLemmas.{cut_no_end, cut_no_data_end, line_not_open}
@@ -29,7 +29,7 @@ pub short_is_cut : (n : ℕ) (rest : List ℕ) → length rest < n → IsCutEnd 
 short_is_cut n rest lt = inl (drop_all n rest (omega arith))
 
 -- after the data stands what is cut
-pub cut_no_follow : (first : FirstLine) (rest : List ℕ) → IsCutAfter first rest → (answer : Answer) (used : ℕ) → ¬ Follows first rest answer used
+pub cut_no_follow : (first : FirstLine) (rest : List ℕ) → IsCutAfter first rest → (answer : Answer) (used : ℕ) → ¬ FollowsLine first rest answer used
 cut_no_follow (Hit hit) rest cut answer used f =
     cut_no_end (drop hit.len rest) cut f.2 (subst (λ (t : List ℕ). IsBlockEnd t f.2) (sym (after_body hit.len rest f.0 f.1 f.4 f.5)) f.6)
 cut_no_follow (Value line) rest cut answer used f =
@@ -41,14 +41,14 @@ pub cut_not_spelled : (ask : Ask) (bytes : List ℕ) → IsCut ask bytes → (an
 cut_not_spelled ask bytes (inl partial) answer used s = open_no_line bytes s.text s.rest partial s.line
 cut_not_spelled ask bytes (inr h) answer used s =
     let same = lines_are_determined bytes h.0 s.text h.1 s.rest h.2 s.line in
-    let follows : Follows (kind_of_line ask (without_cr h.0)) h.1 answer s.after =
-    subst (λ (t : List ℕ). Follows (kind_of_line ask (without_cr t)) h.1 answer s.after) (sym same.0)
-    (subst (λ (r : List ℕ). Follows (kind_of_line ask (without_cr s.text)) r answer s.after) (sym same.1) s.follows) in
+    let follows : FollowsLine (kind_of_line ask (without_cr h.0)) h.1 answer s.after =
+    subst (λ (t : List ℕ). FollowsLine (kind_of_line ask (without_cr t)) h.1 answer s.after) (sym same.0)
+    (subst (λ (r : List ℕ). FollowsLine (kind_of_line ask (without_cr s.text)) r answer s.after) (sym same.1) s.follows) in
     cut_no_follow (kind_of_line ask (without_cr h.0)) h.1 h.3 answer s.after follows
 
 -- where after the data the end never comes, no hit does
 pub bad_hit : (hit : HitLine) (rest : List ℕ) → hit.len ≤ length rest → ((more : List ℕ) (used : ℕ) → ¬ IsBlockEnd (take (length rest - hit.len) (drop hit.len rest) ++ more) used)
-    → (more : List ℕ) (answer : Answer) (used : ℕ) → ¬ Follows (Hit hit) (rest ++ more) answer used
+    → (more : List ℕ) (answer : Answer) (used : ℕ) → ¬ FollowsLine (Hit hit) (rest ++ more) answer used
 bad_hit hit rest le never more answer used f =
     let here : f.1 ≡ take (length rest - hit.len) (drop hit.len rest) ++ more =
     sym (after_body hit.len (rest ++ more) f.0 f.1 f.4 f.5) ∙ drop-append-le hit.len rest more le ∙ ap (λ (t : List ℕ). t ++ more) (sym (rest_is rest hit.len)) in
@@ -56,7 +56,7 @@ bad_hit hit rest le never more answer used f =
 
 -- where after the data of a meta answer the end never comes, no answer follows its line
 pub bad_value : (line : ValueLine) (rest : List ℕ) → line.len ≤ length rest → ((more : List ℕ) → ¬ IsDataEnd (take (length rest - line.len) (drop line.len rest) ++ more))
-    → (more : List ℕ) (answer : Answer) (used : ℕ) → ¬ Follows (Value line) (rest ++ more) answer used
+    → (more : List ℕ) (answer : Answer) (used : ℕ) → ¬ FollowsLine (Value line) (rest ++ more) answer used
 bad_value line rest le never more answer used f =
     let here : f.1 ≡ take (length rest - line.len) (drop line.len rest) ++ more =
     sym (after_body line.len (rest ++ more) f.0 f.1 f.3 f.4) ∙ drop-append-le line.len rest more le ∙ ap (λ (t : List ℕ). t ++ more) (sym (rest_is rest line.len)) in
@@ -64,7 +64,7 @@ bad_value line rest le never more answer used f =
 
 -- where the data of a meta answer have to be a number and are none, no answer follows its line
 pub no_data : (line : ValueLine) (rest : List ℕ) → line.len ≤ length rest → is_data line.is_number (take line.len rest) ≡ false
-    → (more : List ℕ) (answer : Answer) (used : ℕ) → ¬ Follows (Value line) (rest ++ more) answer used
+    → (more : List ℕ) (answer : Answer) (used : ℕ) → ¬ FollowsLine (Value line) (rest ++ more) answer used
 no_data line rest le isnt more answer used f =
     let body : f.0 ≡ take line.len rest =
     sym (subst (λ (k : ℕ). take k (f.0 ++ f.1) ≡ f.0) f.3 (take_at f.0 f.1 (length f.0) refl)) ∙ ap (take line.len) (sym f.4) ∙ take-append-le line.len rest more le in
@@ -73,7 +73,7 @@ no_data line rest le isnt more answer used f =
     cc
 
 pub value_there : (line : ValueLine) (rest : List ℕ) → line.len ≤ length rest → IsDataEnd (take (length rest - line.len) (drop line.len rest)) → is_data line.is_number (take line.len rest) ≡ true
-    → (fields : Fields) (used : ℕ) → fields ≡ fields_told line.told (Some (take line.len rest)) → used ≡ 2 → Follows (Value line) rest (answers.Meta Va fields) (line.len + used)
+    → (fields : Fields) (used : ℕ) → fields ≡ fields_told line.told (Some (take line.len rest)) → used ≡ 2 → FollowsLine (Value line) rest (answers.Meta Va fields) (line.len + used)
 value_there line rest le end is fields used are two = (
   take line.len rest,
   drop line.len rest,
@@ -87,7 +87,7 @@ value_there line rest le end is fields used are two = (
 
 -- a hit whose data and end are there follows its line
 pub hit_there : (hit : HitLine) (rest : List ℕ) → hit.len ≤ length rest → (used : ℕ) → IsBlockEnd (take (length rest - hit.len) (drop hit.len rest)) used
-    → (body : List ℕ) → body ≡ take hit.len rest → Follows (Hit hit) rest (answers.Hit hit.flags body hit.cas) (hit.len + used)
+    → (body : List ℕ) → body ≡ take hit.len rest → FollowsLine (Hit hit) rest (answers.Hit hit.flags body hit.cas) (hit.len + used)
 hit_there hit rest le used end body is = (
   take hit.len rest,
   drop hit.len rest,
@@ -110,15 +110,15 @@ pub not_cut_hit : (hit : HitLine) (rest : List ℕ) → (¬ IsCutEnd (take (leng
 not_cut_hit hit rest not_cut cut = not_cut (subst IsCutEnd (sym (rest_is rest hit.len)) cut)
 
 -- the line that the code found, and what follows it
-pub answer_is : (ask : Ask) (bytes : List ℕ) (end used : ℕ) → TakesLine bytes end used → (answer : Answer) (after : ℕ) → Follows (kind_of_line ask (take end bytes)) (take (length bytes - used) (drop used bytes)) answer after
+pub answer_is : (ask : Ask) (bytes : List ℕ) (end used : ℕ) → TakesLine bytes end used → (answer : Answer) (after : ℕ) → FollowsLine (kind_of_line ask (take end bytes)) (take (length bytes - used) (drop used bytes)) answer after
     → Spells ask bytes answer (used + after)
 answer_is ask bytes end used t answer after f = record {
   text = take (used - 1) bytes;
   rest = drop used bytes;
   after = after;
   line = taken_line bytes end used t;
-  follows = subst (λ (l : List ℕ). Follows (kind_of_line ask l) (drop used bytes) answer after) (sym (taken_text bytes end used t))
-      (subst (λ (r : List ℕ). Follows (kind_of_line ask (take end bytes)) r answer after) (rest_is bytes used) f);
+  follows = subst (λ (l : List ℕ). FollowsLine (kind_of_line ask l) (drop used bytes) answer after) (sym (taken_text bytes end used t))
+      (subst (λ (r : List ℕ). FollowsLine (kind_of_line ask (take end bytes)) r answer after) (rest_is bytes used) f);
   used_is = omega (arith, taken_length bytes end used t);
 }
 
@@ -133,13 +133,13 @@ cut_is ask bytes end used t cut =
     )
 
 pub foreign_is : (ask : Ask) (bytes : List ℕ) (end used : ℕ) → TakesLine bytes end used
-    → ((more : List ℕ) (answer : Answer) (after : ℕ) → ¬ Follows (kind_of_line ask (take end bytes)) (take (length bytes - used) (drop used bytes) ++ more) answer after)
+    → ((more : List ℕ) (answer : Answer) (after : ℕ) → ¬ FollowsLine (kind_of_line ask (take end bytes)) (take (length bytes - used) (drop used bytes) ++ more) answer after)
     → (more : List ℕ) (answer : Answer) (u : ℕ) → ¬ Spells ask (bytes ++ more) answer u
 foreign_is ask bytes end used t never more answer u s =
     let only = taken_only bytes more s.text s.rest end used t s.line in
     let after : s.rest ≡ take (length bytes - used) (drop used bytes) ++ more = only.2 ∙ ap (λ (r : List ℕ). r ++ more) (sym (rest_is bytes used)) in
-    never more answer s.after (subst (λ (l : List ℕ). Follows (kind_of_line ask l) (take (length bytes - used) (drop used bytes) ++ more) answer s.after) only.0
-    (subst (λ (r : List ℕ). Follows (kind_of_line ask (without_cr s.text)) r answer s.after) after s.follows))
+    never more answer s.after (subst (λ (l : List ℕ). FollowsLine (kind_of_line ask l) (take (length bytes - used) (drop used bytes) ++ more) answer s.after) only.0
+    (subst (λ (r : List ℕ). FollowsLine (kind_of_line ask (without_cr s.text)) r answer s.after) after s.follows))
 
 pub not_cut_is : (ask : Ask) (bytes : List ℕ) (end used : ℕ) → TakesLine bytes end used → (¬ IsCutAfter (kind_of_line ask (take end bytes)) (take (length bytes - used) (drop used bytes))) → ¬ IsCut ask bytes
 not_cut_is ask bytes end used t not_cut (inl partial) = line_not_open bytes end used t partial
@@ -163,19 +163,19 @@ further used reads.More = reads.More
 further used reads.Foreign = reads.Foreign
 
 go : (ask : Ask) (bytes : List ℕ) (end used : ℕ) → TakesLine bytes end used → (r : AnswerRead)
-    → ReadsAfter (kind_of_line ask (take end bytes)) (take (length bytes - used) (drop used bytes)) r → Reads ask bytes (further used r)
+    → ReadsAfter (kind_of_line ask (take end bytes)) (take (length bytes - used) (drop used bytes)) r → ReadsAnswer ask bytes (further used r)
 go ask bytes end used t (reads.Answer answer after) h = answer_is ask bytes end used t answer after h
 go ask bytes end used t reads.More h = let cut = cut_is ask bytes end used t h in (cut, cut_not_spelled ask bytes cut)
 go ask bytes end used t reads.Foreign h = (not_cut_is ask bytes end used t h.0, foreign_is ask bytes end used t h.1)
 
 pub read_is : (ask : Ask) (bytes : List ℕ) (end used : ℕ) → TakesLine bytes end used → (s : FirstLine) → s ≡ kind_of_line ask (take end bytes) → (r result : AnswerRead)
-    → ReadsAfter s (take (length bytes - used) (drop used bytes)) r → result ≡ further used r → Reads ask bytes result
+    → ReadsAfter s (take (length bytes - used) (drop used bytes)) r → result ≡ further used r → ReadsAnswer ask bytes result
 read_is ask bytes end used t s s-is r result h e =
-    subst (Reads ask bytes) (sym e) (go ask bytes end used t r (subst (λ (x : FirstLine). ReadsAfter x (take (length bytes - used) (drop used bytes)) r) s-is h))
+    subst (ReadsAnswer ask bytes) (sym e) (go ask bytes end used t r (subst (λ (x : FirstLine). ReadsAfter x (take (length bytes - used) (drop used bytes)) r) s-is h))
 
 -- what is read of the bytes: what their first line and the rest say, where that rest stands by itself
 pub read_on : (ask : Ask) (bytes : List ℕ) (end used : ℕ) → TakesLine bytes end used → (s : FirstLine) → s ≡ kind_of_line ask (take end bytes) → (rest : List ℕ) → rest ≡ drop used bytes → (r result : AnswerRead)
-    → ReadsAfter s rest r → result ≡ further used r → Reads ask bytes result
+    → ReadsAfter s rest r → result ≡ further used r → ReadsAnswer ask bytes result
 read_on ask bytes end used t s s-is rest rest-is r result h e =
     read_is ask bytes end used t s s-is r result (subst (λ (x : List ℕ). ReadsAfter s x r) (rest-is ∙ sym (rest_is bytes used)) h) e
 
@@ -183,7 +183,7 @@ read_on ask bytes end used t s s-is rest rest-is r result h e =
 end_within : (bytes : List ℕ) (used : ℕ) → IsBlockEnd bytes used → used ≤ length bytes
 end_within bytes used e = omega (arith, ap length e.whole, e.used_is, e.line.used_is, line_length e.after e.line.text e.line.rest e.line.line)
 
-follows_within : (s : FirstLine) (rest : List ℕ) (answer : Answer) (used : ℕ) → Follows s rest answer used → used ≤ length rest
+follows_within : (s : FirstLine) (rest : List ℕ) (answer : Answer) (used : ℕ) → FollowsLine s rest answer used → used ≤ length rest
 follows_within (Whole x) rest answer used f = omega (arith, f.1)
 follows_within (Hit hit) rest answer used f = omega (arith, f.4, f.7, ap length f.5, length-append f.0 f.1, end_within f.1 f.2 f.6)
 follows_within (Value line) rest answer used f = omega (arith, f.3, f.7, ap length f.4, length-append f.0 f.1, ap length f.5.1)
@@ -193,7 +193,7 @@ pub spelled_within : (ask : Ask) (bytes : List ℕ) (answer : Answer) (used : �
 spelled_within ask bytes answer used s =
     omega (arith, s.used_is, line_length bytes s.text s.rest s.line, follows_within (kind_of_line ask (without_cr s.text)) s.rest answer s.after s.follows)
 
-pub read_within : (ask : Ask) (bytes : List ℕ) (r : AnswerRead) → Reads ask bytes r → LiesWithin bytes r
+pub read_within : (ask : Ask) (bytes : List ℕ) (r : AnswerRead) → ReadsAnswer ask bytes r → LiesWithin bytes r
 read_within ask bytes (reads.Answer answer used) h = spelled_within ask bytes answer used h
 read_within ask bytes reads.More h = tt
 read_within ask bytes reads.Foreign h = tt

@@ -9,8 +9,8 @@ use Rattle.wire_answers.specs.declared.line_kinds.FirstLine.TheVariants.{Whole, 
 use Rattle.mc_types.specs.declared.answer.Code.TheVariants.{Va}
 use Rattle.wire_answers.specs.Told.{fields_told}
 use Rattle.wire_answers.specs.FirstLine.{kind_of_line}
-use Rattle.wire_answers.specs.Spelling.{spelling_of}
-use Rattle.wire_answers.specs.Reading.{IsBlockEnd, Follows, Spells}
+use Rattle.wire_answers.specs.Spelling.{answer_spelling}
+use Rattle.wire_answers.specs.Reading.{IsBlockEnd, FollowsLine, Spells}
 use Rattle.wire_answers.specs.Laws.{OneAnswer, NoneBeginsAnother, AnswersStay}
 use Rattle.wire_answers.proofs.EndLemmas.{one_end}
 use Rattle.wire_answers.proofs.ReadBack.{answers_are_read_back}
@@ -26,7 +26,7 @@ same_front (x ∷ a) (y ∷ b) c d len e =
     let rest = same_front a b c d (omega arith) tails in
     (cc, rest.1)
 
-one_follows : (s : FirstLine) (rest : List ℕ) (a b : Answer) (m n : ℕ) → Follows s rest a m → Follows s rest b n → (a ≡ b) × (m ≡ n)
+one_follows : (s : FirstLine) (rest : List ℕ) (a b : Answer) (m n : ℕ) → FollowsLine s rest a m → FollowsLine s rest b n → (a ≡ b) × (m ≡ n)
 one_follows (Whole x) rest a b m n f g = (f.0 ∙ sym g.0, f.1 ∙ sym g.1)
 one_follows (Hit hit) rest a b m n f g =
     let parts = same_front f.0 g.0 f.1 g.1 (f.4 ∙ sym g.4) (sym f.5 ∙ g.5) in
@@ -40,9 +40,9 @@ one_follows Foreign rest a b m n f g = absurd f
 pub one_answer : OneAnswer
 one_answer ask bytes a b m n s t =
     let line = lines_are_determined bytes s.text t.text s.rest t.rest s.line t.line in
-    let follows : Follows (kind_of_line ask (without_cr s.text)) s.rest b t.after =
-    subst (λ (l : List ℕ). Follows (kind_of_line ask (without_cr l)) s.rest b t.after) (sym line.0)
-    (subst (λ (r : List ℕ). Follows (kind_of_line ask (without_cr t.text)) r b t.after) (sym line.1) t.follows) in
+    let follows : FollowsLine (kind_of_line ask (without_cr s.text)) s.rest b t.after =
+    subst (λ (l : List ℕ). FollowsLine (kind_of_line ask (without_cr l)) s.rest b t.after) (sym line.0)
+    (subst (λ (r : List ℕ). FollowsLine (kind_of_line ask (without_cr t.text)) r b t.after) (sym line.1) t.follows) in
     let same = one_follows (kind_of_line ask (without_cr s.text)) s.rest a b s.after t.after s.follows follows in
     let long : length s.text ≡ length t.text = ap length line.0 in
     (same.0, omega (arith, s.used_is, t.used_is, same.1))
@@ -62,7 +62,7 @@ end_stays bytes more used e = record {
   used_is = e.used_is;
 }
 
-follows_stay : (s : FirstLine) (rest more : List ℕ) (answer : Answer) (used : ℕ) → Follows s rest answer used → Follows s (rest ++ more) answer used
+follows_stay : (s : FirstLine) (rest more : List ℕ) (answer : Answer) (used : ℕ) → FollowsLine s rest answer used → FollowsLine s (rest ++ more) answer used
 follows_stay (Whole x) rest more answer used f = f
 follows_stay (Hit hit) rest more answer used f =
     (f.0, f.1 ++ more, f.2, f.3, f.4, ap (λ (t : List ℕ). t ++ more) f.5 ∙ append_assoc f.0 f.1 more, end_stays f.1 more f.2 f.6, f.7)
@@ -83,7 +83,7 @@ answers_stay ask bytes more answer used s = record {
 pub none_begins_another : NoneBeginsAnother
 none_begins_another ask a b more other is texts fa fb e =
     let back = answers_are_read_back ask a more is texts fa in
-    let begins : Spells ask (spelling_of ask a ++ more) b (length (spelling_of ask b)) =
-    subst (λ (t : List ℕ). Spells ask t b (length (spelling_of ask b))) (sym e) (answers_are_read_back ask b other is texts fb) in
-    let same = one_answer ask (spelling_of ask a ++ more) a b (length (spelling_of ask a)) (length (spelling_of ask b)) back begins in
-    (same.0, (same_front (spelling_of ask a) (spelling_of ask b) more other same.1 e).1)
+    let begins : Spells ask (answer_spelling ask a ++ more) b (length (answer_spelling ask b)) =
+    subst (λ (t : List ℕ). Spells ask t b (length (answer_spelling ask b))) (sym e) (answers_are_read_back ask b other is texts fb) in
+    let same = one_answer ask (answer_spelling ask a ++ more) a b (length (answer_spelling ask a)) (length (answer_spelling ask b)) back begins in
+    (same.0, (same_front (answer_spelling ask a) (answer_spelling ask b) more other same.1 e).1)

@@ -8,7 +8,7 @@ use Rattle.std.proofs.lemmas.List.{length-append}
 use Rattle.std.proofs.lemmas.Slice.Eq.{bytes_eq-Decides}
 use Rattle.text_words.specs.Line.{IsOneLine, CR}
 use Rattle.text_words.specs.Number.{number_below}
-use Rattle.text_words.specs.Spelling.{line_of}
+use Rattle.text_words.specs.Spelling.{words_line}
 use Rattle.text_words.proofs.NumberLemmas.{number_below-decimal}
 use Rattle.text_words.proofs.Spaced.{IsPlain, literal, decimal_word, plain_words, plain_line, is_line, without_cr-text, words-spaced}
 use Rattle.mc_types.specs.Fits.{FitsClassic, FitsStore, FitsCas, FitsFetch, FitsDelete, FitsTouch, FitsCount, IsAnswer}
@@ -21,12 +21,12 @@ use Rattle.mc_types.specs.declared.answer.Answer.TheVariants as answers
 use Rattle.mc_types.specs.declared.answer.Answer.TheVariants.{Stored, NotStored, Exists, NotFound, Deleted, Touched, Number, Miss, Meta, ClientError, Error, ServerError}
 use Rattle.wire_answers.specs.declared.line_kinds.FirstLine.{FirstLine}
 use Rattle.wire_answers.specs.declared.line_kinds.FirstLine.TheVariants.{Whole}
-use Rattle.wire_answers.specs.Table.{looked_up, of_store, of_cas, of_fetch, of_delete, of_touch, of_count, number_or, word_answer}
+use Rattle.wire_answers.specs.Table.{looked_up, store_answers, of_cas, of_fetch, delete_answers, of_touch, count_answers, number_or, word_answer}
 use Rattle.wire_answers.specs.FirstLine.{kind_of_line, words_said, error_text}
-use Rattle.wire_answers.specs.Reading.{Follows, Spells}
+use Rattle.wire_answers.specs.Reading.{FollowsLine, Spells}
 
 -- the bytes that begin with a line begin with what it says
-pub spelled : (ask : Ask) (line rest : List ℕ) (answer : Answer) (after : ℕ) → IsOneLine line → length line < 65535 → Follows (kind_of_line ask line) rest answer after
+pub spelled : (ask : Ask) (line rest : List ℕ) (answer : Answer) (after : ℕ) → IsOneLine line → length line < 65535 → FollowsLine (kind_of_line ask line) rest answer after
     → Spells ask ((line ++ codes "\r\n") ++ rest) answer (length line + 2 + after)
 spelled ask line rest answer after one short f =
     let is = is_line (line ∷ []) rest (one, tt) short in
@@ -35,7 +35,7 @@ spelled ask line rest answer after one short f =
       rest = rest;
       after = after;
       line = is;
-      follows = subst (λ (l : List ℕ). Follows (kind_of_line ask l) rest answer after) (sym (without_cr-text line)) f;
+      follows = subst (λ (l : List ℕ). FollowsLine (kind_of_line ask l) rest answer after) (sym (without_cr-text line)) f;
       used_is = omega (arith, length-append line (CR ∷ []));
     }
 
@@ -100,7 +100,7 @@ word_plain (ClientError text) lt h = absurd h
 word_plain (ServerError text) lt h = absurd h
 
 -- each fitting word is in its table
-back_store : (a : Answer) → FitsStore a → IsAlone a → looked_up of_store (word_of a) ≡ Some a
+back_store : (a : Answer) → FitsStore a → IsAlone a → looked_up store_answers (word_of a) ≡ Some a
 back_store Stored f h = refl
 back_store NotStored f h = refl
 back_store Error f h = refl
@@ -125,7 +125,7 @@ back_fetch wc (ClientError t) f h = absurd h
 back_fetch wc (ServerError t) f h = absurd h
 back_fetch wc _ f h = absurd cc
 
-back_delete : (a : Answer) → FitsDelete a → IsAlone a → looked_up of_delete (word_of a) ≡ Some a
+back_delete : (a : Answer) → FitsDelete a → IsAlone a → looked_up delete_answers (word_of a) ≡ Some a
 back_delete Deleted f h = refl
 back_delete NotFound f h = refl
 back_delete Error f h = refl
@@ -141,7 +141,7 @@ back_touch (ClientError t) f h = absurd h
 back_touch (ServerError t) f h = absurd h
 back_touch _ f h = absurd cc
 
-back_count : (a : Answer) → IsAnswer a → FitsCount a → IsAlone a → number_or (word_of a) (looked_up of_count (word_of a)) ≡ Some a
+back_count : (a : Answer) → IsAnswer a → FitsCount a → IsAlone a → number_or (word_of a) (looked_up count_answers (word_of a)) ≡ Some a
 back_count NotFound lt f h = refl
 back_count Error lt f h = refl
 back_count (Number n) lt f h =
@@ -172,12 +172,12 @@ alone_said ask w a classic plain client server value is =
     ap (words_said ask (error_text w)) (words-spaced (w ∷ []) (plain_words (w ∷ []) (plain, tt))) ∙ rw (client, server, classic, value, is) refl
 
 pub alone_back : (ask : Ask) (a : Answer) (more : List ℕ) → ask.dialect ≡ Classic → IsAnswer a → FitsClassic ask.op ask.with_cas a → IsAlone a
-    → Spells ask (line_of (word_of a ∷ []) ++ more) a (length (line_of (word_of a ∷ [])))
+    → Spells ask (words_line (word_of a ∷ []) ++ more) a (length (words_line (word_of a ∷ [])))
 alone_back ask a more classic lt f h =
     let w = word_of a in
     let plain = word_plain a lt h in
     let none = no_command a lt h in
     let says : kind_of_line ask w ≡ Whole a = alone_said ask w a classic plain.0 none.0 none.1 none.2 (back_word ask.op ask.with_cas a lt f h) in
-    let follows : Follows (kind_of_line ask w) more a 0 = subst (λ (s : FirstLine). Follows s more a 0) (sym says) (refl, refl) in
+    let follows : FollowsLine (kind_of_line ask w) more a 0 = subst (λ (s : FirstLine). FollowsLine s more a 0) (sym says) (refl, refl) in
     let all = spelled ask w more a 0 (plain_line w plain.0) (omega (arith, plain.1)) follows in
-    subst (λ (n : ℕ). Spells ask (line_of (w ∷ []) ++ more) a n) (omega (arith, length-append w (codes "\r\n"))) all
+    subst (λ (n : ℕ). Spells ask (words_line (w ∷ []) ++ more) a n) (omega (arith, length-append w (codes "\r\n"))) all

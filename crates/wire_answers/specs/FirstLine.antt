@@ -81,15 +81,15 @@ whole_or_foreign (Some answer) = Whole answer
 whole_or_foreign None = Foreign
 
 -- a line of one word
-abbrev pub alone : Op → List ℕ → List (List ℕ) → FirstLine
-alone op word [] = whole_or_foreign (word_answer op word)
-alone op word (other ∷ more) = Foreign
+abbrev pub one_word_line : Op → List ℕ → List (List ℕ) → FirstLine
+one_word_line op word [] = whole_or_foreign (word_answer op word)
+one_word_line op word (other ∷ more) = Foreign
 
 -- what a line of these words says to a classic ask
 abbrev pub classic_said : Ask → List ℕ → List (List ℕ) → FirstLine
 classic_said ask word more =
     if bytes_eq word (codes "VALUE") && is_fetch ask.op then hit_or_foreign (hit_said ask.key ask.with_cas more)
-    else alone ask.op word more
+    else one_word_line ask.op word more
 
 -- what the line of a meta answer says
 abbrev pub line_said : MetaLine → FirstLine

@@ -5,13 +5,13 @@ use Rattle.mc_types.specs.Fits.{Fits}
 use Rattle.mc_types.specs.declared.ask.Ask.{Ask}
 use Rattle.mc_types.specs.declared.answer.Answer.{Answer}
 use Rattle.wire_answers.specs.Fitting.{AreTexts}
-use Rattle.wire_answers.specs.Spelling.{spelling_of}
+use Rattle.wire_answers.specs.Spelling.{answer_spelling}
 use Rattle.wire_answers.specs.Reading.{Spells}
 
 -- an answer that fits an ask is read back from its spelling, whatever follows
 abbrev pub AnswersAreReadBack : Type 0
 AnswersAreReadBack = (ask : Ask) (answer : Answer) (more : List ℕ) → IsAsk ask → AreTexts ask.tokens → Fits ask answer
-    → Spells ask (spelling_of ask answer ++ more) answer (length (spelling_of ask answer))
+    → Spells ask (answer_spelling ask answer ++ more) answer (length (answer_spelling ask answer))
 
 -- bytes begin with one answer to an ask at most
 abbrev pub OneAnswer : Type 0
@@ -20,7 +20,7 @@ OneAnswer = (ask : Ask) (bytes : List ℕ) (a b : Answer) (m n : ℕ) → Spells
 -- no spelling of an answer begins the spelling of another one to the same ask
 abbrev pub NoneBeginsAnother : Type 0
 NoneBeginsAnother = (ask : Ask) (a b : Answer) (more other : List ℕ) → IsAsk ask → AreTexts ask.tokens → Fits ask a → Fits ask b
-    → spelling_of ask a ++ more ≡ spelling_of ask b ++ other → (a ≡ b) × (more ≡ other)
+    → answer_spelling ask a ++ more ≡ answer_spelling ask b ++ other → (a ≡ b) × (more ≡ other)
 
 -- what is spelled fits the ask
 abbrev pub SpelledAnswersFit : Type 0

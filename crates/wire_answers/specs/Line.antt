@@ -64,19 +64,19 @@ count_takes value Hd = not value
 count_takes value En = false
 count_takes value _ = true
 
-abbrev pub takes : Op → Bool → Code → Bool
-takes Get value code = fetch_takes value code
-takes Gat value code = fetch_takes value code
-takes Set value code = store_takes code
-takes Add value code = store_takes code
-takes Replace value code = store_takes code
-takes Append value code = store_takes code
-takes Prepend value code = store_takes code
-takes Cas value code = store_takes code
-takes Delete value code = delete_takes code
-takes Incr value code = count_takes value code
-takes Decr value code = count_takes value code
-takes Touch value code = false
+abbrev pub takes_code : Op → Bool → Code → Bool
+takes_code Get value code = fetch_takes value code
+takes_code Gat value code = fetch_takes value code
+takes_code Set value code = store_takes code
+takes_code Add value code = store_takes code
+takes_code Replace value code = store_takes code
+takes_code Append value code = store_takes code
+takes_code Prepend value code = store_takes code
+takes_code Cas value code = store_takes code
+takes_code Delete value code = delete_takes code
+takes_code Incr value code = count_takes value code
+takes_code Decr value code = count_takes value code
+takes_code Touch value code = false
 
 abbrev pub is_count : Op → Bool
 is_count Incr = true
@@ -106,9 +106,9 @@ value_said ask len told =
     if all_stand ask.tokens told && is_size told.size len then Some (Value (record { told = told; len = len; is_number = is_count ask.op })) else None
 
 -- the words after VA: the length of the data, and tokens
-abbrev pub value_words : Ask → List (List ℕ) → Option MetaLine
-value_words ask [] = None
-value_words ask (len ∷ words) = option_and_then (λ n. option_and_then (value_said ask n) (with_words ask words none_told)) (number_below (data_limit + 1) len)
+abbrev pub value_line_words : Ask → List (List ℕ) → Option MetaLine
+value_line_words ask [] = None
+value_line_words ask (len ∷ words) = option_and_then (λ n. option_and_then (value_said ask n) (with_words ask words none_told)) (number_below (data_limit + 1) len)
 
 -- beside these codes the tokens are read and dropped
 abbrev pub bare_said : Code → Option Told → Option MetaLine
@@ -116,7 +116,7 @@ bare_said code told = option_map (λ t. Other code) told
 
 abbrev pub coded : Ask → List (List ℕ) → Code → Option MetaLine
 coded ask words Hd = option_and_then (done_said ask) (with_words ask words none_told)
-coded ask words Va = value_words ask words
+coded ask words Va = value_line_words ask words
 coded ask words En = bare_said En (with_words ask words none_told)
 coded ask words Ns = bare_said Ns (with_words ask words none_told)
 coded ask words Ex = bare_said Ex (with_words ask words none_told)
@@ -125,4 +125,4 @@ coded ask words Nf = bare_said Nf (with_words ask words none_told)
 -- what a line of this first word and these after it says; None where it says nothing to the ask
 abbrev pub meta_said : Ask → List ℕ → List (List ℕ) → Option MetaLine
 meta_said ask word words =
-    option_and_then (λ code. if takes ask.op (wants ask.tokens LetterV) code then coded ask words code else None) (code_of word)
+    option_and_then (λ code. if takes_code ask.op (wants ask.tokens LetterV) code then coded ask words code else None) (code_of word)

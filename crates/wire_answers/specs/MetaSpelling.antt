@@ -1,7 +1,7 @@
 -- The one spelling of a meta answer. Source: memcached's protocol.txt, "Meta Commands"; that k and O stand on every line, and the order of the tokens, is mcgate's own.
 use Rattle.std.specs.Prelude.{ℕ, ℤ, List, [], ◌∷◌, ◌++◌, Option, Some, None, length, codes, decimal}
 use Rattle.std.specs.Fmt.{signed_decimal}
-use Rattle.text_words.specs.Spelling.{line_of}
+use Rattle.text_words.specs.Spelling.{words_line}
 use Rattle.mc_types.specs.declared.token.Token.{Token}
 use Rattle.mc_types.specs.declared.token.Token.TheVariants.{Cas, Flags, Key, Size, Ttl, Value, Opaque}
 use Rattle.mc_types.specs.declared.ask.Ask.{Ask}
@@ -39,8 +39,8 @@ abbrev pub len_words : Option (List ℕ) → List (List ℕ)
 len_words None = []
 len_words (Some body) = decimal (length body) ∷ []
 
-abbrev pub meta_words : Ask → Code → Fields → List (List ℕ)
-meta_words ask code fields = code_word code ∷ (len_words fields.body ++ tokens_words ask.key fields ask.tokens)
+abbrev pub meta_line_words : Ask → Code → Fields → List (List ℕ)
+meta_line_words ask code fields = code_word code ∷ (len_words fields.body ++ tokens_words ask.key fields ask.tokens)
 
 -- the data of an answer and their end, where it has data
 abbrev pub data_block : Option (List ℕ) → List ℕ
@@ -49,7 +49,7 @@ data_block (Some body) = body ++ codes "\r\n"
 
 -- a meta answer's bytes: its line, and its data
 abbrev pub meta_spelling : Ask → Code → Fields → List ℕ
-meta_spelling ask code fields = line_of (meta_words ask code fields) ++ data_block fields.body
+meta_spelling ask code fields = words_line (meta_line_words ask code fields) ++ data_block fields.body
 
 -- words that each stand after a space
 abbrev pub led : List (List ℕ) → List ℕ

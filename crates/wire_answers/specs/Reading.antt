@@ -42,13 +42,13 @@ is_data true body = is_some (number_below (2 ^ 64) body)
 is_data false body = true
 
 -- what follows the first line, so many bytes, where that line says this
-abbrev pub Follows : FirstLine → List ℕ → Answer → ℕ → Type 0
-Follows (Whole told) rest answer used = (answer ≡ told) × (used ≡ 0)
-Follows (Hit hit) rest answer used =
+abbrev pub FollowsLine : FirstLine → List ℕ → Answer → ℕ → Type 0
+FollowsLine (Whole told) rest answer used = (answer ≡ told) × (used ≡ 0)
+FollowsLine (Hit hit) rest answer used =
     (body : List ℕ) × (after : List ℕ) × (len : ℕ) × (answer ≡ answers.Hit hit.flags body hit.cas) × (length body ≡ hit.len) × (rest ≡ body ++ after) × IsBlockEnd after len × (used ≡ hit.len + len)
-Follows (Value line) rest answer used =
+FollowsLine (Value line) rest answer used =
     (body : List ℕ) × (after : List ℕ) × (answer ≡ answers.Meta Va (fields_told line.told (Some body))) × (length body ≡ line.len) × (rest ≡ body ++ after) × IsDataEnd after × (is_data line.is_number body ≡ true) × (used ≡ line.len + 2)
-Follows Foreign rest answer used = ⊥
+FollowsLine Foreign rest answer used = ⊥
 
 -- the first so many bytes spell the answer to the ask
 pub record Spells (ask : Ask) (bytes : List ℕ) (answer : Answer) (used : ℕ) : Type 0 where
@@ -56,7 +56,7 @@ pub record Spells (ask : Ask) (bytes : List ℕ) (answer : Answer) (used : ℕ) 
   pub rest : List ℕ
   pub after : ℕ
   pub line : IsLine bytes text rest
-  pub follows : Follows (kind_of_line ask (without_cr text)) rest answer after
+  pub follows : FollowsLine (kind_of_line ask (without_cr text)) rest answer after
   pub used_is : used ≡ length text + 1 + after
 
 -- the end of a data block, or the line after it, isn't there yet
@@ -98,15 +98,15 @@ TellsEndLine bytes ends.Bad = (¬ IsOpen bytes) × ((more : List ℕ) (used : �
 
 -- What was read after a first line that says this follows it; where more is wanted, what follows is cut; what is foreign isn't cut, and no answer follows, whatever comes.
 abbrev pub ReadsAfter : FirstLine → List ℕ → AnswerRead → Type 0
-ReadsAfter first rest (reads.Answer answer used) = Follows first rest answer used
+ReadsAfter first rest (reads.Answer answer used) = FollowsLine first rest answer used
 ReadsAfter first rest reads.More = IsCutAfter first rest
-ReadsAfter first rest reads.Foreign = (¬ IsCutAfter first rest) × ((more : List ℕ) (answer : Answer) (used : ℕ) → ¬ Follows first (rest ++ more) answer used)
+ReadsAfter first rest reads.Foreign = (¬ IsCutAfter first rest) × ((more : List ℕ) (answer : Answer) (used : ℕ) → ¬ FollowsLine first (rest ++ more) answer used)
 
 -- What was read is spelled; where more is wanted, the answer is cut, and none is spelled yet; what is foreign isn't cut, and is no answer, whatever follows.
-abbrev pub Reads : Ask → List ℕ → AnswerRead → Type 0
-Reads ask bytes (reads.Answer answer used) = Spells ask bytes answer used
-Reads ask bytes reads.More = IsCut ask bytes × ((answer : Answer) (used : ℕ) → ¬ Spells ask bytes answer used)
-Reads ask bytes reads.Foreign = (¬ IsCut ask bytes) × ((more : List ℕ) (answer : Answer) (used : ℕ) → ¬ Spells ask (bytes ++ more) answer used)
+abbrev pub ReadsAnswer : Ask → List ℕ → AnswerRead → Type 0
+ReadsAnswer ask bytes (reads.Answer answer used) = Spells ask bytes answer used
+ReadsAnswer ask bytes reads.More = IsCut ask bytes × ((answer : Answer) (used : ℕ) → ¬ Spells ask bytes answer used)
+ReadsAnswer ask bytes reads.Foreign = (¬ IsCut ask bytes) × ((more : List ℕ) (answer : Answer) (used : ℕ) → ¬ Spells ask (bytes ++ more) answer used)
 
 -- what was read lies within the bytes
 abbrev pub LiesWithin : List ℕ → AnswerRead → Type 0

@@ -1,7 +1,7 @@
 -- The one spelling of an answer to an ask. Source: memcached's protocol.txt, what is said of the answers of each command; that a line has one space between two words is mcgate's own.
 use Rattle.std.specs.Prelude.{ℕ, List, [], ◌∷◌, ◌++◌, Option, Some, None, length, codes, decimal}
-use Rattle.text_words.specs.Spelling.{line_of}
-use Rattle.wire_answers.specs.MetaSpelling.{meta_words, meta_spelling}
+use Rattle.text_words.specs.Spelling.{words_line}
+use Rattle.wire_answers.specs.MetaSpelling.{meta_line_words, meta_spelling}
 use Rattle.mc_types.specs.declared.ask.Ask.{Ask}
 use Rattle.mc_types.specs.declared.answer.Answer.{Answer}
 use Rattle.mc_types.specs.declared.answer.Answer.TheVariants.{Stored, NotStored, Exists, NotFound, Deleted, Touched, Number, Hit, Miss, Meta, ClientError, Error, ServerError}
@@ -18,7 +18,7 @@ cas_text (Some cas) = 32 ∷ decimal cas
 
 -- a hit's first line, which tells of so many bytes of data
 abbrev pub hit_line : List ℕ → ℕ → ℕ → Option ℕ → List ℕ
-hit_line key flags len cas = line_of (codes "VALUE" ∷ key ∷ decimal flags ∷ decimal len ∷ cas_words cas)
+hit_line key flags len cas = words_line (codes "VALUE" ∷ key ∷ decimal flags ∷ decimal len ∷ cas_words cas)
 
 -- a hit's first line, its data and their end
 abbrev pub block_of : List ℕ → ℕ → List ℕ → Option ℕ → List ℕ
@@ -38,12 +38,12 @@ data_of _ = None
 -- the line before the data that an answer shows
 abbrev pub data_line : Ask → Answer → List ℕ
 data_line ask (Hit flags body cas) = hit_line ask.key flags (length body) cas
-data_line ask (Meta code fields) = line_of (meta_words ask code fields)
+data_line ask (Meta code fields) = words_line (meta_line_words ask code fields)
 data_line ask _ = []
 
 -- how the reply to a get ends
 abbrev pub end_text : List ℕ
-end_text = line_of (codes "END" ∷ [])
+end_text = words_line (codes "END" ∷ [])
 
 -- the words of an error line: its text stands as it is after one space, and an empty one without the space
 abbrev pub error_words : List ℕ → List ℕ → List (List ℕ)
@@ -52,20 +52,20 @@ error_words word (b ∷ text) = word ∷ (b ∷ text) ∷ []
 
 -- an error line of this word and text
 abbrev pub error_line : List ℕ → List ℕ → List ℕ
-error_line word text = line_of (error_words word text)
+error_line word text = words_line (error_words word text)
 
 -- an answer's bytes
-abbrev pub spelling_of : Ask → Answer → List ℕ
-spelling_of ask Stored = line_of (codes "STORED" ∷ [])
-spelling_of ask NotStored = line_of (codes "NOT_STORED" ∷ [])
-spelling_of ask Exists = line_of (codes "EXISTS" ∷ [])
-spelling_of ask NotFound = line_of (codes "NOT_FOUND" ∷ [])
-spelling_of ask Deleted = line_of (codes "DELETED" ∷ [])
-spelling_of ask Touched = line_of (codes "TOUCHED" ∷ [])
-spelling_of ask (Number n) = line_of (decimal n ∷ [])
-spelling_of ask (Hit flags body cas) = value_of ask (Hit flags body cas) ++ end_text
-spelling_of ask Miss = end_text
-spelling_of ask (Meta code fields) = meta_spelling ask code fields
-spelling_of ask (ClientError text) = error_line (codes "CLIENT_ERROR") text
-spelling_of ask Error = line_of (codes "ERROR" ∷ [])
-spelling_of ask (ServerError text) = error_line (codes "SERVER_ERROR") text
+abbrev pub answer_spelling : Ask → Answer → List ℕ
+answer_spelling ask Stored = words_line (codes "STORED" ∷ [])
+answer_spelling ask NotStored = words_line (codes "NOT_STORED" ∷ [])
+answer_spelling ask Exists = words_line (codes "EXISTS" ∷ [])
+answer_spelling ask NotFound = words_line (codes "NOT_FOUND" ∷ [])
+answer_spelling ask Deleted = words_line (codes "DELETED" ∷ [])
+answer_spelling ask Touched = words_line (codes "TOUCHED" ∷ [])
+answer_spelling ask (Number n) = words_line (decimal n ∷ [])
+answer_spelling ask (Hit flags body cas) = value_of ask (Hit flags body cas) ++ end_text
+answer_spelling ask Miss = end_text
+answer_spelling ask (Meta code fields) = meta_spelling ask code fields
+answer_spelling ask (ClientError text) = error_line (codes "CLIENT_ERROR") text
+answer_spelling ask Error = words_line (codes "ERROR" ∷ [])
+answer_spelling ask (ServerError text) = error_line (codes "SERVER_ERROR") text

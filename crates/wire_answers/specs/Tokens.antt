@@ -33,14 +33,14 @@ letter_o = 79
 abbrev pub ttl_in : List ℕ → Option ℤ
 ttl_in text = if bytes_eq text (codes "-1") then Some (negsuc 0) else option_map pos (number_below (2 ^ 63) text)
 
-abbrev pub is_opaque : List ℕ → Token → Bool
-is_opaque text (Opaque asked) = bytes_eq asked text
-is_opaque text _ = false
+abbrev pub is_opaque_token : List ℕ → Token → Bool
+is_opaque_token text (Opaque asked) = bytes_eq asked text
+is_opaque_token text _ = false
 
 -- the text is the one that was asked to come back
 abbrev pub asks_opaque : List Token → List ℕ → Bool
 asks_opaque [] text = false
-asks_opaque (token ∷ tokens) text = is_opaque text token || asks_opaque tokens text
+asks_opaque (token ∷ tokens) text = is_opaque_token text token || asks_opaque tokens text
 
 -- a value that was asked for and didn't come before
 abbrev pub once : {A : Type 0} → Bool → Option A → Option A → Option A

@@ -8,12 +8,12 @@ ghost use Rattle.mc_types.specs.Asks.{data_limit};
 ghost use Rattle.mc_types.specs.Fits.{is_text_byte};
 ghost use Rattle.wire_answers.specs.Table.{
   looked_up,
-  of_store,
+  store_answers,
   of_cas,
   of_fetch,
-  of_delete,
+  delete_answers,
   of_touch,
-  of_count,
+  count_answers,
   number_or,
   word_answer,
 };
@@ -42,7 +42,7 @@ use text_words::number::{number, u32_number};
 use text_words::word::next_word;
 
 fn of_store(word: &[u8]) -> Option<Answer>
-    ensures { result ≡ looked_up of_store word.now }
+    ensures { result ≡ looked_up store_answers word.now }
 {
     if word == b"STORED".as_slice() {
         Some(Answer::Stored)
@@ -84,7 +84,7 @@ fn of_fetch(word: &[u8]) -> Option<Answer>
 }
 
 fn of_delete(word: &[u8]) -> Option<Answer>
-    ensures { result ≡ looked_up of_delete word.now }
+    ensures { result ≡ looked_up delete_answers word.now }
 {
     if word == b"DELETED".as_slice() {
         Some(Answer::Deleted)
@@ -112,7 +112,7 @@ fn of_touch(word: &[u8]) -> Option<Answer>
 }
 
 fn of_count(word: &[u8]) -> Option<Answer>
-    ensures { result ≡ number_or word.now (looked_up of_count word.now) }
+    ensures { result ≡ number_or word.now (looked_up count_answers word.now) }
 {
     if word == b"NOT_FOUND".as_slice() {
         Some(Answer::NotFound)

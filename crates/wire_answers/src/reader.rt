@@ -1,7 +1,7 @@
 //! An answer, read at the front of some bytes.
 
 ghost use Rattle.std.specs.Prelude.{◌≡◌, length, IfOk};
-ghost use Rattle.wire_answers.specs.Reading.{Reads, ReadsAfter, LiesWithin, is_data};
+ghost use Rattle.wire_answers.specs.Reading.{ReadsAnswer, ReadsAfter, LiesWithin, is_data};
 ghost use Rattle.wire_answers.specs.FirstLine.{kind_of_line};
 
 use crate::block_end::{Ends, block_end, data_end};
@@ -120,7 +120,7 @@ pub fn read_received(
     ask: &Ask,
     received: &Received,
 ) -> Result<AnswerRead, AllocError>
-    ensures reads { IfOk result (Reads ask.now received.now) }
+    ensures reads { IfOk result (ReadsAnswer ask.now received.now) }
     ensures within { IfOk result (LiesWithin received.now) }
 {
     let bytes = received.bytes();
@@ -141,7 +141,7 @@ pub fn read_received(
 
 /// The answer that the bytes begin with, if they do; its data are copied, to memory of their own.
 pub fn read_answer(alloc: Global, ask: &Ask, bytes: &[u8]) -> Result<AnswerRead, AllocError>
-    ensures reads { IfOk result (Reads ask.now bytes.now) }
+    ensures reads { IfOk result (ReadsAnswer ask.now bytes.now) }
     ensures within { IfOk result (LiesWithin bytes.now) }
 {
     read_received(

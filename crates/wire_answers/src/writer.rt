@@ -2,9 +2,9 @@
 
 ghost use Rattle.std.specs.Prelude.{◌≡◌, ◌≤◌, ◌++◌, ◌∷◌, [], None, take, length, OnOk, OnErr, option_map, decimal, codes};
 ghost use Rattle.mc_types.specs.declared.limits.TheConstants.{KEY_LIMIT};
-ghost use Rattle.text_words.specs.Spelling.{spaced, line_of};
+ghost use Rattle.text_words.specs.Spelling.{spaced, words_line};
 ghost use Rattle.wire_answers.specs.Spelling.{
-  spelling_of,
+  answer_spelling,
   value_of,
   end_text,
   error_line,
@@ -22,7 +22,7 @@ use mc_types::{Answer, Ask, Body};
 use std::alloc::AllocError;
 
 fn put_number(number: u64, out: &mut BytesMut) -> Result<(), AllocError>
-    ensures ok { OnOk result (out.new.items ≡ out.old.items ++ line_of (decimal number ∷ [])) }
+    ensures ok { OnOk result (out.new.items ≡ out.old.items ++ words_line (decimal number ∷ [])) }
     ensures err { OnErr result (take (length out.old.items) out.new.items ≡ out.old.items) }
 {
     let mut buffer = Buffer::new();
@@ -141,7 +141,7 @@ fn put_value(ask: &Ask, answer: &Answer, out: &mut BytesMut) -> Result<(), Alloc
 }
 
 fn put_answer(ask: &Ask, answer: &Answer, out: &mut BytesMut) -> Result<(), AllocError>
-    ensures ok { OnOk result (out.new.items ≡ out.old.items ++ spelling_of ask.now answer.now) }
+    ensures ok { OnOk result (out.new.items ≡ out.old.items ++ answer_spelling ask.now answer.now) }
     ensures err { OnErr result (take (length out.old.items) out.new.items ≡ out.old.items) }
 {
     ask.key.bytes_are_a_key();
@@ -173,7 +173,7 @@ fn put_answer(ask: &Ask, answer: &Answer, out: &mut BytesMut) -> Result<(), Allo
 ///
 /// Source: memcached's protocol.txt, what is said of the answers of each command, and "Meta Commands".
 pub fn write_answer(ask: &Ask, answer: &Answer, out: &mut BytesMut) -> Result<(), AllocError>
-    ensures ok { OnOk result (out.new.items ≡ out.old.items ++ spelling_of ask.now answer.now) }
+    ensures ok { OnOk result (out.new.items ≡ out.old.items ++ answer_spelling ask.now answer.now) }
     ensures err { OnErr result (out.new.items ≡ out.old.items) }
 {
     let len = out.len();

@@ -12,13 +12,13 @@ use Rattle.wire_classic.specs.declared.command.ClassicCommand.{ClassicCommand}
 use Rattle.wire_classic.specs.declared.command.Keys.{Keys}
 use Rattle.wire_classic.specs.declared.command.ClassicRequest.{ClassicRequest}
 use Rattle.wire_classic.specs.Places.{order_in, keys_in}
-use Rattle.wire_parts.specs.Places.{IsIn}
+use Rattle.wire_parts.specs.Places.{SpanIsIn}
 use Rattle.wire_parts.specs.Tests.{Word}
 use Rattle.wire_classic.specs.Order.{Order, Storing, Retrieval, Storage, Swapping, Deletion, Touching, Counting, OfItself}
-use Rattle.wire_classic.specs.Message.{Begins, IsClassicReadFrom, message_in}
+use Rattle.wire_classic.specs.Message.{BeginsClassic, IsClassicReadFrom, classic_message_in}
 use Rattle.wire_parts.specs.Message.{Served, Refusal}
-use Rattle.wire_classic.specs.Grammar.{classic_grammar, block_len}
-use Rattle.wire_classic.specs.Asks.{asks_by, asks_of, IsClassicAsk, retrieval_ask, store_ask, bare_ask, count_ask}
+use Rattle.wire_classic.specs.Grammar.{classic_grammar, classic_block_len}
+use Rattle.wire_classic.specs.Asks.{classic_asks_by, classic_asks_of, IsClassicAsk, retrieval_ask, store_ask, bare_ask, count_ask}
 use Rattle.wire_parts.specs.Requests.{AsksAreWellFormed}
 use Rattle.wire_classic.specs.Laws.{classic_requests}
 use Rattle.wire_classic.proofs.Sound.{IsPlainStore, IsCount, IsSound, IsSoundStoring, sound}
@@ -66,7 +66,7 @@ is_count ops.Cas is key delta k lt = absurd is
 is_count ops.Delete is key delta k lt = absurd is
 is_count ops.Touch is key delta k lt = absurd is
 
-pub are_asks : (o : Order) (block : List ℕ) → IsSound o → length block ≤ data_limit → AllByRecursion IsAsk (asks_by o block)
+pub are_asks : (o : Order) (block : List ℕ) → IsSound o → length block ≤ data_limit → AllByRecursion IsAsk (classic_asks_by o block)
 are_asks (Retrieval exptime with_cas keys) block h le = are_retrievals exptime with_cas keys h.0 h.1
 are_asks (Storage op stored quiet) block h le = (is_store op h.2 stored block h.0 le, tt)
 are_asks (Swapping stored cas quiet) block h le = (record { key = h.0.key; ranges = store_range ops.Cas stored block (Some cas) h.0 le h.2; shape = record { with_cas = refl; flags = tt; exptime = refl; body = tt; cas = refl; delta = refl; tokens = refl } }, tt)
@@ -79,7 +79,7 @@ some_is : {A : Type 0} (x y : A) → Some x ≡ Some y → x ≡ y
 some_is x y e = cc
 
 -- the block of an order is no longer than its line says, and that is at most the limit
-block_short : (o : Order) (n : ℕ) → IsSound o → block_len o ≡ Some n → n ≤ data_limit
+block_short : (o : Order) (n : ℕ) → IsSound o → classic_block_len o ≡ Some n → n ≤ data_limit
 block_short (Retrieval exptime with_cas keys) n h e = absurd cc
 block_short (Storage op stored quiet) n h e = subst (λ (k : ℕ). k ≤ data_limit) (some_is stored.length n e) h.1
 block_short (Swapping stored cas quiet) n h e = subst (λ (k : ℕ). k ≤ data_limit) (some_is stored.length n e) h.1
@@ -88,14 +88,14 @@ block_short (Touching key exptime quiet) n h e = absurd cc
 block_short (Counting op key delta quiet) n h e = absurd cc
 block_short (OfItself own) n h e = absurd cc
 
-pub is_served : (bytes : List ℕ) (o : Order) (block : List ℕ) (used : ℕ) → Begins bytes (Served o block) used → IsServed classic_grammar IsSound o block
+pub is_served : (bytes : List ℕ) (o : Order) (block : List ℕ) (used : ℕ) → BeginsClassic bytes (Served o block) used → IsServed classic_grammar IsSound o block
 is_served = served_sound classic_grammar IsSound sound block_short
 
 are_classic_retrievals : (exptime : Option ℤ) (with_cas : Bool) (keys : List Word) → AllByRecursion IsAsk (map (retrieval_ask exptime with_cas) keys) → AllByRecursion IsClassicAsk (map (retrieval_ask exptime with_cas) keys)
 are_classic_retrievals exptime with_cas [] h = tt
 are_classic_retrievals exptime with_cas (key ∷ keys) h = (record { well_formed = h.0; classic = refl }, are_classic_retrievals exptime with_cas keys h.1)
 
-are_classic : (o : Order) (block : List ℕ) → AllByRecursion IsAsk (asks_by o block) → AllByRecursion IsClassicAsk (asks_by o block)
+are_classic : (o : Order) (block : List ℕ) → AllByRecursion IsAsk (classic_asks_by o block) → AllByRecursion IsClassicAsk (classic_asks_by o block)
 are_classic (Retrieval exptime with_cas keys) block h = are_classic_retrievals exptime with_cas keys h
 are_classic (Storage op stored quiet) block h = (record { well_formed = h.0; classic = refl }, tt)
 are_classic (Swapping stored cas quiet) block h = (record { well_formed = h.0; classic = refl }, tt)
@@ -131,11 +131,11 @@ pub request_sound : (bytes : List ℕ) (r : ClassicRequest) (command : ClassicCo
 request_sound bytes r command h is = let s = is_served bytes (order_in bytes r.command) (text_at bytes r.block) r.used h.begins in subst (λ (k : ClassicCommand). IsSound (order_in bytes k)) is s.sound
 
 -- the asks of a request that was read are well formed
-pub asks_sound : (bytes : List ℕ) (r : ClassicRequest) → IsClassicReadFrom bytes r → AllByRecursion IsClassicAsk (asks_of (message_in bytes r))
-asks_sound bytes r h = asks_are_well_formed bytes (message_in bytes r) r.used h.begins
+pub asks_sound : (bytes : List ℕ) (r : ClassicRequest) → IsClassicReadFrom bytes r → AllByRecursion IsClassicAsk (classic_asks_of (classic_message_in bytes r))
+asks_sound bytes r h = asks_are_well_formed bytes (classic_message_in bytes r) r.used h.begins
 
 -- the keys of a line, from its front
-pub keys_line : (bytes : List ℕ) (keys : Keys) → IsIn (length bytes) keys.span → words (drop keys.span.start (take keys.span.end bytes)) ≡ keys_in bytes keys
+pub keys_line : (bytes : List ℕ) (keys : Keys) → SpanIsIn (length bytes) keys.span → words (drop keys.span.start (take keys.span.end bytes)) ≡ keys_in bytes keys
 keys_line bytes keys h =
     let n-is : keys.span.end ≡ keys.span.start + (keys.span.end - keys.span.start) = omega (arith, h.ordered) in
     ap words (ap (λ (n : ℕ). drop keys.span.start (take n bytes)) n-is ∙ drop-take keys.span.start (keys.span.end - keys.span.start) bytes)

@@ -1,7 +1,7 @@
 -- What was written is read back.
 use Rattle.std.proofs.Common.{◌≡◌, ℕ, ◌≤◌, Bool, true, false, List, [], ◌∷◌, ◌++◌, length, Some, None, refl, subst, arith}
 use Rattle.std.specs.Prelude.{codes, decimal}
-use Rattle.text_words.specs.Spelling.{line_of}
+use Rattle.text_words.specs.Spelling.{words_line}
 use Rattle.text_words.proofs.Spaced.{literal}
 use Rattle.mc_types.specs.Asks.{IsAsk, HasShape, HasShapeOf, shape_of, classic_shape}
 use Rattle.mc_types.specs.declared.ask.Ask.{Ask}
@@ -12,8 +12,8 @@ use Rattle.mc_types.specs.declared.ask.Dialect.TheVariants.{Classic}
 use Rattle.wire_parts.specs.Tests.{Word, block_text}
 use Rattle.wire_parts.specs.Message.{Served}
 use Rattle.wire_parts.proofs.Tokens.{IsToken, AreTokens, key_token, decimal_token, signed_token, begins_plain, begins_block}
-use Rattle.wire_classic.specs.Message.{Begins}
-use Rattle.wire_classic.specs.Grammar.{classic_grammar, block_len}
+use Rattle.wire_classic.specs.Message.{BeginsClassic}
+use Rattle.wire_classic.specs.Grammar.{classic_grammar, classic_block_len}
 use Rattle.wire_classic.specs.Spelling.{command_word, words_after, store_words, block_after, order_for, exptime_in, cas_in}
 use Rattle.wire_parts.specs.Requests.{AsksAreReadBack}
 use Rattle.wire_classic.specs.Laws.{classic_requests}
@@ -76,14 +76,14 @@ module _ (ask : Ask) (more : List ℕ) (f : IsFit ask) where
   few : (op : Op) → length (command_word op ask.with_cas ∷ words_after op ask) ≤ 20
   few op = let n = few_after op ask in omega arith
 
-  plain : (op : Op) → block_len (order_for op ask) ≡ None → Begins ((line_of (command_word op ask.with_cas ∷ words_after op ask) ++ []) ++ more) (Served (order_for op ask) []) (length (line_of (command_word op ask.with_cas ∷ words_after op ask) ++ []))
+  plain : (op : Op) → classic_block_len (order_for op ask) ≡ None → BeginsClassic ((words_line (command_word op ask.with_cas ∷ words_after op ask) ++ []) ++ more) (Served (order_for op ask) []) (length (words_line (command_word op ask.with_cas ∷ words_after op ask) ++ []))
   plain op none = begins_plain classic_grammar (command_word op ask.with_cas ∷ words_after op ask) (order_for op ask) (tokens op) (few op) (order_back op ask f) more none
 
-  blocked : (op : Op) → block_len (order_for op ask) ≡ Some (length ask.body) → Begins ((line_of (command_word op ask.with_cas ∷ words_after op ask) ++ block_text ask.body) ++ more) (Served (order_for op ask) ask.body) (length (line_of (command_word op ask.with_cas ∷ words_after op ask) ++ block_text ask.body))
+  blocked : (op : Op) → classic_block_len (order_for op ask) ≡ Some (length ask.body) → BeginsClassic ((words_line (command_word op ask.with_cas ∷ words_after op ask) ++ block_text ask.body) ++ more) (Served (order_for op ask) ask.body) (length (words_line (command_word op ask.with_cas ∷ words_after op ask) ++ block_text ask.body))
   blocked op long = begins_block classic_grammar (command_word op ask.with_cas ∷ words_after op ask) (order_for op ask) (tokens op) (few op) (order_back op ask f) ask.body more long
 
 -- by the operation: an ask without data has an empty body
-by_op : (ask : Ask) (more : List ℕ) (op : Op) → IsFit ask → HasShape ask (classic_shape op) → Begins ((line_of (command_word op ask.with_cas ∷ words_after op ask) ++ block_after op ask) ++ more) (Served (order_for op ask) ask.body) (length (line_of (command_word op ask.with_cas ∷ words_after op ask) ++ block_after op ask))
+by_op : (ask : Ask) (more : List ℕ) (op : Op) → IsFit ask → HasShape ask (classic_shape op) → BeginsClassic ((words_line (command_word op ask.with_cas ∷ words_after op ask) ++ block_after op ask) ++ more) (Served (order_for op ask) ask.body) (length (words_line (command_word op ask.with_cas ∷ words_after op ask) ++ block_after op ask))
 by_op ask more Get f h = rw (h.body) (plain ask more f Get refl)
 by_op ask more Gat f h = rw (h.body) (plain ask more f Gat refl)
 by_op ask more Set f h = blocked ask more f Set refl

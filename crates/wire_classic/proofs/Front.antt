@@ -2,7 +2,7 @@
 use Rattle.std.proofs.Common.{◌≡◌, ℕ, ◌-◌, List, [], ◌∷◌, length, take, drop, refl, sym, ap, ◌∙◌, arith}
 use Rattle.text_words.specs.Line.{TakesLine}
 use Rattle.text_words.specs.Word.{words}
-use Rattle.wire_parts.specs.Places.{IsIn}
+use Rattle.wire_parts.specs.Places.{SpanIsIn}
 use Rattle.wire_parts.specs.Message.{Refusal}
 use Rattle.wire_parts.proofs.Fronts.{text_at-take, IsIn-le, length-front, length-part, begins_meant, none_begins}
 use Rattle.wire_classic.specs.declared.command.ClassicCommand.{ClassicCommand}
@@ -12,18 +12,18 @@ use Rattle.wire_classic.specs.declared.command.ClassicRead.TheVariants as reads
 use Rattle.wire_classic.specs.declared.command.Keys.{Keys}
 use Rattle.wire_classic.specs.declared.command.Stored.{Stored}
 use Rattle.wire_classic.specs.Order.{Storing, Retrieval, Storage, Swapping, Deletion, Touching, Counting}
-use Rattle.wire_classic.specs.Places.{order_in, storing_in, keys_in, LiesIn}
+use Rattle.wire_classic.specs.Places.{order_in, storing_in, keys_in, ClassicLiesIn}
 use Rattle.wire_classic.specs.Grammar.{classic_grammar}
-use Rattle.wire_classic.specs.Message.{Reads, IsMeant, meaning, message_in}
+use Rattle.wire_classic.specs.Message.{ReadsClassic, ClassicIsMeant, classic_meaning, classic_message_in}
 
-storing_in-take : (n : ℕ) (bytes : List ℕ) (s : Stored) → IsIn n s.key → storing_in (take n bytes) s ≡ storing_in bytes s
+storing_in-take : (n : ℕ) (bytes : List ℕ) (s : Stored) → SpanIsIn n s.key → storing_in (take n bytes) s ≡ storing_in bytes s
 storing_in-take n bytes s h = ap (λ (t : List ℕ). let r : Storing = record { key = t; flags = s.flags; exptime = s.exptime; length = s.length } in r) (text_at-take n bytes s.key h.within)
 
-keys_in-take : (n : ℕ) (bytes : List ℕ) (keys : Keys) → IsIn (length (take n bytes)) keys.span → keys_in (take n bytes) keys ≡ keys_in bytes keys
+keys_in-take : (n : ℕ) (bytes : List ℕ) (keys : Keys) → SpanIsIn (length (take n bytes)) keys.span → keys_in (take n bytes) keys ≡ keys_in bytes keys
 keys_in-take n bytes keys h = let short = length-front n bytes in ap words (text_at-take n bytes keys.span (omega (arith, h.within)))
 
 -- the spans of a command in the front of the bytes
-pub order_in-take : (n : ℕ) (bytes : List ℕ) (command : ClassicCommand) → LiesIn (take n bytes) command → order_in (take n bytes) command ≡ order_in bytes command
+pub order_in-take : (n : ℕ) (bytes : List ℕ) (command : ClassicCommand) → ClassicLiesIn (take n bytes) command → order_in (take n bytes) command ≡ order_in bytes command
 order_in-take n bytes (commands.Retrieval with_cas exptime keys) h = ap (λ (t : List (List ℕ)). Retrieval exptime with_cas t) (keys_in-take n bytes keys h.span)
 order_in-take n bytes (commands.Storage op quiet stored) h = ap (λ (s : Storing). Storage op s quiet) (storing_in-take n bytes stored (IsIn-le _ n stored.key (length-front n bytes) h))
 order_in-take n bytes (commands.Swapping quiet stored cas) h = ap (λ (s : Storing). Swapping s cas quiet) (storing_in-take n bytes stored (IsIn-le _ n stored.key (length-front n bytes) h))
@@ -32,7 +32,7 @@ order_in-take n bytes (commands.Touching quiet key exptime) h = ap (λ (t : List
 order_in-take n bytes (commands.Counting op quiet key delta) h = ap (λ (t : List ℕ). Counting op t delta quiet) (text_at-take n bytes key (IsIn-le _ n key (length-front n bytes) h).within)
 order_in-take n bytes (commands.Own own) h = refl
 
-pub LiesIn-take : (n : ℕ) (bytes : List ℕ) (command : ClassicCommand) → LiesIn (take n bytes) command → LiesIn bytes command
+pub LiesIn-take : (n : ℕ) (bytes : List ℕ) (command : ClassicCommand) → ClassicLiesIn (take n bytes) command → ClassicLiesIn bytes command
 LiesIn-take n bytes (commands.Retrieval with_cas exptime keys) h =
     let same = keys_in-take n bytes keys h.span in let short = length-front n bytes in
     record {
@@ -48,8 +48,8 @@ LiesIn-take n bytes (commands.Counting op quiet key delta) h = IsIn-le _ _ key (
 LiesIn-take n bytes (commands.Own own) h = tt
 
 -- what is read after the first line is what the stream begins with
-pub reads-from_line : (bytes : List ℕ) (end used : ℕ) (r : ClassicRead) → TakesLine bytes end used → IsMeant bytes r (meaning (take (used - 1) bytes) (drop used bytes)) → Reads bytes r
-reads-from_line bytes end used (reads.Request r) line h = record { placed = h.0; begins = begins_meant classic_grammar bytes end used (message_in bytes r) r.used line h.1 }
+pub reads-from_line : (bytes : List ℕ) (end used : ℕ) (r : ClassicRead) → TakesLine bytes end used → ClassicIsMeant bytes r (classic_meaning (take (used - 1) bytes) (drop used bytes)) → ReadsClassic bytes r
+reads-from_line bytes end used (reads.Request r) line h = record { placed = h.0; begins = begins_meant classic_grammar bytes end used (classic_message_in bytes r) r.used line h.1 }
 reads-from_line bytes end used (reads.Refused why n skip) line h = begins_meant classic_grammar bytes end used (Refusal why skip) n line h
 reads-from_line bytes end used reads.TooLong line h = absurd h
 reads-from_line bytes end used reads.More line h = none_begins classic_grammar bytes end used line h

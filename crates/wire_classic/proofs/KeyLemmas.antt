@@ -13,7 +13,7 @@ use Rattle.wire_parts.proofs.KeyTexts.{key_is as key_of}
 use Rattle.wire_parts.proofs.Tokens.{key_plain}
 use Rattle.mc_types.specs.KeyText.{is_bad_byte, is_key_byte}
 use Rattle.wire_classic.specs.declared.next_key.NextKey.TheVariants.{Key, Other}
-use Rattle.wire_classic.specs.KeysOfLine.{ends_word, IsNextKey, IsFirstKey, AreKeys}
+use Rattle.wire_classic.specs.KeysOfLine.{ends_word, IsNextKey, IsFirstKey, AreKeysOfLine}
 use Rattle.wire_parts.specs.Tests.{is_key}
 
 one_plus : (n : ℕ) → 1 + n ≡ suc n
@@ -126,13 +126,13 @@ one_word key e = words-spaced (key ∷ []) (plain_words (key ∷ []) (key_plain 
 whole_span : (line : List ℕ) (at : ℕ) → text_at line (record { start = at; end = length line }) ≡ drop at line
 whole_span line at = rest_is line at
 
-pub spanned_alone : (line : List ℕ) (at count : ℕ) (last : Span) → count ≡ length (words (drop at line)) → IsFirstKey line last [] (words (drop at line)) → AreKeys line (words (drop at line)) (record { span = last; count = count })
+pub spanned_alone : (line : List ℕ) (at count : ℕ) (last : Span) → count ≡ length (words (drop at line)) → IsFirstKey line last [] (words (drop at line)) → AreKeysOfLine line (words (drop at line)) (record { span = last; count = count })
 spanned_alone line at count last counted h =
     let one = one_word (text_at line last) h.key in
     let same : words (text_at line last) ≡ words (drop at line) = one ∙ sym h.first in
     (record { span = h.placed; count = counted ∙ sym (ap length same); alone = λ e. one }, same)
 
-pub spanned_all : (line : List ℕ) (at count : ℕ) → at ≤ length line → count ≡ length (words (drop at line)) → (count ≡ 1 → ⊥) → AreKeys line (words (drop at line)) (record { span = record { start = at; end = length line }; count = count })
+pub spanned_all : (line : List ℕ) (at count : ℕ) → at ≤ length line → count ≡ length (words (drop at line)) → (count ≡ 1 → ⊥) → AreKeysOfLine line (words (drop at line)) (record { span = record { start = at; end = length line }; count = count })
 spanned_all line at count le counted many =
     let same : words (text_at line (record { start = at; end = length line })) ≡ words (drop at line) = ap words (whole_span line at) in
     (record { span = record { ordered = le; within = omega arith }; count = counted ∙ sym (ap length same); alone = λ e. absurd (many e) }, same)

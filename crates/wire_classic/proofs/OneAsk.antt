@@ -9,8 +9,8 @@ use Rattle.mc_types.specs.declared.ask.Ask.{Ask}
 use Rattle.mc_types.specs.declared.ask.Op.{Op}
 use Rattle.mc_types.specs.declared.ask.Op.TheVariants.{Get, Gat, Set, Add, Replace, Append, Prepend, Cas, Delete, Incr, Decr, Touch}
 use Rattle.mc_types.specs.declared.ask.Dialect.TheVariants.{Classic}
-use Rattle.wire_classic.specs.Asks.{asks_by, is_quiet, bare_ask, store_ask, retrieval_ask, touch_ask, count_ask}
-use Rattle.wire_classic.specs.Spelling.{storing, order_for, exptime_in, cas_in}
+use Rattle.wire_classic.specs.Asks.{classic_asks_by, classic_is_quiet, bare_ask, store_ask, retrieval_ask, touch_ask, count_ask}
+use Rattle.wire_classic.specs.Spelling.{classic_storing, order_for, exptime_in, cas_in}
 use Rattle.wire_parts.specs.Requests.{MessagesAreOneAsk}
 use Rattle.wire_classic.specs.Laws.{classic_requests}
 use Rattle.wire_classic.proofs.Back.{classic}
@@ -37,11 +37,11 @@ some_cas (Some n) h = refl
 one : (a b : Ask) → a ≡ b → a ∷ [] ≡ b ∷ []
 one a b e = cc
 
-store_same : (ask : Ask) (op : Op) → ask.op ≡ op → ask.dialect ≡ Classic → HasShape ask (shapes.storing []) → store_ask op (storing ask) None ask.body ≡ ask
-store_same ask op o d h = same_ask (store_ask op (storing ask) None ask.body) ask refl (sym o) (sym d) (sym h.with_cas) refl (some_exptime ask.exptime h.exptime) refl (sym h.cas) (sym h.delta) (sym (no_tokens ask.tokens h.tokens))
+store_same : (ask : Ask) (op : Op) → ask.op ≡ op → ask.dialect ≡ Classic → HasShape ask (shapes.storing []) → store_ask op (classic_storing ask) None ask.body ≡ ask
+store_same ask op o d h = same_ask (store_ask op (classic_storing ask) None ask.body) ask refl (sym o) (sym d) (sym h.with_cas) refl (some_exptime ask.exptime h.exptime) refl (sym h.cas) (sym h.delta) (sym (no_tokens ask.tokens h.tokens))
 
 -- the message of an ask is this ask alone
-message_by : (ask : Ask) (op : Op) → ask.op ≡ op → ask.dialect ≡ Classic → HasShape ask (classic_shape op) → (asks_by (order_for op ask) ask.body ≡ ask ∷ []) × (is_quiet (order_for op ask) ≡ false)
+message_by : (ask : Ask) (op : Op) → ask.op ≡ op → ask.dialect ≡ Classic → HasShape ask (classic_shape op) → (classic_asks_by (order_for op ask) ask.body ≡ ask ∷ []) × (classic_is_quiet (order_for op ask) ≡ false)
 message_by ask Get o d h = (one _ ask (same_ask (retrieval_ask None ask.with_cas ask.key) ask refl (sym o) (sym d) refl (sym h.flags) (sym h.exptime) (sym h.body) (sym h.cas) (sym h.delta) (sym (no_tokens ask.tokens h.tokens))), refl)
 message_by ask Gat o d h = (one _ ask (same_ask (retrieval_ask (Some (exptime_in ask)) ask.with_cas ask.key) ask refl (sym o) (sym d) refl (sym h.flags) (some_exptime ask.exptime h.exptime) (sym h.body) (sym h.cas) (sym h.delta) (sym (no_tokens ask.tokens h.tokens))), refl)
 message_by ask Set o d h = (one _ ask (store_same ask Set o d h), refl)
@@ -49,7 +49,7 @@ message_by ask Add o d h = (one _ ask (store_same ask Add o d h), refl)
 message_by ask Replace o d h = (one _ ask (store_same ask Replace o d h), refl)
 message_by ask Append o d h = (one _ ask (store_same ask Append o d h), refl)
 message_by ask Prepend o d h = (one _ ask (store_same ask Prepend o d h), refl)
-message_by ask Cas o d h = (one _ ask (same_ask (store_ask Cas (storing ask) (Some (cas_in ask)) ask.body) ask refl (sym o) (sym d) (sym h.with_cas) refl (some_exptime ask.exptime h.exptime) refl (some_cas ask.cas h.cas) (sym h.delta) (sym (no_tokens ask.tokens h.tokens))), refl)
+message_by ask Cas o d h = (one _ ask (same_ask (store_ask Cas (classic_storing ask) (Some (cas_in ask)) ask.body) ask refl (sym o) (sym d) (sym h.with_cas) refl (some_exptime ask.exptime h.exptime) refl (some_cas ask.cas h.cas) (sym h.delta) (sym (no_tokens ask.tokens h.tokens))), refl)
 message_by ask Delete o d h = (one _ ask (same_ask (bare_ask Delete ask.key) ask refl (sym o) (sym d) (sym h.with_cas) (sym h.flags) (sym h.exptime) (sym h.body) (sym h.cas) (sym h.delta) (sym (no_tokens ask.tokens h.tokens))), refl)
 message_by ask Incr o d h = (one _ ask (same_ask (count_ask Incr ask.key ask.delta) ask refl (sym o) (sym d) (sym h.with_cas) (sym h.flags) (sym h.exptime) (sym h.body) (sym h.cas) refl (sym (no_tokens ask.tokens h.tokens))), refl)
 message_by ask Decr o d h = (one _ ask (same_ask (count_ask Decr ask.key ask.delta) ask refl (sym o) (sym d) (sym h.with_cas) (sym h.flags) (sym h.exptime) (sym h.body) (sym h.cas) refl (sym (no_tokens ask.tokens h.tokens))), refl)

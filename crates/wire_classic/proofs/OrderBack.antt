@@ -14,10 +14,10 @@ use Rattle.wire_classic.specs.declared.command.Verb.{Verb}
 use Rattle.wire_classic.specs.declared.command.Verb.TheVariants as verbs
 use Rattle.wire_parts.specs.Tests.{Word}
 use Rattle.wire_classic.specs.CommandWords.{verb_of}
-use Rattle.wire_classic.specs.Order.{Order, Storing, Retrieval, Storage, Swapping, Deletion, Touching, Counting, keys_of, storing_of, order_of, ordered_by, storage, swapping, getting, getting_and_touching, counting, touching, deletion}
+use Rattle.wire_classic.specs.Order.{Order, Storing, Retrieval, Storage, Swapping, Deletion, Touching, Counting, keys_of, storing_of, classic_order_of, ordered_by, storage, swapping, getting, getting_and_touching, counting, touching, deletion}
 use Rattle.wire_parts.specs.Tests.{◌>>=◌, u64_of, exptime_of, fitting}
 use Rattle.wire_parts.proofs.Tokens.{key_passes, key_back, small_back, wide_back, exptime_back}
-use Rattle.wire_classic.specs.Spelling.{command_word, words_after, store_words, storing, order_for, exptime_in, cas_in}
+use Rattle.wire_classic.specs.Spelling.{command_word, words_after, store_words, classic_storing, order_for, exptime_in, cas_in}
 
 keys_back : (key : Word) → IsKey key → keys_of (key ∷ []) ≡ Ok (key ∷ [])
 keys_back key k = rw (key_passes key k) refl
@@ -106,16 +106,16 @@ is_fit ask h = record { key = h.key; flags = h.ranges.flags; exptime = exptime_o
 fitting_back : (n : ℕ) (o : Order) → n ≤ data_limit → fitting n o ≡ Ok o
 fitting_back n o le = rw (le-leb n data_limit le) refl
 
-storage_back : (op : Op) (ask : Ask) → IsFit ask → storage op (store_words ask []) ≡ Ok (Storage op (storing ask) false)
+storage_back : (op : Op) (ask : Ask) → IsFit ask → storage op (store_words ask []) ≡ Ok (Storage op (classic_storing ask) false)
 storage_back op ask f =
-    ap (λ (r : Result Storing RefusalReason). r >>= (λ stored. fitting stored.length (Storage op stored false))) (storing_back (storing ask) f.key f.flags f.exptime f.body)
-    ∙ fitting_back (length ask.body) (Storage op (storing ask) false) f.body
+    ap (λ (r : Result Storing RefusalReason). r >>= (λ stored. fitting stored.length (Storage op stored false))) (storing_back (classic_storing ask) f.key f.flags f.exptime f.body)
+    ∙ fitting_back (length ask.body) (Storage op (classic_storing ask) false) f.body
 
-swapping_back : (ask : Ask) → IsFit ask → swapping (store_words ask (decimal (cas_in ask) ∷ [])) ≡ Ok (Swapping (storing ask) (cas_in ask) false)
+swapping_back : (ask : Ask) → IsFit ask → swapping (store_words ask (decimal (cas_in ask) ∷ [])) ≡ Ok (Swapping (classic_storing ask) (cas_in ask) false)
 swapping_back ask f =
-    ap (λ (r : Result Storing RefusalReason). r >>= (λ stored. u64_of (decimal (cas_in ask)) >>= (λ cas. fitting stored.length (Swapping stored cas false)))) (storing_back (storing ask) f.key f.flags f.exptime f.body)
-    ∙ ap (λ (r : Result ℕ RefusalReason). r >>= (λ cas. fitting (length ask.body) (Swapping (storing ask) cas false))) (wide_back (cas_in ask) f.cas)
-    ∙ fitting_back (length ask.body) (Swapping (storing ask) (cas_in ask) false) f.body
+    ap (λ (r : Result Storing RefusalReason). r >>= (λ stored. u64_of (decimal (cas_in ask)) >>= (λ cas. fitting stored.length (Swapping stored cas false)))) (storing_back (classic_storing ask) f.key f.flags f.exptime f.body)
+    ∙ ap (λ (r : Result ℕ RefusalReason). r >>= (λ cas. fitting (length ask.body) (Swapping (classic_storing ask) cas false))) (wide_back (cas_in ask) f.cas)
+    ∙ fitting_back (length ask.body) (Swapping (classic_storing ask) (cas_in ask) false) f.body
 
 getting_back : (with_cas : Bool) (key : Word) → IsKey key → getting with_cas (key ∷ []) ≡ Ok (Retrieval None with_cas (key ∷ []))
 getting_back with_cas key k = ap (λ (r : Result (List Word) RefusalReason). r >>= (λ keys. Ok (Retrieval None with_cas keys))) (keys_back key k)
@@ -138,19 +138,19 @@ touching_back key z k e =
 deletion_back : (key : Word) → IsKey key → deletion (key ∷ []) ≡ Ok (Deletion key false)
 deletion_back key k = ap (λ (r : Result Word RefusalReason). r >>= (λ key. Ok (Deletion key false))) (key_back key k)
 
-by_verb : (w : Word) (ws : List Word) (v : Option Verb) (o : Order) → verb_of w ≡ v → ordered_by v ws ≡ Ok o → order_of (w ∷ ws) ≡ Ok o
+by_verb : (w : Word) (ws : List Word) (v : Option Verb) (o : Order) → verb_of w ≡ v → ordered_by v ws ≡ Ok o → classic_order_of (w ∷ ws) ≡ Ok o
 by_verb w ws v o is e = ap (λ (v : Option Verb). ordered_by v ws) is ∙ e
 
-get_order : (with_cas : Bool) (key : Word) → IsKey key → order_of (command_word Get with_cas ∷ key ∷ []) ≡ Ok (Retrieval None with_cas (key ∷ []))
+get_order : (with_cas : Bool) (key : Word) → IsKey key → classic_order_of (command_word Get with_cas ∷ key ∷ []) ≡ Ok (Retrieval None with_cas (key ∷ []))
 get_order false key k = by_verb (codes "get") (key ∷ []) _ _ verb_get (getting_back false key k)
 get_order true key k = by_verb (codes "gets") (key ∷ []) _ _ verb_gets (getting_back true key k)
 
-gat_order : (with_cas : Bool) (key : Word) (z : ℤ) → IsKey key → IsExptime z → order_of (command_word Gat with_cas ∷ signed_decimal z ∷ key ∷ []) ≡ Ok (Retrieval (Some z) with_cas (key ∷ []))
+gat_order : (with_cas : Bool) (key : Word) (z : ℤ) → IsKey key → IsExptime z → classic_order_of (command_word Gat with_cas ∷ signed_decimal z ∷ key ∷ []) ≡ Ok (Retrieval (Some z) with_cas (key ∷ []))
 gat_order false key z k e = by_verb (codes "gat") (signed_decimal z ∷ key ∷ []) _ _ verb_gat (gat_back false key z k e)
 gat_order true key z k e = by_verb (codes "gats") (signed_decimal z ∷ key ∷ []) _ _ verb_gats (gat_back true key z k e)
 
 -- the line of an ask asks this
-pub order_back : (op : Op) (ask : Ask) → IsFit ask → order_of (command_word op ask.with_cas ∷ words_after op ask) ≡ Ok (order_for op ask)
+pub order_back : (op : Op) (ask : Ask) → IsFit ask → classic_order_of (command_word op ask.with_cas ∷ words_after op ask) ≡ Ok (order_for op ask)
 order_back Get ask f = get_order ask.with_cas ask.key f.key
 order_back Gat ask f = gat_order ask.with_cas ask.key (exptime_in ask) f.key f.exptime
 order_back Set ask f = by_verb (codes "set") (store_words ask []) _ _ verb_set (storage_back Set ask f)

@@ -16,8 +16,8 @@ use Rattle.wire_classic.specs.declared.command.Verb.{Verb}
 use Rattle.wire_classic.specs.declared.command.Verb.TheVariants as verbs
 use Rattle.mc_types.specs.declared.ask.Op.{Op}
 use Rattle.mc_types.specs.declared.ask.Op.TheVariants as ops
-use Rattle.wire_classic.specs.CommandWords.{Entry, command_words, found_in, verb_of}
-use Rattle.wire_classic.specs.Order.{Order, Storing, Retrieval, Storage, Swapping, Deletion, Touching, Counting, OfItself, keys_of, noreply_of, delete_tail_of, getting, getting_and_touching, retrieval, storing_of, storage, swapping, deletion, touching, counting, of_itself, ordered_by, order_of}
+use Rattle.wire_classic.specs.CommandWords.{WordEntry, command_words, found_in, verb_of}
+use Rattle.wire_classic.specs.Order.{Order, Storing, Retrieval, Storage, Swapping, Deletion, Touching, Counting, OfItself, keys_of, noreply_of, delete_tail_of, getting, getting_and_touching, retrieval, storing_of, storage, swapping, deletion, touching, counting, of_itself, ordered_by, classic_order_of}
 
 pub record IsSoundStoring (s : Storing) : Type 0 where
   pub key : IsKey s.key
@@ -64,11 +64,11 @@ FitsVerb verbs.Touch = Unit {0}
 FitsVerb (verbs.Count op) = IsCount op
 FitsVerb (verbs.Own own) = Unit {0}
 
-abbrev pub AllFit : List Entry → Type 0
+abbrev pub AllFit : List WordEntry → Type 0
 AllFit [] = Unit {0}
 AllFit (e ∷ es) = FitsVerb e.1 × AllFit es
 
-found_fits : (es : List Entry) (w : Word) → AllFit es → IfSome (found_in es w) FitsVerb
+found_fits : (es : List WordEntry) (w : Word) → AllFit es → IfSome (found_in es w) FitsVerb
 found_fits [] w h = tt
 found_fits (e ∷ es) w h = elim (bytes_eq w e.0) as (λ b. IfSome (cond b (Some e.1) (found_in es w)) FitsVerb) [
   | true ↦ h.0
@@ -190,6 +190,6 @@ by_verb (Some (verbs.Count op)) fits ws o h = by_counting op fits ws o h
 by_verb (Some (verbs.Own own)) fits ws o h = by_itself own ws o h
 
 -- what a line asks is in its ranges
-pub sound : (ws : List Word) (o : Order) → order_of ws ≡ Ok o → IsSound o
+pub sound : (ws : List Word) (o : Order) → classic_order_of ws ≡ Ok o → IsSound o
 sound [] o h = absurd cc
 sound (w ∷ ws) o h = by_verb (verb_of w) (verb_fits w) ws o h

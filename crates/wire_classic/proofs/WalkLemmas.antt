@@ -14,10 +14,10 @@ use Rattle.wire_classic.specs.declared.command.Keys.{Keys}
 use Rattle.wire_classic.specs.declared.command.ClassicRequest.{ClassicRequest}
 use Rattle.wire_parts.specs.Tests.{Word}
 use Rattle.wire_classic.specs.Order.{Order, Retrieval, Storage, Swapping, Deletion, Touching, Counting, OfItself}
-use Rattle.wire_classic.specs.Places.{order_in, keys_in, AreIn, LiesIn}
+use Rattle.wire_classic.specs.Places.{order_in, keys_in, AreIn, ClassicLiesIn}
 use Rattle.wire_classic.specs.Message.{IsClassicReadFrom}
-use Rattle.wire_classic.specs.Asks.{asks_by, single_ask, listed, retrieval_ask, StandsAt, IsAt, IsWalk, first_place}
-use Rattle.wire_classic.specs.Laws.{WalkStill}
+use Rattle.wire_classic.specs.Asks.{classic_asks_by, single_ask, classic_listed, retrieval_ask, StandsAt, IsAt, IsClassicWalk, first_place}
+use Rattle.wire_classic.specs.Laws.{ClassicWalkStill}
 use Rattle.wire_classic.proofs.StreamLemmas.{read_still}
 use Rattle.wire_classic.proofs.AskLemmas.{request_sound, keys_line, found, taken_next, taken_all}
 
@@ -26,12 +26,12 @@ pub key_there : (bytes : List ℕ) (r : ClassicRequest) (e : Option ℤ) (w : Bo
 key_there bytes r e w keys i text h is there = found IsKey (keys_in bytes keys) i text (request_sound bytes r (commands.Retrieval w e keys) h is).0 there
 
 pub nth_ask : (bytes block : List ℕ) (command : ClassicCommand) (e : Option ℤ) (w : Bool) (keys : Keys) (i : ℕ) (text : Word) → command ≡ commands.Retrieval w e keys → slice_get (keys_in bytes keys) i ≡ Some text
-    → slice_get (asks_by (order_in bytes command) block) i ≡ Some (retrieval_ask e w text)
-nth_ask bytes block command e w keys i text is there = ap (λ (k : ClassicCommand). slice_get (asks_by (order_in bytes k) block) i) is ∙ slice_get-map (retrieval_ask e w) (keys_in bytes keys) i ∙ ap (option_map (retrieval_ask e w)) there
+    → slice_get (classic_asks_by (order_in bytes command) block) i ≡ Some (retrieval_ask e w text)
+nth_ask bytes block command e w keys i text is there = ap (λ (k : ClassicCommand). slice_get (classic_asks_by (order_in bytes k) block) i) is ∙ slice_get-map (retrieval_ask e w) (keys_in bytes keys) i ∙ ap (option_map (retrieval_ask e w)) there
 
 pub no_ask : (bytes block : List ℕ) (command : ClassicCommand) (e : Option ℤ) (w : Bool) (keys : Keys) (i : ℕ) → command ≡ commands.Retrieval w e keys → slice_get (keys_in bytes keys) i ≡ None
-    → slice_get (asks_by (order_in bytes command) block) i ≡ None
-no_ask bytes block command e w keys i is none = ap (λ (k : ClassicCommand). slice_get (asks_by (order_in bytes k) block) i) is ∙ slice_get-map (retrieval_ask e w) (keys_in bytes keys) i ∙ ap (option_map (retrieval_ask e w)) none
+    → slice_get (classic_asks_by (order_in bytes command) block) i ≡ None
+no_ask bytes block command e w keys i is none = ap (λ (k : ClassicCommand). slice_get (classic_asks_by (order_in bytes k) block) i) is ∙ slice_get-map (retrieval_ask e w) (keys_in bytes keys) i ∙ ap (option_map (retrieval_ask e w)) none
 
 pub inside : {A : Type 0} → (xs : List A) (i : ℕ) → i < length xs → slice_get xs i ≡ None → ⊥
 inside [] i lt e = absurd (omega arith)
@@ -50,16 +50,16 @@ first : (a : Ask) (i : ℕ) → i < 1 → slice_get (a ∷ []) i ≡ Some a
 first a i lt = rw (below_one i lt) refl
 
 -- a request of one key
-pub one_ask : (o : Order) (block : List ℕ) (a : Ask) → single_ask o block ≡ Some a → asks_by o block ≡ a ∷ []
+pub one_ask : (o : Order) (block : List ℕ) (a : Ask) → single_ask o block ≡ Some a → classic_asks_by o block ≡ a ∷ []
 one_ask (Retrieval e w keys) block a is = absurd cc
-one_ask (Storage op stored quiet) block a is = ap listed is
-one_ask (Swapping stored cas quiet) block a is = ap listed is
-one_ask (Deletion key quiet) block a is = ap listed is
-one_ask (Touching key exptime quiet) block a is = ap listed is
-one_ask (Counting op key delta quiet) block a is = ap listed is
+one_ask (Storage op stored quiet) block a is = ap classic_listed is
+one_ask (Swapping stored cas quiet) block a is = ap classic_listed is
+one_ask (Deletion key quiet) block a is = ap classic_listed is
+one_ask (Touching key exptime quiet) block a is = ap classic_listed is
+one_ask (Counting op key delta quiet) block a is = ap classic_listed is
 one_ask (OfItself own) block a is = absurd cc
 
-pub only_ask : (o : Order) (block : List ℕ) (a : Ask) (i : ℕ) → single_ask o block ≡ Some a → i < length (asks_by o block) → slice_get (asks_by o block) i ≡ Some a
+pub only_ask : (o : Order) (block : List ℕ) (a : Ask) (i : ℕ) → single_ask o block ≡ Some a → i < length (classic_asks_by o block) → slice_get (classic_asks_by o block) i ≡ Some a
 only_ask o block a i is lt =
     let one = one_ask o block a is in
     let few : i < 1 = omega (arith, ap length one) in
@@ -92,9 +92,9 @@ pub at_first : (bytes : List ℕ) (keys : Keys) → AreIn bytes keys → StandsA
 at_first bytes keys h = record { within = h.span.ordered; rest = keys_line bytes keys h.span }
 
 pub lies : (bytes : List ℕ) (r : ClassicRequest) (e : Option ℤ) (w : Bool) (keys : Keys) → IsClassicReadFrom bytes r → r.command ≡ commands.Retrieval w e keys → AreIn bytes keys
-lies bytes r e w keys h is = subst (λ (k : ClassicCommand). LiesIn bytes k) is h.placed.command
+lies bytes r e w keys h is = subst (λ (k : ClassicCommand). ClassicLiesIn bytes k) is h.placed.command
 
-pub first_ask : (o : Order) (block : List ℕ) (a : Ask) (i : ℕ) → single_ask o block ≡ Some a → i ≡ 0 → slice_get (asks_by o block) i ≡ Some a
+pub first_ask : (o : Order) (block : List ℕ) (a : Ask) (i : ℕ) → single_ask o block ≡ Some a → i ≡ 0 → slice_get (classic_asks_by o block) i ≡ Some a
 first_ask o block a i is e = rw (one_ask o block a is, e) refl
 
 -- a request of one key has no place
@@ -108,7 +108,7 @@ single_at bytes block (commands.Counting op quiet key delta) at taken a is = tt
 single_at bytes block (commands.Own own) at taken a is = tt
 
 -- a walk begins at the first ask
-pub at_start : (bytes : List ℕ) (command : ClassicCommand) → LiesIn bytes command → IsAt bytes command (first_place command) 0
+pub at_start : (bytes : List ℕ) (command : ClassicCommand) → ClassicLiesIn bytes command → IsAt bytes command (first_place command) 0
 at_start bytes (commands.Retrieval w e keys) lies = at_first bytes keys lies
 at_start bytes (commands.Storage op quiet stored) lies = tt
 at_start bytes (commands.Swapping quiet stored cas) lies = tt
@@ -117,14 +117,14 @@ at_start bytes (commands.Touching quiet key exptime) lies = tt
 at_start bytes (commands.Counting op quiet key delta) lies = tt
 at_start bytes (commands.Own own) lies = tt
 
-pub starts : (bytes : List ℕ) (r : ClassicRequest) (at : ℕ) → at ≡ first_place r.command → IsClassicReadFrom bytes r → IsWalk bytes (record { request = r; at = at; taken = 0 })
+pub starts : (bytes : List ℕ) (r : ClassicRequest) (at : ℕ) → at ≡ first_place r.command → IsClassicReadFrom bytes r → IsClassicWalk bytes (record { request = r; at = at; taken = 0 })
 starts bytes r at is h = record { read = h; place = subst (λ (n : ℕ). IsAt bytes r.command n 0) (sym is) (at_start bytes r.command h.placed.command) }
 
 front_is : (bytes more : List ℕ) (n : ℕ) → n ≤ length bytes → take n (bytes ++ more) ≡ take n bytes
 front_is bytes more n le = take-append-le n bytes more le
 
 -- a walk goes on when more has come
-still_at : (bytes more : List ℕ) (command : ClassicCommand) (at taken : ℕ) → LiesIn bytes command → LiesIn (bytes ++ more) command → IsAt bytes command at taken → IsAt (bytes ++ more) command at taken
+still_at : (bytes more : List ℕ) (command : ClassicCommand) (at taken : ℕ) → ClassicLiesIn bytes command → ClassicLiesIn (bytes ++ more) command → IsAt bytes command at taken → IsAt (bytes ++ more) command at taken
 still_at bytes more (commands.Retrieval w e keys) at taken a b h =
     let front = front_is bytes more keys.span.end a.span.within in
     let same : keys_in bytes keys ≡ keys_in (bytes ++ more) keys = sym (keys_line bytes keys a.span) ∙ ap (λ (t : List ℕ). words (drop keys.span.start t)) (sym front) ∙ keys_line (bytes ++ more) keys b.span in
@@ -136,5 +136,5 @@ still_at bytes more (commands.Touching quiet key exptime) at taken a b h = tt
 still_at bytes more (commands.Counting op quiet key delta) at taken a b h = tt
 still_at bytes more (commands.Own own) at taken a b h = tt
 
-pub walk_still : WalkStill
+pub walk_still : ClassicWalkStill
 walk_still bytes more a h = let r = read_still bytes more a.request h.read in record { read = r.0; place = still_at bytes more a.request.command a.at a.taken h.read.placed.command r.0.placed.command h.place }

@@ -5,7 +5,7 @@ use Rattle.std.specs.Str.{bytes_eq}
 use Rattle.std.proofs.lemmas.Bool.{cases_Bool, eqb-false, ne_eqb}
 use Rattle.std.proofs.lemmas.Slice.Eq.{bytes_eq-Decides}
 use Rattle.wire_parts.specs.Tests.{Word}
-use Rattle.wire_classic.specs.CommandWords.{Entry, command_words, found_in, verb_of, of_three, of_four, of_five, of_six, of_seven}
+use Rattle.wire_classic.specs.CommandWords.{WordEntry, command_words, found_in, verb_of, of_three, of_four, of_five, of_six, of_seven}
 
 pub both : (a b : Bool) → (a && b) ≡ true → (a ≡ true) × (b ≡ true)
 both true b e = (refl, e)
@@ -23,28 +23,28 @@ other_length w k ne = elim (cases_Bool (bytes_eq w k)) [
 ]
 
 -- whether each of the entries has another length
-abbrev pub have_others : ℕ → List Entry → Bool
+abbrev pub have_others : ℕ → List WordEntry → Bool
 have_others n entries = list_all (λ e. not (eqb n (length e.0))) entries
 
-misses : (n : ℕ) (e : Entry) (w : Word) → length w ≡ n → not (eqb n (length e.0)) ≡ true → bytes_eq w e.0 ≡ false
+misses : (n : ℕ) (e : WordEntry) (w : Word) → length w ≡ n → not (eqb n (length e.0)) ≡ true → bytes_eq w e.0 ≡ false
 misses n e w len h = other_length w e.0 (λ same. eqb-false n (length e.0) (is_no _ h) (sym len ∙ same))
 
-none : (n : ℕ) (g : List Entry) (w : Word) → length w ≡ n → have_others n g ≡ true → found_in g w ≡ None
+none : (n : ℕ) (g : List WordEntry) (w : Word) → length w ≡ n → have_others n g ≡ true → found_in g w ≡ None
 none n [] w len h = refl
 none n (e ∷ g) w len h = let parts = both (not (eqb n (length e.0))) (have_others n g) h in rw (misses n e w len parts.0) (none n g w len parts.1)
 
-after : (n : ℕ) (g rest : List Entry) (w : Word) → length w ≡ n → have_others n g ≡ true → found_in (g ++ rest) w ≡ found_in rest w
+after : (n : ℕ) (g rest : List WordEntry) (w : Word) → length w ≡ n → have_others n g ≡ true → found_in (g ++ rest) w ≡ found_in rest w
 after n [] rest w len h = refl
 after n (e ∷ g) rest w len h = let parts = both (not (eqb n (length e.0))) (have_others n g) h in rw (misses n e w len parts.0) (after n g rest w len parts.1)
 
-before : (n : ℕ) (g rest : List Entry) (w : Word) → length w ≡ n → have_others n rest ≡ true → found_in (g ++ rest) w ≡ found_in g w
+before : (n : ℕ) (g rest : List WordEntry) (w : Word) → length w ≡ n → have_others n rest ≡ true → found_in (g ++ rest) w ≡ found_in g w
 before n [] rest w len h = none n rest w len h
 before n (e ∷ g) rest w len h = (elim (bytes_eq w e.0) as (λ t. bytes_eq w e.0 ≡ t → found_in ((e ∷ g) ++ rest) w ≡ found_in (e ∷ g) w) [
   | true ↦ λ t. rw t refl
   | false ↦ λ t. rw t (before n g rest w len h)
 ]) refl
 
-among : (n : ℕ) (a g b : List Entry) (w : Word) → length w ≡ n → have_others n a ≡ true → have_others n b ≡ true → found_in (a ++ (g ++ b)) w ≡ found_in g w
+among : (n : ℕ) (a g b : List WordEntry) (w : Word) → length w ≡ n → have_others n a ≡ true → have_others n b ≡ true → found_in (a ++ (g ++ b)) w ≡ found_in g w
 among n a g b w len f h = after n a (g ++ b) w len f ∙ before n g b w len h
 
 pub is_three : (w : Word) → length w ≡ 3 → found_in of_three w ≡ verb_of w

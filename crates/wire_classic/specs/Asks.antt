@@ -14,8 +14,8 @@ use Rattle.wire_classic.specs.declared.command.Keys.{Keys}
 use Rattle.wire_classic.specs.declared.asking.Asks.{Asks}
 use Rattle.wire_classic.specs.Order.{Order, Storing, Retrieval, Storage, Swapping, Deletion, Touching, Counting, OfItself}
 use Rattle.wire_classic.specs.Places.{keys_in}
-use Rattle.wire_classic.specs.Grammar.{own_by}
-use Rattle.wire_classic.specs.Message.{Message, IsClassicReadFrom}
+use Rattle.wire_classic.specs.Grammar.{classic_own_by}
+use Rattle.wire_classic.specs.Message.{ClassicMessage, IsClassicReadFrom}
 use Rattle.wire_parts.specs.Message.{Served, Refusal}
 
 -- an operation on a key, and nothing else
@@ -54,39 +54,39 @@ single_ask (Retrieval exptime with_cas keys) block = None
 single_ask (OfItself own) block = None
 
 -- none or one
-abbrev pub listed : Option Ask → List Ask
-listed None = []
-listed (Some ask) = ask ∷ []
+abbrev pub classic_listed : Option Ask → List Ask
+classic_listed None = []
+classic_listed (Some ask) = ask ∷ []
 
 -- the asks of an order with its data block
-abbrev pub asks_by : Order → List ℕ → List Ask
-asks_by (Retrieval exptime with_cas keys) block = map (retrieval_ask exptime with_cas) keys
-asks_by order block = listed (single_ask order block)
+abbrev pub classic_asks_by : Order → List ℕ → List Ask
+classic_asks_by (Retrieval exptime with_cas keys) block = map (retrieval_ask exptime with_cas) keys
+classic_asks_by order block = classic_listed (single_ask order block)
 
 -- the asks of a message, in order: a refused one has none
-abbrev pub asks_of : Message → List Ask
-asks_of (Served order block) = asks_by order block
-asks_of (Refusal why skip) = []
+abbrev pub classic_asks_of : ClassicMessage → List Ask
+classic_asks_of (Served order block) = classic_asks_by order block
+classic_asks_of (Refusal why skip) = []
 
 -- whether an order wants no answer
-abbrev pub is_quiet : Order → Bool
-is_quiet (Retrieval exptime with_cas keys) = false
-is_quiet (Storage op stored quiet) = quiet
-is_quiet (Swapping stored cas quiet) = quiet
-is_quiet (Deletion key quiet) = quiet
-is_quiet (Touching key exptime quiet) = quiet
-is_quiet (Counting op key delta quiet) = quiet
-is_quiet (OfItself own) = false
+abbrev pub classic_is_quiet : Order → Bool
+classic_is_quiet (Retrieval exptime with_cas keys) = false
+classic_is_quiet (Storage op stored quiet) = quiet
+classic_is_quiet (Swapping stored cas quiet) = quiet
+classic_is_quiet (Deletion key quiet) = quiet
+classic_is_quiet (Touching key exptime quiet) = quiet
+classic_is_quiet (Counting op key delta quiet) = quiet
+classic_is_quiet (OfItself own) = false
 
 -- whether a message wants no answer: a refused one is always answered
-abbrev pub quiet_of : Message → Bool
-quiet_of (Served order block) = is_quiet order
-quiet_of (Refusal why skip) = false
+abbrev pub classic_quiet_of : ClassicMessage → Bool
+classic_quiet_of (Served order block) = classic_is_quiet order
+classic_quiet_of (Refusal why skip) = false
 
 -- what a message asks of mcgate itself
-abbrev pub own_of : Message → Option ProxyCommand
-own_of (Served order block) = own_by order
-own_of (Refusal why skip) = None
+abbrev pub classic_own_of : ClassicMessage → Option ProxyCommand
+classic_own_of (Served order block) = classic_own_by order
+classic_own_of (Refusal why skip) = None
 
 -- a well formed ask of the classic dialect
 pub record IsClassicAsk (ask : Ask) : Type 0 where
@@ -109,11 +109,11 @@ first_place (commands.Retrieval with_cas exptime keys) = keys.span.start
 first_place _ = 0
 
 -- a walk over the asks of a request of these bytes
-pub record IsWalk (bytes : List ℕ) (a : Asks) : Type 0 where
+pub record IsClassicWalk (bytes : List ℕ) (a : Asks) : Type 0 where
   pub read : IsClassicReadFrom bytes a.request
   pub place : IsAt bytes a.request.command a.at a.taken
 
 -- how many were taken after this answer
-abbrev pub counted : Option Ask → ℕ → ℕ
-counted None taken = taken
-counted (Some ask) taken = taken + 1
+abbrev pub asks_taken : Option Ask → ℕ → ℕ
+asks_taken None taken = taken
+asks_taken (Some ask) taken = taken + 1

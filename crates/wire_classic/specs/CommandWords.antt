@@ -8,11 +8,11 @@ use Rattle.wire_classic.specs.declared.command.Verb.TheVariants as verbs
 use Rattle.wire_parts.specs.declared.proxy_command.ProxyCommand.TheVariants as owns
 
 -- a command word, and what it means
-abbrev pub Entry : Type 0
-Entry = Word × Verb
+abbrev pub WordEntry : Type 0
+WordEntry = Word × Verb
 
 -- the command words of three letters
-abbrev pub of_three : List Entry
+abbrev pub of_three : List WordEntry
 of_three =
     (codes "get", verbs.Retrieve false false)
     ∷ (codes "set", verbs.Store ops.Set)
@@ -22,7 +22,7 @@ of_three =
     ∷ []
 
 -- the command words of four letters
-abbrev pub of_four : List Entry
+abbrev pub of_four : List WordEntry
 of_four =
     (codes "gets", verbs.Retrieve false true)
     ∷ (codes "gats", verbs.Retrieve true true)
@@ -32,18 +32,18 @@ of_four =
     ∷ []
 
 -- the one of five letters
-abbrev pub of_five : List Entry
+abbrev pub of_five : List WordEntry
 of_five = (codes "touch", verbs.Touch) ∷ []
 
 -- the command words of six letters
-abbrev pub of_six : List Entry
+abbrev pub of_six : List WordEntry
 of_six =
     (codes "delete", verbs.Delete)
     ∷ (codes "append", verbs.Store ops.Append)
     ∷ []
 
 -- the command words of seven letters
-abbrev pub of_seven : List Entry
+abbrev pub of_seven : List WordEntry
 of_seven =
     (codes "replace", verbs.Store ops.Replace)
     ∷ (codes "prepend", verbs.Store ops.Prepend)
@@ -51,11 +51,11 @@ of_seven =
     ∷ []
 
 -- all command words
-abbrev pub command_words : List Entry
+abbrev pub command_words : List WordEntry
 command_words = of_three ++ of_four ++ of_five ++ of_six ++ of_seven
 
 -- what a word means by such a list
-abbrev pub found_in : List Entry → Word → Option Verb
+abbrev pub found_in : List WordEntry → Word → Option Verb
 found_in [] word = None
 found_in (entry ∷ entries) word = if bytes_eq word entry.0 then Some entry.1 else found_in entries word
 

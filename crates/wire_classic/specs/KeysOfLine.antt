@@ -5,7 +5,7 @@ use Rattle.text_words.specs.declared.word.Span.{Span}
 use Rattle.wire_classic.specs.declared.next_key.NextKey.{NextKey}
 use Rattle.wire_classic.specs.declared.next_key.NextKey.TheVariants.{Nothing, Key, Other}
 use Rattle.wire_parts.specs.Tests.{is_key}
-use Rattle.wire_parts.specs.Places.{IsIn}
+use Rattle.wire_parts.specs.Places.{SpanIsIn}
 use Rattle.wire_classic.specs.declared.command.Keys.{Keys}
 use Rattle.wire_classic.specs.Places.{AreIn, keys_in}
 
@@ -22,10 +22,10 @@ IsNextKey line at Other = (s : Span) × IsNextWord line at s × (is_key (text_at
 
 -- the word there is a key, and the first of these, before the rest
 pub record IsFirstKey (line : List ℕ) (s : Span) (rest all : List (List ℕ)) : Type 0 where
-  pub placed : IsIn (length line) s
+  pub placed : SpanIsIn (length line) s
   pub key : is_key (text_at line s) ≡ true
   pub first : all ≡ text_at line s ∷ rest
 
 -- these words stand there
-abbrev pub AreKeys : List ℕ → List (List ℕ) → Keys → Type 0
-AreKeys line all keys = AreIn line keys × (keys_in line keys ≡ all)
+abbrev pub AreKeysOfLine : List ℕ → List (List ℕ) → Keys → Type 0
+AreKeysOfLine line all keys = AreIn line keys × (keys_in line keys ≡ all)

@@ -4,54 +4,54 @@ use Rattle.text_words.specs.Line.{IsTooLong}
 use Rattle.text_words.specs.Word.{text_at}
 use Rattle.wire_parts.specs.Message as parts
 use Rattle.wire_parts.specs.Message.{Served, Refusal}
-use Rattle.wire_parts.specs.Places.{IsIn}
+use Rattle.wire_parts.specs.Places.{SpanIsIn}
 use Rattle.wire_classic.specs.declared.command.ClassicRead.{ClassicRead}
 use Rattle.wire_classic.specs.declared.command.ClassicRead.TheVariants as reads
 use Rattle.wire_classic.specs.declared.command.ClassicRequest.{ClassicRequest}
 use Rattle.wire_classic.specs.Order.{Order}
 use Rattle.wire_classic.specs.Grammar.{classic_grammar}
-use Rattle.wire_classic.specs.Places.{order_in, LiesIn}
+use Rattle.wire_classic.specs.Places.{order_in, ClassicLiesIn}
 
 -- a message: one that is served, with its data block, or one that is refused, with what is passed over after it
-abbrev pub Message : Type 0
-Message = parts.Message Order
+abbrev pub ClassicMessage : Type 0
+ClassicMessage = parts.Message Order
 
 -- a message, and how many bytes it takes; none where more must come
-abbrev pub Found : Type 0
-Found = parts.Found Order
+abbrev pub ClassicFound : Type 0
+ClassicFound = parts.Found Order
 
 -- what the line of this text and the bytes after it are, unless more must come
-abbrev pub meaning : List ℕ → List ℕ → Found
-meaning = parts.meaning classic_grammar
+abbrev pub classic_meaning : List ℕ → List ℕ → ClassicFound
+classic_meaning = parts.meaning classic_grammar
 
 -- the bytes begin with this message, which takes so many of them
-abbrev pub Begins : List ℕ → Message → ℕ → Type 0
-Begins = parts.Begins classic_grammar
+abbrev pub BeginsClassic : List ℕ → ClassicMessage → ℕ → Type 0
+BeginsClassic = parts.BeginsMessage classic_grammar
 
 -- what a request is, in the bytes that it was read from
-abbrev pub message_in : List ℕ → ClassicRequest → Message
-message_in bytes r = Served (order_in bytes r.command) (text_at bytes r.block)
+abbrev pub classic_message_in : List ℕ → ClassicRequest → ClassicMessage
+classic_message_in bytes r = Served (order_in bytes r.command) (text_at bytes r.block)
 
 -- the spans of a request lie in the bytes
-pub record IsPlaced (bytes : List ℕ) (r : ClassicRequest) : Type 0 where
-  pub command : LiesIn bytes r.command
-  pub block : IsIn (length bytes) r.block
+pub record ClassicIsPlaced (bytes : List ℕ) (r : ClassicRequest) : Type 0 where
+  pub command : ClassicLiesIn bytes r.command
+  pub block : SpanIsIn (length bytes) r.block
 
 -- the bytes begin with this request
 pub record IsClassicReadFrom (bytes : List ℕ) (r : ClassicRequest) : Type 0 where
-  pub placed : IsPlaced bytes r
-  pub begins : Begins bytes (message_in bytes r) r.used
+  pub placed : ClassicIsPlaced bytes r
+  pub begins : BeginsClassic bytes (classic_message_in bytes r) r.used
 
 -- what was read after a line is what it means
-abbrev pub IsMeant : List ℕ → ClassicRead → Found → Type 0
-IsMeant bytes (reads.Request r) found = IsPlaced bytes r × (found ≡ Some (message_in bytes r, r.used))
-IsMeant bytes (reads.Refused why used skip) found = found ≡ Some (Refusal why skip, used)
-IsMeant bytes reads.More found = found ≡ None
-IsMeant bytes reads.TooLong found = ⊥
+abbrev pub ClassicIsMeant : List ℕ → ClassicRead → ClassicFound → Type 0
+ClassicIsMeant bytes (reads.Request r) found = ClassicIsPlaced bytes r × (found ≡ Some (classic_message_in bytes r, r.used))
+ClassicIsMeant bytes (reads.Refused why used skip) found = found ≡ Some (Refusal why skip, used)
+ClassicIsMeant bytes reads.More found = found ≡ None
+ClassicIsMeant bytes reads.TooLong found = ⊥
 
 -- what the bytes of a client begin with
-abbrev pub Reads : List ℕ → ClassicRead → Type 0
-Reads bytes (reads.Request r) = IsClassicReadFrom bytes r
-Reads bytes (reads.Refused why used skip) = Begins bytes (Refusal why skip) used
-Reads bytes reads.TooLong = IsTooLong bytes
-Reads bytes reads.More = (¬ IsTooLong bytes) × ((message : Message) (used : ℕ) → ¬ Begins bytes message used)
+abbrev pub ReadsClassic : List ℕ → ClassicRead → Type 0
+ReadsClassic bytes (reads.Request r) = IsClassicReadFrom bytes r
+ReadsClassic bytes (reads.Refused why used skip) = BeginsClassic bytes (Refusal why skip) used
+ReadsClassic bytes reads.TooLong = IsTooLong bytes
+ReadsClassic bytes reads.More = (¬ IsTooLong bytes) × ((message : ClassicMessage) (used : ℕ) → ¬ BeginsClassic bytes message used)

@@ -3,7 +3,7 @@ use Rattle.std.specs.Prelude.{ℕ, ℤ, Bool, true, false, List, [], ◌∷◌, 
 use Rattle.std.specs.List.{list_all}
 use Rattle.std.specs.Str.{bytes_eq}
 use Rattle.mc_types.specs.declared.ask.Op.{Op}
-use Rattle.wire_parts.specs.Tests.{Word, ◌>>=◌, is_key, key_of, u32_of, u64_of, exptime_of, fitting, skip_by, length_in}
+use Rattle.wire_parts.specs.Tests.{Word, ◌>>=◌, is_key, key_of, u32_of, u64_of, exptime_of, fitting, skip_length, length_in}
 use Rattle.wire_classic.specs.CommandWords.{verb_of}
 use Rattle.wire_classic.specs.declared.command.Verb.{Verb}
 use Rattle.wire_classic.specs.declared.command.Verb.TheVariants as verbs
@@ -134,17 +134,17 @@ ordered_by (Some (verbs.Count op)) words = counting op words
 ordered_by (Some (verbs.Own own)) words = of_itself own words
 
 -- what the words of a line ask, or the first test that they fail
-abbrev pub order_of : List Word → Result Order RefusalReason
-order_of [] = Err Unknown
-order_of (word ∷ words) = ordered_by (verb_of word) words
+abbrev pub classic_order_of : List Word → Result Order RefusalReason
+classic_order_of [] = Err Unknown
+classic_order_of (word ∷ words) = ordered_by (verb_of word) words
 
 -- the commands with a data block
-abbrev pub is_store : Option Verb → Bool
-is_store (Some (verbs.Store op)) = true
-is_store (Some verbs.Cas) = true
-is_store _ = false
+abbrev pub has_classic_block : Option Verb → Bool
+has_classic_block (Some (verbs.Store op)) = true
+has_classic_block (Some verbs.Cas) = true
+has_classic_block _ = false
 
 -- what is passed over after a refused line: the data that a store's fifth word tells of
-abbrev pub skip_of : List Word → Skip
-skip_of [] = Nothing
-skip_of (word ∷ words) = if is_store (verb_of word) then skip_by (length_in (slice_get words 3)) else Nothing
+abbrev pub classic_skip_of : List Word → Skip
+classic_skip_of [] = Nothing
+classic_skip_of (word ∷ words) = if has_classic_block (verb_of word) then skip_length (length_in (slice_get words 3)) else Nothing

@@ -5,7 +5,7 @@ use Rattle.wire_classic.specs.declared.command.ClassicCommand.{ClassicCommand}
 use Rattle.wire_classic.specs.declared.command.ClassicCommand.TheVariants as commands
 use Rattle.wire_classic.specs.declared.command.Keys.{Keys}
 use Rattle.wire_classic.specs.declared.command.Stored.{Stored}
-use Rattle.wire_parts.specs.Places.{IsIn}
+use Rattle.wire_parts.specs.Places.{SpanIsIn}
 use Rattle.wire_classic.specs.declared.stores.StoreWords.{StoreWords}
 use Rattle.wire_classic.specs.Order.{Order, Storing, Retrieval, Storage, Swapping, Deletion, Touching, Counting, OfItself}
 
@@ -29,26 +29,26 @@ order_in text (commands.Own own) = OfItself own
 
 -- the span lies in the text, and the count is that of its words; a word alone is all that the span has
 pub record AreIn (text : List ℕ) (keys : Keys) : Type 0 where
-  pub span : IsIn (length text) keys.span
+  pub span : SpanIsIn (length text) keys.span
   pub count : keys.count ≡ length (keys_in text keys)
   pub alone : keys.count ≡ 1 → keys_in text keys ≡ text_at text keys.span ∷ []
 
 -- each span of the command lies in the text
-abbrev pub LiesIn : List ℕ → ClassicCommand → Type 0
-LiesIn text (commands.Retrieval with_cas exptime keys) = AreIn text keys
-LiesIn text (commands.Storage op quiet stored) = IsIn (length text) stored.key
-LiesIn text (commands.Swapping quiet stored cas) = IsIn (length text) stored.key
-LiesIn text (commands.Deletion quiet key) = IsIn (length text) key
-LiesIn text (commands.Touching quiet key exptime) = IsIn (length text) key
-LiesIn text (commands.Counting op quiet key delta) = IsIn (length text) key
-LiesIn text (commands.Own own) = Unit {0}
+abbrev pub ClassicLiesIn : List ℕ → ClassicCommand → Type 0
+ClassicLiesIn text (commands.Retrieval with_cas exptime keys) = AreIn text keys
+ClassicLiesIn text (commands.Storage op quiet stored) = SpanIsIn (length text) stored.key
+ClassicLiesIn text (commands.Swapping quiet stored cas) = SpanIsIn (length text) stored.key
+ClassicLiesIn text (commands.Deletion quiet key) = SpanIsIn (length text) key
+ClassicLiesIn text (commands.Touching quiet key exptime) = SpanIsIn (length text) key
+ClassicLiesIn text (commands.Counting op quiet key delta) = SpanIsIn (length text) key
+ClassicLiesIn text (commands.Own own) = Unit {0}
 
 -- the four spans lie in so many bytes
 pub record AreSpans (n : ℕ) (s : StoreWords) : Type 0 where
-  pub key : IsIn n s.key
-  pub flags : IsIn n s.flags
-  pub exptime : IsIn n s.exptime
-  pub length : IsIn n s.length
+  pub key : SpanIsIn n s.key
+  pub flags : SpanIsIn n s.flags
+  pub exptime : SpanIsIn n s.exptime
+  pub length : SpanIsIn n s.length
 
 -- the first four words from a place on
 pub record AreStoreWords (line : List ℕ) (at : ℕ) (s : StoreWords) : Type 0 where

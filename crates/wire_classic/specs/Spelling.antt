@@ -1,13 +1,13 @@
 -- The one spelling of an ask, and the message that it is. Source: memcached's protocol.txt, the lines of each command; of the spellings that it allows, the choice of one is mcgate's own.
 use Rattle.std.specs.Prelude.{ℕ, ℤ, pos, Bool, true, false, List, [], ◌∷◌, ◌++◌, Some, None, length, codes, decimal, unwrap_or}
 use Rattle.std.specs.Fmt.{signed_decimal}
-use Rattle.text_words.specs.Spelling.{line_of}
+use Rattle.text_words.specs.Spelling.{words_line}
 use Rattle.mc_types.specs.declared.ask.Op.{Op}
 use Rattle.mc_types.specs.declared.ask.Op.TheVariants.{Get, Gat, Set, Add, Replace, Append, Prepend, Cas, Delete, Incr, Decr, Touch}
 use Rattle.mc_types.specs.declared.ask.Ask.{Ask}
 use Rattle.wire_parts.specs.Tests.{Word, block_text}
 use Rattle.wire_classic.specs.Order.{Order, Storing, Retrieval, Storage, Swapping, Deletion, Touching, Counting}
-use Rattle.wire_classic.specs.Message.{Message}
+use Rattle.wire_classic.specs.Message.{ClassicMessage}
 use Rattle.wire_parts.specs.Message.{Served}
 
 -- one word, or the other where the cas number is wanted
@@ -39,19 +39,19 @@ abbrev pub cas_in : Ask → ℕ
 cas_in ask = unwrap_or ask.cas 0
 
 -- whether an operation stores data
-abbrev pub stores : Op → Bool
-stores Set = true
-stores Add = true
-stores Replace = true
-stores Append = true
-stores Prepend = true
-stores Cas = true
-stores Get = false
-stores Gat = false
-stores Delete = false
-stores Incr = false
-stores Decr = false
-stores Touch = false
+abbrev pub stores_data : Op → Bool
+stores_data Set = true
+stores_data Add = true
+stores_data Replace = true
+stores_data Append = true
+stores_data Prepend = true
+stores_data Cas = true
+stores_data Get = false
+stores_data Gat = false
+stores_data Delete = false
+stores_data Incr = false
+stores_data Decr = false
+stores_data Touch = false
 
 -- key, flags, exptime, length
 abbrev pub store_words : Ask → List Word → List Word
@@ -84,31 +84,31 @@ block_after _ ask = []
 
 -- the line of an ask
 abbrev pub ask_line : Ask → List ℕ
-ask_line ask = line_of (command_word ask.op ask.with_cas ∷ words_after ask.op ask)
+ask_line ask = words_line (command_word ask.op ask.with_cas ∷ words_after ask.op ask)
 
 -- an ask, spelled
-abbrev pub spelling_of : Ask → List ℕ
-spelling_of ask = ask_line ask ++ block_after ask.op ask
+abbrev pub classic_spelling : Ask → List ℕ
+classic_spelling ask = ask_line ask ++ block_after ask.op ask
 
 -- the key and the numbers of a store
-abbrev pub storing : Ask → Storing
-storing ask = record { key = ask.key; flags = ask.flags; exptime = exptime_in ask; length = length ask.body }
+abbrev pub classic_storing : Ask → Storing
+classic_storing ask = record { key = ask.key; flags = ask.flags; exptime = exptime_in ask; length = length ask.body }
 
 -- what the line of an ask asks
 abbrev pub order_for : Op → Ask → Order
 order_for Get ask = Retrieval None ask.with_cas (ask.key ∷ [])
 order_for Gat ask = Retrieval (Some (exptime_in ask)) ask.with_cas (ask.key ∷ [])
-order_for Set ask = Storage Set (storing ask) false
-order_for Add ask = Storage Add (storing ask) false
-order_for Replace ask = Storage Replace (storing ask) false
-order_for Append ask = Storage Append (storing ask) false
-order_for Prepend ask = Storage Prepend (storing ask) false
-order_for Cas ask = Swapping (storing ask) (cas_in ask) false
+order_for Set ask = Storage Set (classic_storing ask) false
+order_for Add ask = Storage Add (classic_storing ask) false
+order_for Replace ask = Storage Replace (classic_storing ask) false
+order_for Append ask = Storage Append (classic_storing ask) false
+order_for Prepend ask = Storage Prepend (classic_storing ask) false
+order_for Cas ask = Swapping (classic_storing ask) (cas_in ask) false
 order_for Delete ask = Deletion ask.key false
 order_for Incr ask = Counting Incr ask.key ask.delta false
 order_for Decr ask = Counting Decr ask.key ask.delta false
 order_for Touch ask = Touching ask.key (exptime_in ask) false
 
 -- the message that an ask is
-abbrev pub message_of : Ask → Message
-message_of ask = Served (order_for ask.op ask) ask.body
+abbrev pub classic_message_of : Ask → ClassicMessage
+classic_message_of ask = Served (order_for ask.op ask) ask.body

@@ -3,10 +3,10 @@ ghost use Rattle.std.specs.Option.{option_map};
 ghost use Rattle.std.specs.Prelude.{◌≡◌, ℕ, List, ◌<◌, ◌≤◌, IfOk, IfSome, OnErr, Some, length, take, slice_get};
 ghost use Rattle.text_words.specs.Word.{text_at};
 ghost use Rattle.mc_types.specs.Parts.{ask_of};
-ghost use Rattle.wire_parts.specs.Places.{IsIn};
+ghost use Rattle.wire_parts.specs.Places.{SpanIsIn};
 ghost use Rattle.wire_classic.specs.Places.{order_in, storing_in};
-ghost use Rattle.wire_classic.specs.Message.{IsClassicReadFrom, message_in};
-ghost use Rattle.wire_classic.specs.Asks.{asks_of, quiet_of, own_of, bare_ask, retrieval_ask, store_ask, single_ask, first_place, IsClassicAsk, IsWalk, counted};
+ghost use Rattle.wire_classic.specs.Message.{IsClassicReadFrom, classic_message_in};
+ghost use Rattle.wire_classic.specs.Asks.{classic_asks_of, classic_quiet_of, classic_own_of, bare_ask, retrieval_ask, store_ask, single_ask, first_place, IsClassicAsk, IsClassicWalk, asks_taken};
 
 use crate::command::{ClassicCommand, ClassicRequest, Stored};
 use mc_types::{Ask, AskParts, Dialect, Op, Tokens};
@@ -37,7 +37,7 @@ fn retrieved<'a>(alloc: Global, key: &'a [u8], exptime: Option<i64>, with_cas: b
 
 // The text that stands there.
 fn key_in<'a>(received: &'a Received, key: Span) -> &'a [u8]
-    requires { IsIn (length received.now) key }
+    requires { SpanIsIn (length received.now) key }
     ensures { result.now ≡ text_at received.now key }
 {
     received.between(key.start, key.end)
@@ -59,8 +59,8 @@ fn stored<'a>(
     cas: Option<u64>,
     block: Span,
 ) -> Result<AskParts<'a>, AllocError>
-    requires placed { IsIn (length received.now) stored.key }
-    requires block { IsIn (length received.now) block }
+    requires placed { SpanIsIn (length received.now) stored.key }
+    requires block { SpanIsIn (length received.now) block }
     ensures { IfOk result (λ parts. ask_of parts ≡ store_ask op (storing_in received.now stored) cas (text_at received.now block)) }
 {
     let body = received.lent(alloc, block.start, block.end)?;
@@ -131,7 +131,7 @@ pub struct Asks {
 impl ClassicRequest {
     /// What the request asks of mcgate itself, if it does. It takes no memory.
     pub fn own(&self) -> Option<ProxyCommand>
-        ensures { (bytes : List ℕ) → result ≡ own_of (message_in bytes self.now) }
+        ensures { (bytes : List ℕ) → result ≡ classic_own_of (classic_message_in bytes self.now) }
     {
         match self.command {
             ClassicCommand::Own(own) => Some(own),
@@ -141,7 +141,7 @@ impl ClassicRequest {
 
     /// How many asks the request is: one for each key, none for a request of mcgate itself. It takes no memory.
     pub fn asks(&self) -> usize
-        ensures { (bytes : List ℕ) → IsClassicReadFrom bytes self.now → result ≡ length (asks_of (message_in bytes self.now)) }
+        ensures { (bytes : List ℕ) → IsClassicReadFrom bytes self.now → result ≡ length (classic_asks_of (classic_message_in bytes self.now)) }
     {
         match self.command {
             ClassicCommand::Retrieval { keys, .. } => keys.count,
@@ -152,7 +152,7 @@ impl ClassicRequest {
 
     /// Whether the request wants no answer: `noreply` stands on its line. It takes no memory.
     pub fn quiet(&self) -> bool
-        ensures { (bytes : List ℕ) → result ≡ quiet_of (message_in bytes self.now) }
+        ensures { (bytes : List ℕ) → result ≡ classic_quiet_of (classic_message_in bytes self.now) }
     {
         match self.command {
             ClassicCommand::Storage { quiet, .. } => quiet,
@@ -168,7 +168,7 @@ impl ClassicRequest {
     pub fn walk(&self) -> Asks
         ensures request { result.request ≡ self.now }
         ensures first { result.taken ≡ 0 }
-        ensures walk { (bytes : List ℕ) → IsClassicReadFrom bytes self.now → IsWalk bytes result }
+        ensures walk { (bytes : List ℕ) → IsClassicReadFrom bytes self.now → IsClassicWalk bytes result }
     {
         Asks {
             request: *self,
@@ -186,8 +186,8 @@ impl ClassicRequest {
         i: usize,
     ) -> Result<AskParts<'a>, AllocError>
         requires read { IsClassicReadFrom received.now self.now }
-        requires there { i < length (asks_of (message_in received.now self.now)) }
-        ensures value { IfOk result (λ parts. slice_get (asks_of (message_in received.now self.now)) i ≡ Some (ask_of parts)) }
+        requires there { i < length (classic_asks_of (classic_message_in received.now self.now)) }
+        ensures value { IfOk result (λ parts. slice_get (classic_asks_of (classic_message_in received.now self.now)) i ≡ Some (ask_of parts)) }
         ensures ask { IfOk result (λ parts. IsClassicAsk (ask_of parts)) }
     {
         match self.command {
@@ -218,12 +218,12 @@ impl Asks {
     /// The next ask, a copy whose data may share the buffer that they came in, or `None` after the last one. The only error is
     /// running out of memory, after which the walk stands where it stood.
     pub fn next(&mut self, alloc: Global, received: &Received) -> Result<Option<Ask>, AllocError>
-        requires { IsWalk received.now self.old }
-        ensures value { IfOk result (λ next. next ≡ slice_get (asks_of (message_in received.now self.old.request)) self.old.taken) }
+        requires { IsClassicWalk received.now self.old }
+        ensures value { IfOk result (λ next. next ≡ slice_get (classic_asks_of (classic_message_in received.now self.old.request)) self.old.taken) }
         ensures ask { IfOk result (λ next. IfSome next IsClassicAsk) }
-        ensures taken { IfOk result (λ next. self.new.taken ≡ counted next self.old.taken) }
+        ensures taken { IfOk result (λ next. self.new.taken ≡ asks_taken next self.old.taken) }
         ensures request { self.new.request ≡ self.old.request }
-        ensures walk { IsWalk received.now self.new }
+        ensures walk { IsClassicWalk received.now self.new }
         ensures err { OnErr result (self.new ≡ self.old) }
     {
         // Each arm returns by itself: the value of a match in a match is copied at each level.

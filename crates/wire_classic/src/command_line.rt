@@ -2,9 +2,9 @@
 ghost use Rattle.std.specs.Prelude.{◌≡◌, ◌≤◌, length, drop, IfOk};
 ghost use Rattle.text_words.specs.Word.{words, text_at, IsNextWord};
 ghost use Rattle.wire_classic.specs.CommandWords.{verb_of};
-ghost use Rattle.wire_classic.specs.Order.{order_of, ordered_by, is_store, skip_of};
+ghost use Rattle.wire_classic.specs.Order.{classic_order_of, ordered_by, has_classic_block, classic_skip_of};
 ghost use Rattle.wire_parts.specs.Places.{Gives};
-ghost use Rattle.wire_classic.specs.Places.{LiesIn, order_in};
+ghost use Rattle.wire_classic.specs.Places.{ClassicLiesIn, order_in};
 
 use crate::command::{ClassicCommand, Verb};
 use crate::keyed::{counting, deletion, of_itself, touching};
@@ -17,7 +17,7 @@ use wire_parts::{RefusalReason, Skip};
 fn ordered(line: &[u8], at: usize, verb: Option<Verb>) -> Result<ClassicCommand, RefusalReason>
     requires { at ≤ length line.now }
     ensures order { Gives (order_in line.now) result (ordered_by verb (words (drop at line.now))) }
-    ensures within { IfOk result (LiesIn line.now) }
+    ensures within { IfOk result (ClassicLiesIn line.now) }
 {
     match verb {
         None => Err(RefusalReason::Unknown),
@@ -39,14 +39,14 @@ pub(crate) fn command(
 ) -> Result<ClassicCommand, RefusalReason>
     requires first { IsNextWord line.now 0 first }
     requires verb { verb ≡ verb_of (text_at line.now first) }
-    ensures order { Gives (order_in line.now) result (order_of (words line.now)) }
-    ensures within { IfOk result (LiesIn line.now) }
+    ensures order { Gives (order_in line.now) result (classic_order_of (words line.now)) }
+    ensures within { IfOk result (ClassicLiesIn line.now) }
 {
     ordered(line, first.end, verb)
 }
 
 fn stores(verb: Option<Verb>) -> bool
-    ensures { result ≡ is_store verb }
+    ensures { result ≡ has_classic_block verb }
 {
     match verb {
         Some(Verb::Store(_)) | Some(Verb::Cas) => true,
@@ -58,7 +58,7 @@ fn stores(verb: Option<Verb>) -> bool
 pub(crate) fn skip(line: &[u8], first: Span, verb: Option<Verb>) -> Skip
     requires first { IsNextWord line.now 0 first }
     requires verb { verb ≡ verb_of (text_at line.now first) }
-    ensures { result ≡ skip_of (words line.now) }
+    ensures { result ≡ classic_skip_of (words line.now) }
 {
     if !stores(verb) {
         return Skip::Nothing;

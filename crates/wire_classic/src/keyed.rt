@@ -3,7 +3,7 @@ ghost use Rattle.std.specs.Prelude.{◌≡◌, ◌≤◌, ◌<◌, length, drop,
 ghost use Rattle.text_words.specs.Word.{words};
 ghost use Rattle.wire_classic.specs.Order.{counting, deletion, touching, of_itself};
 ghost use Rattle.wire_parts.specs.Places.{Gives};
-ghost use Rattle.wire_classic.specs.Places.{LiesIn, order_in};
+ghost use Rattle.wire_classic.specs.Places.{ClassicLiesIn, order_in};
 
 use crate::command::ClassicCommand;
 use crate::parts::{delete_tail, noreply};
@@ -16,7 +16,7 @@ use wire_parts::{ProxyCommand, RefusalReason};
 pub fn deletion(line: &[u8], at: usize) -> Result<ClassicCommand, RefusalReason>
     requires { at ≤ length line.now }
     ensures order { Gives (order_in line.now) result (deletion (words (drop at line.now))) }
-    ensures within { IfOk result (LiesIn line.now) }
+    ensures within { IfOk result (ClassicLiesIn line.now) }
 {
     let first = word(line, at)?;
     let quiet = delete_tail(line, first.end)?;
@@ -28,7 +28,7 @@ pub fn deletion(line: &[u8], at: usize) -> Result<ClassicCommand, RefusalReason>
 pub fn touching(line: &[u8], at: usize) -> Result<ClassicCommand, RefusalReason>
     requires { at ≤ length line.now }
     ensures order { Gives (order_in line.now) result (touching (words (drop at line.now))) }
-    ensures within { IfOk result (LiesIn line.now) }
+    ensures within { IfOk result (ClassicLiesIn line.now) }
 {
     let first = word(line, at)?;
     let second = word(line, first.end)?;
@@ -46,7 +46,7 @@ pub fn touching(line: &[u8], at: usize) -> Result<ClassicCommand, RefusalReason>
 pub fn counting(line: &[u8], at: usize, op: Op) -> Result<ClassicCommand, RefusalReason>
     requires { at ≤ length line.now }
     ensures order { Gives (order_in line.now) result (counting op (words (drop at line.now))) }
-    ensures within { IfOk result (LiesIn line.now) }
+    ensures within { IfOk result (ClassicLiesIn line.now) }
 {
     let first = word(line, at)?;
     let second = word(line, first.end)?;
@@ -65,7 +65,7 @@ pub fn counting(line: &[u8], at: usize, op: Op) -> Result<ClassicCommand, Refusa
 pub fn of_itself(line: &[u8], at: usize, own: ProxyCommand) -> Result<ClassicCommand, RefusalReason>
     requires { at ≤ length line.now }
     ensures order { Gives (order_in line.now) result (of_itself own (words (drop at line.now))) }
-    ensures within { IfOk result (LiesIn line.now) }
+    ensures within { IfOk result (ClassicLiesIn line.now) }
 {
     match next_word(line, at) {
         None => Ok(ClassicCommand::Own(own)),

@@ -2,9 +2,9 @@
 ghost use Rattle.std.specs.Prelude.{◌≡◌, ℕ, List, ◌-◌, take, drop};
 ghost use Rattle.text_words.specs.Line.{TakesLine};
 ghost use Rattle.text_words.specs.Word.{IsNextWord};
-ghost use Rattle.wire_classic.specs.Grammar.{block_len};
+ghost use Rattle.wire_classic.specs.Grammar.{classic_block_len};
 ghost use Rattle.wire_classic.specs.Places.{order_in};
-ghost use Rattle.wire_classic.specs.Message.{Reads, IsMeant, meaning};
+ghost use Rattle.wire_classic.specs.Message.{ReadsClassic, ClassicIsMeant, classic_meaning};
 
 use crate::command::{ClassicCommand, ClassicRead, ClassicRequest};
 use crate::command_line::{command, skip};
@@ -15,7 +15,7 @@ use text_words::word::{Span, next_word};
 use wire_parts::{RefusalReason, Rest, Skip, after_line};
 
 fn block_len(command: &ClassicCommand) -> Option<usize>
-    ensures { (bytes : List ℕ) → result ≡ block_len (order_in bytes command.now) }
+    ensures { (bytes : List ℕ) → result ≡ classic_block_len (order_in bytes command.now) }
 {
     match command {
         ClassicCommand::Storage { stored, .. } => Some(stored.length as usize),
@@ -30,7 +30,7 @@ fn block_len(command: &ClassicCommand) -> Option<usize>
 pub fn read_after(bytes: &[u8], end: usize, used: usize, first: Span) -> ClassicRead
     requires line { TakesLine bytes.now end used }
     requires first { IsNextWord (take end bytes.now) 0 first }
-    ensures { IsMeant bytes.now result (meaning (take (used - 1) bytes.now) (drop used bytes.now)) }
+    ensures { ClassicIsMeant bytes.now result (classic_meaning (take (used - 1) bytes.now) (drop used bytes.now)) }
 {
     let text = &bytes[..end];
     // The word is looked up once, for what the line asks and for what is passed over if it is refused.
@@ -66,7 +66,7 @@ pub fn read_after(bytes: &[u8], end: usize, used: usize, first: Span) -> Classic
 ///
 /// Source: memcached's protocol.txt.
 pub fn read_request(bytes: &[u8]) -> ClassicRead
-    ensures { Reads bytes.now result }
+    ensures { ReadsClassic bytes.now result }
 {
     match line(bytes) {
         Line::More => ClassicRead::More,

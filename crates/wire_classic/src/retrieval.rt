@@ -4,8 +4,8 @@ ghost use Rattle.std.specs.List.{list_all};
 ghost use Rattle.text_words.specs.Word.{words};
 ghost use Rattle.wire_parts.specs.Tests.{is_key};
 ghost use Rattle.wire_classic.specs.Order.{keys_of, getting, getting_and_touching, retrieval};
-ghost use Rattle.wire_classic.specs.KeysOfLine.{IsFirstKey, AreKeys};
-ghost use Rattle.wire_classic.specs.Places.{AreIn, LiesIn, keys_in, order_in};
+ghost use Rattle.wire_classic.specs.KeysOfLine.{IsFirstKey, AreKeysOfLine};
+ghost use Rattle.wire_classic.specs.Places.{AreIn, ClassicLiesIn, keys_in, order_in};
 ghost use Rattle.wire_parts.specs.Places.{Gives};
 
 use crate::command::{ClassicCommand, Keys};
@@ -20,7 +20,7 @@ fn spanned(line: &[u8], at: usize, count: usize, last: Span) -> Keys
     requires at { at ≤ length line.now }
     requires count { count ≡ length (words (drop at line.now)) }
     requires alone { count ≡ 1 → IsFirstKey line.now last [] (words (drop at line.now)) }
-    ensures { AreKeys line.now (words (drop at line.now)) result }
+    ensures { AreKeysOfLine line.now (words (drop at line.now)) result }
 {
     let span = if count == 1 {
         last
@@ -38,7 +38,7 @@ fn spanned(line: &[u8], at: usize, count: usize, last: Span) -> Keys
 fn keys_at(line: &[u8], at: usize) -> Option<Keys>
     requires { at ≤ length line.now }
     ensures { MatchOption result (list_all is_key (words (drop at line.now)) ≡ false)
-        (λ keys. (list_all is_key (words (drop at line.now)) ≡ true) × AreKeys line.now (words (drop at line.now)) keys) }
+        (λ keys. (list_all is_key (words (drop at line.now)) ≡ true) × AreKeysOfLine line.now (words (drop at line.now)) keys) }
 {
     let mut from = at;
     let mut count = 0;
@@ -71,7 +71,7 @@ fn keys(line: &[u8], at: usize) -> Result<Keys, RefusalReason>
 fn getting(line: &[u8], at: usize, with_cas: bool) -> Result<ClassicCommand, RefusalReason>
     requires { at ≤ length line.now }
     ensures order { Gives (order_in line.now) result (getting with_cas (words (drop at line.now))) }
-    ensures within { IfOk result (LiesIn line.now) }
+    ensures within { IfOk result (ClassicLiesIn line.now) }
 {
     let keys = keys(line, at)?;
     Ok(ClassicCommand::Retrieval {
@@ -88,7 +88,7 @@ fn getting_and_touching(
 ) -> Result<ClassicCommand, RefusalReason>
     requires { at ≤ length line.now }
     ensures order { Gives (order_in line.now) result (getting_and_touching with_cas (words (drop at line.now))) }
-    ensures within { IfOk result (LiesIn line.now) }
+    ensures within { IfOk result (ClassicLiesIn line.now) }
 {
     let first = word(line, at)?;
     let keys = keys(line, first.end)?;
@@ -109,7 +109,7 @@ pub fn retrieval(
 ) -> Result<ClassicCommand, RefusalReason>
     requires { at ≤ length line.now }
     ensures order { Gives (order_in line.now) result (retrieval touching with_cas (words (drop at line.now))) }
-    ensures within { IfOk result (LiesIn line.now) }
+    ensures within { IfOk result (ClassicLiesIn line.now) }
 {
     if touching {
         getting_and_touching(line, at, with_cas)

@@ -2,7 +2,7 @@
 ghost use Rattle.std.specs.Prelude.{◌≡◌, ◌≤◌, ◌<◌, length, drop, IfOk, MatchResult};
 ghost use Rattle.text_words.specs.Word.{words, text_at};
 ghost use Rattle.wire_classic.specs.Order.{storage, storing_of, swapping};
-ghost use Rattle.wire_classic.specs.Places.{AreSpans, AreStoreWords, LiesIn, order_in, storing_in};
+ghost use Rattle.wire_classic.specs.Places.{AreSpans, AreStoreWords, ClassicLiesIn, order_in, storing_in};
 ghost use Rattle.wire_parts.specs.Places.{Gives};
 
 use crate::command::{ClassicCommand, Stored};
@@ -58,7 +58,7 @@ fn stored_in(line: &[u8], found: StoreWords) -> Result<Stored, RefusalReason>
 pub fn storage(line: &[u8], at: usize, op: Op) -> Result<ClassicCommand, RefusalReason>
     requires { at ≤ length line.now }
     ensures order { Gives (order_in line.now) result (storage op (words (drop at line.now))) }
-    ensures within { IfOk result (LiesIn line.now) }
+    ensures within { IfOk result (ClassicLiesIn line.now) }
 {
     let found = store_words(line, at)?;
     let quiet = noreply(line, found.length.end)?;
@@ -73,7 +73,7 @@ pub fn storage(line: &[u8], at: usize, op: Op) -> Result<ClassicCommand, Refusal
 pub fn swapping(line: &[u8], at: usize) -> Result<ClassicCommand, RefusalReason>
     requires { at ≤ length line.now }
     ensures order { Gives (order_in line.now) result (swapping (words (drop at line.now))) }
-    ensures within { IfOk result (LiesIn line.now) }
+    ensures within { IfOk result (ClassicLiesIn line.now) }
 {
     let found = store_words(line, at)?;
     let cas = word(line, found.length.end)?;

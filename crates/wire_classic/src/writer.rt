@@ -1,10 +1,10 @@
 //! How an ask is written to a server.
 ghost use Rattle.std.specs.Prelude.{◌≡◌, ◌++◌, ◌∷◌, [], true, take, length, OnOk, OnErr, codes, decimal};
 ghost use Rattle.std.specs.Fmt.{signed_decimal};
-ghost use Rattle.text_words.specs.Spelling.{spaced, line_of};
+ghost use Rattle.text_words.specs.Spelling.{spaced, words_line};
 ghost use Rattle.wire_classic.specs.Asks.{IsClassicAsk};
 ghost use Rattle.wire_parts.specs.Tests.{block_text};
-ghost use Rattle.wire_classic.specs.Spelling.{command_word, exptime_in, cas_in, store_words, stores, ask_line, spelling_of};
+ghost use Rattle.wire_classic.specs.Spelling.{command_word, exptime_in, cas_in, store_words, stores_data, ask_line, classic_spelling};
 
 use bytes::BytesMut;
 use itoa::Buffer;
@@ -36,7 +36,7 @@ fn put_word(out: &mut BytesMut, op: Op, with_cas: bool) -> Result<(), AllocError
 
 // The command's word and the key.
 fn put_keyed(out: &mut BytesMut, ask: &Ask) -> Result<(), AllocError>
-    ensures ok { OnOk result (out.new.items ≡ out.old.items ++ line_of (command_word ask.now.op ask.now.with_cas ∷ ask.now.key ∷ [])) }
+    ensures ok { OnOk result (out.new.items ≡ out.old.items ++ words_line (command_word ask.now.op ask.now.with_cas ∷ ask.now.key ∷ [])) }
     ensures err { OnErr result (take (length out.old.items) out.new.items ≡ out.old.items) }
 {
     put_word(out, ask.op, ask.with_cas)?;
@@ -51,7 +51,7 @@ fn put_two_arguments(
     first: &[u8],
     second: &[u8],
 ) -> Result<(), AllocError>
-    ensures ok { OnOk result (out.new.items ≡ out.old.items ++ line_of (command_word ask.now.op ask.now.with_cas ∷ first.now ∷ second.now ∷ [])) }
+    ensures ok { OnOk result (out.new.items ≡ out.old.items ++ words_line (command_word ask.now.op ask.now.with_cas ∷ first.now ∷ second.now ∷ [])) }
     ensures err { OnErr result (take (length out.old.items) out.new.items ≡ out.old.items) }
 {
     put_word(out, ask.op, ask.with_cas)?;
@@ -92,7 +92,7 @@ fn put_head(out: &mut BytesMut, ask: &Ask, exptime: &[u8]) -> Result<(), AllocEr
 }
 
 fn put_plain_line(out: &mut BytesMut, ask: &Ask) -> Result<(), AllocError>
-    ensures ok { OnOk result (out.new.items ≡ out.old.items ++ line_of (command_word ask.now.op ask.now.with_cas ∷ store_words ask.now [])) }
+    ensures ok { OnOk result (out.new.items ≡ out.old.items ++ words_line (command_word ask.now.op ask.now.with_cas ∷ store_words ask.now [])) }
     ensures err { OnErr result (take (length out.old.items) out.new.items ≡ out.old.items) }
 {
     let mut buffer = Buffer::new();
@@ -101,7 +101,7 @@ fn put_plain_line(out: &mut BytesMut, ask: &Ask) -> Result<(), AllocError>
 }
 
 fn put_cas_line(out: &mut BytesMut, ask: &Ask) -> Result<(), AllocError>
-    ensures ok { OnOk result (out.new.items ≡ out.old.items ++ line_of (command_word ask.now.op ask.now.with_cas ∷ store_words ask.now (decimal (cas_in ask.now) ∷ []))) }
+    ensures ok { OnOk result (out.new.items ≡ out.old.items ++ words_line (command_word ask.now.op ask.now.with_cas ∷ store_words ask.now (decimal (cas_in ask.now) ∷ []))) }
     ensures err { OnErr result (take (length out.old.items) out.new.items ≡ out.old.items) }
 {
     let mut buffer = Buffer::new();
@@ -113,7 +113,7 @@ fn put_cas_line(out: &mut BytesMut, ask: &Ask) -> Result<(), AllocError>
 
 // The line of a store.
 fn put_store_line(out: &mut BytesMut, ask: &Ask) -> Result<(), AllocError>
-    requires { stores ask.now.op ≡ true }
+    requires { stores_data ask.now.op ≡ true }
     ensures ok { OnOk result (out.new.items ≡ out.old.items ++ ask_line ask.now) }
     ensures err { OnErr result (take (length out.old.items) out.new.items ≡ out.old.items) }
 {
@@ -126,7 +126,7 @@ fn put_store_line(out: &mut BytesMut, ask: &Ask) -> Result<(), AllocError>
 
 // The line of a store, its data, and their end.
 fn put_store(out: &mut BytesMut, ask: &Ask) -> Result<(), AllocError>
-    requires { stores ask.now.op ≡ true }
+    requires { stores_data ask.now.op ≡ true }
     ensures ok { OnOk result (out.new.items ≡ out.old.items ++ (ask_line ask.now ++ block_text ask.now.body)) }
     ensures err { OnErr result (take (length out.old.items) out.new.items ≡ out.old.items) }
 {
@@ -136,7 +136,7 @@ fn put_store(out: &mut BytesMut, ask: &Ask) -> Result<(), AllocError>
 }
 
 fn put_gat(out: &mut BytesMut, ask: &Ask) -> Result<(), AllocError>
-    ensures ok { OnOk result (out.new.items ≡ out.old.items ++ line_of (command_word ask.now.op ask.now.with_cas ∷ signed_decimal (exptime_in ask.now) ∷ ask.now.key ∷ [])) }
+    ensures ok { OnOk result (out.new.items ≡ out.old.items ++ words_line (command_word ask.now.op ask.now.with_cas ∷ signed_decimal (exptime_in ask.now) ∷ ask.now.key ∷ [])) }
     ensures err { OnErr result (take (length out.old.items) out.new.items ≡ out.old.items) }
 {
     let mut buffer = Buffer::new();
@@ -144,7 +144,7 @@ fn put_gat(out: &mut BytesMut, ask: &Ask) -> Result<(), AllocError>
 }
 
 fn put_touch(out: &mut BytesMut, ask: &Ask) -> Result<(), AllocError>
-    ensures ok { OnOk result (out.new.items ≡ out.old.items ++ line_of (command_word ask.now.op ask.now.with_cas ∷ ask.now.key ∷ signed_decimal (exptime_in ask.now) ∷ [])) }
+    ensures ok { OnOk result (out.new.items ≡ out.old.items ++ words_line (command_word ask.now.op ask.now.with_cas ∷ ask.now.key ∷ signed_decimal (exptime_in ask.now) ∷ [])) }
     ensures err { OnErr result (take (length out.old.items) out.new.items ≡ out.old.items) }
 {
     let mut buffer = Buffer::new();
@@ -152,7 +152,7 @@ fn put_touch(out: &mut BytesMut, ask: &Ask) -> Result<(), AllocError>
 }
 
 fn put_count(out: &mut BytesMut, ask: &Ask) -> Result<(), AllocError>
-    ensures ok { OnOk result (out.new.items ≡ out.old.items ++ line_of (command_word ask.now.op ask.now.with_cas ∷ ask.now.key ∷ decimal ask.now.delta ∷ [])) }
+    ensures ok { OnOk result (out.new.items ≡ out.old.items ++ words_line (command_word ask.now.op ask.now.with_cas ∷ ask.now.key ∷ decimal ask.now.delta ∷ [])) }
     ensures err { OnErr result (take (length out.old.items) out.new.items ≡ out.old.items) }
 {
     let mut buffer = Buffer::new();
@@ -165,7 +165,7 @@ fn put_count(out: &mut BytesMut, ask: &Ask) -> Result<(), AllocError>
 }
 
 fn put_ask(out: &mut BytesMut, ask: &Ask) -> Result<(), AllocError>
-    ensures ok { OnOk result (out.new.items ≡ out.old.items ++ spelling_of ask.now) }
+    ensures ok { OnOk result (out.new.items ≡ out.old.items ++ classic_spelling ask.now) }
     ensures err { OnErr result (take (length out.old.items) out.new.items ≡ out.old.items) }
 {
     match ask.op {
@@ -183,7 +183,7 @@ fn put_ask(out: &mut BytesMut, ask: &Ask) -> Result<(), AllocError>
 /// The only error is running out of memory, which leaves the buffer as it was.
 pub fn write_ask(ask: &Ask, out: &mut BytesMut) -> Result<(), AllocError>
     requires { IsClassicAsk ask.now }
-    ensures ok { OnOk result (out.new.items ≡ out.old.items ++ spelling_of ask.now) }
+    ensures ok { OnOk result (out.new.items ≡ out.old.items ++ classic_spelling ask.now) }
     ensures err { OnErr result (out.new.items ≡ out.old.items) }
 {
     let len = out.len();
@@ -200,7 +200,7 @@ pub fn write_ask(ask: &Ask, out: &mut BytesMut) -> Result<(), AllocError>
 ///
 /// Source: memcached's protocol.txt, "Storage commands".
 pub fn write_store_line(ask: &Ask, out: &mut BytesMut) -> Result<(), AllocError>
-    requires { stores ask.now.op ≡ true }
+    requires { stores_data ask.now.op ≡ true }
     ensures ok { OnOk result (out.new.items ≡ out.old.items ++ ask_line ask.now) }
     ensures err { OnErr result (out.new.items ≡ out.old.items) }
 {

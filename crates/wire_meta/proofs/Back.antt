@@ -8,7 +8,7 @@ use Rattle.std.proofs.lemmas.Bool.{and_parts, le-leb, leb-true}
 use Rattle.std.proofs.lemmas.Fmt.{length-decimal-le}
 use Rattle.std.proofs.lemmas.List.{length-append}
 use Rattle.std.proofs.lemmas.List.Elements.{All-cons}
-use Rattle.text_words.specs.Spelling.{line_of}
+use Rattle.text_words.specs.Spelling.{words_line}
 use Rattle.text_words.proofs.Spaced.{IsPlain, literal, decimal_word, signed_word, all_plain}
 use Rattle.mc_types.specs.KeyText.{IsKey}
 use Rattle.mc_types.specs.OpaqueText.{is_opaque_byte}
@@ -29,11 +29,11 @@ use Rattle.wire_meta.specs.declared.command.Kind.{Kind}
 use Rattle.wire_meta.specs.declared.command.Kind.TheVariants.{Get, Store, Delete, Count}
 use Rattle.wire_meta.specs.declared.command.Values.{Values}
 use Rattle.wire_meta.specs.Flags.{values_of, tokens_in, flags_of, mode_of, is_some}
-use Rattle.wire_meta.specs.Order.{order_of, mixes, comparing}
+use Rattle.wire_meta.specs.Order.{meta_order_of, mixes, comparing}
 use Rattle.wire_meta.specs.Grammar.{meta_grammar}
-use Rattle.wire_meta.specs.Message.{Begins}
-use Rattle.wire_meta.specs.Spelling.{kind_of, kind_word, mode_letter, mode_word, token_word, token_words, cas_words, exptime_words, value_words, flag_words, block_by, line_words, order_for}
-use Rattle.wire_meta.specs.Asks.{IsText, IsMetaAsk, get_op, store_op, ask_by, asks_by, is_quiet}
+use Rattle.wire_meta.specs.Message.{BeginsMeta}
+use Rattle.wire_meta.specs.Spelling.{meta_kind, kind_word, mode_letter, mode_word, token_word, meta_token_words, meta_cas_words, exptime_words, value_words, flag_words, block_by, line_words, meta_order_for}
+use Rattle.wire_meta.specs.Asks.{IsText, IsMetaAsk, get_op, store_op, ask_by, meta_asks_by, meta_is_quiet}
 use Rattle.wire_parts.specs.Requests.{AsksAreReadBack, MessagesAreOneAsk}
 use Rattle.wire_meta.specs.Laws.{meta_requests}
 use Rattle.wire_meta.proofs.ServedLemmas.{served_by}
@@ -104,7 +104,7 @@ few_first n w ws h g = record { are = (h, g.are); few = let x = g.few in omega a
 few_le : (m n : ℕ) (ws : List Word) → m ≤ n → AreFew m ws → AreFew n ws
 few_le m n ws le h = record { are = h.are; few = let x = h.few in omega arith }
 
-few_cas : (c : Option ℕ) → IfSome c (λ n. n < 2 ^ 64) → AreFew 1 (cas_words c)
+few_cas : (c : Option ℕ) → IfSome c (λ n. n < 2 ^ 64) → AreFew 1 (meta_cas_words c)
 few_cas None h = record { are = tt; few = omega arith }
 few_cas (Some n) h = record { are = (wide_token 67 n (omega arith) h, tt); few = omega arith }
 
@@ -148,15 +148,15 @@ as_letters letters (t ∷ ts) e =
     let b = and_parts (has_letter letters (served.letter_of t)) (not (wants ts (served.letter_of t))) a.0 in
     one_letter t ts (not_true (wants ts (served.letter_of t)) b.1) (as_letters letters ts a.1)
 
-words_len : (ts : List Token) → length (token_words ts) ≡ length ts
+words_len : (ts : List Token) → length (meta_token_words ts) ≡ length ts
 words_len [] = refl
 words_len (t ∷ ts) = ap suc (words_len ts)
 
-token_tokens : (ts : List Token) → AllByRecursion IsText ts → AreTokens (token_words ts)
+token_tokens : (ts : List Token) → AllByRecursion IsText ts → AreTokens (meta_token_words ts)
 token_tokens [] h = tt
 token_tokens (t ∷ ts) h = (token_token t h.0, token_tokens ts h.1)
 
-few_tokens : (letters : List Letter) (ts : List Token) → are_served letters ts ≡ true → AllByRecursion IsText ts → AreFew 7 (token_words ts)
+few_tokens : (letters : List Letter) (ts : List Token) → are_served letters ts ≡ true → AllByRecursion IsText ts → AreFew 7 (meta_token_words ts)
 few_tokens letters ts e h = record {
   are = token_tokens ts h;
   few =
@@ -203,14 +203,14 @@ module _ (ask : Ask) (v : Values) where
   values_are kind h = values_back kind (value_words kind ask) (undated v) h.valued ask.exptime ask.tokens h.dated refl ∙ ap (λ (x : Option ℤ). let r : Values = record v { exptime = x } in r) (sym h.date)
 
   few_flags : (kind : Kind) → IsSpelled kind ask v → AreFew 11 (flag_words kind ask)
-  few_flags kind h = few_append 1 10 (exptime_words ask.exptime) (token_words ask.tokens ++ value_words kind ask) (few_exptime ask.exptime h.time) (few_append 7 3 (token_words ask.tokens) (value_words kind ask) (few_tokens (served_by kind) ask.tokens h.served h.texts) h.few)
+  few_flags kind h = few_append 1 10 (exptime_words ask.exptime) (meta_token_words ask.tokens ++ value_words kind ask) (few_exptime ask.exptime h.time) (few_append 7 3 (meta_token_words ask.tokens) (value_words kind ask) (few_tokens (served_by kind) ask.tokens h.served h.texts) h.few)
 
   compared : IsSpelled Store ask v → comparing (flag_words Store ask) ≡ Ok (flag_words Store ask)
   compared h =
       let not_mixed : mixes (values_of Store (flag_words Store ask)) ≡ false = ap mixes (values_are Store h) ∙ h.unmixed in
       rw not_mixed refl
 
-  order_back : (kind : Kind) → IsSpelled kind ask v → order_of (line_words kind ask) ≡ Ok (order_for kind ask)
+  order_back : (kind : Kind) → IsSpelled kind ask v → meta_order_of (line_words kind ask) ≡ Ok (meta_order_for kind ask)
   order_back Get h = rw (key_back ask.key h.key, flags_are Get h) refl
   order_back Delete h = rw (key_back ask.key h.key, flags_are Delete h) refl
   order_back Count h = rw (key_back ask.key h.key, flags_are Count h) refl
@@ -273,8 +273,8 @@ module _ (ask : Ask) (h : IsMetaAsk ask) where
   delete_spelled : are_served of_delete ask.tokens ≡ true → ask.exptime ≡ None → IsSpelled Delete ask (values ask.cas None None None None)
   delete_spelled s none = record { key = h.well_formed.key; short = h.well_formed.ranges.body; served = s; texts = h.texts; valued = delete_values ask.cas h.well_formed.ranges.cas; date = sym none; dated = subst (λ (e : Option ℤ). IsDate Delete e) (sym none) tt; time = h.well_formed.ranges.exptime; few = few_le 1 3 _ (omega arith) (few_cas ask.cas h.well_formed.ranges.cas); unmixed = tt }
 
-  few_values : (l n : ℕ) → 33 ≤ l → n < 2 ^ 64 → AreFew 3 (cas_words ask.cas ++ (l ∷ decimal n) ∷ mode_word ask.op ∷ [])
-  few_values l n le lt = few_append 1 2 (cas_words ask.cas) _ (few_cas ask.cas h.well_formed.ranges.cas) (few_first 1 (l ∷ decimal n) _ (wide_token l n le lt) (few_first 0 (mode_word ask.op) _ (mode_token ask.op) (record { are = tt; few = omega arith })))
+  few_values : (l n : ℕ) → 33 ≤ l → n < 2 ^ 64 → AreFew 3 (meta_cas_words ask.cas ++ (l ∷ decimal n) ∷ mode_word ask.op ∷ [])
+  few_values l n le lt = few_append 1 2 (meta_cas_words ask.cas) _ (few_cas ask.cas h.well_formed.ranges.cas) (few_first 1 (l ∷ decimal n) _ (wide_token l n le lt) (few_first 0 (mode_word ask.op) _ (mode_token ask.op) (record { are = tt; few = omega arith })))
 
   store_spelled : (m : Op) → are_served of_store ask.tokens ≡ true → mode_of Store (mode_letter ask.op ∷ []) ≡ Some m → mixes (values ask.cas None ask.exptime (Some ask.flags) (Some m)) ≡ false → IsSpelled Store ask (values ask.cas None ask.exptime (Some ask.flags) (Some m))
   store_spelled m s is u = let small = h.well_formed.ranges.flags in record { key = h.well_formed.key; short = h.well_formed.ranges.body; served = s; texts = h.texts; valued = store_values ask.cas ask.flags ask.op m h.well_formed.ranges.cas h.well_formed.ranges.flags is; date = refl; dated = store_date ask.exptime h.well_formed.ranges.exptime; time = h.well_formed.ranges.exptime; few = few_values 70 ask.flags (omega arith) (omega arith); unmixed = u }
@@ -303,7 +303,7 @@ module _ (ask : Ask) (h : IsMetaAsk ask) where
     same = same_ask _ ask refl (sym o) (sym h.meta) (sym s.with_cas) (sym s.flags) refl (sym s.body) refl refl refl;
   }
 
-  by_op : (op : Op) → ask.op ≡ op → HasShapeOf ask (shapes.meta_shape op) → IsReadBack (kind_of op) ask
+  by_op : (op : Op) → ask.op ≡ op → HasShapeOf ask (shapes.meta_shape op) → IsReadBack (meta_kind op) ask
   by_op ops.Get o s = record { v = values None None ask.exptime None None; loud = refl; spelled = get_spelled s.tokens; body = s.body; same = same_ask _ ask refl (ap get_op s.exptime ∙ sym o) (sym h.meta) (sym s.with_cas) (sym s.flags) refl (sym s.body) (sym s.cas) (sym s.delta) refl }
   by_op ops.Gat o s = record { v = values None None ask.exptime None None; loud = refl; spelled = get_spelled s.tokens; body = s.body; same = same_ask _ ask refl (gat_op ask.exptime s.exptime ∙ sym o) (sym h.meta) (sym s.with_cas) (sym s.flags) refl (sym s.body) (sym s.cas) (sym s.delta) refl }
   by_op ops.Set o s = plain_store ops.Set o refl s
@@ -326,22 +326,22 @@ module _ (ask : Ask) (h : IsMetaAsk ask) where
   shape_is : HasShapeOf ask (shapes.meta_shape ask.op)
   shape_is = subst (λ (d : Dialect). HasShapeOf ask (shape_of d ask.op)) h.meta h.well_formed.shape
 
-  pub is_back : IsReadBack (kind_of ask.op) ask
+  pub is_back : IsReadBack (meta_kind ask.op) ask
   is_back = by_op ask.op refl shape_is
 
-by_kind : (ask : Ask) (more : List ℕ) (kind : Kind) → IsReadBack kind ask → Begins ((line_of (line_words kind ask) ++ block_by kind ask.body) ++ more) (Served (order_for kind ask) ask.body) (length (line_of (line_words kind ask) ++ block_by kind ask.body))
-by_kind ask more Get r = subst (λ (b : List ℕ). Begins ((line_of (line_words Get ask) ++ []) ++ more) (Served (order_for Get ask) b) (length (line_of (line_words Get ask) ++ []))) (sym r.body) (begins_plain meta_grammar (line_words Get ask) (order_for Get ask) (line_few ask r.v Get r.spelled).are (at_most ask r.v Get r.spelled) (order_back ask r.v Get r.spelled) more refl)
-by_kind ask more Delete r = subst (λ (b : List ℕ). Begins ((line_of (line_words Delete ask) ++ []) ++ more) (Served (order_for Delete ask) b) (length (line_of (line_words Delete ask) ++ []))) (sym r.body) (begins_plain meta_grammar (line_words Delete ask) (order_for Delete ask) (line_few ask r.v Delete r.spelled).are (at_most ask r.v Delete r.spelled) (order_back ask r.v Delete r.spelled) more refl)
-by_kind ask more Count r = subst (λ (b : List ℕ). Begins ((line_of (line_words Count ask) ++ []) ++ more) (Served (order_for Count ask) b) (length (line_of (line_words Count ask) ++ []))) (sym r.body) (begins_plain meta_grammar (line_words Count ask) (order_for Count ask) (line_few ask r.v Count r.spelled).are (at_most ask r.v Count r.spelled) (order_back ask r.v Count r.spelled) more refl)
-by_kind ask more Store r = begins_block meta_grammar (line_words Store ask) (order_for Store ask) (line_few ask r.v Store r.spelled).are (at_most ask r.v Store r.spelled) (order_back ask r.v Store r.spelled) ask.body more refl
+by_kind : (ask : Ask) (more : List ℕ) (kind : Kind) → IsReadBack kind ask → BeginsMeta ((words_line (line_words kind ask) ++ block_by kind ask.body) ++ more) (Served (meta_order_for kind ask) ask.body) (length (words_line (line_words kind ask) ++ block_by kind ask.body))
+by_kind ask more Get r = subst (λ (b : List ℕ). BeginsMeta ((words_line (line_words Get ask) ++ []) ++ more) (Served (meta_order_for Get ask) b) (length (words_line (line_words Get ask) ++ []))) (sym r.body) (begins_plain meta_grammar (line_words Get ask) (meta_order_for Get ask) (line_few ask r.v Get r.spelled).are (at_most ask r.v Get r.spelled) (order_back ask r.v Get r.spelled) more refl)
+by_kind ask more Delete r = subst (λ (b : List ℕ). BeginsMeta ((words_line (line_words Delete ask) ++ []) ++ more) (Served (meta_order_for Delete ask) b) (length (words_line (line_words Delete ask) ++ []))) (sym r.body) (begins_plain meta_grammar (line_words Delete ask) (meta_order_for Delete ask) (line_few ask r.v Delete r.spelled).are (at_most ask r.v Delete r.spelled) (order_back ask r.v Delete r.spelled) more refl)
+by_kind ask more Count r = subst (λ (b : List ℕ). BeginsMeta ((words_line (line_words Count ask) ++ []) ++ more) (Served (meta_order_for Count ask) b) (length (words_line (line_words Count ask) ++ []))) (sym r.body) (begins_plain meta_grammar (line_words Count ask) (meta_order_for Count ask) (line_few ask r.v Count r.spelled).are (at_most ask r.v Count r.spelled) (order_back ask r.v Count r.spelled) more refl)
+by_kind ask more Store r = begins_block meta_grammar (line_words Store ask) (meta_order_for Store ask) (line_few ask r.v Store r.spelled).are (at_most ask r.v Store r.spelled) (order_back ask r.v Store r.spelled) ask.body more refl
 
 pub asks_are_read_back : AsksAreReadBack meta_requests
-asks_are_read_back ask more h = by_kind ask more (kind_of ask.op) (is_back ask h)
+asks_are_read_back ask more h = by_kind ask more (meta_kind ask.op) (is_back ask h)
 
 one : (a b : Ask) → a ≡ b → a ∷ [] ≡ b ∷ []
 one a b e = cc
 
-one_ask : (ask : Ask) (kind : Kind) → IsReadBack kind ask → (asks_by (order_for kind ask) ask.body ≡ ask ∷ []) × (is_quiet (order_for kind ask) ≡ false)
+one_ask : (ask : Ask) (kind : Kind) → IsReadBack kind ask → (meta_asks_by (meta_order_for kind ask) ask.body ≡ ask ∷ []) × (meta_is_quiet (meta_order_for kind ask) ≡ false)
 one_ask ask kind r =
     let vs : values_of kind (flag_words kind ask) ≡ r.v = values_are ask r.v kind r.spelled in
     let ts : tokens_in (flag_words kind ask) ≡ ask.tokens = tokens_back kind (value_words kind ask) (undated r.v) r.spelled.valued ask.exptime ask.tokens r.spelled.texts in
@@ -349,4 +349,4 @@ one_ask ask kind r =
     (one _ ask made, ap (λ (v : Values). v.quiet) vs ∙ r.loud)
 
 pub messages_are_one_ask : MessagesAreOneAsk meta_requests
-messages_are_one_ask ask h = one_ask ask (kind_of ask.op) (is_back ask h)
+messages_are_one_ask ask h = one_ask ask (meta_kind ask.op) (is_back ask h)

@@ -14,20 +14,20 @@ use Rattle.wire_meta.specs.declared.command.MetaCommand.TheVariants as commands
 use Rattle.wire_meta.specs.declared.command.MetaRead.{MetaRead}
 use Rattle.wire_meta.specs.declared.command.MetaRead.TheVariants as reads
 use Rattle.wire_meta.specs.Flags.{values_of}
-use Rattle.wire_meta.specs.Places.{order_in, flags_in, AreFlags, LiesIn}
+use Rattle.wire_meta.specs.Places.{meta_order_in, flags_in, AreFlags, MetaLiesIn}
 use Rattle.wire_meta.specs.Grammar.{meta_grammar}
-use Rattle.wire_meta.specs.Message.{Message, Begins, Reads, IsMeant, meaning, message_in}
+use Rattle.wire_meta.specs.Message.{MetaMessage, BeginsMeta, ReadsMeta, MetaIsMeant, meta_meaning, meta_message_in}
 use Rattle.wire_meta.specs.Laws.{meta_requests}
 
 flags_in-take : (n : ℕ) (bytes : List ℕ) (kind : Kind) (flags : Flags) → AreFlags kind (take n bytes) flags → flags_in (take n bytes) flags ≡ flags_in bytes flags
 flags_in-take n bytes kind flags h = let front = length-front n bytes in ap words (text_at-take n bytes flags.span (omega (arith, h.span.within)))
 
 -- the spans of a command in the front of the bytes
-pub order_in-take : (n : ℕ) (bytes : List ℕ) (command : MetaCommand) → LiesIn (take n bytes) command → order_in (take n bytes) command ≡ order_in bytes command
+pub order_in-take : (n : ℕ) (bytes : List ℕ) (command : MetaCommand) → MetaLiesIn (take n bytes) command → meta_order_in (take n bytes) command ≡ meta_order_in bytes command
 order_in-take n bytes (commands.Keyed kind len key flags) h = rw (text_at-take n bytes key (IsIn-le _ n key (length-front n bytes) h.0).within, flags_in-take n bytes kind flags h.1) refl
 order_in-take n bytes (commands.Own own) h = refl
 
-pub LiesIn-take : (n : ℕ) (bytes : List ℕ) (command : MetaCommand) → LiesIn (take n bytes) command → LiesIn bytes command
+pub LiesIn-take : (n : ℕ) (bytes : List ℕ) (command : MetaCommand) → MetaLiesIn (take n bytes) command → MetaLiesIn bytes command
 LiesIn-take n bytes (commands.Keyed kind len key flags) h = (
   IsIn-le _ _ key (length-part n bytes) h.0,
   record { span = IsIn-le _ _ flags.span (length-part n bytes) h.1.span; values = h.1.values ∙ ap (values_of kind) (flags_in-take n bytes kind flags h.1) },
@@ -35,13 +35,13 @@ LiesIn-take n bytes (commands.Keyed kind len key flags) h = (
 LiesIn-take n bytes (commands.Own own) h = tt
 
 -- what is read after the first line is what the stream begins with
-pub reads-from_line : (bytes : List ℕ) (end used : ℕ) (r : MetaRead) → TakesLine bytes end used → IsMeant bytes r (meaning (take (used - 1) bytes) (drop used bytes)) → Reads bytes r
-reads-from_line bytes end used (reads.Request r) line h = record { placed = h.0; begins = begins_meant meta_grammar bytes end used (message_in bytes r) r.used line h.1 }
+pub reads-from_line : (bytes : List ℕ) (end used : ℕ) (r : MetaRead) → TakesLine bytes end used → MetaIsMeant bytes r (meta_meaning (take (used - 1) bytes) (drop used bytes)) → ReadsMeta bytes r
+reads-from_line bytes end used (reads.Request r) line h = record { placed = h.0; begins = begins_meant meta_grammar bytes end used (meta_message_in bytes r) r.used line h.1 }
 reads-from_line bytes end used (reads.Refused why n skip) line h = begins_meant meta_grammar bytes end used (Refusal why skip) n line h
 reads-from_line bytes end used reads.TooLong line h = absurd h
 reads-from_line bytes end used reads.More line h = none_begins meta_grammar bytes end used line h
 
 pub read_still : ReadStill meta_requests
 read_still bytes more r h =
-    let same : message_in (bytes ++ more) r ≡ message_in bytes r = rw (order_in-still meta_grammar order_in LiesIn order_in-take bytes more r.command h.placed.command, text_at-still bytes more r.block h.placed.block) refl in
-    (record { placed = record { command = LiesIn-still LiesIn LiesIn-take bytes more r.command h.placed.command; block = IsIn-still bytes more r.block h.placed.block }; begins = subst (λ (m : Message). Begins (bytes ++ more) m r.used) (sym same) (begins_still meta_grammar bytes more (message_in bytes r) r.used h.begins) }, same)
+    let same : meta_message_in (bytes ++ more) r ≡ meta_message_in bytes r = rw (order_in-still meta_grammar meta_order_in MetaLiesIn order_in-take bytes more r.command h.placed.command, text_at-still bytes more r.block h.placed.block) refl in
+    (record { placed = record { command = LiesIn-still MetaLiesIn LiesIn-take bytes more r.command h.placed.command; block = IsIn-still bytes more r.block h.placed.block }; begins = subst (λ (m : MetaMessage). BeginsMeta (bytes ++ more) m r.used) (sym same) (begins_still meta_grammar bytes more (meta_message_in bytes r) r.used h.begins) }, same)

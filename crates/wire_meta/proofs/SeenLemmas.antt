@@ -9,7 +9,7 @@ use Rattle.text_words.specs.declared.word.Span.{Span}
 use Rattle.wire_parts.specs.Tests.{Word, ◌>>=◌}
 use Rattle.wire_meta.specs.declared.command.Kind.{Kind}
 use Rattle.wire_meta.specs.declared.command.Values.{Values}
-use Rattle.wire_meta.specs.Flags.{letter_of, stands_in, flags_of, or_else, says, read_in, values_of, value_more}
+use Rattle.wire_meta.specs.Flags.{flag_letter, stands_in, flags_of, or_else, says, read_in, values_of, value_more}
 use Rattle.wire_meta.specs.Places.{HasSeen, Passes}
 
 -- no letter was seen
@@ -25,24 +25,24 @@ or_true true = refl
 or_true false = refl
 
 -- a flag more stands there
-pub stands-more : (letter : ℕ) (before : List Word) (word : Word) → stands_in letter (before ++ word ∷ []) ≡ (stands_in letter before || eqb (letter_of word) letter)
-stands-more letter before word = list_any-append (λ w. eqb (letter_of w) letter) before (word ∷ []) ∙ ap (λ b. stands_in letter before || b) (or_false (eqb (letter_of word) letter))
+pub stands-more : (letter : ℕ) (before : List Word) (word : Word) → stands_in letter (before ++ word ∷ []) ≡ (stands_in letter before || eqb (flag_letter word) letter)
+stands-more letter before word = list_any-append (λ w. eqb (flag_letter w) letter) before (word ∷ []) ∙ ap (λ b. stands_in letter before || b) (or_false (eqb (flag_letter word) letter))
 
-pub seen_more : (before : List Word) (word : Word) (seen : List Bool) → letter_of word < 256 → HasSeen before seen → HasSeen (before ++ word ∷ []) (set seen (letter_of word) true)
+pub seen_more : (before : List Word) (word : Word) (seen : List Bool) → flag_letter word < 256 → HasSeen before seen → HasSeen (before ++ word ∷ []) (set seen (flag_letter word) true)
 seen_more before word seen lt h = record {
-  long = length-set seen (letter_of word) true ∙ h.long;
+  long = length-set seen (flag_letter word) true ∙ h.long;
   each = λ letter lt'. stands-at letter lt';
 }
   where
-    stands-at : (letter : ℕ) → letter < 256 → get_or (set seen (letter_of word) true) letter false ≡ stands_in letter (before ++ word ∷ [])
-    stands-at letter lt' = elim (cases_eq letter (letter_of word)) [
+    stands-at : (letter : ℕ) → letter < 256 → get_or (set seen (flag_letter word) true) letter false ≡ stands_in letter (before ++ word ∷ [])
+    stands-at letter lt' = elim (cases_eq letter (flag_letter word)) [
       | inl same ↦
-          let one : eqb (letter_of word) letter ≡ true = eq-eqb (letter_of word) letter (sym same) in
-          let here : get_or (set seen (letter_of word) true) letter false ≡ true = ap (λ k. get_or (set seen (letter_of word) true) k false) same ∙ get_or-set_same seen (letter_of word) true false (omega (arith, h.long)) in
+          let one : eqb (flag_letter word) letter ≡ true = eq-eqb (flag_letter word) letter (sym same) in
+          let here : get_or (set seen (flag_letter word) true) letter false ≡ true = ap (λ k. get_or (set seen (flag_letter word) true) k false) same ∙ get_or-set_same seen (flag_letter word) true false (omega (arith, h.long)) in
           here ∙ sym (stands-more letter before word ∙ ap (λ b. stands_in letter before || b) one ∙ or_true (stands_in letter before))
       | inr other ↦
-          let two : eqb (letter_of word) letter ≡ false = ne_eqb (letter_of word) letter (λ e. other (sym e)) in
-          get_or-set_other seen (letter_of word) letter true false other ∙ h.each letter lt' ∙ sym (stands-more letter before word ∙ ap (λ b. stands_in letter before || b) two ∙ or_false (stands_in letter before))
+          let two : eqb (flag_letter word) letter ≡ false = ne_eqb (flag_letter word) letter (λ e. other (sym e)) in
+          get_or-set_other seen (flag_letter word) letter true false other ∙ h.each letter lt' ∙ sym (stands-more letter before word ∙ ap (λ b. stands_in letter before || b) two ∙ or_false (stands_in letter before))
     ]
 
 else_else : {A : Type 0} (a b c : Option A) → or_else (or_else a b) c ≡ or_else a (or_else b c)

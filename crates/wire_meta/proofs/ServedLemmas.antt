@@ -15,7 +15,7 @@ use Rattle.wire_parts.specs.declared.refusal.RefusalReason.TheVariants.{FlagNotS
 use Rattle.wire_parts.specs.Tests.{Word, ◌>>=◌}
 use Rattle.wire_meta.specs.declared.command.Kind.{Kind}
 use Rattle.wire_meta.specs.declared.command.Kind.TheVariants.{Get, Store, Delete, Count}
-use Rattle.wire_meta.specs.Flags.{letter_of, text_of, is_served, stands_in, has_value, is_opaque, flag_of, flags_of, wanted, wanted_by, tokens_in}
+use Rattle.wire_meta.specs.Flags.{flag_letter, flag_text, is_served, stands_in, has_value, is_opaque, flag_of, flags_of, flag_wants, wanted_by, tokens_in}
 use Rattle.wire_meta.specs.Asks.{IsText}
 use Rattle.wire_meta.proofs.SeenLemmas.{stands-more}
 
@@ -161,13 +161,13 @@ wanted_is letter text t e =
 -- a flag that passed its tests
 pub record HasPassed (kind : Kind) (before : List Word) (word flag : Word) : Type 0 where
   pub same : flag ≡ word
-  pub served : is_served kind (letter_of word) ≡ true
-  pub first : stands_in (letter_of word) before ≡ false
+  pub served : is_served kind (flag_letter word) ≡ true
+  pub first : stands_in (flag_letter word) before ≡ false
 
 ok_is : {A : Type 0} (x y : A) → ◌≡◌ {A = Result A RefusalReason} (Ok x) (Ok y) → x ≡ y
 ok_is x y e = cc
 
-passed : (kind : Kind) (before : List Word) (word flag : Word) (s t v : Bool) → is_served kind (letter_of word) ≡ s → stands_in (letter_of word) before ≡ t → has_value kind (letter_of word) (text_of word) ≡ v → flag_of kind before word ≡ Ok flag → HasPassed kind before word flag
+passed : (kind : Kind) (before : List Word) (word flag : Word) (s t v : Bool) → is_served kind (flag_letter word) ≡ s → stands_in (flag_letter word) before ≡ t → has_value kind (flag_letter word) (flag_text word) ≡ v → flag_of kind before word ≡ Ok flag → HasPassed kind before word flag
 passed kind before word flag false t v a b c e = let f : ◌≡◌ {A = Result Word RefusalReason} (Err FlagNotServed) (Ok flag) = rw a at e in absurd cc
 passed kind before word flag true true v a b c e = let f : ◌≡◌ {A = Result Word RefusalReason} (Err FlagTwice) (Ok flag) = rw (a, b) at e in absurd cc
 passed kind before word flag true false false a b c e = let f : ◌≡◌ {A = Result Word RefusalReason} (Err BadToken) (Ok flag) = rw (a, b, c) at e in absurd cc
@@ -197,20 +197,20 @@ or_true true b e = refl
 or_true false b e = e
 
 still : (before : List Word) (word : Word) (x : Letter) → stands_in (byte_of x) before ≡ true → stands_in (byte_of x) (before ++ word ∷ []) ≡ true
-still before word x e = stands-more (byte_of x) before word ∙ true_or (stands_in (byte_of x) before) (eqb (letter_of word) (byte_of x)) e
+still before word x e = stands-more (byte_of x) before word ∙ true_or (stands_in (byte_of x) before) (eqb (flag_letter word) (byte_of x)) e
 
-now : (before : List Word) (word : Word) (x : Letter) → letter_of word ≡ byte_of x → stands_in (byte_of x) (before ++ word ∷ []) ≡ true
-now before word x e = stands-more (byte_of x) before word ∙ or_true (stands_in (byte_of x) before) (eqb (letter_of word) (byte_of x)) (eq-eqb (letter_of word) (byte_of x) e)
+now : (before : List Word) (word : Word) (x : Letter) → flag_letter word ≡ byte_of x → stands_in (byte_of x) (before ++ word ∷ []) ≡ true
+now before word x e = stands-more (byte_of x) before word ∙ or_true (stands_in (byte_of x) before) (eqb (flag_letter word) (byte_of x)) (eq-eqb (flag_letter word) (byte_of x) e)
 
-other : (before : List Word) (word : Word) (t : Token) (x : Letter) → letter_of word ≡ byte_of (served.letter_of t) → stands_in (letter_of word) before ≡ false → stands_in (byte_of x) before ≡ true → same_letter (served.letter_of t) x ≡ false
+other : (before : List Word) (word : Word) (t : Token) (x : Letter) → flag_letter word ≡ byte_of (served.letter_of t) → stands_in (flag_letter word) before ≡ false → stands_in (byte_of x) before ≡ true → same_letter (served.letter_of t) x ≡ false
 other before word t x is first stands = elim (cases_Bool (eqb (byte_of (served.letter_of t)) (byte_of x))) [
   | inl same ↦
-      let e : letter_of word ≡ byte_of x = is ∙ eqb-true (byte_of (served.letter_of t)) (byte_of x) same in
+      let e : flag_letter word ≡ byte_of x = is ∙ eqb-true (byte_of (served.letter_of t)) (byte_of x) same in
       let f : true ≡ false = sym stands ∙ sym (ap (λ (b : ℕ). stands_in b before) e) ∙ first in absurd cc
   | inr differ ↦ apart (served.letter_of t) x ∙ differ
 ]
 
-one_more : (kind : Kind) (before words all : List Word) (word : Word) (o : Option Token) → wanted word ≡ o → HasPassed kind before word word → AreServed kind (before ++ word ∷ []) words all → AreServed kind before (word ∷ words) all
+one_more : (kind : Kind) (before words all : List Word) (word : Word) (o : Option Token) → flag_wants word ≡ o → HasPassed kind before word word → AreServed kind (before ++ word ∷ []) words all → AreServed kind before (word ∷ words) all
 one_more kind before words all word None is p h =
     let same : tokens_in (word ∷ words) ≡ tokens_in words = rw is refl in
     record {
@@ -221,7 +221,7 @@ one_more kind before words all word None is p h =
     }
 one_more kind before words all word (Some t) is p h =
     let same : tokens_in (word ∷ words) ≡ t ∷ tokens_in words = rw is refl in
-    let of = wanted_is (letter_of word) (text_of word) t is in
+    let of = wanted_is (flag_letter word) (flag_text word) t is in
     let mine : has_letter (served_by kind) (served.letter_of t) ≡ true = same_served kind (served.letter_of t) ∙ ap (is_served kind) (sym of.0) ∙ p.served in
     let alone : wants (tokens_in words) (served.letter_of t) ≡ false = h.new (served.letter_of t) (now before word (served.letter_of t) of.0) in
     let let_through : are_served (served_by kind) (t ∷ tokens_in words) ≡ true = rw (mine, alone, h.served) refl in
@@ -242,4 +242,4 @@ are_let_through kind before (word ∷ words) all e =
     let h = has_passed kind before word p.0 p.1 in
     let rest : flags_of kind (before ++ word ∷ []) words ≡ Ok all = subst (λ w. flags_of kind (before ++ w ∷ []) words ≡ Ok all) h.same p.2 in
     let q : HasPassed kind before word word = record { same = refl; served = h.served; first = h.first } in
-    one_more kind before words all word (wanted word) refl q (are_let_through kind (before ++ word ∷ []) words all rest)
+    one_more kind before words all word (flag_wants word) refl q (are_let_through kind (before ++ word ∷ []) words all rest)

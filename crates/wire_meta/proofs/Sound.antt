@@ -29,12 +29,12 @@ use Rattle.wire_meta.specs.declared.command.MetaRequest.{MetaRequest}
 use Rattle.wire_meta.specs.declared.command.Verb.{Verb}
 use Rattle.wire_meta.specs.declared.command.Verb.TheVariants.{Keyed, Noop}
 use Rattle.wire_meta.specs.CommandWords.{verb_of}
-use Rattle.wire_meta.specs.Flags.{letter_of, text_of, or_else, says, read_in, values_of, tokens_in, store_mode, count_mode, mode_of, flags_of}
-use Rattle.wire_meta.specs.Order.{MetaOrder, Asking, OfItself, asking, storing, noop, mixes, comparing, ordered_by, order_of}
-use Rattle.wire_meta.specs.Places.{order_in, flags_in, LiesIn}
-use Rattle.wire_meta.specs.Grammar.{meta_grammar, block_len}
-use Rattle.wire_meta.specs.Message.{Begins, IsMetaReadFrom}
-use Rattle.wire_meta.specs.Asks.{ask_by, asks_by, IsText, IsMetaAsk, get_op, store_op, bare_ask}
+use Rattle.wire_meta.specs.Flags.{flag_letter, flag_text, or_else, says, read_in, values_of, tokens_in, store_mode, count_mode, mode_of, flags_of}
+use Rattle.wire_meta.specs.Order.{MetaOrder, Asking, OfItself, asking, meta_storing, noop, mixes, comparing, meta_ordered_by, meta_order_of}
+use Rattle.wire_meta.specs.Places.{meta_order_in, flags_in, MetaLiesIn}
+use Rattle.wire_meta.specs.Grammar.{meta_grammar, meta_block_len}
+use Rattle.wire_meta.specs.Message.{BeginsMeta, IsMetaReadFrom}
+use Rattle.wire_meta.specs.Asks.{ask_by, meta_asks_by, IsText, IsMetaAsk, get_op, store_op, meta_bare_ask}
 use Rattle.wire_parts.specs.Requests.{AsksAreWellFormed}
 use Rattle.wire_meta.specs.Laws.{meta_requests}
 use Rattle.wire_meta.proofs.ServedLemmas.{served_by, are_let_through}
@@ -74,7 +74,7 @@ compared flags all e = elim (cases_Bool (mixes (values_of Store flags))) [
   | inr other ↦ let f : ◌≡◌ {A = Result (List Word) RefusalReason} (Ok flags) (Ok all) = rw other at e in is_ok flags all f
 ]
 
-by_storing : (ws : List Word) (o : MetaOrder) → storing ws ≡ Ok o → IsSound o
+by_storing : (ws : List Word) (o : MetaOrder) → meta_storing ws ≡ Ok o → IsSound o
 by_storing [] o h = absurd cc
 by_storing (k ∷ []) o h = absurd cc
 by_storing (k ∷ n ∷ ws) o h =
@@ -90,7 +90,7 @@ by_noop : (ws : List Word) (o : MetaOrder) → noop ws ≡ Ok o → IsSound o
 by_noop [] o h = subst IsSound (is_ok _ o h) tt
 by_noop (w ∷ ws) o h = absurd cc
 
-by_verb : (verb : Option Verb) (ws : List Word) (o : MetaOrder) → ordered_by verb ws ≡ Ok o → IsSound o
+by_verb : (verb : Option Verb) (ws : List Word) (o : MetaOrder) → meta_ordered_by verb ws ≡ Ok o → IsSound o
 by_verb None ws o h = absurd cc
 by_verb (Some (Keyed Get)) ws o h = by_asking Get ws o h
 by_verb (Some (Keyed Store)) ws o h = by_storing ws o h
@@ -98,15 +98,15 @@ by_verb (Some (Keyed Delete)) ws o h = by_asking Delete ws o h
 by_verb (Some (Keyed Count)) ws o h = by_asking Count ws o h
 by_verb (Some Noop) ws o h = by_noop ws o h
 
-pub sound : (ws : List Word) (o : MetaOrder) → order_of ws ≡ Ok o → IsSound o
+pub sound : (ws : List Word) (o : MetaOrder) → meta_order_of ws ≡ Ok o → IsSound o
 sound [] o h = absurd cc
 sound (w ∷ ws) o h = by_verb (verb_of w) ws o h
 
-block_short : (o : MetaOrder) (n : ℕ) → IsSound o → block_len o ≡ Some n → n ≤ data_limit
+block_short : (o : MetaOrder) (n : ℕ) → IsSound o → meta_block_len o ≡ Some n → n ≤ data_limit
 block_short (Asking kind key len flags) n h e = subst IsShort e h.short
 block_short (OfItself own) n h e = absurd cc
 
-pub is_served : (bytes : List ℕ) (o : MetaOrder) (block : List ℕ) (used : ℕ) → Begins bytes (Served o block) used → IsServed meta_grammar IsSound o block
+pub is_served : (bytes : List ℕ) (o : MetaOrder) (block : List ℕ) (used : ℕ) → BeginsMeta bytes (Served o block) used → IsServed meta_grammar IsSound o block
 is_served = served_sound meta_grammar IsSound sound block_short
 
 one_read : {A : Type 0} (read : Word → Option A) (text : Word) (x : A) (b : Bool) → (if b then read text else None) ≡ Some x → (t : Word) × (read t ≡ Some x)
@@ -114,7 +114,7 @@ one_read read text x true h = (text, h)
 one_read read text x false h = absurd cc
 
 read_step : {A : Type 0} (letter : ℕ) (read : Word → Option A) (w : Word) (x : A) (o : Option A) → ((y : A) → o ≡ Some y → (t : Word) × (read t ≡ Some y)) → or_else o (says letter read w) ≡ Some x → (t : Word) × (read t ≡ Some x)
-read_step letter read w x None rest e = one_read read (text_of w) x (eqb (letter_of w) letter) e
+read_step letter read w x None rest e = one_read read (flag_text w) x (eqb (flag_letter w) letter) e
 read_step letter read w x (Some y) rest e = rest x e
 
 -- what a flag says was read from a text
@@ -171,12 +171,12 @@ a_count_text (b ∷ c ∷ t) x e = absurd cc
 zero_in : IsExptime (pos 0)
 zero_in = (omega (arith, ints), omega (arith, ints))
 
-get_ask : (key : Word) (exptime : Option ℤ) (wanted : List Token) → IsKey key → IfSome exptime IsExptime → are_served of_get wanted ≡ true → IsAsk (record (bare_ask (get_op exptime) key wanted) { exptime = exptime })
+get_ask : (key : Word) (exptime : Option ℤ) (wanted : List Token) → IsKey key → IfSome exptime IsExptime → are_served of_get wanted ≡ true → IsAsk (record (meta_bare_ask (get_op exptime) key wanted) { exptime = exptime })
 get_ask key None wanted k h s = record { key = k; ranges = record { flags = omega arith; exptime = tt; body = omega arith; cas = tt; delta = omega arith }; shape = record { with_cas = refl; flags = refl; exptime = refl; body = refl; cas = refl; delta = refl; tokens = s } }
 get_ask key (Some e) wanted k h s = record { key = k; ranges = record { flags = omega arith; exptime = h; body = omega arith; cas = tt; delta = omega arith }; shape = record { with_cas = refl; flags = refl; exptime = refl; body = refl; cas = refl; delta = refl; tokens = s } }
 
 module _ (key : Word) (f : ℕ) (e : ℤ) (block : List ℕ) (wanted : List Token) (k : IsKey key) (fl : f < 2 ^ 32) (ex : IsExptime e) (le : length block ≤ data_limit) (s : are_served of_store wanted ≡ true) where
-  plain_store : (op : Op) → IsMode op → IsAsk (record (bare_ask op key wanted) { flags = f; exptime = Some e; body = block; cas = None })
+  plain_store : (op : Op) → IsMode op → IsAsk (record (meta_bare_ask op key wanted) { flags = f; exptime = Some e; body = block; cas = None })
   plain_store ops.Set m = record { key = k; ranges = record { flags = fl; exptime = ex; body = le; cas = tt; delta = omega arith }; shape = record { with_cas = refl; flags = tt; exptime = refl; body = tt; cas = refl; delta = refl; tokens = s } }
   plain_store ops.Add m = record { key = k; ranges = record { flags = fl; exptime = ex; body = le; cas = tt; delta = omega arith }; shape = record { with_cas = refl; flags = tt; exptime = refl; body = tt; cas = refl; delta = refl; tokens = s } }
   plain_store ops.Append m = record { key = k; ranges = record { flags = fl; exptime = ex; body = le; cas = tt; delta = omega arith }; shape = record { with_cas = refl; flags = tt; exptime = refl; body = tt; cas = refl; delta = refl; tokens = s } }
@@ -190,11 +190,11 @@ module _ (key : Word) (f : ℕ) (e : ℤ) (block : List ℕ) (wanted : List Toke
   plain_store ops.Decr m = absurd m
   plain_store ops.Touch m = absurd m
 
-  store_ask : (cas : Option ℕ) (mode : Option Op) → IfSome cas (λ c. c < 2 ^ 64) → IfSome mode IsMode → IsAsk (record (bare_ask (store_op cas mode) key wanted) { flags = f; exptime = Some e; body = block; cas = cas })
+  store_ask : (cas : Option ℕ) (mode : Option Op) → IfSome cas (λ c. c < 2 ^ 64) → IfSome mode IsMode → IsAsk (record (meta_bare_ask (store_op cas mode) key wanted) { flags = f; exptime = Some e; body = block; cas = cas })
   store_ask None mode c m = plain_store (unwrap_or mode ops.Set) (or_read IsMode mode ops.Set m tt)
   store_ask (Some n) mode c m = record { key = k; ranges = record { flags = fl; exptime = ex; body = le; cas = c; delta = omega arith }; shape = record { with_cas = refl; flags = tt; exptime = refl; body = tt; cas = refl; delta = refl; tokens = s } }
 
-count_ask : (op : Op) (key : Word) (exptime : Option ℤ) (cas : Option ℕ) (delta : ℕ) (wanted : List Token) → IsKey key → IfSome exptime IsExptime → IfSome cas (λ c. c < 2 ^ 64) → delta < 2 ^ 64 → are_served of_count wanted ≡ true → IsCount op → IsAsk (record (bare_ask op key wanted) { exptime = exptime; cas = cas; delta = delta })
+count_ask : (op : Op) (key : Word) (exptime : Option ℤ) (cas : Option ℕ) (delta : ℕ) (wanted : List Token) → IsKey key → IfSome exptime IsExptime → IfSome cas (λ c. c < 2 ^ 64) → delta < 2 ^ 64 → are_served of_count wanted ≡ true → IsCount op → IsAsk (record (meta_bare_ask op key wanted) { exptime = exptime; cas = cas; delta = delta })
 count_ask ops.Incr key exptime cas delta wanted k e c d s m = record { key = k; ranges = record { flags = omega arith; exptime = e; body = omega arith; cas = c; delta = d }; shape = record { with_cas = refl; flags = refl; exptime = tt; body = refl; cas = tt; delta = tt; tokens = s } }
 count_ask ops.Decr key exptime cas delta wanted k e c d s m = record { key = k; ranges = record { flags = omega arith; exptime = e; body = omega arith; cas = c; delta = d }; shape = record { with_cas = refl; flags = refl; exptime = tt; body = refl; cas = tt; delta = tt; tokens = s } }
 count_ask ops.Get key exptime cas delta wanted k e c d s m = absurd m
@@ -233,7 +233,7 @@ is_meta_ask Store key n ws block h le = record { well_formed = is_ask Store key 
 is_meta_ask Delete key n ws block h le = record { well_formed = is_ask Delete key n ws block h le; meta = refl; texts = h.texts }
 is_meta_ask Count key n ws block h le = record { well_formed = is_ask Count key n ws block h le; meta = refl; texts = h.texts }
 
-are_asks : (o : MetaOrder) (block : List ℕ) → IsSound o → length block ≤ data_limit → AllByRecursion IsMetaAsk (asks_by o block)
+are_asks : (o : MetaOrder) (block : List ℕ) → IsSound o → length block ≤ data_limit → AllByRecursion IsMetaAsk (meta_asks_by o block)
 are_asks (Asking kind key n flags) block h le = (is_meta_ask kind key n flags block h le, tt)
 are_asks (OfItself own) block h le = tt
 
@@ -242,14 +242,14 @@ asks_are_well_formed bytes (Served o block) used b = let s = is_served bytes o b
 asks_are_well_formed bytes (Refusal why skip) used b = tt
 
 -- a request that was read
-pub request_sound : (bytes : List ℕ) (r : MetaRequest) (command : MetaCommand) → IsMetaReadFrom bytes r → r.command ≡ command → IsSound (order_in bytes command)
-request_sound bytes r command h is = let s = is_served bytes (order_in bytes r.command) (text_at bytes r.block) r.used h.begins in subst (λ (k : MetaCommand). IsSound (order_in bytes k)) is s.sound
+pub request_sound : (bytes : List ℕ) (r : MetaRequest) (command : MetaCommand) → IsMetaReadFrom bytes r → r.command ≡ command → IsSound (meta_order_in bytes command)
+request_sound bytes r command h is = let s = is_served bytes (meta_order_in bytes r.command) (text_at bytes r.block) r.used h.begins in subst (λ (k : MetaCommand). IsSound (meta_order_in bytes k)) is s.sound
 
 -- the ask that is made of it
 pub made : (bytes : List ℕ) (r : MetaRequest) (key : Span) (flags : Flags) (len : Option ℕ) (kind : Kind) (k : Word) (t : List Token) (b : List ℕ) (ask : Ask) → IsMetaReadFrom bytes r → r.command ≡ commands.Keyed kind len key flags → k ≡ text_at bytes key → t ≡ tokens_in (flags_in bytes flags) → b ≡ text_at bytes r.block → ask ≡ ask_by kind k flags.values t b → IsMetaAsk ask
 made bytes r key flags len kind k t b ask h is ke te be e =
     let command = commands.Keyed kind len key flags in
-    let lies : LiesIn bytes command = subst (LiesIn bytes) is h.placed.command in
-    let served = is_served bytes (order_in bytes r.command) (text_at bytes r.block) r.used h.begins in
+    let lies : MetaLiesIn bytes command = subst (MetaLiesIn bytes) is h.placed.command in
+    let served = is_served bytes (meta_order_in bytes r.command) (text_at bytes r.block) r.used h.begins in
     let full : ask_by kind k flags.values t b ≡ ask_by kind (text_at bytes key) (values_of kind (flags_in bytes flags)) (tokens_in (flags_in bytes flags)) (text_at bytes r.block) = rw (ke, te, be, lies.1.values) refl in
     subst IsMetaAsk (sym (e ∙ full)) (is_meta_ask kind (text_at bytes key) len (flags_in bytes flags) (text_at bytes r.block) (request_sound bytes r command h is) served.short)

@@ -11,7 +11,7 @@ use Rattle.wire_parts.proofs.Tokens.{fits}
 use Rattle.wire_meta.specs.declared.command.Kind.TheVariants.{Get, Store, Delete, Count}
 use Rattle.wire_meta.specs.declared.command.Values.{Values}
 use Rattle.wire_meta.specs.Flags.{mode_of}
-use Rattle.wire_meta.specs.Spelling.{cas_words, mode_word, mode_letter}
+use Rattle.wire_meta.specs.Spelling.{meta_cas_words, mode_word, mode_letter}
 use Rattle.wire_meta.proofs.FlagsBack.{AreValued, IsDate}
 
 wide : (n : ℕ) → n < 2 ^ 64 → number_below (2 ^ 64) (decimal n) ≡ Some n
@@ -42,14 +42,14 @@ count_date (Some z) h = (refl, signed z h)
 pub get_values : AreValued Get [] (values None None None None)
 get_values = record { fit = tt; once = refl; valued = refl; none = refl; values = refl; undated = refl }
 
-pub delete_values : (c : Option ℕ) → IfSome c (λ n. n < 2 ^ 64) → AreValued Delete (cas_words c) (values c None None None)
+pub delete_values : (c : Option ℕ) → IfSome c (λ n. n < 2 ^ 64) → AreValued Delete (meta_cas_words c) (values c None None None)
 delete_values None h = record { fit = tt; once = refl; valued = refl; none = refl; values = refl; undated = refl }
 delete_values (Some n) h = record { fit = (refl, rw (wide n h) refl, tt); once = refl; valued = refl; none = refl; values = rw (wide n h) refl; undated = refl }
 
-pub store_values : (c : Option ℕ) (f : ℕ) (op m : Op) → IfSome c (λ n. n < 2 ^ 64) → f < 2 ^ 32 → mode_of Store (mode_letter op ∷ []) ≡ Some m → AreValued Store (cas_words c ++ (70 ∷ decimal f) ∷ mode_word op ∷ []) (values c None (Some f) (Some m))
+pub store_values : (c : Option ℕ) (f : ℕ) (op m : Op) → IfSome c (λ n. n < 2 ^ 64) → f < 2 ^ 32 → mode_of Store (mode_letter op ∷ []) ≡ Some m → AreValued Store (meta_cas_words c ++ (70 ∷ decimal f) ∷ mode_word op ∷ []) (values c None (Some f) (Some m))
 store_values None f op m c lt is = record { fit = (refl, rw (small f lt) refl, (refl, rw is refl, tt)); once = refl; valued = refl; none = refl; values = rw (small f lt, is) refl; undated = refl }
 store_values (Some n) f op m c lt is = record { fit = (refl, rw (wide n c) refl, (refl, rw (small f lt) refl, (refl, rw is refl, tt))); once = refl; valued = refl; none = refl; values = rw (wide n c, small f lt, is) refl; undated = refl }
 
-pub count_values : (c : Option ℕ) (d : ℕ) (op m : Op) → IfSome c (λ n. n < 2 ^ 64) → d < 2 ^ 64 → mode_of Count (mode_letter op ∷ []) ≡ Some m → AreValued Count (cas_words c ++ (68 ∷ decimal d) ∷ mode_word op ∷ []) (values c (Some d) None (Some m))
+pub count_values : (c : Option ℕ) (d : ℕ) (op m : Op) → IfSome c (λ n. n < 2 ^ 64) → d < 2 ^ 64 → mode_of Count (mode_letter op ∷ []) ≡ Some m → AreValued Count (meta_cas_words c ++ (68 ∷ decimal d) ∷ mode_word op ∷ []) (values c (Some d) None (Some m))
 count_values None d op m c lt is = record { fit = (refl, rw (wide d lt) refl, (refl, rw is refl, tt)); once = refl; valued = refl; none = refl; values = rw (wide d lt, is) refl; undated = refl }
 count_values (Some n) d op m c lt is = record { fit = (refl, rw (wide n c) refl, (refl, rw (wide d lt) refl, (refl, rw is refl, tt))); once = refl; valued = refl; none = refl; values = rw (wide n c, wide d lt, is) refl; undated = refl }

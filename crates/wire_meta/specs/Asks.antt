@@ -17,12 +17,12 @@ use Rattle.wire_meta.specs.declared.command.Kind.TheVariants.{Get, Store, Delete
 use Rattle.wire_meta.specs.declared.command.Values.{Values}
 use Rattle.wire_meta.specs.Flags.{values_of, tokens_in}
 use Rattle.wire_meta.specs.Order.{MetaOrder, Asking, OfItself}
-use Rattle.wire_meta.specs.Grammar.{own_by}
-use Rattle.wire_meta.specs.Message.{Message}
+use Rattle.wire_meta.specs.Grammar.{meta_own_by}
+use Rattle.wire_meta.specs.Message.{MetaMessage}
 
 -- an operation on a key with what is wanted back, and nothing else
-abbrev pub bare_ask : Op → Word → List Token → Ask
-bare_ask op key wanted = record { key = key; op = op; dialect = Meta; with_cas = false; flags = 0; exptime = None; body = []; cas = None; delta = 0; tokens = wanted }
+abbrev pub meta_bare_ask : Op → Word → List Token → Ask
+meta_bare_ask op key wanted = record { key = key; op = op; dialect = Meta; with_cas = false; flags = 0; exptime = None; body = []; cas = None; delta = 0; tokens = wanted }
 
 -- `mg` is a get, and with an exptime a gat
 abbrev pub get_op : Option ℤ → Op
@@ -36,43 +36,43 @@ store_op None mode = unwrap_or mode ops.Set
 
 -- the ask of a kind, by what its flags say: flags and exptime of `ms` are 0, and `ma` counts up by 1, where nothing else is said
 abbrev pub ask_by : Kind → Word → Values → List Token → List ℕ → Ask
-ask_by Get key v wanted block = record (bare_ask (get_op v.exptime) key wanted) { exptime = v.exptime }
-ask_by Store key v wanted block = record (bare_ask (store_op v.cas v.mode) key wanted) { flags = unwrap_or v.flags 0; exptime = Some (unwrap_or v.exptime (pos 0)); body = block; cas = v.cas }
-ask_by Delete key v wanted block = record (bare_ask ops.Delete key wanted) { cas = v.cas }
-ask_by Count key v wanted block = record (bare_ask (unwrap_or v.mode ops.Incr) key wanted) { exptime = v.exptime; cas = v.cas; delta = unwrap_or v.delta 1 }
+ask_by Get key v wanted block = record (meta_bare_ask (get_op v.exptime) key wanted) { exptime = v.exptime }
+ask_by Store key v wanted block = record (meta_bare_ask (store_op v.cas v.mode) key wanted) { flags = unwrap_or v.flags 0; exptime = Some (unwrap_or v.exptime (pos 0)); body = block; cas = v.cas }
+ask_by Delete key v wanted block = record (meta_bare_ask ops.Delete key wanted) { cas = v.cas }
+ask_by Count key v wanted block = record (meta_bare_ask (unwrap_or v.mode ops.Incr) key wanted) { exptime = v.exptime; cas = v.cas; delta = unwrap_or v.delta 1 }
 
 -- the ask of an order with its data block, if it is one
-abbrev pub single_ask : MetaOrder → List ℕ → Option Ask
-single_ask (Asking kind key n flags) block = Some (ask_by kind key (values_of kind flags) (tokens_in flags) block)
-single_ask (OfItself own) block = None
+abbrev pub meta_single_ask : MetaOrder → List ℕ → Option Ask
+meta_single_ask (Asking kind key n flags) block = Some (ask_by kind key (values_of kind flags) (tokens_in flags) block)
+meta_single_ask (OfItself own) block = None
 
-abbrev pub listed : Option Ask → List Ask
-listed None = []
-listed (Some ask) = ask ∷ []
+abbrev pub meta_listed : Option Ask → List Ask
+meta_listed None = []
+meta_listed (Some ask) = ask ∷ []
 
 -- the asks of an order: one, or none
-abbrev pub asks_by : MetaOrder → List ℕ → List Ask
-asks_by order block = listed (single_ask order block)
+abbrev pub meta_asks_by : MetaOrder → List ℕ → List Ask
+meta_asks_by order block = meta_listed (meta_single_ask order block)
 
 -- the asks of a message: a refused one has none
-abbrev pub asks_of : Message → List Ask
-asks_of (Served order block) = asks_by order block
-asks_of (Refusal why skip) = []
+abbrev pub meta_asks_of : MetaMessage → List Ask
+meta_asks_of (Served order block) = meta_asks_by order block
+meta_asks_of (Refusal why skip) = []
 
 -- whether `q` stands on the line of an order
-abbrev pub is_quiet : MetaOrder → Bool
-is_quiet (Asking kind key n flags) = (values_of kind flags).quiet
-is_quiet (OfItself own) = false
+abbrev pub meta_is_quiet : MetaOrder → Bool
+meta_is_quiet (Asking kind key n flags) = (values_of kind flags).quiet
+meta_is_quiet (OfItself own) = false
 
 -- whether `q` stands on the line of a message: a refused one is always answered
-abbrev pub quiet_of : Message → Bool
-quiet_of (Served order block) = is_quiet order
-quiet_of (Refusal why skip) = false
+abbrev pub meta_quiet_of : MetaMessage → Bool
+meta_quiet_of (Served order block) = meta_is_quiet order
+meta_quiet_of (Refusal why skip) = false
 
 -- what a message asks of mcgate itself
-abbrev pub own_of : Message → Option ProxyCommand
-own_of (Served order block) = own_by order
-own_of (Refusal why skip) = None
+abbrev pub meta_own_of : MetaMessage → Option ProxyCommand
+meta_own_of (Served order block) = meta_own_by order
+meta_own_of (Refusal why skip) = None
 
 -- the text of `O` is one
 abbrev pub IsText : Token → Type 0

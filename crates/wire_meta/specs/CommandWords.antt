@@ -17,10 +17,10 @@ meta_words =
     ∷ []
 
 -- what a word means by such a list
-abbrev pub found_in : List (Word × Verb) → Word → Option Verb
-found_in [] word = None
-found_in (entry ∷ entries) word = if bytes_eq word entry.0 then Some entry.1 else found_in entries word
+abbrev pub meta_found_in : List (Word × Verb) → Word → Option Verb
+meta_found_in [] word = None
+meta_found_in (entry ∷ entries) word = if bytes_eq word entry.0 then Some entry.1 else meta_found_in entries word
 
 -- what a command word means
 abbrev pub verb_of : Word → Option Verb
-verb_of word = found_in meta_words word
+verb_of word = meta_found_in meta_words word

@@ -16,27 +16,27 @@ use Rattle.wire_meta.specs.declared.command.Kind.TheVariants.{Get, Store, Delete
 use Rattle.wire_meta.specs.declared.command.Values.{Values}
 
 -- the letters of the flags that a command has
-abbrev pub letters_of : Kind → List ℕ
-letters_of Get = codes "cfkqstvOT"
-letters_of Store = codes "ckqCFOTM"
-letters_of Delete = codes "kqCO"
-letters_of Count = codes "ckqtvCDOTM"
+abbrev pub kind_letters : Kind → List ℕ
+kind_letters Get = codes "cfkqstvOT"
+kind_letters Store = codes "ckqCFOTM"
+kind_letters Delete = codes "kqCO"
+kind_letters Count = codes "ckqtvCDOTM"
 
 -- a flag's letter
-abbrev pub letter_of : Word → ℕ
-letter_of word = slice_index word 0
+abbrev pub flag_letter : Word → ℕ
+flag_letter word = slice_index word 0
 
 -- what stands after a flag's letter
-abbrev pub text_of : Word → Word
-text_of word = drop 1 word
+abbrev pub flag_text : Word → Word
+flag_text word = drop 1 word
 
 -- the command has a flag with this letter
 abbrev pub is_served : Kind → ℕ → Bool
-is_served kind letter = list_any (λ b. b == letter) (letters_of kind)
+is_served kind letter = list_any (λ b. b == letter) (kind_letters kind)
 
 -- a flag with this letter stands among these
 abbrev pub stands_in : ℕ → List Word → Bool
-stands_in letter words = list_any (λ word. letter_of word == letter) words
+stands_in letter words = list_any (λ word. flag_letter word == letter) words
 
 -- the modes of `ms`, in either case of letters
 abbrev pub store_mode : ℕ → Option Op
@@ -76,9 +76,9 @@ abbrev pub is_some : {A : Type 0} → Option A → Bool
 is_some None = false
 is_some (Some x) = true
 
-abbrev pub is_empty : Word → Bool
-is_empty [] = true
-is_empty (b ∷ text) = false
+abbrev pub is_empty_word : Word → Bool
+is_empty_word [] = true
+is_empty_word (b ∷ text) = false
 
 -- the text after the letter is a value of its flag: a cas number or how much is counted (`C`, `D`), flags (`F`), an exptime (`T`), a mode (`M`), a text (`O`); the other flags have none
 abbrev pub has_value : Kind → ℕ → Word → Bool
@@ -88,14 +88,14 @@ has_value kind letter text =
     else if letter == 84 then is_some (signed_number text)
     else if letter == 77 then is_some (mode_of kind text)
     else if letter == 79 then is_opaque text
-    else is_empty text
+    else is_empty_word text
 
 -- the tests of one flag, after those that stand before it: its letter, its having come before, its value
 abbrev pub flag_of : Kind → List Word → Word → Result Word RefusalReason
 flag_of kind before word =
-    if not (is_served kind (letter_of word)) then Err FlagNotServed
-    else if stands_in (letter_of word) before then Err FlagTwice
-    else if has_value kind (letter_of word) (text_of word) then Ok word
+    if not (is_served kind (flag_letter word)) then Err FlagNotServed
+    else if stands_in (flag_letter word) before then Err FlagTwice
+    else if has_value kind (flag_letter word) (flag_text word) then Ok word
     else Err BadToken
 
 -- the flags of a line, these before and those that follow: each is tested before the next
@@ -112,7 +112,7 @@ or_else None other = other
 
 -- what a flag says, if it has this letter
 abbrev pub says : {A : Type 0} → ℕ → (Word → Option A) → Word → Option A
-says letter read word = if letter_of word == letter then read (text_of word) else None
+says letter read word = if flag_letter word == letter then read (flag_text word) else None
 
 -- what the flag with this letter says, if it stands there: it stands once at most
 abbrev pub read_in : {A : Type 0} → ℕ → (Word → Option A) → List Word → Option A
@@ -138,7 +138,7 @@ value_more kind word v = record {
   exptime = or_else (says 84 signed_number word) v.exptime;
   flags = or_else (says 70 (number_below (2 ^ 32)) word) v.flags;
   mode = or_else (says 77 (mode_of kind) word) v.mode;
-  quiet = v.quiet || (letter_of word == 113);
+  quiet = v.quiet || (flag_letter word == 113);
 }
 
 -- what is wanted back by a flag with this letter
@@ -154,9 +154,9 @@ wanted_by letter text =
     else None
 
 -- what a flag wants back, if it is a return flag or `O`
-abbrev pub wanted : Word → Option Token
-wanted word = wanted_by (letter_of word) (text_of word)
+abbrev pub flag_wants : Word → Option Token
+flag_wants word = wanted_by (flag_letter word) (flag_text word)
 
 -- what these flags want back, in their order
 abbrev pub tokens_in : List Word → List Token
-tokens_in words = filter_map wanted words
+tokens_in words = filter_map flag_wants words

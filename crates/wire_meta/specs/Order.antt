@@ -8,7 +8,7 @@ use Rattle.wire_parts.specs.declared.skip.Skip.{Skip}
 use Rattle.wire_parts.specs.declared.skip.Skip.TheVariants.{Nothing}
 use Rattle.wire_parts.specs.declared.proxy_command.ProxyCommand.{ProxyCommand}
 use Rattle.wire_parts.specs.declared.proxy_command.ProxyCommand.TheVariants as owns
-use Rattle.wire_parts.specs.Tests.{Word, ◌>>=◌, key_of, u32_of, fitting, skip_by, length_in}
+use Rattle.wire_parts.specs.Tests.{Word, ◌>>=◌, key_of, u32_of, fitting, skip_length, length_in}
 use Rattle.wire_meta.specs.declared.command.Kind.{Kind}
 use Rattle.wire_meta.specs.declared.command.Kind.TheVariants.{Get, Store, Delete, Count}
 use Rattle.wire_meta.specs.declared.command.Verb.{Verb}
@@ -45,14 +45,14 @@ asking kind (key ∷ words) = do
   Ok (Asking kind key None flags)
 
 -- `ms`: key, length, flags
-abbrev pub storing : List Word → Result MetaOrder RefusalReason
-storing (key ∷ length ∷ words) = do
+abbrev pub meta_storing : List Word → Result MetaOrder RefusalReason
+meta_storing (key ∷ length ∷ words) = do
   key ← key_of key
   length ← u32_of length
   flags ← flags_of Store [] words
   flags ← comparing flags
   fitting length (Asking Store key (Some length) flags)
-storing _ = Err Unknown
+meta_storing _ = Err Unknown
 
 -- `mn`: nothing
 abbrev pub noop : List Word → Result MetaOrder RefusalReason
@@ -60,25 +60,25 @@ noop [] = Ok (OfItself owns.Noop)
 noop (word ∷ words) = Err Unknown
 
 -- what the words after a command word ask
-abbrev pub ordered_by : Option Verb → List Word → Result MetaOrder RefusalReason
-ordered_by None words = Err Unknown
-ordered_by (Some (Keyed Get)) words = asking Get words
-ordered_by (Some (Keyed Store)) words = storing words
-ordered_by (Some (Keyed Delete)) words = asking Delete words
-ordered_by (Some (Keyed Count)) words = asking Count words
-ordered_by (Some Noop) words = noop words
+abbrev pub meta_ordered_by : Option Verb → List Word → Result MetaOrder RefusalReason
+meta_ordered_by None words = Err Unknown
+meta_ordered_by (Some (Keyed Get)) words = asking Get words
+meta_ordered_by (Some (Keyed Store)) words = meta_storing words
+meta_ordered_by (Some (Keyed Delete)) words = asking Delete words
+meta_ordered_by (Some (Keyed Count)) words = asking Count words
+meta_ordered_by (Some Noop) words = noop words
 
 -- what the words of a line ask, or the first test that they fail
-abbrev pub order_of : List Word → Result MetaOrder RefusalReason
-order_of [] = Err Unknown
-order_of (word ∷ words) = ordered_by (verb_of word) words
+abbrev pub meta_order_of : List Word → Result MetaOrder RefusalReason
+meta_order_of [] = Err Unknown
+meta_order_of (word ∷ words) = meta_ordered_by (verb_of word) words
 
 -- the command with a data block
-abbrev pub is_store : Option Verb → Bool
-is_store (Some (Keyed Store)) = true
-is_store _ = false
+abbrev pub has_meta_block : Option Verb → Bool
+has_meta_block (Some (Keyed Store)) = true
+has_meta_block _ = false
 
 -- what is passed over after a refused line: the data that the third word of `ms` tells of
-abbrev pub skip_of : List Word → Skip
-skip_of [] = Nothing
-skip_of (word ∷ words) = if is_store (verb_of word) then skip_by (length_in (slice_get words 1)) else Nothing
+abbrev pub meta_skip_of : List Word → Skip
+meta_skip_of [] = Nothing
+meta_skip_of (word ∷ words) = if has_meta_block (verb_of word) then skip_length (length_in (slice_get words 1)) else Nothing

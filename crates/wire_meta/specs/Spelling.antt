@@ -1,7 +1,7 @@
 -- The one spelling of a meta ask, and the message that it is. Source: memcached's protocol.txt, "Meta Commands"; of the spellings that it allows, the choice of one is mcgate's own.
 use Rattle.std.specs.Prelude.{ℕ, ℤ, List, [], ◌∷◌, ◌++◌, Option, Some, None, length, map, codes, decimal}
 use Rattle.std.specs.Fmt.{signed_decimal}
-use Rattle.text_words.specs.Spelling.{line_of}
+use Rattle.text_words.specs.Spelling.{words_line}
 use Rattle.mc_types.specs.declared.ask.Op.{Op}
 use Rattle.mc_types.specs.declared.ask.Op.TheVariants as ops
 use Rattle.mc_types.specs.declared.ask.Ask.{Ask}
@@ -12,22 +12,22 @@ use Rattle.wire_parts.specs.Message.{Served}
 use Rattle.wire_meta.specs.declared.command.Kind.{Kind}
 use Rattle.wire_meta.specs.declared.command.Kind.TheVariants.{Get, Store, Delete, Count}
 use Rattle.wire_meta.specs.Order.{MetaOrder, Asking}
-use Rattle.wire_meta.specs.Message.{Message}
+use Rattle.wire_meta.specs.Message.{MetaMessage}
 
 -- the command of an operation; no meta command is a touch
-abbrev pub kind_of : Op → Kind
-kind_of ops.Get = Get
-kind_of ops.Gat = Get
-kind_of ops.Set = Store
-kind_of ops.Add = Store
-kind_of ops.Replace = Store
-kind_of ops.Append = Store
-kind_of ops.Prepend = Store
-kind_of ops.Cas = Store
-kind_of ops.Delete = Delete
-kind_of ops.Incr = Count
-kind_of ops.Decr = Count
-kind_of ops.Touch = Get
+abbrev pub meta_kind : Op → Kind
+meta_kind ops.Get = Get
+meta_kind ops.Gat = Get
+meta_kind ops.Set = Store
+meta_kind ops.Add = Store
+meta_kind ops.Replace = Store
+meta_kind ops.Append = Store
+meta_kind ops.Prepend = Store
+meta_kind ops.Cas = Store
+meta_kind ops.Delete = Delete
+meta_kind ops.Incr = Count
+meta_kind ops.Decr = Count
+meta_kind ops.Touch = Get
 
 abbrev pub kind_word : Kind → Word
 kind_word Get = codes "mg"
@@ -57,13 +57,13 @@ token_word tokens.Ttl = codes "t"
 token_word tokens.Value = codes "v"
 token_word (tokens.Opaque text) = 79 ∷ text
 
-abbrev pub token_words : List Token → List Word
-token_words wanted = map token_word wanted
+abbrev pub meta_token_words : List Token → List Word
+meta_token_words wanted = map token_word wanted
 
 -- `C`, where there is a cas number
-abbrev pub cas_words : Option ℕ → List Word
-cas_words None = []
-cas_words (Some cas) = (67 ∷ decimal cas) ∷ []
+abbrev pub meta_cas_words : Option ℕ → List Word
+meta_cas_words None = []
+meta_cas_words (Some cas) = (67 ∷ decimal cas) ∷ []
 
 -- `T`, where there is an exptime
 abbrev pub exptime_words : Option ℤ → List Word
@@ -76,13 +76,13 @@ mode_word op = 77 ∷ mode_letter op ∷ []
 -- the flags with a value but the expiry, in the order `C D F M`: `F M` always on `ms`, `D M` always on `ma`
 abbrev pub value_words : Kind → Ask → List Word
 value_words Get ask = []
-value_words Store ask = cas_words ask.cas ++ (70 ∷ decimal ask.flags) ∷ mode_word ask.op ∷ []
-value_words Delete ask = cas_words ask.cas
-value_words Count ask = cas_words ask.cas ++ (68 ∷ decimal ask.delta) ∷ mode_word ask.op ∷ []
+value_words Store ask = meta_cas_words ask.cas ++ (70 ∷ decimal ask.flags) ∷ mode_word ask.op ∷ []
+value_words Delete ask = meta_cas_words ask.cas
+value_words Count ask = meta_cas_words ask.cas ++ (68 ∷ decimal ask.delta) ∷ mode_word ask.op ∷ []
 
 -- the expiry, what is wanted back, in the ask's order, and then the other flags with a value: a server that takes flags in their order sets the expiry before it tells the time to live
 abbrev pub flag_words : Kind → Ask → List Word
-flag_words kind ask = exptime_words ask.exptime ++ (token_words ask.tokens ++ value_words kind ask)
+flag_words kind ask = exptime_words ask.exptime ++ (meta_token_words ask.tokens ++ value_words kind ask)
 
 -- the length of the data, on `ms` alone
 abbrev pub length_words : Kind → Ask → List Word
@@ -99,17 +99,17 @@ block_by Delete body = []
 block_by Count body = []
 
 -- words, a space before each
-abbrev pub led : List Word → List ℕ
-led [] = []
-led (word ∷ words) = 32 ∷ word ++ led words
+abbrev pub meta_led : List Word → List ℕ
+meta_led [] = []
+meta_led (word ∷ words) = 32 ∷ word ++ meta_led words
 
 -- the words of an ask's line
 abbrev pub line_words : Kind → Ask → List Word
 line_words kind ask = kind_word kind ∷ ask.key ∷ length_words kind ask ++ flag_words kind ask
 
 -- an ask, spelled
-abbrev pub spelling_of : Ask → List ℕ
-spelling_of ask = line_of (line_words (kind_of ask.op) ask) ++ block_by (kind_of ask.op) ask.body
+abbrev pub meta_ask_spelling : Ask → List ℕ
+meta_ask_spelling ask = words_line (line_words (meta_kind ask.op) ask) ++ block_by (meta_kind ask.op) ask.body
 
 abbrev pub length_for : Kind → Ask → Option ℕ
 length_for Get ask = None
@@ -118,9 +118,9 @@ length_for Delete ask = None
 length_for Count ask = None
 
 -- what the line of an ask asks
-abbrev pub order_for : Kind → Ask → MetaOrder
-order_for kind ask = Asking kind ask.key (length_for kind ask) (flag_words kind ask)
+abbrev pub meta_order_for : Kind → Ask → MetaOrder
+meta_order_for kind ask = Asking kind ask.key (length_for kind ask) (flag_words kind ask)
 
 -- the message that an ask is
-abbrev pub message_of : Ask → Message
-message_of ask = Served (order_for (kind_of ask.op) ask) ask.body
+abbrev pub meta_message_of : Ask → MetaMessage
+meta_message_of ask = Served (meta_order_for (meta_kind ask.op) ask) ask.body

@@ -2,11 +2,11 @@
 ghost use Rattle.std.specs.Prelude.{◌≡◌, ℕ, List, [], ◌<◌, ◌≤◌, IfOk, Some, length, slice_get};
 ghost use Rattle.text_words.specs.Word.{words, text_at};
 ghost use Rattle.mc_types.specs.Parts.{ask_of};
-ghost use Rattle.wire_parts.specs.Places.{IsIn};
-ghost use Rattle.wire_meta.specs.Flags.{letter_of, text_of, wanted, tokens_in, wanted_by};
-ghost use Rattle.wire_meta.specs.Places.{order_in, flags_in};
-ghost use Rattle.wire_meta.specs.Message.{IsMetaReadFrom, message_in};
-ghost use Rattle.wire_meta.specs.Asks.{asks_of, quiet_of, own_of, get_op, store_op, bare_ask, ask_by, IsMetaAsk};
+ghost use Rattle.wire_parts.specs.Places.{SpanIsIn};
+ghost use Rattle.wire_meta.specs.Flags.{flag_letter, flag_text, flag_wants, tokens_in, wanted_by};
+ghost use Rattle.wire_meta.specs.Places.{meta_order_in, flags_in};
+ghost use Rattle.wire_meta.specs.Message.{IsMetaReadFrom, meta_message_in};
+ghost use Rattle.wire_meta.specs.Asks.{meta_asks_of, meta_quiet_of, meta_own_of, get_op, store_op, meta_bare_ask, ask_by, IsMetaAsk};
 
 use crate::command::{Flags, Kind, MetaCommand, MetaRequest, Values};
 use mc_types::{AskParts, Dialect, LentData, Op, Opaque, Token, Tokens};
@@ -40,14 +40,14 @@ fn wanted_by(letter: u8, text: &[u8]) -> Option<Token>
 // What a flag wants back.
 fn wanted(word: &[u8]) -> Option<Token>
     requires { 0 < length word.now }
-    ensures { result ≡ wanted word.now }
+    ensures { result ≡ flag_wants word.now }
 {
     wanted_by(word[0], &word[1..])
 }
 
 // The text that stands there.
 fn key_in<'a>(received: &'a Received, key: Span) -> &'a [u8]
-    requires { IsIn (length received.now) key }
+    requires { SpanIsIn (length received.now) key }
     ensures { result.now ≡ text_at received.now key }
 {
     received.between(key.start, key.end)
@@ -55,7 +55,7 @@ fn key_in<'a>(received: &'a Received, key: Span) -> &'a [u8]
 
 // What the flags want back, in their order, in the room for them.
 fn tokens(room: Tokens, received: &Received, flags: Span) -> Result<Tokens, AllocError>
-    requires inside { IsIn (length received.now) flags }
+    requires inside { SpanIsIn (length received.now) flags }
     requires none { room ≡ [] }
     ensures { IfOk result (λ tokens. tokens ≡ tokens_in (words (text_at received.now flags))) }
 {
@@ -90,7 +90,7 @@ fn store_op(cas: Option<u64>, mode: Option<Op>) -> Op
 }
 
 fn bare(op: Op, key: &[u8], tokens: Tokens) -> AskParts<'_>
-    ensures { ask_of result ≡ bare_ask op key.now tokens }
+    ensures { ask_of result ≡ meta_bare_ask op key.now tokens }
 {
     AskParts::bare(Dialect::Meta, op, key, tokens)
 }
@@ -133,7 +133,7 @@ fn ask_by<'a>(
 impl MetaRequest {
     /// What the request asks of mcgate itself, if it does. It takes no memory.
     pub fn own(&self) -> Option<ProxyCommand>
-        ensures { (bytes : List ℕ) → result ≡ own_of (message_in bytes self.now) }
+        ensures { (bytes : List ℕ) → result ≡ meta_own_of (meta_message_in bytes self.now) }
     {
         match self.command {
             MetaCommand::Own(own) => Some(own),
@@ -143,7 +143,7 @@ impl MetaRequest {
 
     /// How many asks the request is: one, none for a request of mcgate itself. It takes no memory.
     pub fn asks(&self) -> usize
-        ensures { (bytes : List ℕ) → IsMetaReadFrom bytes self.now → result ≡ length (asks_of (message_in bytes self.now)) }
+        ensures { (bytes : List ℕ) → IsMetaReadFrom bytes self.now → result ≡ length (meta_asks_of (meta_message_in bytes self.now)) }
     {
         match self.command {
             MetaCommand::Own(_) => 0,
@@ -154,7 +154,7 @@ impl MetaRequest {
     /// Whether `q` stands on its line, which hides what the client expects: `EN` of `mg`, `HD` of `ms`, `HD` and `NF` of
     /// `md` and `ma`. It takes no memory.
     pub fn quiet(&self) -> bool
-        ensures { (bytes : List ℕ) → IsMetaReadFrom bytes self.now → result ≡ quiet_of (message_in bytes self.now) }
+        ensures { (bytes : List ℕ) → IsMetaReadFrom bytes self.now → result ≡ meta_quiet_of (meta_message_in bytes self.now) }
     {
         match self.command {
             MetaCommand::Keyed { flags, .. } => flags.values.quiet,
@@ -173,8 +173,8 @@ impl MetaRequest {
     ) -> Result<AskParts<'a>, AllocError>
         requires room { room ≡ [] }
         requires read { IsMetaReadFrom received.now self.now }
-        requires there { i < length (asks_of (message_in received.now self.now)) }
-        ensures value { IfOk result (λ parts. slice_get (asks_of (message_in received.now self.now)) i ≡ Some (ask_of parts)) }
+        requires there { i < length (meta_asks_of (meta_message_in received.now self.now)) }
+        ensures value { IfOk result (λ parts. slice_get (meta_asks_of (meta_message_in received.now self.now)) i ≡ Some (ask_of parts)) }
         ensures ask { IfOk result (λ parts. IsMetaAsk (ask_of parts)) }
     {
         let _first = i;

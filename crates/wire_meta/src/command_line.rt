@@ -3,8 +3,8 @@ ghost use Rattle.std.specs.Prelude.{◌≡◌, ◌≤◌, length, drop, IfOk};
 ghost use Rattle.text_words.specs.Word.{words, text_at, IsNextWord};
 ghost use Rattle.wire_parts.specs.Places.{Gives};
 ghost use Rattle.wire_meta.specs.CommandWords.{verb_of};
-ghost use Rattle.wire_meta.specs.Order.{order_of, ordered_by, asking, storing, noop, sets, mixes, is_store, skip_of};
-ghost use Rattle.wire_meta.specs.Places.{LiesIn, order_in};
+ghost use Rattle.wire_meta.specs.Order.{meta_order_of, meta_ordered_by, asking, meta_storing, noop, sets, mixes, has_meta_block, meta_skip_of};
+ghost use Rattle.wire_meta.specs.Places.{MetaLiesIn, meta_order_in};
 
 use crate::command::{Kind, MetaCommand, Values, Verb};
 use crate::flags::flags;
@@ -32,8 +32,8 @@ fn mixes(values: Values) -> bool
 // What `mg`, `md` and `ma` ask.
 fn asking(line: &[u8], at: usize, kind: Kind) -> Result<MetaCommand, RefusalReason>
     requires { at ≤ length line.now }
-    ensures order { Gives (order_in line.now) result (asking kind (words (drop at line.now))) }
-    ensures within { IfOk result (LiesIn line.now) }
+    ensures order { Gives (meta_order_in line.now) result (asking kind (words (drop at line.now))) }
+    ensures within { IfOk result (MetaLiesIn line.now) }
 {
     let first = word(line, at)?;
     let key = key(line, first)?;
@@ -49,8 +49,8 @@ fn asking(line: &[u8], at: usize, kind: Kind) -> Result<MetaCommand, RefusalReas
 // What `ms` asks.
 fn storing(line: &[u8], at: usize) -> Result<MetaCommand, RefusalReason>
     requires { at ≤ length line.now }
-    ensures order { Gives (order_in line.now) result (storing (words (drop at line.now))) }
-    ensures within { IfOk result (LiesIn line.now) }
+    ensures order { Gives (meta_order_in line.now) result (meta_storing (words (drop at line.now))) }
+    ensures within { IfOk result (MetaLiesIn line.now) }
 {
     let first = word(line, at)?;
     let second = word(line, first.end)?;
@@ -74,8 +74,8 @@ fn storing(line: &[u8], at: usize) -> Result<MetaCommand, RefusalReason>
 // What `mn` asks.
 fn noop(line: &[u8], at: usize) -> Result<MetaCommand, RefusalReason>
     requires { at ≤ length line.now }
-    ensures order { Gives (order_in line.now) result (noop (words (drop at line.now))) }
-    ensures within { IfOk result (LiesIn line.now) }
+    ensures order { Gives (meta_order_in line.now) result (noop (words (drop at line.now))) }
+    ensures within { IfOk result (MetaLiesIn line.now) }
 {
     match next_word(line, at) {
         None => Ok(MetaCommand::Own(ProxyCommand::Noop)),
@@ -85,8 +85,8 @@ fn noop(line: &[u8], at: usize) -> Result<MetaCommand, RefusalReason>
 
 fn ordered(line: &[u8], at: usize, verb: Option<Verb>) -> Result<MetaCommand, RefusalReason>
     requires { at ≤ length line.now }
-    ensures order { Gives (order_in line.now) result (ordered_by verb (words (drop at line.now))) }
-    ensures within { IfOk result (LiesIn line.now) }
+    ensures order { Gives (meta_order_in line.now) result (meta_ordered_by verb (words (drop at line.now))) }
+    ensures within { IfOk result (MetaLiesIn line.now) }
 {
     match verb {
         None => Err(RefusalReason::Unknown),
@@ -106,14 +106,14 @@ pub(crate) fn command(
 ) -> Result<MetaCommand, RefusalReason>
     requires first { IsNextWord line.now 0 first }
     requires verb { verb ≡ verb_of (text_at line.now first) }
-    ensures order { Gives (order_in line.now) result (order_of (words line.now)) }
-    ensures within { IfOk result (LiesIn line.now) }
+    ensures order { Gives (meta_order_in line.now) result (meta_order_of (words line.now)) }
+    ensures within { IfOk result (MetaLiesIn line.now) }
 {
     ordered(line, first.end, verb)
 }
 
 fn stores(verb: Option<Verb>) -> bool
-    ensures { result ≡ is_store verb }
+    ensures { result ≡ has_meta_block verb }
 {
     match verb {
         Some(Verb::Keyed(Kind::Store)) => true,
@@ -125,7 +125,7 @@ fn stores(verb: Option<Verb>) -> bool
 pub(crate) fn skip(line: &[u8], first: Span, verb: Option<Verb>) -> Skip
     requires first { IsNextWord line.now 0 first }
     requires verb { verb ≡ verb_of (text_at line.now first) }
-    ensures { result ≡ skip_of (words line.now) }
+    ensures { result ≡ meta_skip_of (words line.now) }
 {
     if !stores(verb) {
         return Skip::Nothing;

@@ -3,7 +3,7 @@ ghost use Rattle.std.specs.Prelude.{◌≡◌, ◌≤◌, ◌<◌, [], length, d
 ghost use Rattle.text_words.specs.Word.{words};
 ghost use Rattle.wire_parts.specs.Places.{Gives};
 ghost use Rattle.wire_meta.specs.Flags.{flags_of};
-ghost use Rattle.wire_meta.specs.Places.{AreFlags, flags_in, Passes, Fails};
+ghost use Rattle.wire_meta.specs.Places.{AreFlags, flags_in, Passes, FlagFails};
 
 use crate::command::{Flags, Kind, Values};
 use crate::values::is_served;
@@ -18,7 +18,7 @@ fn next_flag(
     values: Values,
 ) -> Result<Values, RefusalReason>
     requires { 0 < length word.now }
-    ensures { MatchResult result (λ new. Passes kind word.now seen.old values seen.new new) (λ why. Fails kind word.now seen.old why) }
+    ensures { MatchResult result (λ new. Passes kind word.now seen.old values seen.new new) (λ why. FlagFails kind word.now seen.old why) }
 {
     let letter = word[0];
     if !is_served(kind, letter) {

@@ -2,9 +2,9 @@
 ghost use Rattle.std.specs.Prelude.{◌≡◌, ℕ, List, ◌-◌, take, drop};
 ghost use Rattle.text_words.specs.Line.{TakesLine};
 ghost use Rattle.text_words.specs.Word.{IsNextWord};
-ghost use Rattle.wire_meta.specs.Grammar.{block_len};
-ghost use Rattle.wire_meta.specs.Places.{order_in};
-ghost use Rattle.wire_meta.specs.Message.{Reads, IsMeant, meaning};
+ghost use Rattle.wire_meta.specs.Grammar.{meta_block_len};
+ghost use Rattle.wire_meta.specs.Places.{meta_order_in};
+ghost use Rattle.wire_meta.specs.Message.{ReadsMeta, MetaIsMeant, meta_meaning};
 
 use crate::command::{MetaCommand, MetaRead, MetaRequest};
 use crate::command_line::{command, skip};
@@ -15,7 +15,7 @@ use text_words::word::{Span, next_word};
 use wire_parts::{RefusalReason, Rest, Skip, after_line};
 
 fn block_len(command: &MetaCommand) -> Option<usize>
-    ensures { (bytes : List ℕ) → result ≡ block_len (order_in bytes command.now) }
+    ensures { (bytes : List ℕ) → result ≡ meta_block_len (meta_order_in bytes command.now) }
 {
     match command {
         MetaCommand::Keyed {
@@ -32,7 +32,7 @@ fn block_len(command: &MetaCommand) -> Option<usize>
 pub fn read_after(bytes: &[u8], end: usize, used: usize, first: Span) -> MetaRead
     requires line { TakesLine bytes.now end used }
     requires first { IsNextWord (take end bytes.now) 0 first }
-    ensures { IsMeant bytes.now result (meaning (take (used - 1) bytes.now) (drop used bytes.now)) }
+    ensures { MetaIsMeant bytes.now result (meta_meaning (take (used - 1) bytes.now) (drop used bytes.now)) }
 {
     let text = &bytes[..end];
     // The word is looked up once, for what the line asks and for what is passed over if it is refused.
@@ -67,7 +67,7 @@ pub fn read_after(bytes: &[u8], end: usize, used: usize, first: Span) -> MetaRea
 ///
 /// Source: memcached's protocol.txt, "Meta Commands".
 pub fn read_request(bytes: &[u8]) -> MetaRead
-    ensures { Reads bytes.now result }
+    ensures { ReadsMeta bytes.now result }
 {
     match line(bytes) {
         Line::More => MetaRead::More,

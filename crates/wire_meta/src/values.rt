@@ -1,14 +1,14 @@
 //! The values of flags.
 ghost use Rattle.std.specs.Prelude.{◌≡◌, [], ◌∷◌, true, false, MatchOption};
 ghost use Rattle.std.specs.List.{list_any};
-ghost use Rattle.wire_meta.specs.Flags.{letters_of, is_served, store_mode, count_mode, mode_by, mode_of, is_opaque, has_value, values_of, value_more};
+ghost use Rattle.wire_meta.specs.Flags.{kind_letters, is_served, store_mode, count_mode, mode_by, mode_of, is_opaque, has_value, values_of, value_more};
 
 use crate::command::{Kind, Values};
 use mc_types::{Op, Opaque};
 use text_words::number::{number, signed, u32_number};
 
 fn letters(kind: Kind) -> &'static [u8]
-    ensures { result.now ≡ letters_of kind }
+    ensures { result.now ≡ kind_letters kind }
 {
     match kind {
         Kind::Get => b"cfkqstvOT".as_slice(),

@@ -1,11 +1,11 @@
 //! How an ask is written to a server.
 ghost use Rattle.std.specs.Prelude.{◌≡◌, ◌++◌, ◌∷◌, [], take, drop, length, OnOk, OnErr, codes, decimal};
 ghost use Rattle.std.specs.Fmt.{signed_decimal};
-ghost use Rattle.text_words.specs.Spelling.{line_of};
+ghost use Rattle.text_words.specs.Spelling.{words_line};
 ghost use Rattle.wire_parts.specs.Tests.{block_text};
 ghost use Rattle.mc_types.specs.Asks.{IsAsk};
 ghost use Rattle.mc_types.specs.declared.ask.Dialect.TheVariants.{Meta};
-ghost use Rattle.wire_meta.specs.Spelling.{led, kind_of, kind_word, mode_letter, mode_word, token_word, token_words, cas_words, exptime_words, value_words, length_words, block_by, flag_words, line_words, spelling_of};
+ghost use Rattle.wire_meta.specs.Spelling.{meta_led, meta_kind, kind_word, mode_letter, mode_word, token_word, meta_token_words, meta_cas_words, exptime_words, value_words, length_words, block_by, flag_words, line_words, meta_ask_spelling};
 
 use crate::command::Kind;
 use bytes::BytesMut;
@@ -14,7 +14,7 @@ use mc_types::{Ask, Op, Token};
 use std::alloc::AllocError;
 
 fn kind_of(op: Op) -> Kind
-    ensures { result ≡ kind_of op }
+    ensures { result ≡ meta_kind op }
 {
     match op {
         Op::Get | Op::Gat | Op::Touch => Kind::Get,
@@ -51,7 +51,7 @@ fn mode_text(op: Op) -> &'static [u8]
 
 // A word after a space, by its first part and the rest.
 fn put_word(out: &mut BytesMut, letter: &[u8], text: &[u8]) -> Result<(), AllocError>
-    ensures ok { OnOk result (out.new.items ≡ out.old.items ++ led ((letter.now ++ text.now) ∷ [])) }
+    ensures ok { OnOk result (out.new.items ≡ out.old.items ++ meta_led ((letter.now ++ text.now) ∷ [])) }
     ensures err { OnErr result (take (length out.old.items) out.new.items ≡ out.old.items) }
 {
     out.extend_from_slice(b" ")?;
@@ -60,7 +60,7 @@ fn put_word(out: &mut BytesMut, letter: &[u8], text: &[u8]) -> Result<(), AllocE
 }
 
 fn put_token(out: &mut BytesMut, token: &Token) -> Result<(), AllocError>
-    ensures ok { OnOk result (out.new.items ≡ out.old.items ++ led (token_word token.now ∷ [])) }
+    ensures ok { OnOk result (out.new.items ≡ out.old.items ++ meta_led (token_word token.now ∷ [])) }
     ensures err { OnErr result (take (length out.old.items) out.new.items ≡ out.old.items) }
 {
     match token {
@@ -75,7 +75,7 @@ fn put_token(out: &mut BytesMut, token: &Token) -> Result<(), AllocError>
 }
 
 fn put_tokens(out: &mut BytesMut, tokens: &[Token]) -> Result<(), AllocError>
-    ensures ok { OnOk result (out.new.items ≡ out.old.items ++ led (token_words tokens.now)) }
+    ensures ok { OnOk result (out.new.items ≡ out.old.items ++ meta_led (meta_token_words tokens.now)) }
     ensures err { OnErr result (take (length out.old.items) out.new.items ≡ out.old.items) }
 {
     for token in tokens {
@@ -85,7 +85,7 @@ fn put_tokens(out: &mut BytesMut, tokens: &[Token]) -> Result<(), AllocError>
 }
 
 fn put_cas(out: &mut BytesMut, cas: Option<u64>) -> Result<(), AllocError>
-    ensures ok { OnOk result (out.new.items ≡ out.old.items ++ led (cas_words cas)) }
+    ensures ok { OnOk result (out.new.items ≡ out.old.items ++ meta_led (meta_cas_words cas)) }
     ensures err { OnErr result (take (length out.old.items) out.new.items ≡ out.old.items) }
 {
     let mut buffer = Buffer::new();
@@ -96,7 +96,7 @@ fn put_cas(out: &mut BytesMut, cas: Option<u64>) -> Result<(), AllocError>
 }
 
 fn put_exptime(out: &mut BytesMut, exptime: Option<i64>) -> Result<(), AllocError>
-    ensures ok { OnOk result (out.new.items ≡ out.old.items ++ led (exptime_words exptime)) }
+    ensures ok { OnOk result (out.new.items ≡ out.old.items ++ meta_led (exptime_words exptime)) }
     ensures err { OnErr result (take (length out.old.items) out.new.items ≡ out.old.items) }
 {
     let mut buffer = Buffer::new();
@@ -108,7 +108,7 @@ fn put_exptime(out: &mut BytesMut, exptime: Option<i64>) -> Result<(), AllocErro
 
 // A cas number, a number with its letter, a mode.
 fn put_counted(out: &mut BytesMut, letter: &[u8], n: u64, ask: &Ask) -> Result<(), AllocError>
-    ensures ok { OnOk result (out.new.items ≡ out.old.items ++ led (cas_words ask.now.cas ++ (letter.now ++ decimal n) ∷ mode_word ask.now.op ∷ [])) }
+    ensures ok { OnOk result (out.new.items ≡ out.old.items ++ meta_led (meta_cas_words ask.now.cas ++ (letter.now ++ decimal n) ∷ mode_word ask.now.op ∷ [])) }
     ensures err { OnErr result (take (length out.old.items) out.new.items ≡ out.old.items) }
 {
     let mut buffer = Buffer::new();
@@ -119,7 +119,7 @@ fn put_counted(out: &mut BytesMut, letter: &[u8], n: u64, ask: &Ask) -> Result<(
 
 // The flags with a value but the expiry.
 fn put_values(out: &mut BytesMut, kind: Kind, ask: &Ask) -> Result<(), AllocError>
-    ensures ok { OnOk result (out.new.items ≡ out.old.items ++ led (value_words kind ask.now)) }
+    ensures ok { OnOk result (out.new.items ≡ out.old.items ++ meta_led (value_words kind ask.now)) }
     ensures err { OnErr result (take (length out.old.items) out.new.items ≡ out.old.items) }
 {
     match kind {
@@ -131,7 +131,7 @@ fn put_values(out: &mut BytesMut, kind: Kind, ask: &Ask) -> Result<(), AllocErro
 }
 
 fn put_length(out: &mut BytesMut, kind: Kind, ask: &Ask) -> Result<(), AllocError>
-    ensures ok { OnOk result (out.new.items ≡ out.old.items ++ led (length_words kind ask.now)) }
+    ensures ok { OnOk result (out.new.items ≡ out.old.items ++ meta_led (length_words kind ask.now)) }
     ensures err { OnErr result (take (length out.old.items) out.new.items ≡ out.old.items) }
 {
     let mut buffer = Buffer::new();
@@ -156,7 +156,7 @@ fn put_block(out: &mut BytesMut, kind: Kind, body: &[u8]) -> Result<(), AllocErr
 
 // The words after the command word.
 fn put_words(out: &mut BytesMut, kind: Kind, ask: &Ask) -> Result<(), AllocError>
-    ensures ok { OnOk result (out.new.items ≡ out.old.items ++ led (ask.now.key ∷ length_words kind ask.now ++ flag_words kind ask.now)) }
+    ensures ok { OnOk result (out.new.items ≡ out.old.items ++ meta_led (ask.now.key ∷ length_words kind ask.now ++ flag_words kind ask.now)) }
     ensures err { OnErr result (take (length out.old.items) out.new.items ≡ out.old.items) }
 {
     put_word(out, b"", ask.key.as_bytes())?;
@@ -167,7 +167,7 @@ fn put_words(out: &mut BytesMut, kind: Kind, ask: &Ask) -> Result<(), AllocError
 }
 
 fn put_line(out: &mut BytesMut, kind: Kind, ask: &Ask) -> Result<(), AllocError>
-    ensures ok { OnOk result (out.new.items ≡ out.old.items ++ line_of (line_words kind ask.now)) }
+    ensures ok { OnOk result (out.new.items ≡ out.old.items ++ words_line (line_words kind ask.now)) }
     ensures err { OnErr result (take (length out.old.items) out.new.items ≡ out.old.items) }
 {
     out.extend_from_slice(kind_word(kind))?;
@@ -176,7 +176,7 @@ fn put_line(out: &mut BytesMut, kind: Kind, ask: &Ask) -> Result<(), AllocError>
 }
 
 fn put_ask(out: &mut BytesMut, ask: &Ask) -> Result<(), AllocError>
-    ensures ok { OnOk result (out.new.items ≡ out.old.items ++ spelling_of ask.now) }
+    ensures ok { OnOk result (out.new.items ≡ out.old.items ++ meta_ask_spelling ask.now) }
     ensures err { OnErr result (take (length out.old.items) out.new.items ≡ out.old.items) }
 {
     let kind = kind_of(ask.op);
@@ -193,7 +193,7 @@ fn put_ask(out: &mut BytesMut, ask: &Ask) -> Result<(), AllocError>
 /// The only error is running out of memory, which leaves the buffer as it was.
 pub fn write_ask(ask: &Ask, out: &mut BytesMut) -> Result<(), AllocError>
     requires { IsAsk ask.now × (ask.now.dialect ≡ Meta) }
-    ensures ok { OnOk result (out.new.items ≡ out.old.items ++ spelling_of ask.now) }
+    ensures ok { OnOk result (out.new.items ≡ out.old.items ++ meta_ask_spelling ask.now) }
     ensures err { OnErr result (out.new.items ≡ out.old.items) }
 {
     let len = out.len();

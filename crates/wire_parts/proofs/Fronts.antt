@@ -7,13 +7,13 @@ use Rattle.text_words.specs.Line.{IsLine, IsOpen, IsTooLong, TakesLine, without_
 use Rattle.text_words.specs.Word.{words, text_at}
 use Rattle.text_words.proofs.Stays.{one_line, not_too_long}
 use Rattle.text_words.specs.declared.word.Span.{Span}
-use Rattle.wire_parts.specs.Places.{IsIn}
+use Rattle.wire_parts.specs.Places.{SpanIsIn}
 use Rattle.wire_parts.specs.Grammar.{Grammar}
 use Rattle.wire_parts.specs.declared.refusal.RefusalReason.TheVariants.{Unknown}
 use Rattle.wire_parts.specs.declared.skip.Skip.TheVariants.{Nothing}
 use Rattle.wire_parts.specs.declared.block.End.{End}
 use Rattle.wire_parts.specs.declared.block.End.TheVariants.{Open, Good, Bad}
-use Rattle.wire_parts.specs.Message.{Message, Refusal, Begins, meaning, with_rest, with_block, end_of, lift_found}
+use Rattle.wire_parts.specs.Message.{Message, Refusal, BeginsMessage, meaning, with_rest, with_block, data_block_end, lift_found}
 
 pub take-take-le : (i j : ℕ) (xs : List ℕ) → i ≤ j → take i (take j xs) ≡ take i xs
 take-take-le zero j xs le = refl
@@ -32,7 +32,7 @@ text_at-take n bytes s le =
           ap (take (s.end - s.start)) cut ∙ take-take-le (s.end - s.start) m (drop s.start bytes) (omega arith)
     ]
 
-pub IsIn-le : (m n : ℕ) (s : Span) → m ≤ n → IsIn m s → IsIn n s
+pub IsIn-le : (m n : ℕ) (s : Span) → m ≤ n → SpanIsIn m s → SpanIsIn n s
 IsIn-le m n s le h = record { ordered = h.ordered; within = omega (arith, h.within) }
 
 pub length-front : (n : ℕ) (bytes : List ℕ) → length (take n bytes) ≤ n
@@ -55,11 +55,11 @@ block_lifted f o used block Bad = refl
 
 pub rest_lifted : {A B : Type 0} (f : A → B) (o : A) (used : ℕ) (rest : List ℕ) (n : Option ℕ) → with_rest (f o) used rest n ≡ lift_found f (with_rest o used rest n)
 rest_lifted f o used rest None = refl
-rest_lifted f o used rest (Some n) = block_lifted f o used (take n rest) (end_of (drop n rest))
+rest_lifted f o used rest (Some n) = block_lifted f o used (take n rest) (data_block_end (drop n rest))
 
 module _ (G : Grammar) where
   -- where no line is whole, no message is
-  pub nothing_begins : (bytes : List ℕ) → IsOpen bytes → (¬ IsTooLong bytes) × ((message : Message G.Order) (used : ℕ) → ¬ Begins G bytes message used)
+  pub nothing_begins : (bytes : List ℕ) → IsOpen bytes → (¬ IsTooLong bytes) × ((message : Message G.Order) (used : ℕ) → ¬ BeginsMessage G bytes message used)
   nothing_begins bytes partial = (
     (λ long. let a = long.long in let b = partial.short in omega arith),
     (λ message used b.
@@ -68,7 +68,7 @@ module _ (G : Grammar) where
   )
 
   -- where the first line and what follows it aren't a whole message, none begins
-  pub none_meant : (bytes text rest : List ℕ) → IsLine bytes text rest → meaning G text rest ≡ None → (¬ IsTooLong bytes) × ((message : Message G.Order) (used : ℕ) → ¬ Begins G bytes message used)
+  pub none_meant : (bytes text rest : List ℕ) → IsLine bytes text rest → meaning G text rest ≡ None → (¬ IsTooLong bytes) × ((message : Message G.Order) (used : ℕ) → ¬ BeginsMessage G bytes message used)
   none_meant bytes text rest line h = (
     not_too_long bytes text rest line,
     (λ message used b.
@@ -78,7 +78,7 @@ module _ (G : Grammar) where
   )
 
   -- what the first line and what follows it mean, the bytes begin with
-  pub begins_meant : (bytes : List ℕ) (end used : ℕ) (message : Message G.Order) (n : ℕ) → TakesLine bytes end used → meaning G (take (used - 1) bytes) (drop used bytes) ≡ Some (message, n) → Begins G bytes message n
+  pub begins_meant : (bytes : List ℕ) (end used : ℕ) (message : Message G.Order) (n : ℕ) → TakesLine bytes end used → meaning G (take (used - 1) bytes) (drop used bytes) ≡ Some (message, n) → BeginsMessage G bytes message n
   begins_meant bytes end used message n line h =
       let before : used - 1 ≡ line.at = omega (arith, line.used_is) in
       record {
@@ -88,7 +88,7 @@ module _ (G : Grammar) where
         says = subst (λ (k : ℕ). meaning G (take k bytes) (drop (line.at + 1) bytes) ≡ Some (message, n)) before (subst (λ (k : ℕ). meaning G (take (used - 1) bytes) (drop k bytes) ≡ Some (message, n)) line.used_is h);
       }
 
-  pub none_begins : (bytes : List ℕ) (end used : ℕ) → TakesLine bytes end used → meaning G (take (used - 1) bytes) (drop used bytes) ≡ None → (¬ IsTooLong bytes) × ((message : Message G.Order) (used : ℕ) → ¬ Begins G bytes message used)
+  pub none_begins : (bytes : List ℕ) (end used : ℕ) → TakesLine bytes end used → meaning G (take (used - 1) bytes) (drop used bytes) ≡ None → (¬ IsTooLong bytes) × ((message : Message G.Order) (used : ℕ) → ¬ BeginsMessage G bytes message used)
   none_begins bytes end used line h =
       let before : used - 1 ≡ line.at = omega (arith, line.used_is) in
       none_meant bytes (take line.at bytes) (drop (line.at + 1) bytes) line.line.1 (subst (λ (k : ℕ). meaning G (take k bytes) (drop (line.at + 1) bytes) ≡ None) before (subst (λ (k : ℕ). meaning G (take (used - 1) bytes) (drop k bytes) ≡ None) line.used_is h))

@@ -4,7 +4,7 @@ use Rattle.std.proofs.lemmas.List.{length-append, take_at}
 use Rattle.text_words.specs.Line.{TakesLine, without_cr}
 use Rattle.text_words.specs.Word.{words, text_at}
 use Rattle.text_words.specs.declared.word.Span.{Span}
-use Rattle.wire_parts.specs.Places.{IsIn}
+use Rattle.wire_parts.specs.Places.{SpanIsIn}
 use Rattle.wire_parts.specs.Grammar.{Grammar}
 use Rattle.wire_parts.specs.Message.{Found, with_rest, meaning, lift_found}
 use Rattle.wire_parts.specs.Requests.{Requests, ReadStill, AsksAreWellFormed, AsksAreReadBack, MessagesAreOneAsk, HasLaws}
@@ -15,10 +15,10 @@ use Rattle.wire_parts.proofs.Streams.{begins_still, one_message, too_long_begins
 front_is : (bytes more : List ℕ) → take (length bytes) (bytes ++ more) ≡ bytes
 front_is bytes more = take_at bytes more (length bytes) refl
 
-pub IsIn-still : (bytes more : List ℕ) (s : Span) → IsIn (length bytes) s → IsIn (length (bytes ++ more)) s
+pub IsIn-still : (bytes more : List ℕ) (s : Span) → SpanIsIn (length bytes) s → SpanIsIn (length (bytes ++ more)) s
 IsIn-still bytes more s h = record { ordered = h.ordered; within = let a = h.within in omega (arith, length-append bytes more) }
 
-pub text_at-still : (bytes more : List ℕ) (s : Span) → IsIn (length bytes) s → text_at (bytes ++ more) s ≡ text_at bytes s
+pub text_at-still : (bytes more : List ℕ) (s : Span) → SpanIsIn (length bytes) s → text_at (bytes ++ more) s ≡ text_at bytes s
 text_at-still bytes more s h = sym (text_at-take (length bytes) (bytes ++ more) s h.within) ∙ ap (λ (t : List ℕ). text_at t s) (front_is bytes more)
 
 module _ {C : Type 0} (LiesIn : List ℕ → C → Type 0) where

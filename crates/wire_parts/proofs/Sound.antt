@@ -12,7 +12,7 @@ use Rattle.wire_parts.specs.declared.block.End.{End}
 use Rattle.wire_parts.specs.declared.block.End.TheVariants.{Open, Good, Bad}
 use Rattle.wire_parts.specs.Tests.{Word}
 use Rattle.wire_parts.specs.Grammar.{Grammar}
-use Rattle.wire_parts.specs.Message.{Message, Served, Refusal, Found, Begins, meaning_of, with_rest, with_block, end_of}
+use Rattle.wire_parts.specs.Message.{Message, Served, Refusal, Found, BeginsMessage, meaning_of, with_rest, with_block, data_block_end}
 
 abbrev message_first : {Order : Type 0} → Found Order → Message Order
 message_first (Some x) = x.0
@@ -38,7 +38,7 @@ module _ (G : Grammar) (IsSound : G.Order → Type 0) (sound : (ws : List Word) 
   by_len : (o p : G.Order) (used j : ℕ) (rest b : List ℕ) (len : Option ℕ) → IsSound o → G.block_len o ≡ len → with_rest o used rest len ≡ Some (Served p b, j) → IsServed G IsSound p b
   by_len o p used j rest b None h is e = let s = served_is o p [] b used j e in record { sound = subst IsSound s.0 h; short = subst (λ (t : List ℕ). length t ≤ data_limit) s.1 (omega arith) }
   by_len o p used j rest b (Some n) h is e =
-      let s = with_end o p (take n rest) b used j (end_of (drop n rest)) e in
+      let s = with_end o p (take n rest) b used j (data_block_end (drop n rest)) e in
       let le = block_short o n h is in
       record { sound = subst IsSound s.0 h; short = subst (λ (t : List ℕ). length t ≤ data_limit) s.1 (omega (arith, length-take n rest)) }
 
@@ -46,5 +46,5 @@ module _ (G : Grammar) (IsSound : G.Order → Type 0) (sound : (ws : List Word) 
   by_line ws (Err why) p skip used j rest b is e = refused_is_not why skip p b used j e
   by_line ws (Ok o) p skip used j rest b is e = by_len o p used j rest b (G.block_len o) (sound ws o is) refl e
 
-  pub served_sound : (bytes : List ℕ) (o : G.Order) (block : List ℕ) (used : ℕ) → Begins G bytes (Served o block) used → IsServed G IsSound o block
+  pub served_sound : (bytes : List ℕ) (o : G.Order) (block : List ℕ) (used : ℕ) → BeginsMessage G bytes (Served o block) used → IsServed G IsSound o block
   served_sound bytes o block used b = let ws = words (without_cr b.text) in by_line ws (G.order_of ws) o (G.skip_of ws) (length b.text + 1) used b.rest block refl b.says

@@ -14,9 +14,9 @@ use Rattle.wire_parts.specs.declared.block.End.TheVariants.{Open, Good, Bad}
 use Rattle.wire_parts.specs.declared.proxy_command.ProxyCommand.{ProxyCommand}
 use Rattle.wire_parts.specs.declared.proxy_command.ProxyCommand.TheVariants.{Version, Quit, Noop}
 use Rattle.wire_parts.specs.Grammar.{Grammar}
-use Rattle.wire_parts.specs.Message.{Message, Served, Refusal, Begins, meaning_of, with_rest, with_block, end_of}
-use Rattle.wire_parts.specs.Stream.{Place, Stands, Closed, through_newline, skipped, extended, after_own, after_message, Goes, IsStuck}
-use Rattle.wire_parts.specs.Laws.{BeginsStill, OneMessage, TooLongBeginsNothing, GoesOn, GoesFurther, OneSplitting}
+use Rattle.wire_parts.specs.Message.{Message, Served, Refusal, BeginsMessage, meaning_of, with_rest, with_block, data_block_end}
+use Rattle.wire_parts.specs.Stream.{Place, Stands, Closed, through_newline, skipped, extended, after_own, after_message, GoesThrough, HasNoMessage}
+use Rattle.wire_parts.specs.Laws.{BeginsStill, OneMessage, TooLongBeginsNothing, StaysRead, GoesFurther, OneSplitting}
 use Rattle.text_words.proofs.Stays.{one_line, not_too_long}
 
 some_is : {A : Type 0} (x y : A) → Some x ≡ Some y → x ≡ y
@@ -26,10 +26,10 @@ ap2_cons : {A : Type 0} (m n : A) (ms ns : List A) → m ≡ n → ms ≡ ns →
 ap2_cons m n ms ns e f = cc
 
 -- a block's end is decided by what is there
-end_stays : (after more : List ℕ) → (end_of after ≡ Open) ⊎ (end_of (after ++ more) ≡ end_of after)
+end_stays : (after more : List ℕ) → (data_block_end after ≡ Open) ⊎ (data_block_end (after ++ more) ≡ data_block_end after)
 end_stays [] more = inl refl
 end_stays (b ∷ []) [] = inr refl
-end_stays (b ∷ []) (c ∷ more) = (elim (eqb b CR) as (λ t. eqb b CR ≡ t → (end_of (b ∷ []) ≡ Open) ⊎ (end_of ((b ∷ []) ++ c ∷ more) ≡ end_of (b ∷ []))) [
+end_stays (b ∷ []) (c ∷ more) = (elim (eqb b CR) as (λ t. eqb b CR ≡ t → (data_block_end (b ∷ []) ≡ Open) ⊎ (data_block_end ((b ∷ []) ++ c ∷ more) ≡ data_block_end (b ∷ []))) [
   | true ↦ λ e. inl (rw e refl)
   | false ↦ λ e. inr (rw e refl)
 ]) refl
@@ -45,10 +45,10 @@ with_block_stays order used n rest more x e =
             | inl o ↦ let f : with_block order used (take n rest) Open ≡ Some x = rw o at e in absurd (cc)
             | inr s ↦ rw (d, t, s) e
           ]
-      | inr ge ↦ let f : with_block order used (take n rest) (end_of []) ≡ Some x = rw (drop_all n rest ge) at e in absurd (cc)
+      | inr ge ↦ let f : with_block order used (take n rest) (data_block_end []) ≡ Some x = rw (drop_all n rest ge) at e in absurd (cc)
     ]
 
-good_long : (after : List ℕ) → end_of after ≡ Good → 2 ≤ length after
+good_long : (after : List ℕ) → data_block_end after ≡ Good → 2 ≤ length after
 good_long [] e = absurd cc
 good_long (b ∷ []) e = (elim (eqb b CR) as (λ t. eqb b CR ≡ t → 2 ≤ 1) [
   | true ↦ λ t. let f : Open ≡ Good = rw t at e in absurd cc
@@ -56,7 +56,7 @@ good_long (b ∷ []) e = (elim (eqb b CR) as (λ t. eqb b CR ≡ t → 2 ≤ 1) 
 ]) refl
 good_long (b ∷ c ∷ after) e = omega arith
 
-by_end : {Order : Type 0} (order : Order) (used n : ℕ) (rest : List ℕ) (x : Message Order × ℕ) (r : End) → end_of (drop n rest) ≡ r → with_block order used (take n rest) r ≡ Some x → x.1 ≤ used + length rest
+by_end : {Order : Type 0} (order : Order) (used n : ℕ) (rest : List ℕ) (x : Message Order × ℕ) (r : End) → data_block_end (drop n rest) ≡ r → with_block order used (take n rest) r ≡ Some x → x.1 ≤ used + length rest
 by_end order used n rest x Open r e = absurd (cc)
 by_end order used n rest x Good r e =
     let long = good_long (drop n rest) r in
@@ -68,7 +68,7 @@ by_end order used n rest x Bad r e =
 
 within_rest : {Order : Type 0} (order : Order) (used : ℕ) (rest : List ℕ) (x : Message Order × ℕ) (n : Option ℕ) → with_rest order used rest n ≡ Some x → x.1 ≤ used + length rest
 within_rest order used rest x None e = let is : used ≡ x.1 = ap (λ y. y.1) (some_is (Served order [], used) x e) in omega arith
-within_rest order used rest x (Some n) e = by_end order used n rest x (end_of (drop n rest)) refl e
+within_rest order used rest x (Some n) e = by_end order used n rest x (data_block_end (drop n rest)) refl e
 
 some_by_end : {Order : Type 0} (order : Order) (used n : ℕ) (rest : List ℕ) (x : Message Order × ℕ) (end : End) → 1 ≤ used → with_block order used (take n rest) end ≡ Some x → 1 ≤ x.1
 some_by_end order used n rest x Open some e = absurd (cc)
@@ -77,7 +77,7 @@ some_by_end order used n rest x Bad some e = let is : used + length (take n rest
 
 some_by_rest : {Order : Type 0} (order : Order) (used : ℕ) (rest : List ℕ) (x : Message Order × ℕ) (n : Option ℕ) → 1 ≤ used → with_rest order used rest n ≡ Some x → 1 ≤ x.1
 some_by_rest order used rest x None some e = let is : used ≡ x.1 = ap (λ y. y.1) (some_is (Served order [], used) x e) in omega arith
-some_by_rest order used rest x (Some n) some e = some_by_end order used n rest x (end_of (drop n rest)) some e
+some_by_rest order used rest x (Some n) some e = some_by_end order used n rest x (data_block_end (drop n rest)) some e
 
 through-append : (bytes more : List ℕ) → through_newline (bytes ++ more) ≡ extended (through_newline bytes) more
 through-append [] more = refl
@@ -140,7 +140,7 @@ module _ (G : Grammar) where
   within (Ok order) skip used rest x e = within_rest order used rest x (G.block_len order) e
 
   -- a message takes no more than there is
-  pub used_within : (bytes : List ℕ) (message : Message G.Order) (used : ℕ) → Begins G bytes message used → used ≤ length bytes
+  pub used_within : (bytes : List ℕ) (message : Message G.Order) (used : ℕ) → BeginsMessage G bytes message used → used ≤ length bytes
   used_within bytes message used b =
       let le = within (G.order_of (words (without_cr b.text))) (G.skip_of (words (without_cr b.text))) (length b.text + 1) b.rest (message, used) b.says in
       omega (arith, ap length b.line.whole, length-append b.text (LF ∷ b.rest))
@@ -149,33 +149,33 @@ module _ (G : Grammar) where
   after_message-append (Served order block) rest more = own-append (G.own_by order) rest more
   after_message-append (Refusal why skip) rest more = skipped-append skip rest more
 
-  pub goes_on : GoesOn G
+  pub goes_on : StaysRead G
   goes_on from to [] more g = ap (λ (p : Place). extended p more) g
   goes_on (Stands Nothing held) to (message ∷ messages) more g =
       let used = g.0 in
       let le = used_within held message used g.1.0 in
       let next : after_message G message (drop used (held ++ more)) ≡ extended (after_message G message (drop used held)) more = ap (after_message G message) (drop-append-le used held more le) ∙ after_message-append message (drop used held) more in
       let rest = goes_on (after_message G message (drop used held)) to messages more g.1.1 in
-      (used, (begins_still held more message used g.1.0, subst (λ (p : Place). Goes G p messages (extended to more)) (sym next) rest))
+      (used, (begins_still held more message used g.1.0, subst (λ (p : Place). GoesThrough G p messages (extended to more)) (sym next) rest))
   goes_on (Stands (Bytes n) held) to (message ∷ messages) more g = absurd g
   goes_on (Stands ThroughNewline held) to (message ∷ messages) more g = absurd g
   goes_on Closed to (message ∷ messages) more g = absurd g
 
   pub goes_further : GoesFurther G
-  goes_further from through to [] others g h = subst (λ (p : Place). Goes G p others to) (sym g) h
+  goes_further from through to [] others g h = subst (λ (p : Place). GoesThrough G p others to) (sym g) h
   goes_further (Stands Nothing held) through to (message ∷ messages) others g h = (g.0, (g.1.0, goes_further (after_message G message (drop g.0 held)) through to messages others g.1.1 h))
   goes_further (Stands (Bytes n) held) through to (message ∷ messages) others g h = absurd g
   goes_further (Stands ThroughNewline held) through to (message ∷ messages) others g h = absurd g
   goes_further Closed through to (message ∷ messages) others g h = absurd g
 
-  from_one_place : (from : Place) (ms ns : List (Message G.Order)) (p q : Place) → Goes G from ms p → Goes G from ns q → IsStuck G p → IsStuck G q → (ms ≡ ns) × (p ≡ q)
+  from_one_place : (from : Place) (ms ns : List (Message G.Order)) (p q : Place) → GoesThrough G from ms p → GoesThrough G from ns q → HasNoMessage G p → HasNoMessage G q → (ms ≡ ns) × (p ≡ q)
   from_one_place from [] [] p q g h s t = (refl, sym g ∙ h)
-  from_one_place (Stands Nothing held) [] (n ∷ ns) p q g h s t = absurd (subst (IsStuck G) (sym g) s n h.0 h.1.0)
-  from_one_place (Stands Nothing held) (m ∷ ms) [] p q g h s t = absurd (subst (IsStuck G) (sym h) t m g.0 g.1.0)
+  from_one_place (Stands Nothing held) [] (n ∷ ns) p q g h s t = absurd (subst (HasNoMessage G) (sym g) s n h.0 h.1.0)
+  from_one_place (Stands Nothing held) (m ∷ ms) [] p q g h s t = absurd (subst (HasNoMessage G) (sym h) t m g.0 g.1.0)
   from_one_place (Stands Nothing held) (m ∷ ms) (n ∷ ns) p q g h s t =
       let same = one_message held m n g.0 h.0 g.1.0 h.1.0 in
       let next : after_message G n (drop h.0 held) ≡ after_message G m (drop g.0 held) = rw (same.0, same.1) refl in
-      let both = from_one_place (after_message G m (drop g.0 held)) ms ns p q g.1.1 (subst (λ (x : Place). Goes G x ns q) next h.1.1) s t in
+      let both = from_one_place (after_message G m (drop g.0 held)) ms ns p q g.1.1 (subst (λ (x : Place). GoesThrough G x ns q) next h.1.1) s t in
       (ap2_cons m n ms ns same.0 both.0, both.1)
   from_one_place (Stands (Bytes k) held) [] (n ∷ ns) p q g h s t = absurd h
   from_one_place (Stands (Bytes k) held) (m ∷ ms) ns p q g h s t = absurd g
@@ -195,9 +195,9 @@ module _ (G : Grammar) where
   some_by_line (Ok order) skip used rest x some e = some_by_rest order used rest x (G.block_len order) some e
 
   -- a message takes a byte at least
-  pub some_taken : (bytes : List ℕ) (message : Message G.Order) (used : ℕ) → Begins G bytes message used → 1 ≤ used
+  pub some_taken : (bytes : List ℕ) (message : Message G.Order) (used : ℕ) → BeginsMessage G bytes message used → 1 ≤ used
   some_taken bytes message used b = some_by_line (G.order_of (words (without_cr b.text))) (G.skip_of (words (without_cr b.text))) (length b.text + 1) b.rest (message, used) (omega arith) b.says
 
   -- so fewer are left
-  pub fewer_left : (held : List ℕ) (message : Message G.Order) (used : ℕ) → Begins G held message used → length (drop used held) < length held
+  pub fewer_left : (held : List ℕ) (message : Message G.Order) (used : ℕ) → BeginsMessage G held message used → length (drop used held) < length held
   fewer_left held message used b = omega (arith, some_taken held message used b, used_within held message used b, length-drop used held)

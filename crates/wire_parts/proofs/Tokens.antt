@@ -9,7 +9,7 @@ use Rattle.std.proofs.lemmas.Int.{ints}
 use Rattle.std.proofs.lemmas.Fmt.{length-decimal-le}
 use Rattle.std.proofs.lemmas.List.{length-append, append-nil, take_at, drop_at}
 use Rattle.text_words.specs.Line.{IsLine, CR, LF}
-use Rattle.text_words.specs.Spelling.{spaced, line_of}
+use Rattle.text_words.specs.Spelling.{spaced, words_line}
 use Rattle.text_words.proofs.Spaced.{IsPlain, ArePlain, all_plain, decimal_word, signed_word, plain_words, plain_lines, is_line, line_words, spaced-more}
 use Rattle.text_words.proofs.NumberLemmas.{number_below-decimal}
 use Rattle.text_words.proofs.ReadBack.{signed_are_read_back}
@@ -18,7 +18,7 @@ use Rattle.mc_types.specs.Asks.{IsExptime}
 use Rattle.wire_parts.specs.declared.refusal.RefusalReason.{RefusalReason}
 use Rattle.wire_parts.specs.Tests.{Word, is_key, key_of, u32_of, u64_of, exptime_of, block_text}
 use Rattle.wire_parts.specs.Grammar.{Grammar}
-use Rattle.wire_parts.specs.Message.{Served, Begins, meaning, meaning_of, with_rest}
+use Rattle.wire_parts.specs.Message.{Served, BeginsMessage, meaning, meaning_of, with_rest}
 
 key_byte : (b : ℕ) → is_key_byte b ≡ true → 33 ≤ b
 key_byte b e = elim (cases_lt b 33) [
@@ -81,10 +81,10 @@ signed_token z h = record { plain = signed_word z (fits z h); short = signed_sho
 
 -- a line of tokens is read as what they ask
 module _ (G : Grammar) (ws : List Word) (o : G.Order) (are : AreTokens ws) (few : length ws ≤ 20) (asks : G.order_of ws ≡ Ok o) where
-  text_len : length (spaced ws ++ CR ∷ []) + 1 ≡ length (line_of ws)
+  text_len : length (spaced ws ++ CR ∷ []) + 1 ≡ length (words_line ws)
   text_len = omega (arith, length-append (spaced ws) (CR ∷ []), length-append (spaced ws) (codes "\r\n"))
 
-  line_is : (more : List ℕ) → IsLine (line_of ws ++ more) (spaced ws ++ CR ∷ []) more
+  line_is : (more : List ℕ) → IsLine (words_line ws ++ more) (spaced ws ++ CR ∷ []) more
   line_is more = let short = spaced_short ws are in is_line ws more (plain_lines ws (are_plain ws are)) (omega arith)
 
   means : (more : List ℕ) → meaning G (spaced ws ++ CR ∷ []) more ≡ with_rest o (length (spaced ws ++ CR ∷ []) + 1) more (G.block_len o)
@@ -92,7 +92,7 @@ module _ (G : Grammar) (ws : List Word) (o : G.Order) (are : AreTokens ws) (few 
       ap (λ (line : List Word). meaning_of G (G.order_of line) (G.skip_of line) (length (spaced ws ++ CR ∷ []) + 1) more) (line_words ws (plain_words ws (are_plain ws are)))
       ∙ ap (λ (r : Result G.Order RefusalReason). meaning_of G r (G.skip_of ws) (length (spaced ws ++ CR ∷ []) + 1) more) asks
 
-  begins_line : (more : List ℕ) → G.block_len o ≡ None → Begins G (line_of ws ++ more) (Served o []) (length (line_of ws))
+  begins_line : (more : List ℕ) → G.block_len o ≡ None → BeginsMessage G (words_line ws ++ more) (Served o []) (length (words_line ws))
   begins_line more none = record {
     text = spaced ws ++ CR ∷ [];
     rest = more;
@@ -100,17 +100,17 @@ module _ (G : Grammar) (ws : List Word) (o : G.Order) (are : AreTokens ws) (few 
     says = means more ∙ ap (with_rest o (length (spaced ws ++ CR ∷ []) + 1) more) none ∙ ap (λ (n : ℕ). Some (Served o [], n)) text_len;
   }
 
-  pub begins_plain : (more : List ℕ) → G.block_len o ≡ None → Begins G ((line_of ws ++ []) ++ more) (Served o []) (length (line_of ws ++ []))
-  begins_plain more none = subst (λ (t : List ℕ). Begins G (t ++ more) (Served o []) (length t)) (sym (append-nil (line_of ws))) (begins_line more none)
+  pub begins_plain : (more : List ℕ) → G.block_len o ≡ None → BeginsMessage G ((words_line ws ++ []) ++ more) (Served o []) (length (words_line ws ++ []))
+  begins_plain more none = subst (λ (t : List ℕ). BeginsMessage G (t ++ more) (Served o []) (length t)) (sym (append-nil (words_line ws))) (begins_line more none)
 
-  pub begins_block : (body more : List ℕ) → G.block_len o ≡ Some (length body) → Begins G ((line_of ws ++ block_text body) ++ more) (Served o body) (length (line_of ws ++ block_text body))
+  pub begins_block : (body more : List ℕ) → G.block_len o ≡ Some (length body) → BeginsMessage G ((words_line ws ++ block_text body) ++ more) (Served o body) (length (words_line ws ++ block_text body))
   begins_block body more long =
       let rest : List ℕ = body ++ (CR ∷ LF ∷ more) in
       let used : ℕ = length (spaced ws ++ CR ∷ []) + 1 in
-      let cut : (line_of ws ++ block_text body) ++ more ≡ line_of ws ++ rest = append_assoc (line_of ws) (block_text body) more ∙ ap (λ (t : List ℕ). line_of ws ++ t) (append_assoc body (CR ∷ LF ∷ []) more) in
+      let cut : (words_line ws ++ block_text body) ++ more ≡ words_line ws ++ rest = append_assoc (words_line ws) (block_text body) more ∙ ap (λ (t : List ℕ). words_line ws ++ t) (append_assoc body (CR ∷ LF ∷ []) more) in
       let front : take (length body) rest ≡ body = take_at body (CR ∷ LF ∷ more) (length body) refl in
       let back : drop (length body) rest ≡ CR ∷ LF ∷ more = drop_at body (CR ∷ LF ∷ more) (length body) refl in
-      let all : used + length body + 2 ≡ length (line_of ws ++ block_text body) = omega (arith, text_len, length-append (line_of ws) (block_text body), length-append body (codes "\r\n")) in
+      let all : used + length body + 2 ≡ length (words_line ws ++ block_text body) = omega (arith, text_len, length-append (words_line ws) (block_text body), length-append body (codes "\r\n")) in
       let block : with_rest o used rest (Some (length body)) ≡ Some (Served o body, used + length body + 2) = rw (front, back) refl in
       record {
         text = spaced ws ++ CR ∷ [];

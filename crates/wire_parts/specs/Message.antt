@@ -2,7 +2,7 @@
 use Rattle.std.specs.Prelude.{◌≡◌, ℕ, ◌+◌, ◌&&◌, List, [], ◌∷◌, length, take, drop, Option, Some, None, Result, Ok, Err, ◌==◌, if◌then◌else◌}
 use Rattle.text_words.specs.Line.{IsLine, LF, CR, without_cr}
 use Rattle.text_words.specs.Word.{words, text_at}
-use Rattle.wire_parts.specs.Places.{IsIn}
+use Rattle.wire_parts.specs.Places.{SpanIsIn}
 use Rattle.wire_parts.specs.declared.refusal.RefusalReason.{RefusalReason}
 use Rattle.wire_parts.specs.declared.refusal.RefusalReason.TheVariants.{BadChunk}
 use Rattle.wire_parts.specs.declared.skip.Skip.{Skip}
@@ -19,10 +19,10 @@ pub data Message (Order : Type 0) : Type 0 where
   Refusal : (why : RefusalReason) (skip : Skip) → Message Order
 
 -- how a data block ends, by what follows its data
-abbrev pub end_of : List ℕ → End
-end_of [] = Open
-end_of (b ∷ []) = if b == CR then Open else Bad
-end_of (b ∷ c ∷ more) = if b == CR && c == LF then Good else Bad
+abbrev pub data_block_end : List ℕ → End
+data_block_end [] = Open
+data_block_end (b ∷ []) = if b == CR then Open else Bad
+data_block_end (b ∷ c ∷ more) = if b == CR && c == LF then Good else Bad
 
 -- a message, and how many bytes it takes; none where more must come
 abbrev pub Found : Type 0 → Type 0
@@ -37,12 +37,12 @@ with_block order used block Bad = Some (Refusal BadChunk ThroughNewline, used + 
 -- an order, after a line of so many bytes, with what follows it
 abbrev pub with_rest : {Order : Type 0} → Order → ℕ → List ℕ → Option ℕ → Found Order
 with_rest order used rest None = Some (Served order [], used)
-with_rest order used rest (Some n) = with_block order used (take n rest) (end_of (drop n rest))
+with_rest order used rest (Some n) = with_block order used (take n rest) (data_block_end (drop n rest))
 
 -- what follows a line, whatever that asks, stands there
 abbrev pub IsRest : List ℕ → Rest → Found (Unit {0}) → Type 0
 IsRest bytes rests.More found = found ≡ None
-IsRest bytes (rests.Whole block used) found = IsIn (length bytes) block × (found ≡ Some (Served tt (text_at bytes block), used))
+IsRest bytes (rests.Whole block used) found = SpanIsIn (length bytes) block × (found ≡ Some (Served tt (text_at bytes block), used))
 IsRest bytes (rests.Bad used) found = found ≡ Some (Refusal BadChunk ThroughNewline, used)
 
 -- the same message, of orders that are seen so
@@ -67,7 +67,7 @@ module _ (G : Grammar) where
       meaning_of (G.order_of line) (G.skip_of line) (length text + 1) rest
 
   -- the bytes begin with this message, which takes so many of them
-  pub record Begins (bytes : List ℕ) (message : Message G.Order) (used : ℕ) : Type 0 where
+  pub record BeginsMessage (bytes : List ℕ) (message : Message G.Order) (used : ℕ) : Type 0 where
     pub text : List ℕ
     pub rest : List ℕ
     pub line : IsLine bytes text rest

@@ -4,7 +4,7 @@ use Rattle.text_words.specs.declared.word.Span.{Span}
 use Rattle.wire_parts.specs.declared.refusal.RefusalReason.{RefusalReason}
 
 -- the span lies in so many bytes
-pub record IsIn (n : ℕ) (s : Span) : Type 0 where
+pub record SpanIsIn (n : ℕ) (s : Span) : Type 0 where
   pub ordered : s.start ≤ s.end
   pub within : s.end ≤ n
 

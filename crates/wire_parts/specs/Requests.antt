@@ -3,8 +3,8 @@ use Rattle.std.specs.Prelude.{◌≡◌, ℕ, Bool, false, List, [], ◌∷◌, 
 use Rattle.std.specs.List.{AllByRecursion}
 use Rattle.mc_types.specs.declared.ask.Ask.{Ask}
 use Rattle.wire_parts.specs.Grammar.{Grammar}
-use Rattle.wire_parts.specs.Message.{Message, Begins}
-use Rattle.wire_parts.specs.Laws.{BeginsStill, OneMessage, TooLongBeginsNothing, GoesOn, GoesFurther, OneSplitting}
+use Rattle.wire_parts.specs.Message.{Message, BeginsMessage}
+use Rattle.wire_parts.specs.Laws.{BeginsStill, OneMessage, TooLongBeginsNothing, StaysRead, GoesFurther, OneSplitting}
 
 pub record Requests : Type 1 where
   pub grammar : Grammar
@@ -31,11 +31,11 @@ module _ (R : Requests) where
 
   -- each ask of a message that was read is well formed
   abbrev pub AsksAreWellFormed : Type 0
-  AsksAreWellFormed = (bytes : List ℕ) (message : Message R.grammar.Order) (used : ℕ) → Begins R.grammar bytes message used → AllByRecursion R.IsAsked (R.asks_of message)
+  AsksAreWellFormed = (bytes : List ℕ) (message : Message R.grammar.Order) (used : ℕ) → BeginsMessage R.grammar bytes message used → AllByRecursion R.IsAsked (R.asks_of message)
 
   -- bytes that begin with the spelling of an ask begin with its message, whatever follows
   abbrev pub AsksAreReadBack : Type 0
-  AsksAreReadBack = (ask : Ask) (more : List ℕ) → R.IsAsked ask → Begins R.grammar (R.spelling_of ask ++ more) (R.message_of ask) (length (R.spelling_of ask))
+  AsksAreReadBack = (ask : Ask) (more : List ℕ) → R.IsAsked ask → BeginsMessage R.grammar (R.spelling_of ask ++ more) (R.message_of ask) (length (R.spelling_of ask))
 
   -- the message of an ask is this ask alone, and wants an answer
   abbrev pub MessagesAreOneAsk : Type 0
@@ -46,7 +46,7 @@ module _ (R : Requests) where
     pub begins_still : BeginsStill R.grammar
     pub one_message : OneMessage R.grammar
     pub too_long_begins_nothing : TooLongBeginsNothing R.grammar
-    pub goes_on : GoesOn R.grammar
+    pub goes_on : StaysRead R.grammar
     pub goes_further : GoesFurther R.grammar
     pub one_splitting : OneSplitting R.grammar
     pub read_still : ReadStill

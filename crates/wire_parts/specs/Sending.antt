@@ -6,21 +6,21 @@ use Rattle.wire_parts.specs.declared.to_send.piece.Piece.TheVariants.{Text, Data
 use Rattle.wire_parts.specs.declared.to_send.buffer.SendBuffer.{SendBuffer}
 
 -- what of a piece is still to be sent
-abbrev pub bytes_in : Piece → List ℕ
-bytes_in (Text text) = text.items
-bytes_in (Data body sent) = drop sent body
+abbrev pub sending_bytes : Piece → List ℕ
+sending_bytes (Text text) = text.items
+sending_bytes (Data body sent) = drop sent body
 
 -- all that is to be sent: each piece in its order, and then the text
 abbrev pub bytes_of : SendBuffer → List ℕ
-bytes_of buffer = flat_map bytes_in buffer.pieces.items ++ buffer.text.items
+bytes_of buffer = flat_map sending_bytes buffer.pieces.items ++ buffer.text.items
 
 -- what stands at a place: a piece, the text after all pieces, or nothing
 abbrev pub part_at : ℕ → List Piece → List ℕ → List ℕ
 part_at zero [] text = text
 part_at (suc n) [] text = []
-part_at zero (piece ∷ pieces) text = bytes_in piece
+part_at zero (piece ∷ pieces) text = sending_bytes piece
 part_at (suc n) (piece ∷ pieces) text = part_at n pieces text
 
 -- all begins with these bytes
-abbrev pub Begins : List ℕ → List ℕ → Type 0
-Begins front all = (rest : List ℕ) × (all ≡ front ++ rest)
+abbrev pub BeginsWithBytes : List ℕ → List ℕ → Type 0
+BeginsWithBytes front all = (rest : List ℕ) × (all ≡ front ++ rest)

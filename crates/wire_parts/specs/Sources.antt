@@ -9,9 +9,9 @@ bytes_from (Copied bytes) = bytes.now
 bytes_from (Shared bytes at) = drop at bytes.now
 
 -- what a buffer holds: the bytes that are frozen, or those that grow
-abbrev pub bytes_held : Option (List ℕ) → List ℕ → List ℕ
-bytes_held None growing = growing
-bytes_held (Some frozen) growing = frozen
+abbrev pub source_held : Option (List ℕ) → List ℕ → List ℕ
+source_held None growing = growing
+source_held (Some frozen) growing = frozen
 
 -- where bytes are frozen no others are held
 abbrev pub AreApart : Option (List ℕ) → List ℕ → Type 0

@@ -6,7 +6,7 @@ use Rattle.wire_parts.specs.declared.proxy_command.ProxyCommand.TheVariants.{Ver
 use Rattle.wire_parts.specs.declared.skip.Skip.{Skip}
 use Rattle.wire_parts.specs.declared.skip.Skip.TheVariants.{Nothing, Bytes, ThroughNewline}
 use Rattle.wire_parts.specs.Grammar.{Grammar}
-use Rattle.wire_parts.specs.Message.{Message, Served, Refusal, Begins}
+use Rattle.wire_parts.specs.Message.{Message, Served, Refusal, BeginsMessage}
 
 -- where a reader stands: what it has still to pass over, and the bytes that it holds; or it reads no more
 pub data Place : Type 0 where
@@ -43,20 +43,20 @@ module _ (G : Grammar) where
   after_message (Refusal why skip) rest = skipped skip rest
 
   -- from one place these messages come, one after another, and lead to the other
-  abbrev pub Goes : Place → List (Message G.Order) → Place → Type 0
-  Goes from [] to = from ≡ to
-  Goes (Stands Nothing held) (message ∷ messages) to = (used : ℕ) × (Begins G held message used × Goes (after_message message (drop used held)) messages to)
-  Goes (Stands (Bytes n) held) (message ∷ messages) to = ⊥
-  Goes (Stands ThroughNewline held) (message ∷ messages) to = ⊥
-  Goes Closed (message ∷ messages) to = ⊥
+  abbrev pub GoesThrough : Place → List (Message G.Order) → Place → Type 0
+  GoesThrough from [] to = from ≡ to
+  GoesThrough (Stands Nothing held) (message ∷ messages) to = (used : ℕ) × (BeginsMessage G held message used × GoesThrough (after_message message (drop used held)) messages to)
+  GoesThrough (Stands (Bytes n) held) (message ∷ messages) to = ⊥
+  GoesThrough (Stands ThroughNewline held) (message ∷ messages) to = ⊥
+  GoesThrough Closed (message ∷ messages) to = ⊥
 
   -- no whole message is there: less than one, or a line that is too long, or bytes to pass over, or none is read any more
-  abbrev pub IsStuck : Place → Type 0
-  IsStuck (Stands Nothing held) = (message : Message G.Order) (used : ℕ) → ¬ Begins G held message used
-  IsStuck (Stands (Bytes n) held) = Unit {0}
-  IsStuck (Stands ThroughNewline held) = Unit {0}
-  IsStuck Closed = Unit {0}
+  abbrev pub HasNoMessage : Place → Type 0
+  HasNoMessage (Stands Nothing held) = (message : Message G.Order) (used : ℕ) → ¬ BeginsMessage G held message used
+  HasNoMessage (Stands (Bytes n) held) = Unit {0}
+  HasNoMessage (Stands ThroughNewline held) = Unit {0}
+  HasNoMessage Closed = Unit {0}
 
   -- the stream is these messages, and then no whole one
-  abbrev pub Splits : List ℕ → List (Message G.Order) → Place → Type 0
-  Splits stream messages rest = Goes (Stands Nothing stream) messages rest × IsStuck rest
+  abbrev pub SplitsInto : List ℕ → List (Message G.Order) → Place → Type 0
+  SplitsInto stream messages rest = GoesThrough (Stands Nothing stream) messages rest × HasNoMessage rest

@@ -49,9 +49,9 @@ abbrev pub block_text : List ℕ → List ℕ
 block_text body = body ++ codes "\r\n"
 
 -- a length that was read: the data and their end
-abbrev pub skip_by : Option ℕ → Skip
-skip_by None = Nothing
-skip_by (Some n) = Bytes (n + 2)
+abbrev pub skip_length : Option ℕ → Skip
+skip_length None = Nothing
+skip_length (Some n) = Bytes (n + 2)
 
 -- a length, where a word is there and is one
 abbrev pub length_in : Option Word → Option ℕ

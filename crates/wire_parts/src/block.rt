@@ -1,6 +1,6 @@
 //! The data block after a line, and its end.
 ghost use Rattle.std.specs.Prelude.{◌≡◌, ◌≤◌, length, drop};
-ghost use Rattle.wire_parts.specs.Message.{end_of, with_rest, IsRest};
+ghost use Rattle.wire_parts.specs.Message.{data_block_end, with_rest, IsRest};
 
 use text_words::word::Span;
 
@@ -28,7 +28,7 @@ pub enum Rest {
 
 /// How a data block ends, by the bytes after its data.
 pub fn block_end(after: &[u8]) -> End
-    ensures { result ≡ end_of after.now }
+    ensures { result ≡ data_block_end after.now }
 {
     match after {
         [] | [b'\r'] => End::Open,

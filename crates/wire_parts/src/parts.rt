@@ -3,7 +3,7 @@ ghost use Rattle.std.specs.Prelude.{◌≡◌, ◌≤◌, [], length, drop, IfOk
 ghost use Rattle.std.specs.Option.{option_map};
 ghost use Rattle.text_words.specs.Word.{words, text_at, IsNextWord};
 ghost use Rattle.wire_parts.specs.Tests.{is_key, key_of, u32_of, u64_of, exptime_of, length_in};
-ghost use Rattle.wire_parts.specs.Places.{Gives, IsIn};
+ghost use Rattle.wire_parts.specs.Places.{Gives, SpanIsIn};
 
 use crate::key_bytes::are_key_bytes;
 use crate::refusal::RefusalReason;
@@ -30,7 +30,7 @@ pub fn word(line: &[u8], at: usize) -> Result<Span, RefusalReason>
 pub fn nth_word(line: &[u8], from: usize, place: usize) -> Option<Span>
     requires { from ≤ length line.now }
     ensures value { option_map (text_at line.now) result ≡ slice_get (words (drop from line.now)) place }
-    ensures within { IfSome result (IsIn (length line.now)) }
+    ensures within { IfSome result (SpanIsIn (length line.now)) }
 {
     let mut at = from;
     for _ in 0..place {
@@ -50,7 +50,7 @@ pub fn length_at(line: &[u8], from: usize, place: usize) -> Option<u32>
 
 /// The key that a word must be.
 pub fn key(line: &[u8], word: Span) -> Result<Span, RefusalReason>
-    requires { IsIn (length line.now) word }
+    requires { SpanIsIn (length line.now) word }
     ensures key { Gives (text_at line.now) result (key_of (text_at line.now word)) }
     ensures same { IfOk result (λ s. s ≡ word) }
 {
@@ -63,7 +63,7 @@ pub fn key(line: &[u8], word: Span) -> Result<Span, RefusalReason>
 
 /// The flags or the length that a word must be.
 pub fn u32_of(line: &[u8], word: Span) -> Result<u32, RefusalReason>
-    requires { IsIn (length line.now) word }
+    requires { SpanIsIn (length line.now) word }
     ensures { result ≡ u32_of (text_at line.now word) }
 {
     u32_number(&line[word.start..word.end]).ok_or(RefusalReason::BadNumber)
@@ -71,7 +71,7 @@ pub fn u32_of(line: &[u8], word: Span) -> Result<u32, RefusalReason>
 
 /// The number below 2^64 that a word must be.
 pub fn u64_of(line: &[u8], word: Span) -> Result<u64, RefusalReason>
-    requires { IsIn (length line.now) word }
+    requires { SpanIsIn (length line.now) word }
     ensures { result ≡ u64_of (text_at line.now word) }
 {
     number(&line[word.start..word.end]).ok_or(RefusalReason::BadNumber)
@@ -79,7 +79,7 @@ pub fn u64_of(line: &[u8], word: Span) -> Result<u64, RefusalReason>
 
 /// The exptime that a word must be.
 pub fn exptime(line: &[u8], word: Span) -> Result<i64, RefusalReason>
-    requires { IsIn (length line.now) word }
+    requires { SpanIsIn (length line.now) word }
     ensures { result ≡ exptime_of (text_at line.now word) }
 {
     signed(&line[word.start..word.end]).ok_or(RefusalReason::BadNumber)
@@ -87,7 +87,7 @@ pub fn exptime(line: &[u8], word: Span) -> Result<i64, RefusalReason>
 
 /// The text that stands there.
 pub fn text_at(bytes: &[u8], word: Span) -> &[u8]
-    requires { IsIn (length bytes.now) word }
+    requires { SpanIsIn (length bytes.now) word }
     ensures { result.now ≡ text_at bytes.now word }
 {
     &bytes[word.start..word.end]

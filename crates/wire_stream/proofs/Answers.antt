@@ -15,16 +15,16 @@ use Rattle.mc_types.specs.declared.answer.Fields.{Fields}
 use Rattle.mc_types.specs.declared.answer.Answer.{Answer}
 use Rattle.mc_types.specs.declared.answer.Answer.TheVariants.{Stored, NotStored, Exists, NotFound, Deleted, Touched, Number, Hit, Miss, Meta, ClientError, Error, ServerError}
 use Rattle.wire_answers.specs.Laws.{SpelledAnswersFit}
-use Rattle.wire_answers.specs.Spelling.{spelling_of}
+use Rattle.wire_answers.specs.Spelling.{answer_spelling}
 use Rattle.wire_answers.proofs.Reading.{one_answer}
 use Rattle.wire_answers.proofs.ReadBack.{answers_are_read_back}
-use Rattle.wire_answers.specs.Reading.{Spells, Reads}
+use Rattle.wire_answers.specs.Reading.{Spells, ReadsAnswer}
 use Rattle.wire_answers.specs.declared.reader.AnswerRead.{AnswerRead}
 use Rattle.wire_answers.specs.declared.reader.AnswerRead.TheVariants as reads
 use Rattle.wire_stream.specs.Replies.{shows_values}
 use Rattle.wire_stream.specs.Form.{is_retrieval, wanted, meta_form, in_meta}
 use Rattle.wire_stream.specs.Reading.{SaysSame, SaysSameIf, IsTold, ReadsInMeta}
-use Rattle.wire_stream.specs.MetaLaws.{AnswersAreRead, OneAnswer}
+use Rattle.wire_stream.specs.MetaLaws.{AnswersAreRead, OneMetaAnswer}
 use Rattle.wire_stream.proofs.Forms.{form_is_ask, in_meta_is, in_meta_else, texts_are}
 
 some_of : {A : Type 0} (o : Option A) → is_some o ≡ true → IsSome o
@@ -117,7 +117,7 @@ fits_back ask Error answer e fits says = subst (Fits ask) (sym says) (fits_by as
 fits_back ask (ServerError text) answer e fits says = subst (Fits ask) (sym says) (fits_by ask (ServerError text) e fits.ranges refl)
 
 -- an ask that isn't translated
-pub reads_as_it_is : SpelledAnswersFit → (ask : Ask) (bytes : List ℕ) (read : AnswerRead) → IsAsk ask → is_retrieval ask ≡ false → Reads ask bytes read → ReadsInMeta ask bytes read
+pub reads_as_it_is : SpelledAnswersFit → (ask : Ask) (bytes : List ℕ) (read : AnswerRead) → IsAsk ask → is_retrieval ask ≡ false → ReadsAnswer ask bytes read → ReadsInMeta ask bytes read
 reads_as_it_is fit ask bytes (reads.Answer answer used) is e read = (
   record {
     told = answer;
@@ -126,17 +126,17 @@ reads_as_it_is fit ask bytes (reads.Answer answer used) is e read = (
   },
   fit ask bytes answer used is read,
 )
-reads_as_it_is fit ask bytes reads.More is e read = subst (λ x. Reads x bytes reads.More) (sym (in_meta_else ask e)) read
-reads_as_it_is fit ask bytes reads.Foreign is e read = subst (λ x. Reads x bytes reads.Foreign) (sym (in_meta_else ask e)) read
+reads_as_it_is fit ask bytes reads.More is e read = subst (λ x. ReadsAnswer x bytes reads.More) (sym (in_meta_else ask e)) read
+reads_as_it_is fit ask bytes reads.Foreign is e read = subst (λ x. ReadsAnswer x bytes reads.Foreign) (sym (in_meta_else ask e)) read
 
 pub told_fits : SpelledAnswersFit → (ask form : Ask) (bytes : List ℕ) (told : Answer) (used : ℕ) → IsAsk ask → is_retrieval ask ≡ true → form ≡ meta_form ask → Spells form bytes told used → IsTold told
 told_fits fit ask form bytes told used is e same spells = told_is ask told e (fit (meta_form ask) bytes told used (form_is_ask ask is e) (subst (λ x. Spells x bytes told used) same spells))
 
 -- an answer that was translated
 pub reads_answer : SpelledAnswersFit → (ask form : Ask) (bytes : List ℕ) (read : AnswerRead) (told answer : Answer) (used : ℕ) → IsAsk ask → is_retrieval ask ≡ true → form ≡ meta_form ask
-    → Reads form bytes read → read ≡ reads.Answer told used → SaysSame told answer → ReadsInMeta ask bytes (reads.Answer answer used)
+    → ReadsAnswer form bytes read → read ≡ reads.Answer told used → SaysSame told answer → ReadsInMeta ask bytes (reads.Answer answer used)
 reads_answer fit ask form bytes read told answer used is e same h told_is says =
-    let spells : Spells (meta_form ask) bytes told used = subst (λ x. Spells x bytes told used) same (subst (Reads form bytes) told_is h) in (
+    let spells : Spells (meta_form ask) bytes told used = subst (λ x. Spells x bytes told used) same (subst (ReadsAnswer form bytes) told_is h) in (
       record {
         told = told;
         spells = subst (λ x. Spells x bytes told used) (sym (in_meta_is ask e)) spells;
@@ -146,8 +146,8 @@ reads_answer fit ask form bytes read told answer used is e same h told_is says =
     )
 
 -- where the bytes hold no answer in meta form, none is read
-pub reads_none : (ask form : Ask) (bytes : List ℕ) (read none : AnswerRead) → is_retrieval ask ≡ true → form ≡ meta_form ask → Reads form bytes read → read ≡ none → Reads (in_meta ask) bytes none
-reads_none ask form bytes read none e same h is = subst (λ x. Reads x bytes none) (same ∙ sym (in_meta_is ask e)) (subst (Reads form bytes) is h)
+pub reads_none : (ask form : Ask) (bytes : List ℕ) (read none : AnswerRead) → is_retrieval ask ≡ true → form ≡ meta_form ask → ReadsAnswer form bytes read → read ≡ none → ReadsAnswer (in_meta ask) bytes none
+reads_none ask form bytes read none e same h is = subst (λ x. ReadsAnswer x bytes none) (same ∙ sym (in_meta_is ask e)) (subst (ReadsAnswer form bytes) is h)
 
 -- the classic answer is determined by what was told
 pub says_once : (retrieves : Bool) (told a b : Answer) → SaysSameIf retrieves told a → SaysSameIf retrieves told b → a ≡ b
@@ -166,7 +166,7 @@ says_once true (Meta Ex fields) a b s t = absurd s
 says_once true (Meta Nf fields) a b s t = absurd s
 says_once true told a b s t = s ∙ sym t
 
-pub one_answer_is : OneAnswer
+pub one_answer_is : OneMetaAnswer
 one_answer_is ask bytes a b m n s t =
     let same = one_answer (in_meta ask) bytes s.told t.told m n s.spells t.spells in
     (says_once (is_retrieval ask) s.told a b s.says (subst (λ x. SaysSameIf (is_retrieval ask) x b) (sym same.0) t.says), same.1)
@@ -196,7 +196,7 @@ answers_are_read_is ask told more is e fits =
       said.1,
       record {
         told = told;
-        spells = subst (λ x. Spells x (spelling_of (meta_form ask) told ++ more) told (length (spelling_of (meta_form ask) told))) (sym (in_meta_is ask e)) spells;
+        spells = subst (λ x. Spells x (answer_spelling (meta_form ask) told ++ more) told (length (answer_spelling (meta_form ask) told))) (sym (in_meta_is ask e)) spells;
         says = subst (λ b. SaysSameIf b told said.0) (sym e) said.1;
       },
     )

@@ -11,17 +11,17 @@ use Rattle.wire_stream.specs.Both.{both_grammar}
 use Rattle.wire_stream.specs.Message.{message_in, used_of}
 use Rattle.wire_stream.specs.Asks.{asks_of, counted, request_of, taken_of}
 use Rattle.wire_stream.proofs.RequestLaws.{read_still, walk_still}
-use Rattle.wire_stream.specs.Held.{held_at, IsReadAt}
+use Rattle.wire_stream.specs.Held.{bytes_at, IsReadAt}
 use Rattle.wire_stream.specs.declared.connection.client_stream.Walk.{Walk}
-use Rattle.wire_stream.specs.ClientStreams.{IsWalkAt, IsKept}
+use Rattle.wire_stream.specs.ClientStreams.{IsWalkAt, WalkIsKept}
 use Rattle.wire_stream.proofs.Fronts.{front_is}
 
 -- the walk that is kept at a place is kept there when more has come
-pub still_kept : (place : Place) (more : List ℕ) (walk : Option Walk) → IsKept place walk → IsKept (extended place more) walk
+pub still_kept : (place : Place) (more : List ℕ) (walk : Option Walk) → WalkIsKept place walk → WalkIsKept (extended place more) walk
 still_kept place more None kept = kept
 still_kept place more (Some walk) kept =
     let front = front_is place walk.request kept.read in
-    let held = held_at place in
+    let held = bytes_at place in
     subst (λ (p : Place). IsWalkAt (extended p more) walk) (sym front.stands) (record {
       read = (read_still held more walk.request front.read).0;
       asks = walk_still held more walk.asks kept.asks;
@@ -30,14 +30,14 @@ still_kept place more (Some walk) kept =
     })
 
 -- the walk that is kept at a place is kept there after a piece, whether memory was refused for the piece or not
-pub either_kept : {E : Type 0} (fed : Result (Unit {0}) E) (old new : Place) (more : List ℕ) (walk : Option Walk) → IsKept old walk → OnOk fed (new ≡ extended old more) → OnErr fed (new ≡ old) → IsKept new walk
-either_kept (Ok done) old new more walk kept ok err = subst (λ (p : Place). IsKept p walk) (sym ok) (still_kept old more walk kept)
-either_kept (Err fault) old new more walk kept ok err = subst (λ (p : Place). IsKept p walk) (sym err) kept
+pub either_kept : {E : Type 0} (fed : Result (Unit {0}) E) (old new : Place) (more : List ℕ) (walk : Option Walk) → WalkIsKept old walk → OnOk fed (new ≡ extended old more) → OnErr fed (new ≡ old) → WalkIsKept new walk
+either_kept (Ok done) old new more walk kept ok err = subst (λ (p : Place). WalkIsKept p walk) (sym ok) (still_kept old more walk kept)
+either_kept (Err fault) old new more walk kept ok err = subst (λ (p : Place). WalkIsKept p walk) (sym err) kept
 
 -- requests that are read at one place ask the same
-pub same_asks : (place : Place) (r s : Request) → IsReadAt place (Requests r) → IsReadAt place (Requests s) → asks_of (message_in (held_at place) r) ≡ asks_of (message_in (held_at place) s)
+pub same_asks : (place : Place) (r s : Request) → IsReadAt place (Requests r) → IsReadAt place (Requests s) → asks_of (message_in (bytes_at place) r) ≡ asks_of (message_in (bytes_at place) s)
 same_asks place r s is so =
-    let held = held_at place in
+    let held = bytes_at place in
     let one = front_is place r is in
     let other = front_is place s so in
     ap asks_of (one_message both_grammar held (message_in held r) (message_in held s) (used_of r) (used_of s) one.read.begins other.read.begins).0
@@ -54,7 +54,7 @@ pub counted_one : (next : Option Ask) (xs : List Ask) (n : ℕ) → next ≡ sli
 counted_one next xs n is lt = ap (λ o. counted o n) (is ∙ (ask_within xs n lt).1)
 
 -- what a walk gives next is the ask that it stands at
-pub next_is : (place : Place) (walk : Walk) (bytes : List ℕ) (next : Option Ask) → bytes ≡ held_at place → IsWalkAt place walk
+pub next_is : (place : Place) (walk : Walk) (bytes : List ℕ) (next : Option Ask) → bytes ≡ bytes_at place → IsWalkAt place walk
     → next ≡ slice_get (asks_of (message_in bytes (request_of walk.asks))) (taken_of walk.asks)
-    → next ≡ slice_get (asks_of (message_in (held_at place) walk.request)) walk.taken
+    → next ≡ slice_get (asks_of (message_in (bytes_at place) walk.request)) walk.taken
 next_is place walk bytes next held at is = is ∙ (λ i. slice_get (asks_of (message_in (held i) (at.request i))) (at.taken i))

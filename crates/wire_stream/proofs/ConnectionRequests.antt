@@ -11,17 +11,17 @@ use Rattle.wire_stream.specs.declared.requests.request.Request.TheVariants.{Clas
 use Rattle.wire_stream.specs.Both as both
 use Rattle.wire_stream.specs.Message.{message_in}
 use Rattle.wire_stream.specs.Asks.{asks_of, own_of}
-use Rattle.wire_stream.specs.Stream.{after_message}
+use Rattle.wire_stream.specs.Stream.{after_any}
 use Rattle.wire_stream.specs.TextProtocol.{Whole, own_passed, passed_text}
 use Rattle.wire_stream.proofs.Fronts.{served_after}
 
 -- after a request with an ask the stream goes on
-pub request_after : (held : List ℕ) (request : Request) (rest : List ℕ) (i : ℕ) (ask : Ask) → slice_get (asks_of (message_in held request)) i ≡ Some ask → after_message (message_in held request) rest ≡ Stands Nothing rest
+pub request_after : (held : List ℕ) (request : Request) (rest : List ℕ) (i : ℕ) (ask : Ask) → slice_get (asks_of (message_in held request)) i ≡ Some ask → after_any (message_in held request) rest ≡ Stands Nothing rest
 request_after held (Classic r) rest i ask at = served_after (both.Classic (texts.order_in held r.command)) (text_at held r.block) rest i ask at
-request_after held (Meta r) rest i ask at = served_after (both.Meta (metas.order_in held r.command)) (text_at held r.block) rest i ask at
+request_after held (Meta r) rest i ask at = served_after (both.Meta (metas.meta_order_in held r.command)) (text_at held r.block) rest i ask at
 
 -- where the stream stands after what mcgate itself was asked
-pub own_next : (held : List ℕ) (request : Request) (rest : List ℕ) → after_own (own_of (message_in held request)) rest ≡ after_message (message_in held request) rest
+pub own_next : (held : List ℕ) (request : Request) (rest : List ℕ) → after_own (own_of (message_in held request)) rest ≡ after_any (message_in held request) rest
 own_next held (Classic r) rest = refl
 own_next held (Meta r) rest = refl
 

@@ -80,63 +80,63 @@ abbrev among_both : List Word → ℕ → List ℕ → Found AnyOrder
 among_both line used rest = meaning_of both_grammar (order_of line) (skip_of line) used rest
 
 abbrev in_classic : List Word → ℕ → List ℕ → Found texts.Order
-in_classic line used rest = meaning_of classic_grammar (texts.order_of line) (texts.skip_of line) used rest
+in_classic line used rest = meaning_of classic_grammar (texts.classic_order_of line) (texts.classic_skip_of line) used rest
 
 abbrev in_meta : List Word → ℕ → List ℕ → Found metas.MetaOrder
-in_meta line used rest = meaning_of meta_grammar (metas.order_of line) (metas.skip_of line) used rest
+in_meta line used rest = meaning_of meta_grammar (metas.meta_order_of line) (metas.meta_skip_of line) used rest
 
 by_verb : (v : Option Verb) (line : List Word) (used : ℕ) (rest : List ℕ) (o : texts.Order) (block : List ℕ) (n : ℕ) → meaning_of both_grammar (order_by v line) (skip_by v line) used rest ≡ Some (Served (Classic o) block, n) → in_classic line used rest ≡ Some (Served o block, n)
-by_verb None line used rest o block n e = found_lowered Classic same_classic (in_classic line used rest) o block n (sym (classic_lifted (texts.order_of line) (texts.skip_of line) used rest) ∙ e)
-by_verb (Some v) line used rest o block n e = absurd (never Meta Classic not_meta (in_meta line used rest) o block n (sym (meta_lifted (metas.order_of line) (metas.skip_of line) used rest) ∙ e))
+by_verb None line used rest o block n e = found_lowered Classic same_classic (in_classic line used rest) o block n (sym (classic_lifted (texts.classic_order_of line) (texts.classic_skip_of line) used rest) ∙ e)
+by_verb (Some v) line used rest o block n e = absurd (never Meta Classic not_meta (in_meta line used rest) o block n (sym (meta_lifted (metas.meta_order_of line) (metas.meta_skip_of line) used rest) ∙ e))
 
 classic_line : (line : List Word) (used : ℕ) (rest : List ℕ) (o : texts.Order) (block : List ℕ) (n : ℕ) → among_both line used rest ≡ Some (Served (Classic o) block, n) → in_classic line used rest ≡ Some (Served o block, n)
 classic_line [] used rest o block n e = absurd (refused_never Unknown (skip_of []) used (Classic o) block n e)
 classic_line (word ∷ words) used rest o block n e = by_verb (verb_of word) (word ∷ words) used rest o block n e
 
 by_meta_verb : (v : Option Verb) (line : List Word) (used : ℕ) (rest : List ℕ) (o : metas.MetaOrder) (block : List ℕ) (n : ℕ) → meaning_of both_grammar (order_by v line) (skip_by v line) used rest ≡ Some (Served (Meta o) block, n) → in_meta line used rest ≡ Some (Served o block, n)
-by_meta_verb None line used rest o block n e = absurd (never Classic Meta not_classic (in_classic line used rest) o block n (sym (classic_lifted (texts.order_of line) (texts.skip_of line) used rest) ∙ e))
-by_meta_verb (Some v) line used rest o block n e = found_lowered Meta same_meta (in_meta line used rest) o block n (sym (meta_lifted (metas.order_of line) (metas.skip_of line) used rest) ∙ e)
+by_meta_verb None line used rest o block n e = absurd (never Classic Meta not_classic (in_classic line used rest) o block n (sym (classic_lifted (texts.classic_order_of line) (texts.classic_skip_of line) used rest) ∙ e))
+by_meta_verb (Some v) line used rest o block n e = found_lowered Meta same_meta (in_meta line used rest) o block n (sym (meta_lifted (metas.meta_order_of line) (metas.meta_skip_of line) used rest) ∙ e)
 
 meta_line : (line : List Word) (used : ℕ) (rest : List ℕ) (o : metas.MetaOrder) (block : List ℕ) (n : ℕ) → among_both line used rest ≡ Some (Served (Meta o) block, n) → in_meta line used rest ≡ Some (Served o block, n)
 meta_line [] used rest o block n e = absurd (refused_never Unknown (skip_of []) used (Meta o) block n e)
 meta_line (word ∷ words) used rest o block n e = by_meta_verb (verb_of word) (word ∷ words) used rest o block n e
 
 -- a request of both is one of its dialect
-pub classic_begins : (bytes : List ℕ) (o : texts.Order) (block : List ℕ) (used : ℕ) → Begins bytes (Served (Classic o) block) used → text_messages.Begins bytes (Served o block) used
+pub classic_begins : (bytes : List ℕ) (o : texts.Order) (block : List ℕ) (used : ℕ) → Begins bytes (Served (Classic o) block) used → text_messages.BeginsClassic bytes (Served o block) used
 classic_begins bytes o block used b = record { text = b.text; rest = b.rest; line = b.line; says = classic_line (words (without_cr b.text)) (length b.text + 1) b.rest o block used b.says }
 
-pub meta_begins : (bytes : List ℕ) (o : metas.MetaOrder) (block : List ℕ) (used : ℕ) → Begins bytes (Served (Meta o) block) used → meta_messages.Begins bytes (Served o block) used
+pub meta_begins : (bytes : List ℕ) (o : metas.MetaOrder) (block : List ℕ) (used : ℕ) → Begins bytes (Served (Meta o) block) used → meta_messages.BeginsMeta bytes (Served o block) used
 meta_begins bytes o block used b = record { text = b.text; rest = b.rest; line = b.line; says = meta_line (words (without_cr b.text)) (length b.text + 1) b.rest o block used b.says }
 
 -- a line without a command word of its dialect serves nothing
 unknown : (line : List Word) (word : Word) (ws : List Word) (used : ℕ) (rest : List ℕ) (o : texts.Order) (block : List ℕ) (n : ℕ) → line ≡ word ∷ ws → text_words.verb_of word ≡ None → in_classic line used rest ≡ Some (Served o block, n) → ⊥
 unknown line word ws used rest o block n is none e =
-    let refused : texts.order_of line ≡ Err Unknown = rw (is, none) refl in
-    let same : in_classic line used rest ≡ Some (Refusal Unknown (texts.skip_of line), used) = ap (λ (r : Result texts.Order RefusalReason). meaning_of classic_grammar r (texts.skip_of line) used rest) refused in
-    refused_never Unknown (texts.skip_of line) used o block n (sym same ∙ e)
+    let refused : texts.classic_order_of line ≡ Err Unknown = rw (is, none) refl in
+    let same : in_classic line used rest ≡ Some (Refusal Unknown (texts.classic_skip_of line), used) = ap (λ (r : Result texts.Order RefusalReason). meaning_of classic_grammar r (texts.classic_skip_of line) used rest) refused in
+    refused_never Unknown (texts.classic_skip_of line) used o block n (sym same ∙ e)
 
 raised_by : (v : Option Verb) (word : Word) (ws : List Word) (used : ℕ) (rest : List ℕ) (o : texts.Order) (block : List ℕ) (n : ℕ) → verb_of word ≡ v → in_classic (word ∷ ws) used rest ≡ Some (Served o block, n) → meaning_of both_grammar (order_by v (word ∷ ws)) (skip_by v (word ∷ ws)) used rest ≡ Some (Served (Classic o) block, n)
-raised_by None word ws used rest o block n is e = classic_lifted (texts.order_of (word ∷ ws)) (texts.skip_of (word ∷ ws)) used rest ∙ ap (lift_found Classic) e
+raised_by None word ws used rest o block n is e = classic_lifted (texts.classic_order_of (word ∷ ws)) (texts.classic_skip_of (word ∷ ws)) used rest ∙ ap (lift_found Classic) e
 raised_by (Some v) word ws used rest o block n is e = absurd (unknown (word ∷ ws) word ws used rest o block n refl (no_classic word (meta_length word v is)) e)
 
 classic_among : (line : List Word) (used : ℕ) (rest : List ℕ) (o : texts.Order) (block : List ℕ) (n : ℕ) → in_classic line used rest ≡ Some (Served o block, n) → among_both line used rest ≡ Some (Served (Classic o) block, n)
-classic_among [] used rest o block n e = absurd (refused_never Unknown (texts.skip_of []) used o block n e)
+classic_among [] used rest o block n e = absurd (refused_never Unknown (texts.classic_skip_of []) used o block n e)
 classic_among (word ∷ ws) used rest o block n e = raised_by (verb_of word) word ws used rest o block n refl e
 
 meta_raised_by : (v : Option Verb) (word : Word) (ws : List Word) (used : ℕ) (rest : List ℕ) (o : metas.MetaOrder) (block : List ℕ) (n : ℕ) → verb_of word ≡ v → in_meta (word ∷ ws) used rest ≡ Some (Served o block, n) → meaning_of both_grammar (order_by v (word ∷ ws)) (skip_by v (word ∷ ws)) used rest ≡ Some (Served (Meta o) block, n)
 meta_raised_by None word ws used rest o block n is e =
-    let refused : metas.order_of (word ∷ ws) ≡ Err Unknown = rw is refl in
-    let same : in_meta (word ∷ ws) used rest ≡ Some (Refusal Unknown (metas.skip_of (word ∷ ws)), used) = ap (λ (r : Result metas.MetaOrder RefusalReason). meaning_of meta_grammar r (metas.skip_of (word ∷ ws)) used rest) refused in
-    absurd (refused_never Unknown (metas.skip_of (word ∷ ws)) used o block n (sym same ∙ e))
-meta_raised_by (Some v) word ws used rest o block n is e = meta_lifted (metas.order_of (word ∷ ws)) (metas.skip_of (word ∷ ws)) used rest ∙ ap (lift_found Meta) e
+    let refused : metas.meta_order_of (word ∷ ws) ≡ Err Unknown = rw is refl in
+    let same : in_meta (word ∷ ws) used rest ≡ Some (Refusal Unknown (metas.meta_skip_of (word ∷ ws)), used) = ap (λ (r : Result metas.MetaOrder RefusalReason). meaning_of meta_grammar r (metas.meta_skip_of (word ∷ ws)) used rest) refused in
+    absurd (refused_never Unknown (metas.meta_skip_of (word ∷ ws)) used o block n (sym same ∙ e))
+meta_raised_by (Some v) word ws used rest o block n is e = meta_lifted (metas.meta_order_of (word ∷ ws)) (metas.meta_skip_of (word ∷ ws)) used rest ∙ ap (lift_found Meta) e
 
 meta_among : (line : List Word) (used : ℕ) (rest : List ℕ) (o : metas.MetaOrder) (block : List ℕ) (n : ℕ) → in_meta line used rest ≡ Some (Served o block, n) → among_both line used rest ≡ Some (Served (Meta o) block, n)
-meta_among [] used rest o block n e = absurd (refused_never Unknown (metas.skip_of []) used o block n e)
+meta_among [] used rest o block n e = absurd (refused_never Unknown (metas.meta_skip_of []) used o block n e)
 meta_among (word ∷ ws) used rest o block n e = meta_raised_by (verb_of word) word ws used rest o block n refl e
 
 -- a request of a dialect is one of both
-pub begins_classic : (bytes : List ℕ) (o : texts.Order) (block : List ℕ) (used : ℕ) → text_messages.Begins bytes (Served o block) used → Begins bytes (Served (Classic o) block) used
+pub begins_classic : (bytes : List ℕ) (o : texts.Order) (block : List ℕ) (used : ℕ) → text_messages.BeginsClassic bytes (Served o block) used → Begins bytes (Served (Classic o) block) used
 begins_classic bytes o block used b = record { text = b.text; rest = b.rest; line = b.line; says = classic_among (words (without_cr b.text)) (length b.text + 1) b.rest o block used b.says }
 
-pub begins_meta : (bytes : List ℕ) (o : metas.MetaOrder) (block : List ℕ) (used : ℕ) → meta_messages.Begins bytes (Served o block) used → Begins bytes (Served (Meta o) block) used
+pub begins_meta : (bytes : List ℕ) (o : metas.MetaOrder) (block : List ℕ) (used : ℕ) → meta_messages.BeginsMeta bytes (Served o block) used → Begins bytes (Served (Meta o) block) used
 begins_meta bytes o block used b = record { text = b.text; rest = b.rest; line = b.line; says = meta_among (words (without_cr b.text)) (length b.text + 1) b.rest o block used b.says }

@@ -1,7 +1,7 @@
 -- The meta form of an ask that a client can write is one too, and is read as it was meant.
 use Rattle.std.proofs.Common.{◌≡◌, true, false, Bool, List, [], ◌∷◌, ◌++◌, length, None, refl, sym, ap, ◌∙◌, subst, append_assoc, append-nil, ℕ, arith}
 use Rattle.std.specs.Prelude.{codes}
-use Rattle.text_words.specs.Spelling.{spaced, line_of}
+use Rattle.text_words.specs.Spelling.{spaced, words_line}
 use Rattle.mc_types.specs.Tokens.{are_served}
 use Rattle.mc_types.specs.Asks.{AreInRange, IsAsk, HasShapeOf, shape_of, of_get}
 use Rattle.mc_types.specs.declared.ask.Op.{Op}
@@ -14,9 +14,9 @@ use Rattle.wire_parts.specs.Message.{Served}
 use Rattle.wire_parts.specs.Tests.{Word}
 use Rattle.wire_meta.specs.declared.command.Kind.TheVariants as kinds
 use Rattle.wire_meta.specs.Order.{Asking}
-use Rattle.wire_meta.specs.Spelling.{kind_of, token_words, exptime_words, order_for, line_words, block_by}
+use Rattle.wire_meta.specs.Spelling.{meta_kind, meta_token_words, exptime_words, meta_order_for, line_words, block_by}
 use Rattle.wire_stream.specs.Both as both
-use Rattle.wire_stream.specs.Message.{Message, Begins}
+use Rattle.wire_stream.specs.Message.{AnyMessage, Begins}
 use Rattle.wire_stream.specs.Asks.{asks_of, IsClientAsk}
 use Rattle.wire_stream.specs.Spelling.{spelling_of, message_of}
 use Rattle.wire_stream.proofs.RequestLaws.{asks_are_read_back, messages_are_one_ask}
@@ -59,7 +59,7 @@ pub texts_are : (with_cas : Bool) → AreTexts (wanted with_cas)
 texts_are true = (tt, (tt, (tt, (tt, tt))))
 texts_are false = (tt, (tt, (tt, tt)))
 
-kind_is : (dialect : Dialect) (op : Op) → shows_values dialect op ≡ true → kind_of op ≡ kinds.Get
+kind_is : (dialect : Dialect) (op : Op) → shows_values dialect op ≡ true → meta_kind op ≡ kinds.Get
 kind_is Classic Get e = refl
 kind_is Classic Gat e = refl
 kind_is Classic Set e = absurd cc
@@ -74,13 +74,13 @@ kind_is Classic Decr e = absurd cc
 kind_is Classic Touch e = absurd cc
 kind_is Meta op e = absurd cc
 
-words_are : (with_cas : Bool) → token_words (wanted with_cas) ++ [] ≡ codes "k" ∷ codes "f" ∷ codes "v" ∷ cas_flag with_cas
+words_are : (with_cas : Bool) → meta_token_words (wanted with_cas) ++ [] ≡ codes "k" ∷ codes "f" ∷ codes "v" ∷ cas_flag with_cas
 words_are true = refl
 words_are false = refl
 
 line_is : (ask : Ask) → is_retrieval ask ≡ true → message_of (meta_form ask) ≡ get_line ask
 line_is ask e =
-    let kind : message_of (meta_form ask) ≡ Served (both.Meta (order_for kinds.Get (meta_form ask))) [] = ap (λ k. Served (both.Meta (order_for k (meta_form ask))) []) (kind_is ask.dialect ask.op e) in
+    let kind : message_of (meta_form ask) ≡ Served (both.Meta (meta_order_for kinds.Get (meta_form ask))) [] = ap (λ k. Served (both.Meta (meta_order_for k (meta_form ask))) []) (kind_is ask.dialect ask.op e) in
     kind ∙ ap (λ (words : List Word). Served (both.Meta (Asking kinds.Get ask.key None (exptime_words ask.exptime ++ words))) []) (words_are ask.with_cas)
 
 -- after the key
@@ -88,7 +88,7 @@ abbrev end_words : Bool → List ℕ
 end_words true = codes " k f v c"
 end_words false = codes " k f v"
 
-spaced_is : (key : List ℕ) (with_cas : Bool) → spaced (codes "mg" ∷ key ∷ token_words (wanted with_cas) ++ []) ≡ codes "mg " ++ key ++ end_words with_cas
+spaced_is : (key : List ℕ) (with_cas : Bool) → spaced (codes "mg" ∷ key ∷ meta_token_words (wanted with_cas) ++ []) ≡ codes "mg " ++ key ++ end_words with_cas
 spaced_is key true = refl
 spaced_is key false = refl
 
@@ -99,9 +99,9 @@ end_is false = refl
 -- the line of a get that sets no expiry, as it is written
 pub get_text : (ask : Ask) → is_retrieval ask ≡ true → ask.exptime ≡ None → spelling_of (meta_form ask) ≡ codes "mg " ++ ask.key ++ get_end ask.with_cas
 get_text ask e none =
-    let kind : spelling_of (meta_form ask) ≡ line_of (line_words kinds.Get (meta_form ask)) ++ block_by kinds.Get [] = ap (λ k. line_of (line_words k (meta_form ask)) ++ block_by k []) (kind_is ask.dialect ask.op e) in
-    let plain : line_of (line_words kinds.Get (meta_form ask)) ++ [] ≡ spaced (codes "mg" ∷ ask.key ∷ token_words (wanted ask.with_cas) ++ []) ++ codes "\r\n" = append-nil (line_of (line_words kinds.Get (meta_form ask))) ∙ ap (λ x. line_of (codes "mg" ∷ ask.key ∷ exptime_words x ++ (token_words (wanted ask.with_cas) ++ []))) none in
-    let spaces : spaced (codes "mg" ∷ ask.key ∷ token_words (wanted ask.with_cas) ++ []) ++ codes "\r\n" ≡ (codes "mg " ++ ask.key ++ end_words ask.with_cas) ++ codes "\r\n" = ap (λ xs. xs ++ codes "\r\n") (spaced_is ask.key ask.with_cas) in
+    let kind : spelling_of (meta_form ask) ≡ words_line (line_words kinds.Get (meta_form ask)) ++ block_by kinds.Get [] = ap (λ k. words_line (line_words k (meta_form ask)) ++ block_by k []) (kind_is ask.dialect ask.op e) in
+    let plain : words_line (line_words kinds.Get (meta_form ask)) ++ [] ≡ spaced (codes "mg" ∷ ask.key ∷ meta_token_words (wanted ask.with_cas) ++ []) ++ codes "\r\n" = append-nil (words_line (line_words kinds.Get (meta_form ask))) ∙ ap (λ x. words_line (codes "mg" ∷ ask.key ∷ exptime_words x ++ (meta_token_words (wanted ask.with_cas) ++ []))) none in
+    let spaces : spaced (codes "mg" ∷ ask.key ∷ meta_token_words (wanted ask.with_cas) ++ []) ++ codes "\r\n" ≡ (codes "mg " ++ ask.key ++ end_words ask.with_cas) ++ codes "\r\n" = ap (λ xs. xs ++ codes "\r\n") (spaced_is ask.key ask.with_cas) in
     let ends : (codes "mg " ++ ask.key ++ end_words ask.with_cas) ++ codes "\r\n" ≡ codes "mg " ++ ask.key ++ (end_words ask.with_cas ++ codes "\r\n") = ap (λ xs. codes "mg " ++ xs) (append_assoc ask.key (end_words ask.with_cas) (codes "\r\n")) in
     kind ∙ plain ∙ spaces ∙ ends ∙ ap (λ xs. codes "mg " ++ ask.key ++ xs) (end_is ask.with_cas)
 
@@ -111,7 +111,7 @@ client_ask ask is e = record { well_formed = form_is_ask ask is e; texts = texts
 pub forms_are_read_is : FormsAreRead
 forms_are_read_is ask more is e =
     let begins = asks_are_read_back (meta_form ask) more (client_ask ask is e) in
-    let line = subst (λ (m : Message). Begins (spelling_of (meta_form ask) ++ more) m (length (spelling_of (meta_form ask)))) (line_is ask e) begins in (
+    let line = subst (λ (m : AnyMessage). Begins (spelling_of (meta_form ask) ++ more) m (length (spelling_of (meta_form ask)))) (line_is ask e) begins in (
       subst (λ x. Begins (spelling_of x ++ more) (get_line ask) (length (spelling_of x))) (sym (in_meta_is ask e)) line,
       sym (ap asks_of (line_is ask e)) ∙ (messages_are_one_ask (meta_form ask) (client_ask ask is e)).0,
     )

@@ -19,12 +19,12 @@ use Rattle.wire_stream.specs.declared.requests.request.Request.{Request}
 use Rattle.wire_stream.specs.declared.requests.request.Request.TheVariants as requests
 use Rattle.wire_stream.specs.Both.{AnyOrder, Classic, Meta, both_grammar}
 use Rattle.wire_stream.specs.OtherProtocol.{IsText}
-use Rattle.wire_stream.specs.Message.{Message, Reads, IsReadFrom, message_in, used_of}
+use Rattle.wire_stream.specs.Message.{AnyMessage, Reads, IsReadFrom, message_in, used_of}
 use Rattle.wire_stream.specs.Asks.{asks_by}
-use Rattle.wire_stream.specs.Stream.{after_order, after_message}
-use Rattle.wire_stream.specs.Held.{held_at, IsReadAt}
+use Rattle.wire_stream.specs.Stream.{after_order, after_any}
+use Rattle.wire_stream.specs.Held.{bytes_at, IsReadAt}
 use Rattle.wire_stream.specs.TextProtocol.{Whole, LongLine, OtherProtocol, ReadsNext, memcached_text}
-use Rattle.wire_stream.specs.Fronts.{IsFront}
+use Rattle.wire_stream.specs.Fronts.{RequestIsFront}
 use Rattle.wire_stream.proofs.OtherProtocols.{served_text}
 
 -- a request with an ask is no `quit`: after it the stream goes on
@@ -68,10 +68,10 @@ more_stuck (Stands ThroughNewline held) is said next r = r
 more_stuck Closed is said next r = r
 
 -- a request that was read stands at the front
-pub front_is : (place : Place) (request : Request) → IsReadAt place (reads.Request request) → IsFront place request
+pub front_is : (place : Place) (request : Request) → IsReadAt place (reads.Request request) → RequestIsFront place request
 front_is place request is =
     let f = read_front place (reads.Request request) is (request_is_some request) in
-    let held : f.0 ≡ held_at place = sym (ap held_at f.1) in
+    let held : f.0 ≡ bytes_at place = sym (ap bytes_at f.1) in
     record {
       stands = f.1 ∙ ap (λ (l : List ℕ). Stands Nothing l) held;
       read = subst (λ (l : List ℕ). IsReadFrom l request) held f.2;
@@ -80,21 +80,21 @@ front_is place request is =
 -- a request is text
 request_text : (held : List ℕ) (request : Request) → IsReadFrom held request → IsText held
 request_text held (requests.Classic r) is = served_text held (Classic (texts.order_in held r.command)) (text_at held r.block) r.used is.begins
-request_text held (requests.Meta r) is = served_text held (Meta (meta_places.order_in held r.command)) (text_at held r.block) r.used is.begins
+request_text held (requests.Meta r) is = served_text held (Meta (meta_places.meta_order_in held r.command)) (text_at held r.block) r.used is.begins
 
 -- the request at the front is the next message
-pub reads_front : (place : Place) (request : Request) → IsFront place request → ReadsNext place (Whole (message_in (held_at place) request)) (after_message (message_in (held_at place) request) (drop (used_of request) (held_at place)))
+pub reads_front : (place : Place) (request : Request) → RequestIsFront place request → ReadsNext place (Whole (message_in (bytes_at place) request)) (after_any (message_in (bytes_at place) request) (drop (used_of request) (bytes_at place)))
 reads_front place request front =
-    let held = held_at place in
-    let m : Message = message_in held request in
-    subst (λ (p : Place). ReadsNext p (Whole m) (after_message m (drop (used_of request) held))) (sym front.stands) (used_of request, front.read.begins, refl, request_text held request front.read)
+    let held = bytes_at place in
+    let m : AnyMessage = message_in held request in
+    subst (λ (p : Place). ReadsNext p (Whole m) (after_any m (drop (used_of request) held))) (sym front.stands) (used_of request, front.read.begins, refl, request_text held request front.read)
 
 -- what the request at the front uses is held
-pub used_held : (place : Place) (request : Request) → IsFront place request → used_of request ≤ length (held_at place)
-used_held place request front = used_within both_grammar (held_at place) (message_in (held_at place) request) (used_of request) front.read.begins
+pub used_held : (place : Place) (request : Request) → RequestIsFront place request → used_of request ≤ length (bytes_at place)
+used_held place request front = used_within both_grammar (bytes_at place) (message_in (bytes_at place) request) (used_of request) front.read.begins
 
 -- what a refused message uses is held
-pub used_refused : (place : Place) (why : RefusalReason) (used : ℕ) (skip : Skip) → IsReadAt place (reads.Refused why used skip) → used ≤ length (held_at place)
+pub used_refused : (place : Place) (why : RefusalReason) (used : ℕ) (skip : Skip) → IsReadAt place (reads.Refused why used skip) → used ≤ length (bytes_at place)
 used_refused place why used skip is =
     let f = read_front place (reads.Refused why used skip) is (refused_is_some why used skip) in
-    subst (λ (p : Place). used ≤ length (held_at p)) (sym f.1) (used_within both_grammar f.0 (Refusal why skip) used f.2.0)
+    subst (λ (p : Place). used ≤ length (bytes_at p)) (sym f.1) (used_within both_grammar f.0 (Refusal why skip) used f.2.0)

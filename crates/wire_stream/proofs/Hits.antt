@@ -8,7 +8,7 @@ use Rattle.std.proofs.Math.Seq.{drop-append_seam}
 use Rattle.std.proofs.lemmas.Slice.Eq.{bytes_eq-Decides}
 use Rattle.text_words.specs.Line.{CR, LF}
 use Rattle.text_words.specs.Number.{is_number, number_below}
-use Rattle.text_words.specs.Spelling.{spaced, line_of}
+use Rattle.text_words.specs.Spelling.{spaced, words_line}
 use Rattle.text_words.proofs.Spaced.{IsPlain, ArePlain, digits_plain, literal}
 use Rattle.mc_types.specs.KeyText.{IsKey}
 use Rattle.mc_types.specs.Asks.{data_limit}
@@ -26,7 +26,7 @@ use Rattle.wire_answers.specs.declared.meta.line.ValueLine.{ValueLine}
 use Rattle.wire_answers.specs.declared.meta.line.MetaLine.TheVariants as lines
 use Rattle.wire_answers.specs.Told.{none_told, fields_told}
 use Rattle.wire_answers.specs.Tokens.{letter_f, letter_k}
-use Rattle.wire_answers.specs.Line.{takes, is_count, meta_said}
+use Rattle.wire_answers.specs.Line.{takes_code, is_count, meta_said}
 use Rattle.wire_answers.proofs.Plain.{lettered}
 use Rattle.wire_parts.proofs.Tokens.{key_plain}
 use Rattle.wire_answers.specs.Reading.{Spells}
@@ -90,7 +90,7 @@ words_short key len flags is n f =
     omega (arith, length-append (codes "VA") (32 ∷ spaced (len ∷ (letter_k ∷ key) ∷ (letter_f ∷ flags) ∷ [])), length-append len (32 ∷ spaced ((letter_k ∷ key) ∷ (letter_f ∷ flags) ∷ [])), length-append (letter_k ∷ key) (32 ∷ spaced ((letter_f ∷ flags) ∷ [])))
 
 -- data answer what shows them, and are no number that has to be one
-takes_data : (dialect : Dialect) (op : Op) → shows_values dialect op ≡ true → (takes op true Va ≡ true) × (is_count op ≡ false)
+takes_data : (dialect : Dialect) (op : Op) → shows_values dialect op ≡ true → (takes_code op true Va ≡ true) × (is_count op ≡ false)
 takes_data dialects.Classic ops.Get e = (refl, refl)
 takes_data dialects.Classic ops.Gat e = (refl, refl)
 takes_data dialects.Classic ops.Set e = absurd cc
@@ -134,11 +134,11 @@ module _ (ask : Ask) (bytes : List ℕ) (hit : UsualHit) (key : IsKey ask.key) (
   abbrev told : Answer
   told = Meta Va (fields_told (told_of hit.flags) (Some data_of))
 
-  parted : bytes ≡ (line_of words_of ++ (data_of ++ codes "\r\n")) ++ u.end.0
-  parted = u.whole ∙ ap (λ r. line_of words_of ++ r) (sym (take-append-drop hit.len u.rest) ∙ ap (λ r. data_of ++ r) u.end.1) ∙ sym (regroup (line_of words_of) data_of (codes "\r\n") u.end.0)
+  parted : bytes ≡ (words_line words_of ++ (data_of ++ codes "\r\n")) ++ u.end.0
+  parted = u.whole ∙ ap (λ r. words_line words_of ++ r) (sym (take-append-drop hit.len u.rest) ∙ ap (λ r. data_of ++ r) u.end.1) ∙ sym (regroup (words_line words_of) data_of (codes "\r\n") u.end.0)
 
-  long : length (line_of words_of ++ (data_of ++ codes "\r\n")) ≡ hit.used
-  long = omega (arith, length-append (line_of words_of) (data_of ++ codes "\r\n"), length-append data_of (codes "\r\n"), length-take-le hit.len u.rest u.within, u.start, u.used)
+  long : length (words_line words_of ++ (data_of ++ codes "\r\n")) ≡ hit.used
+  long = omega (arith, length-append (words_line words_of) (data_of ++ codes "\r\n"), length-append data_of (codes "\r\n"), length-take-le hit.len u.rest u.within, u.start, u.used)
 
   spells : Spells (meta_form ask) bytes told hit.used
   spells =
@@ -149,11 +149,11 @@ module _ (ask : Ask) (bytes : List ℕ) (hit : UsualHit) (key : IsKey ask.key) (
       line_says (meta_form ask) Va (u.len ∷ (letter_k ∷ ask.key) ∷ (letter_f ∷ u.flags) ∷ []) (lines.Value (line_of_hit hit)) plain refl (line_said ask u.len u.flags hit e cas u.len_is u.flags_is) in
       let all = data_back (meta_form ask) words_of (line_of_hit hit) data_of u.end.0 plain short says (length-take-le hit.len u.rest u.within) refl in
       subst (λ (t : List ℕ). Spells (meta_form ask) t told hit.used) (sym parted)
-      (subst (λ (n : ℕ). Spells (meta_form ask) ((line_of words_of ++ (data_of ++ codes "\r\n")) ++ u.end.0) told n) long all)
+      (subst (λ (n : ℕ). Spells (meta_form ask) ((words_line words_of ++ (data_of ++ codes "\r\n")) ++ u.end.0) told n) long all)
 
   pub usual_reads : (body : List ℕ) → body ≡ take hit.len (drop hit.start bytes) → ReadsInMeta ask bytes (reads.Answer (Hit hit.flags body None) hit.used)
   usual_reads body same =
-      let rest : drop hit.start bytes ≡ u.rest = ap (λ b. drop hit.start b) u.whole ∙ ap (λ n. drop n (line_of words_of ++ u.rest)) u.start ∙ drop-append_seam (line_of words_of) u.rest in
+      let rest : drop hit.start bytes ≡ u.rest = ap (λ b. drop hit.start b) u.whole ∙ ap (λ n. drop n (words_line words_of ++ u.rest)) u.start ∙ drop-append_seam (words_line words_of) u.rest in
       let same_data : body ≡ data_of = same ∙ ap (λ r. take hit.len r) rest in
       let answer : Answer = Hit hit.flags body None in
       let few : length data_of ≤ data_limit = let lt = below_limit (data_limit + 1) hit.len u.len u.len_is in omega (arith, length-take-le hit.len u.rest u.within) in
@@ -169,7 +169,7 @@ module _ (ask : Ask) (bytes : List ℕ) (hit : UsualHit) (key : IsKey ask.key) (
       )
 
   pub usual_within : (hit.start + hit.len ≤ length bytes) × (hit.used ≤ length bytes)
-  usual_within = let all = ap length parted ∙ length-append (line_of words_of ++ (data_of ++ codes "\r\n")) u.end.0 in (omega (arith, all, long, u.used), omega (arith, all, long))
+  usual_within = let all = ap length parted ∙ length-append (words_line words_of ++ (data_of ++ codes "\r\n")) u.end.0 in (omega (arith, all, long, u.used), omega (arith, all, long))
 
 -- what is read of such a hit
 pub hit_is_read : (ask : Ask) (bytes body : List ℕ) (hit : UsualHit) → IsKey ask.key → IsUsualTo ask bytes hit → body ≡ take hit.len (drop hit.start bytes) → ReadsInMeta ask bytes (reads.Answer (Hit hit.flags body None) hit.used)
@@ -187,7 +187,7 @@ pub is_usual : (key bytes a l b c d e n g rest after : List ℕ) (hit : UsualHit
     → number_below (data_limit + 1) l ≡ Some hit.len → number_below (2 ^ 32) n ≡ Some hit.flags
     → hit.len ≤ length rest → drop hit.len rest ≡ CR ∷ LF ∷ after → hit.start ≡ length bytes - length rest → hit.used ≡ length bytes - length after → IsUsual key bytes hit
 is_usual key bytes a l b c d e n g rest after hit e1 e2 e3 e4 e5 e6 e7 len_is flags_is within end start used =
-    let line = line_of (usual_words key l n) in
+    let line = words_line (usual_words key l n) in
     let all : bytes ≡ line ++ rest = rw (e1, e2, e3, e4, e5, e6, e7) (spelled_so l (codes " k") (codes " f") n key rest) in
     let long = ap length all ∙ length-append line rest in
     let tail = ap length end in

@@ -14,34 +14,34 @@ use Rattle.wire_parts.specs.declared.skip.Skip.TheVariants.{ThroughNewline}
 use Rattle.wire_parts.specs.declared.block.End.{End}
 use Rattle.wire_parts.specs.declared.block.End.TheVariants.{Open, Good, Bad}
 use Rattle.wire_parts.specs.Tests.{Word}
-use Rattle.wire_parts.specs.Message.{Served, Refusal, meaning_of, with_rest, with_block, end_of}
+use Rattle.wire_parts.specs.Message.{Served, Refusal, meaning_of, with_rest, with_block, data_block_end}
 use Rattle.wire_classic.specs.CommandWords as text_words
 use Rattle.wire_stream.specs.Both.{AnyOrder, both_grammar, order_of, skip_of}
-use Rattle.wire_stream.specs.Message.{Message, Begins}
+use Rattle.wire_stream.specs.Message.{AnyMessage, Begins}
 use Rattle.wire_stream.specs.Asks.{asks_of}
 use Rattle.wire_stream.specs.OtherProtocol.{is_binary, ends_as_http, IsHttp, IsOtherProtocol, IsText, is_http}
 
-abbrev found_as : Message → ℕ → Option (Message × ℕ)
+abbrev found_as : AnyMessage → ℕ → Option (AnyMessage × ℕ)
 found_as message n = Some (message, n)
 
 some_is : {A : Type 0} (x y : A) → Some x ≡ Some y → x ≡ y
 some_is x y e = cc
 
 -- what was found as two messages is one
-same_found : (one other : Message) (m n : ℕ) → found_as one m ≡ found_as other n → one ≡ other
+same_found : (one other : AnyMessage) (m n : ℕ) → found_as one m ≡ found_as other n → one ≡ other
 same_found one other m n e = ap (λ x. x.0) (some_is (one, m) (other, n) e)
 
 not_served : (why : RefusalReason) (skip : Skip) (order : AnyOrder) (block : List ℕ) → Served order block ≡ Refusal why skip → ⊥
 not_served why skip order block e = cc
 
-other_reason : (skip passed : Skip) → ◌≡◌ {A = Message} (Refusal BadChunk skip) (Refusal Unknown passed) → ⊥
+other_reason : (skip passed : Skip) → ◌≡◌ {A = AnyMessage} (Refusal BadChunk skip) (Refusal Unknown passed) → ⊥
 other_reason skip passed e = cc
 
 -- what is refused is refused for one reason
 pub same_reason : (v w : RefusalReason) (s t : Skip) (m n : ℕ) → found_as (Refusal v s) m ≡ found_as (Refusal w t) n → v ≡ w
 same_reason v w s t m n e = reason (same_found (Refusal v s) (Refusal w t) m n e)
   where
-    reason : ◌≡◌ {A = Message} (Refusal v s) (Refusal w t) → v ≡ w
+    reason : ◌≡◌ {A = AnyMessage} (Refusal v s) (Refusal w t) → v ≡ w
     reason e = cc
 
 -- a line that is refused as no command is none
@@ -56,7 +56,7 @@ refused_order (Ok order) skip used rest passed n e = absurd (by_len (both_gramma
 
     by_len : (len : Option ℕ) → with_rest order used rest len ≡ Some (Refusal Unknown passed, n) → ⊥
     by_len None e = not_served Unknown passed order [] (same_found (Served order []) (Refusal Unknown passed) used n e)
-    by_len (Some len) e = by_end (take len rest) (end_of (drop len rest)) e
+    by_len (Some len) e = by_end (take len rest) (data_block_end (drop len rest)) e
 
 -- a line that is none is refused so
 pub order_refused : (r : Result AnyOrder RefusalReason) (skip : Skip) (used : ℕ) (rest : List ℕ) → r ≡ Err Unknown → meaning_of both_grammar r skip used rest ≡ Some (Refusal Unknown skip, used)
@@ -158,7 +158,7 @@ served_text bytes order block used b (inl e) = serves_none bytes order block use
 served_text bytes order block used b (inr h) = serves_none bytes order block used b (ap (λ t. order_of (words (without_cr t))) (sym (http_line bytes b.text b.rest b.line h)) ∙ h.unknown)
 
 -- what asks a server is text
-pub asking_text : (bytes : List ℕ) (message : Message) (used : ℕ) → Begins bytes message used → (asks_of message ≡ [] → ⊥) → IsText bytes
+pub asking_text : (bytes : List ℕ) (message : AnyMessage) (used : ℕ) → Begins bytes message used → (asks_of message ≡ [] → ⊥) → IsText bytes
 asking_text bytes (Served order block) used b some = served_text bytes order block used b
 asking_text bytes (Refusal why skip) used b some = absurd (some refl)
 

@@ -10,10 +10,10 @@ use Rattle.wire_parts.specs.Stream.{Place, Stands, Closed, skipped, after_own}
 use Rattle.wire_stream.specs.declared.requests.reader.Read.TheVariants as reads
 use Rattle.wire_stream.specs.declared.requests.request.Request.{Request}
 use Rattle.wire_stream.specs.declared.requests.request.Request.TheVariants.{Classic, Meta}
-use Rattle.wire_stream.specs.Message.{Message, message_in, used_of}
+use Rattle.wire_stream.specs.Message.{AnyMessage, message_in, used_of}
 use Rattle.wire_stream.specs.Asks.{asks_of, own_of}
-use Rattle.wire_stream.specs.Stream.{after_message}
-use Rattle.wire_stream.specs.Held.{held_at, IsReadAt}
+use Rattle.wire_stream.specs.Stream.{after_any}
+use Rattle.wire_stream.specs.Held.{bytes_at, IsReadAt}
 use Rattle.wire_stream.specs.Replies.{refusal_text, long_line_text}
 use Rattle.wire_stream.specs.TextProtocol.{Said, Whole, LongLine, OtherProtocol, ReadsNext, own_passed, asks_in, passed_text}
 use Rattle.wire_stream.specs.declared.connection.front.Passed.TheVariants.{Own, Refused}
@@ -49,15 +49,15 @@ told_own held (Classic r) = refl
 told_own held (Meta r) = refl
 
 -- what mcgate itself was asked
-pub own_passed_by : (version : List ℕ) (old new : Place) (output output' : List ℕ) (request : Request) (own : Option ProxyCommand) (used : ℕ) → IsReadAt old (reads.Request request) → asks_of (message_in (held_at old) request) ≡ []
-    → used ≡ used_of request → own ≡ own_of (message_in (held_at old) request)
+pub own_passed_by : (version : List ℕ) (old new : Place) (output output' : List ℕ) (request : Request) (own : Option ProxyCommand) (used : ℕ) → IsReadAt old (reads.Request request) → asks_of (message_in (bytes_at old) request) ≡ []
+    → used ≡ used_of request → own ≡ own_of (message_in (bytes_at old) request)
     → ((held : List ℕ) → old ≡ Stands Nothing held → new ≡ after_own own (drop used held)) → output' ≡ output ++ own_passed version own → PassesMessage version old output Own new output'
 own_passed_by version old new output output' request own used is asks used_is own_is goes output_is =
     let front = front_is old request is in
-    let held = held_at old in
-    let m : Message = message_in held request in
+    let held = bytes_at old in
+    let m : AnyMessage = message_in held request in
     let rest : List ℕ = drop (used_of request) held in
-    let next : after_own own (drop used held) ≡ after_message m rest = ap (λ n. after_own own (drop n held)) used_is ∙ ap (λ (o : Option ProxyCommand). after_own o rest) own_is ∙ own_next held request rest in
+    let next : after_own own (drop used held) ≡ after_any m rest = ap (λ n. after_own own (drop n held)) used_is ∙ ap (λ (o : Option ProxyCommand). after_own o rest) own_is ∙ own_next held request rest in
     let text : own_passed version own ≡ passed_text version (Whole m) = ap (own_passed version) own_is ∙ own_text version held request in
     subst (λ p. PassesMessage version old output p new output') (told_own held request)
-    (passes version old new output output' (Whole m) (after_message m rest) (reads_front old request front) asks (goes held front.stands ∙ next) (output_is ∙ ap (λ (l : List ℕ). output ++ l) text))
+    (passes version old new output output' (Whole m) (after_any m rest) (reads_front old request front) asks (goes held front.stands ∙ next) (output_is ∙ ap (λ (l : List ℕ). output ++ l) text))

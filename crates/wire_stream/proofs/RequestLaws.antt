@@ -32,7 +32,7 @@ use Rattle.wire_meta.proofs.Sound as meta_sound
 use Rattle.wire_stream.specs.declared.requests.request.Request.TheVariants as requests
 use Rattle.wire_stream.specs.declared.requests.request.Asks.TheVariants as walks
 use Rattle.wire_stream.specs.Both.{Classic, Meta, both_grammar}
-use Rattle.wire_stream.specs.Message.{Message, Begins, IsReadFrom, message_in}
+use Rattle.wire_stream.specs.Message.{AnyMessage, Begins, IsReadFrom, message_in}
 use Rattle.wire_stream.specs.Asks.{asks_of, quiet_of, IsClientAsk}
 use Rattle.wire_stream.specs.Spelling.{spelled_in, message_by}
 use Rattle.wire_stream.specs.Laws.{both_requests, WalkStill}
@@ -49,11 +49,11 @@ pub read_still : ReadStill both_requests
 read_still bytes more (requests.Classic r) h =
     let one = text_streams.read_still bytes more r (classic_read bytes r h) in
     let same : message_in (bytes ++ more) (requests.Classic r) ≡ message_in bytes (requests.Classic r) = ap (lift_message Classic) one.1 in
-    (record { placed = one.0.placed; begins = subst (λ (m : Message). Begins (bytes ++ more) m r.used) (sym same) (begins_still both_grammar bytes more _ r.used h.begins) }, same)
+    (record { placed = one.0.placed; begins = subst (λ (m : AnyMessage). Begins (bytes ++ more) m r.used) (sym same) (begins_still both_grammar bytes more _ r.used h.begins) }, same)
 read_still bytes more (requests.Meta r) h =
     let one = meta_front.read_still bytes more r (meta_read bytes r h) in
     let same : message_in (bytes ++ more) (requests.Meta r) ≡ message_in bytes (requests.Meta r) = ap (lift_message Meta) one.1 in
-    (record { placed = one.0.placed; begins = subst (λ (m : Message). Begins (bytes ++ more) m r.used) (sym same) (begins_still both_grammar bytes more _ r.used h.begins) }, same)
+    (record { placed = one.0.placed; begins = subst (λ (m : AnyMessage). Begins (bytes ++ more) m r.used) (sym same) (begins_still both_grammar bytes more _ r.used h.begins) }, same)
 
 pub walk_still : WalkStill
 walk_still bytes more (walks.Classic a) h = text_walks.walk_still bytes more a h
@@ -91,8 +91,8 @@ all_as f [] h = tt
 all_as f (ask ∷ asks) h = (f ask h.0, all_as f asks h.1)
 
 pub asks_are_well_formed : AsksAreWellFormed both_requests
-asks_are_well_formed bytes (Served (Classic o) block) used b = all_as of_classic (text_asks.asks_by o block) (text_sound.asks_are_well_formed bytes (Served o block) used (classic_begins bytes o block used b))
-asks_are_well_formed bytes (Served (Meta o) block) used b = all_as of_meta (meta_asks.asks_by o block) (meta_sound.asks_are_well_formed bytes (Served o block) used (meta_begins bytes o block used b))
+asks_are_well_formed bytes (Served (Classic o) block) used b = all_as of_classic (text_asks.classic_asks_by o block) (text_sound.asks_are_well_formed bytes (Served o block) used (classic_begins bytes o block used b))
+asks_are_well_formed bytes (Served (Meta o) block) used b = all_as of_meta (meta_asks.meta_asks_by o block) (meta_sound.asks_are_well_formed bytes (Served o block) used (meta_begins bytes o block used b))
 asks_are_well_formed bytes (Refusal why skip) used b = tt
 
 classic_ask : (ask : Ask) → ask.dialect ≡ dialects.Classic → IsClientAsk ask → IsClassicAsk ask

@@ -8,9 +8,9 @@ use Rattle.wire_parts.specs.Tests.{Word}
 use Rattle.wire_classic.specs.CommandWords as text_words
 use Rattle.wire_classic.proofs.WordTable as text_table
 use Rattle.wire_meta.specs.declared.command.Verb.{Verb}
-use Rattle.wire_meta.specs.CommandWords.{found_in, meta_words, verb_of}
+use Rattle.wire_meta.specs.CommandWords.{meta_found_in, meta_words, verb_of}
 
-two_letters : (entries : List (Word × Verb)) (word : Word) (v : Verb) → list_all (λ e. eqb (length e.0) 2) entries ≡ true → found_in entries word ≡ Some v → length word ≡ 2
+two_letters : (entries : List (Word × Verb)) (word : Word) (v : Verb) → list_all (λ e. eqb (length e.0) 2) entries ≡ true → meta_found_in entries word ≡ Some v → length word ≡ 2
 two_letters [] word v all e = absurd cc
 two_letters (entry ∷ entries) word v all e =
     let parts = text_table.both (eqb (length entry.0) 2) (list_all (λ e. eqb (length e.0) 2) entries) all in

@@ -14,30 +14,30 @@ use Rattle.wire_stream.specs.declared.requests.request.Request.TheVariants as re
 use Rattle.wire_stream.specs.declared.requests.request.Asks.{Asks}
 use Rattle.wire_stream.specs.declared.requests.request.Asks.TheVariants as walks
 use Rattle.wire_stream.specs.Both.{AnyOrder, Classic, Meta, own_by}
-use Rattle.wire_stream.specs.Message.{Message}
+use Rattle.wire_stream.specs.Message.{AnyMessage}
 
 -- the asks of an order with its data block
 abbrev pub asks_by : AnyOrder → List ℕ → List Ask
-asks_by (Classic order) block = texts.asks_by order block
-asks_by (Meta order) block = metas.asks_by order block
+asks_by (Classic order) block = texts.classic_asks_by order block
+asks_by (Meta order) block = metas.meta_asks_by order block
 
 -- the asks of a message, in order: a refused one has none
-abbrev pub asks_of : Message → List Ask
+abbrev pub asks_of : AnyMessage → List Ask
 asks_of (Served order block) = asks_by order block
 asks_of (Refusal why skip) = []
 
 -- whether `noreply` stands on the line of an order, or `q`
 abbrev pub is_quiet : AnyOrder → Bool
-is_quiet (Classic order) = texts.is_quiet order
-is_quiet (Meta order) = metas.is_quiet order
+is_quiet (Classic order) = texts.classic_is_quiet order
+is_quiet (Meta order) = metas.meta_is_quiet order
 
 -- whether `noreply`, or `q`, stands on the line of a message: a refused one is always answered
-abbrev pub quiet_of : Message → Bool
+abbrev pub quiet_of : AnyMessage → Bool
 quiet_of (Served order block) = is_quiet order
 quiet_of (Refusal why skip) = false
 
 -- what a message asks of mcgate itself
-abbrev pub own_of : Message → Option ProxyCommand
+abbrev pub own_of : AnyMessage → Option ProxyCommand
 own_of (Served order block) = own_by order
 own_of (Refusal why skip) = None
 
@@ -58,7 +58,7 @@ taken_of (walks.Meta a) = a.taken
 
 -- a walk over the asks of a request of these bytes
 abbrev pub IsWalk : List ℕ → Asks → Type 0
-IsWalk bytes (walks.Classic a) = texts.IsWalk bytes a
+IsWalk bytes (walks.Classic a) = texts.IsClassicWalk bytes a
 IsWalk bytes (walks.Meta a) = meta_messages.IsMetaReadFrom bytes a.request
 
 -- how many were taken after this answer

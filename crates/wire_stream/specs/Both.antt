@@ -25,28 +25,28 @@ mapped f (Err why) = Err why
 
 -- a line whose first word means this among the meta commands
 abbrev pub order_by : Option Verb → List Word → Result AnyOrder RefusalReason
-order_by None line = mapped Classic (texts.order_of line)
-order_by (Some verb) line = mapped Meta (metas.order_of line)
+order_by None line = mapped Classic (texts.classic_order_of line)
+order_by (Some verb) line = mapped Meta (metas.meta_order_of line)
 
 abbrev pub order_of : List Word → Result AnyOrder RefusalReason
 order_of [] = Err Unknown
 order_of (word ∷ words) = order_by (verb_of word) (word ∷ words)
 
 abbrev pub skip_by : Option Verb → List Word → Skip
-skip_by None line = texts.skip_of line
-skip_by (Some verb) line = metas.skip_of line
+skip_by None line = texts.classic_skip_of line
+skip_by (Some verb) line = metas.meta_skip_of line
 
 abbrev pub skip_of : List Word → Skip
 skip_of [] = Nothing
 skip_of (word ∷ words) = skip_by (verb_of word) (word ∷ words)
 
 abbrev pub block_len : AnyOrder → Option ℕ
-block_len (Classic order) = text_lines.block_len order
-block_len (Meta order) = meta_lines.block_len order
+block_len (Classic order) = text_lines.classic_block_len order
+block_len (Meta order) = meta_lines.meta_block_len order
 
 abbrev pub own_by : AnyOrder → Option ProxyCommand
-own_by (Classic order) = text_lines.own_by order
-own_by (Meta order) = meta_lines.own_by order
+own_by (Classic order) = text_lines.classic_own_by order
+own_by (Meta order) = meta_lines.meta_own_by order
 
 abbrev pub both_grammar : Grammar
 both_grammar = record { Order = AnyOrder; order_of = order_of; skip_of = skip_of; block_len = block_len; own_by = own_by }

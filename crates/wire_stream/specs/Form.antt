@@ -3,7 +3,7 @@ use Rattle.std.specs.Prelude.{ℕ, Bool, true, false, List, [], ◌∷◌, codes
 use Rattle.mc_types.specs.declared.token.Token.{Token}
 use Rattle.mc_types.specs.declared.token.Token.TheVariants.{Key, Flags, Value, Cas}
 use Rattle.mc_types.specs.declared.ask.Ask.{Ask}
-use Rattle.wire_meta.specs.Asks.{bare_ask}
+use Rattle.wire_meta.specs.Asks.{meta_bare_ask}
 use Rattle.wire_stream.specs.Replies.{shows_values}
 
 -- `get`, `gets`, `gat` or `gats` of one key
@@ -17,7 +17,7 @@ wanted false = Key ∷ Flags ∷ Value ∷ []
 
 -- a classic get of one key as an `mg`, with `T` where it sets the expiry
 abbrev pub meta_form : Ask → Ask
-meta_form ask = record (bare_ask ask.op ask.key (wanted ask.with_cas)) { exptime = ask.exptime }
+meta_form ask = record (meta_bare_ask ask.op ask.key (wanted ask.with_cas)) { exptime = ask.exptime }
 
 -- what a server is asked that speaks the meta dialect
 abbrev pub in_meta : Ask → Ask

@@ -8,7 +8,7 @@ use Rattle.wire_stream.specs.declared.requests.reader.Read.TheVariants as reads
 use Rattle.wire_stream.specs.declared.requests.request.Request.{Request}
 use Rattle.wire_stream.specs.Message.{IsReadFrom, message_in}
 use Rattle.wire_stream.specs.Asks.{asks_of}
-use Rattle.wire_stream.specs.Held.{held_at, IsReadAt}
+use Rattle.wire_stream.specs.Held.{bytes_at, IsReadAt}
 use Rattle.wire_stream.specs.TextProtocol.{Said, Whole, LongLine, OtherProtocol, ReadsNext, asks_in, passed_text}
 use Rattle.wire_stream.specs.declared.connection.front.Front.{Front}
 use Rattle.wire_stream.specs.declared.connection.front.Front.TheVariants as fronts
@@ -16,9 +16,9 @@ use Rattle.wire_stream.specs.declared.connection.front.Passed.{Passed}
 use Rattle.wire_stream.specs.declared.connection.front.Passed.TheVariants.{Own, Refused}
 
 -- the request stands at the front
-pub record IsFront (place : Place) (request : Request) : Type 0 where
-  pub stands : place ≡ Stands Nothing (held_at place)
-  pub read : IsReadFrom (held_at place) request
+pub record RequestIsFront (place : Place) (request : Request) : Type 0 where
+  pub stands : place ≡ Stands Nothing (bytes_at place)
+  pub read : IsReadFrom (bytes_at place) request
 
 -- a message was read that asks no server
 abbrev pub AsksNone : Place → Read → Type 0
@@ -26,13 +26,13 @@ AsksNone place reads.More = ⊥
 AsksNone place reads.TooLong = Unit {0}
 AsksNone place reads.OtherProtocol = Unit {0}
 AsksNone place (reads.Refused why used skip) = Unit {0}
-AsksNone place (reads.Request request) = asks_of (message_in (held_at place) request) ≡ []
+AsksNone place (reads.Request request) = asks_of (message_in (bytes_at place) request) ≡ []
 
 -- what stands at the front of the bytes of a client
 abbrev pub IsFrontOf : Place → Front → Type 0
 IsFrontOf place fronts.Nothing = IsReadAt place reads.More
 IsFrontOf place (fronts.Passing read) = IsReadAt place read × AsksNone place read
-IsFrontOf place (fronts.Keys request) = IsReadAt place (reads.Request request) × (asks_of (message_in (held_at place) request) ≡ [] → ⊥)
+IsFrontOf place (fronts.Keys request) = IsReadAt place (reads.Request request) × (asks_of (message_in (bytes_at place) request) ≡ [] → ⊥)
 
 -- what is told of a message that asks no server: mcgate's own, or refused
 abbrev pub told_of : Said → Passed

@@ -7,9 +7,9 @@ use Rattle.wire_stream.specs.declared.requests.reader.Read.TheVariants as reads
 use Rattle.wire_stream.specs.Message.{Reads}
 use Rattle.wire_parts.specs.Stream.{Place, Stands, Closed}
 
-abbrev pub place_in : Bool → Skip → List ℕ → Place
-place_in true skip held = Closed
-place_in false skip held = Stands skip held
+abbrev pub place_held_at : Bool → Skip → List ℕ → Place
+place_held_at true skip held = Closed
+place_held_at false skip held = Stands skip held
 
 -- no bytes are held while others are to be passed over
 abbrev pub HoldsNone : Skip → List ℕ → Type 0
@@ -18,9 +18,9 @@ HoldsNone (Bytes n) held = held ≡ []
 HoldsNone ThroughNewline held = held ≡ []
 
 -- the bytes that are held
-abbrev pub held_at : Place → List ℕ
-held_at (Stands skip held) = held
-held_at Closed = []
+abbrev pub bytes_at : Place → List ℕ
+bytes_at (Stands skip held) = held
+bytes_at Closed = []
 
 -- what is read at a place
 abbrev pub IsReadAt : Place → Read → Type 0

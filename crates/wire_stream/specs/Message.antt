@@ -18,21 +18,21 @@ use Rattle.wire_stream.specs.Both.{AnyOrder, Classic, Meta, both_grammar}
 use Rattle.wire_stream.specs.OtherProtocol.{IsOtherProtocol, IsText, is_http}
 
 -- a message: one that is served, with its data block, or one that is refused, with what is passed over after it
-abbrev pub Message : Type 0
-Message = parts.Message AnyOrder
+abbrev pub AnyMessage : Type 0
+AnyMessage = parts.Message AnyOrder
 
 -- a message, and how many bytes it takes; none where more must come
-abbrev pub Found : Type 0
-Found = parts.Found AnyOrder
+abbrev pub AnyFound : Type 0
+AnyFound = parts.Found AnyOrder
 
 -- the bytes begin with this message, which takes so many of them
-abbrev pub Begins : List ℕ → Message → ℕ → Type 0
-Begins = parts.Begins both_grammar
+abbrev pub Begins : List ℕ → AnyMessage → ℕ → Type 0
+Begins = parts.BeginsMessage both_grammar
 
 -- what a request is, in the bytes that it was read from
-abbrev pub message_in : List ℕ → Request → Message
+abbrev pub message_in : List ℕ → Request → AnyMessage
 message_in bytes (requests.Classic r) = Served (Classic (text_places.order_in bytes r.command)) (text_at bytes r.block)
-message_in bytes (requests.Meta r) = Served (Meta (meta_places.order_in bytes r.command)) (text_at bytes r.block)
+message_in bytes (requests.Meta r) = Served (Meta (meta_places.meta_order_in bytes r.command)) (text_at bytes r.block)
 
 -- how many bytes a request takes
 abbrev pub used_of : Request → ℕ
@@ -41,7 +41,7 @@ used_of (requests.Meta r) = r.used
 
 -- the spans of a request lie in the bytes
 abbrev pub IsPlaced : List ℕ → Request → Type 0
-IsPlaced bytes (requests.Classic r) = texts.IsPlaced bytes r
+IsPlaced bytes (requests.Classic r) = texts.ClassicIsPlaced bytes r
 IsPlaced bytes (requests.Meta r) = metas.IsMetaPlaced bytes r
 
 -- the bytes begin with this request
@@ -50,7 +50,7 @@ pub record IsReadFrom (bytes : List ℕ) (r : Request) : Type 0 where
   pub begins : Begins bytes (message_in bytes r) (used_of r)
 
 -- what was read after a line of this text is what it means
-abbrev pub IsMeant : List ℕ → List ℕ → Read → Found → Type 0
+abbrev pub IsMeant : List ℕ → List ℕ → Read → AnyFound → Type 0
 IsMeant text bytes (reads.Request r) found = IsPlaced bytes r × (found ≡ Some (message_in bytes r, used_of r))
 IsMeant text bytes (reads.Refused why used skip) found = (found ≡ Some (Refusal why skip, used)) × (is_http text why ≡ false)
 IsMeant text bytes reads.OtherProtocol found = (why : RefusalReason) × (skip : Skip) × (used : ℕ) × (found ≡ Some (Refusal why skip, used)) × (is_http text why ≡ true)
@@ -63,4 +63,4 @@ Reads bytes (reads.Request r) = IsReadFrom bytes r
 Reads bytes (reads.Refused why used skip) = Begins bytes (Refusal why skip) used × IsText bytes
 Reads bytes reads.TooLong = IsTooLong bytes × IsText bytes
 Reads bytes reads.OtherProtocol = IsOtherProtocol bytes
-Reads bytes reads.More = (¬ IsTooLong bytes) × ((message : Message) (used : ℕ) → ¬ Begins bytes message used) × IsText bytes
+Reads bytes reads.More = (¬ IsTooLong bytes) × ((message : AnyMessage) (used : ℕ) → ¬ Begins bytes message used) × IsText bytes

@@ -10,7 +10,7 @@ use Rattle.wire_meta.specs.declared.command.Kind.TheVariants.{Get}
 use Rattle.wire_meta.specs.Order.{Asking}
 use Rattle.wire_meta.specs.Spelling.{exptime_words}
 use Rattle.wire_stream.specs.Both.{Meta}
-use Rattle.wire_stream.specs.Message.{Message, Begins}
+use Rattle.wire_stream.specs.Message.{AnyMessage, Begins}
 use Rattle.wire_stream.specs.Asks.{asks_of}
 use Rattle.wire_stream.specs.Spelling.{spelling_of}
 use Rattle.wire_answers.specs.Spelling as answers
@@ -22,7 +22,7 @@ cas_flag true = codes "c" ∷ []
 cas_flag false = []
 
 -- an `mg` of the key, with T first where the expiry is set, and with the flags k, f and v, and with c where the cas number is wanted
-abbrev pub get_line : Ask → Message
+abbrev pub get_line : Ask → AnyMessage
 get_line ask = Served (Meta (Asking Get ask.key None (exptime_words ask.exptime ++ (codes "k" ∷ codes "f" ∷ codes "v" ∷ cas_flag ask.with_cas)))) []
 
 -- what is written of a classic get is read as an `mg` of its key with the flags of the form, whatever follows, and that is one ask, the form
@@ -33,8 +33,8 @@ FormsAreRead = (ask : Ask) (more : List ℕ) → IsAsk ask → is_retrieval ask 
 -- each answer that fits the form is read, whatever follows, as a classic one that says the same
 abbrev pub AnswersAreRead : Type 0
 AnswersAreRead = (ask : Ask) (told : Answer) (more : List ℕ) → IsAsk ask → is_retrieval ask ≡ true → Fits (meta_form ask) told
-    → (answer : Answer) × SaysSame told answer × SpellsInMeta ask (answers.spelling_of (meta_form ask) told ++ more) answer (length (answers.spelling_of (meta_form ask) told))
+    → (answer : Answer) × SaysSame told answer × SpellsInMeta ask (answers.answer_spelling (meta_form ask) told ++ more) answer (length (answers.answer_spelling (meta_form ask) told))
 
 -- bytes begin with one answer to an ask at most
-abbrev pub OneAnswer : Type 0
-OneAnswer = (ask : Ask) (bytes : List ℕ) (a b : Answer) (m n : ℕ) → SpellsInMeta ask bytes a m → SpellsInMeta ask bytes b n → (a ≡ b) × (m ≡ n)
+abbrev pub OneMetaAnswer : Type 0
+OneMetaAnswer = (ask : Ask) (bytes : List ℕ) (a b : Answer) (m n : ℕ) → SpellsInMeta ask bytes a m → SpellsInMeta ask bytes b n → (a ≡ b) × (m ≡ n)

@@ -6,7 +6,7 @@ use Rattle.mc_types.specs.declared.answer.Code.TheVariants.{Hd, Va, En, Ns, Ex, 
 use Rattle.mc_types.specs.declared.answer.Fields.{Fields}
 use Rattle.mc_types.specs.declared.answer.Answer.{Answer}
 use Rattle.mc_types.specs.declared.answer.Answer.TheVariants.{Hit, Miss, Meta}
-use Rattle.wire_answers.specs.Reading.{Spells, Reads}
+use Rattle.wire_answers.specs.Reading.{Spells, ReadsAnswer}
 use Rattle.wire_answers.specs.declared.reader.AnswerRead.{AnswerRead}
 use Rattle.wire_answers.specs.declared.reader.AnswerRead.TheVariants as reads
 use Rattle.wire_stream.specs.Form.{is_retrieval, in_meta}
@@ -49,5 +49,5 @@ pub record SpellsInMeta (ask : Ask) (bytes : List ℕ) (answer : Answer) (used :
 -- What was read says what was told, and fits the ask; what isn't whole, or is foreign, is so of the meta form.
 abbrev pub ReadsInMeta : Ask → List ℕ → AnswerRead → Type 0
 ReadsInMeta ask bytes (reads.Answer answer used) = SpellsInMeta ask bytes answer used × Fits ask answer
-ReadsInMeta ask bytes reads.More = Reads (in_meta ask) bytes reads.More
-ReadsInMeta ask bytes reads.Foreign = Reads (in_meta ask) bytes reads.Foreign
+ReadsInMeta ask bytes reads.More = ReadsAnswer (in_meta ask) bytes reads.More
+ReadsInMeta ask bytes reads.Foreign = ReadsAnswer (in_meta ask) bytes reads.Foreign

@@ -14,25 +14,25 @@ use Rattle.wire_parts.specs.declared.proxy_command.ProxyCommand.{ProxyCommand}
 use Rattle.wire_parts.specs.declared.proxy_command.ProxyCommand.TheVariants.{Version, Quit, Noop}
 use Rattle.wire_parts.specs.declared.refusal.RefusalReason.{RefusalReason}
 use Rattle.wire_parts.specs.Refusals.{refusal_line}
-use Rattle.wire_answers.specs.Spelling.{spelling_of, value_of, end_text}
+use Rattle.wire_answers.specs.Spelling.{answer_spelling, value_of, end_text}
 
-abbrev pub is_fetch : Op → Bool
-is_fetch Get = true
-is_fetch Gat = true
-is_fetch Set = false
-is_fetch Add = false
-is_fetch Replace = false
-is_fetch Append = false
-is_fetch Prepend = false
-is_fetch Cas = false
-is_fetch Delete = false
-is_fetch Incr = false
-is_fetch Decr = false
-is_fetch Touch = false
+abbrev pub fetches : Op → Bool
+fetches Get = true
+fetches Gat = true
+fetches Set = false
+fetches Add = false
+fetches Replace = false
+fetches Append = false
+fetches Prepend = false
+fetches Cas = false
+fetches Delete = false
+fetches Incr = false
+fetches Decr = false
+fetches Touch = false
 
 -- the reply is a value, and has `END` after the last key: that of a classic get
 abbrev pub shows_values : Dialect → Op → Bool
-shows_values dialects.Classic op = is_fetch op
+shows_values dialects.Classic op = fetches op
 shows_values dialects.Meta op = false
 
 -- what `q` hides of `mg`: a miss
@@ -100,7 +100,7 @@ abbrev pub part_text : Bool → Ask → Answer → List ℕ
 part_text last ask reply =
     if shows_values ask.dialect ask.op && not (is_failure reply)
     then value_of ask reply ++ (if last then end_text else [])
-    else spelling_of ask reply
+    else answer_spelling ask reply
 
 -- what the reply to one key adds to the output: nothing where it is hidden
 abbrev pub shown_text : Bool → Bool → Ask → Answer → List ℕ
@@ -122,12 +122,12 @@ abbrev pub after_data : Bool → Ask → Answer → List ℕ
 after_data last ask reply = codes "\r\n" ++ (if has_end (shows_values ask.dialect ask.op) last reply then end_text else [])
 
 -- the i-th ask is the last one
-abbrev pub is_last : List Ask → ℕ → Bool
-is_last asks i = i + 1 == length asks
+abbrev pub is_last_ask : List Ask → ℕ → Bool
+is_last_ask asks i = i + 1 == length asks
 
 -- the message is done with the reply to its i-th ask
 abbrev pub ends_with : List Ask → ℕ → Answer → Bool
-ends_with asks i reply = is_failure reply || is_last asks i
+ends_with asks i reply = is_failure reply || is_last_ask asks i
 
 -- what mcgate itself answers, where its version is this text
 abbrev pub own_answer : List ℕ → ProxyCommand → List ℕ

@@ -12,20 +12,20 @@ use Rattle.wire_parts.specs.Message.{Served, Refusal}
 use Rattle.wire_parts.specs.Stream.{Place, Stands, Closed, extended}
 use Rattle.wire_stream.specs.Both.{own_by}
 use Rattle.wire_stream.specs.OtherProtocol.{IsOtherProtocol, IsText}
-use Rattle.wire_stream.specs.Message.{Message, Begins}
+use Rattle.wire_stream.specs.Message.{AnyMessage, Begins}
 use Rattle.wire_stream.specs.Asks.{asks_of, quiet_of}
-use Rattle.wire_stream.specs.Stream.{after_message}
-use Rattle.wire_stream.specs.Replies.{shown_text, is_last, ends_with, own_answer, refusal_text, long_line_text}
+use Rattle.wire_stream.specs.Stream.{after_any}
+use Rattle.wire_stream.specs.Replies.{shown_text, is_last_ask, ends_with, own_answer, refusal_text, long_line_text}
 
 -- what a client says: a message, a line without an end in its first 65,536 bytes, or what is of another protocol
 pub data Said : Type 0 where
-  Whole : Message → Said
+  Whole : AnyMessage → Said
   LongLine : Said
   OtherProtocol : Said
 
 -- the message at the front, and where the reader stands after it; a line that is too long closes the stream, and so does another protocol
 abbrev pub ReadsNext : Place → Said → Place → Type 0
-ReadsNext (Stands Nothing held) (Whole message) next = (used : ℕ) × Begins held message used × (next ≡ after_message message (drop used held)) × IsText held
+ReadsNext (Stands Nothing held) (Whole message) next = (used : ℕ) × Begins held message used × (next ≡ after_any message (drop used held)) × IsText held
 ReadsNext (Stands Nothing held) LongLine next = IsTooLong held × (next ≡ Closed) × IsText held
 ReadsNext (Stands Nothing held) OtherProtocol next = IsOtherProtocol held × (next ≡ Closed)
 ReadsNext (Stands (Bytes n) held) said next = ⊥
@@ -50,7 +50,7 @@ passed_text version OtherProtocol = refusal_text Unknown
 
 abbrev pub shown_by : Bool → List Ask → ℕ → Option Ask → Answer → List ℕ
 shown_by quiet asks i None reply = []
-shown_by quiet asks i (Some ask) reply = shown_text quiet (is_last asks i) ask reply
+shown_by quiet asks i (Some ask) reply = shown_text quiet (is_last_ask asks i) ask reply
 
 -- what is shown for the reply to the i-th ask
 abbrev pub shown_of : Said → ℕ → Answer → List ℕ

@@ -2,7 +2,7 @@
 use Rattle.std.specs.Prelude.{◌≡◌, ℕ, ◌+◌, ◌^◌, ◌≤◌, true, false, List, [], ◌∷◌, ◌++◌, Some, length, drop, codes}
 use Rattle.text_words.specs.Line.{CR, LF}
 use Rattle.text_words.specs.Number.{number_below}
-use Rattle.text_words.specs.Spelling.{line_of}
+use Rattle.text_words.specs.Spelling.{words_line}
 use Rattle.mc_types.specs.Asks.{data_limit}
 use Rattle.wire_answers.specs.Tokens.{letter_f, letter_k}
 use Rattle.mc_types.specs.declared.ask.Ask.{Ask}
@@ -18,10 +18,10 @@ pub record IsUsual (key bytes : List ℕ) (hit : UsualHit) : Type 0 where
   pub len : List ℕ
   pub flags : List ℕ
   pub rest : List ℕ
-  pub whole : bytes ≡ line_of (usual_words key len flags) ++ rest
+  pub whole : bytes ≡ words_line (usual_words key len flags) ++ rest
   pub len_is : number_below (data_limit + 1) len ≡ Some hit.len
   pub flags_is : number_below (2 ^ 32) flags ≡ Some hit.flags
-  pub start : hit.start ≡ length (line_of (usual_words key len flags))
+  pub start : hit.start ≡ length (words_line (usual_words key len flags))
   pub within : hit.len ≤ length rest
   pub end : (after : List ℕ) × (drop hit.len rest ≡ CR ∷ LF ∷ after)
   pub used : hit.used ≡ hit.start + hit.len + 2

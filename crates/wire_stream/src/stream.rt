@@ -3,7 +3,7 @@
 ghost use Rattle.std.specs.Prelude.{◌≡◌, ◌≤◌, ◌↔◌, IsTrue, ℕ, List, [], drop, length, OnOk, OnErr};
 ghost use Rattle.wire_parts.specs.declared.skip.Skip.TheVariants.{Nothing};
 ghost use Rattle.wire_parts.specs.Stream.{Stands, Closed, skipped, extended};
-ghost use Rattle.wire_stream.specs.Held.{held_at, HoldsNone, IsReadAt};
+ghost use Rattle.wire_stream.specs.Held.{bytes_at, HoldsNone, IsReadAt};
 
 use crate::requests::{Read, read_request};
 use std::alloc::{AllocError, Global};
@@ -22,11 +22,11 @@ pub struct TextStream {
 
 impl Model for TextStream {
     ghost use Rattle.wire_parts.specs.Stream.{Place};
-    ghost use Rattle.wire_stream.specs.Held.{place_in, HoldsNone};
+    ghost use Rattle.wire_stream.specs.Held.{place_held_at, HoldsNone};
 
     ghost Value = { Place };
 
-    ghost view = { λ s. place_in s.closed s.skip s.held };
+    ghost view = { λ s. place_held_at s.closed s.skip s.held };
 
     ghost invariant = { λ s. HoldsNone s.skip s.held };
 }
@@ -88,7 +88,7 @@ impl TextStream {
 
     /// The bytes that are held.
     pub fn held(&self) -> &[u8]
-        ensures { result.now ≡ held_at self.now }
+        ensures { result.now ≡ bytes_at self.now }
     {
         if self.closed {
             return b"".as_slice();
@@ -98,7 +98,7 @@ impl TextStream {
 
     /// The bytes that are held, with the buffer that they stand in where large data may be cut from it.
     pub fn received(&self) -> Received
-        ensures { result ≡ held_at self.now }
+        ensures { result ≡ bytes_at self.now }
     {
         if self.closed {
             return Received::copied(b"".as_slice());
@@ -144,7 +144,7 @@ impl TextStream {
 
     /// A request of so many bytes is done.
     pub fn pass_request(&mut self, used: usize)
-        requires { used ≤ length (held_at self.old) }
+        requires { used ≤ length (bytes_at self.old) }
         ensures passed { (held : List ℕ) → self.old ≡ Stands Nothing held → self.new ≡ Stands Nothing (drop used held) }
         ensures closed { self.old ≡ Closed → self.new ≡ Closed }
     {
@@ -155,7 +155,7 @@ impl TextStream {
 
     /// A refused message of so many bytes is done, and what `skip` says is passed over after them.
     pub fn pass_refused(&mut self, used: usize, skip: Skip)
-        requires { used ≤ length (held_at self.old) }
+        requires { used ≤ length (bytes_at self.old) }
         ensures passed { (held : List ℕ) → self.old ≡ Stands Nothing held → self.new ≡ skipped skip (drop used held) }
         ensures closed { self.old ≡ Closed → self.new ≡ Closed }
     {
@@ -169,7 +169,7 @@ impl TextStream {
 
     /// Where nothing is held, the room for it goes back: whether nothing is.
     pub fn give_back(&mut self, alloc: Global) -> bool
-        ensures none { IsTrue result ↔ (held_at self.old ≡ []) }
+        ensures none { IsTrue result ↔ (bytes_at self.old ≡ []) }
         ensures same { self.new ≡ self.old }
     {
         let is_none = self.held().is_empty();

@@ -2,7 +2,7 @@
 
 ghost use Rattle.std.specs.Prelude.{◌≡◌, ◌-◌, length, slice_get, take, IsSome, IfSome, ◌↔◌};
 ghost use Rattle.std.specs.List.{list_all};
-ghost use Rattle.wire_stream.specs.Version.{is_version_byte, is_space, IsVersionText, text_of, version_of};
+ghost use Rattle.wire_stream.specs.Version.{is_version_byte, is_space_there, IsVersionText, version_text_of, version_of};
 
 /// The most bytes of a version's text. mcgate's own.
 pub const VERSION_LIMIT: usize = 64;
@@ -25,7 +25,7 @@ fn are_version_bytes(text: &[u8]) -> bool
 }
 
 fn begins_with_space(text: &[u8]) -> bool
-    ensures { result ≡ is_space (slice_get text.now 0) }
+    ensures { result ≡ is_space_there (slice_get text.now 0) }
 {
     match text.first() {
         Some(byte) => *byte == b' ',
@@ -34,7 +34,7 @@ fn begins_with_space(text: &[u8]) -> bool
 }
 
 fn ends_with_space(text: &[u8]) -> bool
-    ensures { result ≡ is_space (slice_get text.now (length text.now - 1)) }
+    ensures { result ≡ is_space_there (slice_get text.now (length text.now - 1)) }
 {
     match text.last() {
         Some(byte) => *byte == b' ',
@@ -44,7 +44,7 @@ fn ends_with_space(text: &[u8]) -> bool
 
 fn text_of(text: &[u8]) -> VersionText
     requires { IsVersionText text.now }
-    ensures { text_of result ≡ text.now }
+    ensures { version_text_of result ≡ text.now }
 {
     let mut bytes = [0; VERSION_LIMIT];
     bytes[..text.len()].copy_from_slice(text);
@@ -59,7 +59,7 @@ impl VersionText {
     /// space. It takes no memory.
     pub fn read(text: &[u8]) -> Option<VersionText>
         ensures valid { IsSome result ↔ IsVersionText text.now }
-        ensures value { IfSome result (λ version. text_of version ≡ text.now) }
+        ensures value { IfSome result (λ version. version_text_of version ≡ text.now) }
     {
         if text.is_empty()
             || text.len() > VERSION_LIMIT
@@ -74,7 +74,7 @@ impl VersionText {
 
     /// The bytes of the text.
     pub fn as_bytes(&self) -> &[u8]
-        ensures { result.now ≡ text_of self.now }
+        ensures { result.now ≡ version_text_of self.now }
     {
         match self.bytes.get(..self.len as usize) {
             Some(text) => text,

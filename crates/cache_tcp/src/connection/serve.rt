@@ -5,10 +5,10 @@ ghost use Rattle.mc_types.specs.Asks.{IsAsk};
 ghost use Rattle.wire_parts.specs.declared.skip.Skip.TheVariants.{Nothing};
 ghost use Rattle.wire_parts.specs.Sending.{bytes_of};
 ghost use Rattle.wire_parts.specs.Stream.{Place, Stands};
-ghost use Rattle.wire_stream.specs.Held.{held_at, IsReadAt};
+ghost use Rattle.wire_stream.specs.Held.{bytes_at, IsReadAt};
 ghost use Rattle.wire_stream.specs.Fronts.{AsksNone};
 ghost use Rattle.wire_stream.specs.Replies.{is_failure, shown_text};
-ghost use Rattle.cache_tcp.specs.Steps.{IsAskOf, IsKeyOf, IsOnWay, IsAnswered, ShowsNext, ServesNext, PassesOn, RunsOn, Stops, StopsAtAsk, StopsNext, HasStopped, IsWithin, spot_at, place_by, count_of};
+ghost use Rattle.cache_tcp.specs.Steps.{IsAskOf, IsKeyOf, IsOnWay, IsAnsweredSoFar, ShowsNextReply, ServesNext, PassesOn, RunsOn, StopsForMemory, StopsAtAsk, StopsNext, HasStopped, IsWithin, spot_at, place_by, asks_ended};
 
 use crate::connection::moment::Moment;
 use crate::connection::reply::reply_to;
@@ -41,7 +41,7 @@ fn write_reply(
 
 // A message at the front of so many bytes is done, where the reply ended it: whether it did.
 fn end_with(stream: &mut ClientStream, last: bool, reply: &Answer, used: usize) -> bool
-    requires { used ≤ length (held_at stream.old) }
+    requires { used ≤ length (bytes_at stream.old) }
     ensures ended { result ≡ (is_failure reply.now || last) }
     ensures place { (held : List ℕ) → stream.old ≡ Stands Nothing held → stream.new ≡ place_by result stream.old (Stands Nothing (drop used held)) }
 {
@@ -63,7 +63,7 @@ fn show(
     out: &mut SendBuffer,
 ) -> Result<bool, AllocError>
     requires { IsAskOf stream.old request.now index ask.now }
-    ensures ok { IfOk result (λ ended. ShowsNext stream.old request.now index ask.now reply.now (bytes_of out.old) ended stream.new (bytes_of out.new)) }
+    ensures ok { IfOk result (λ ended. ShowsNextReply stream.old request.now index ask.now reply.now (bytes_of out.old) ended stream.new (bytes_of out.new)) }
     ensures err { OnErr result (bytes_of out.new ≡ bytes_of out.old) }
 {
     let count = request.asks();
@@ -132,9 +132,9 @@ fn serve_request(
     most: usize,
 ) -> Result<Option<usize>, AllocError>
     requires { IsKeyOf stream.old request.now first }
-    ensures ok { IfOk result (λ next. RunsOn moment.seconds (spot_at stream.old first) cache.old (bytes_of out.old) (spot_at stream.new (count_of next)) cache.new (bytes_of out.new)) }
+    ensures ok { IfOk result (λ next. RunsOn moment.seconds (spot_at stream.old first) cache.old (bytes_of out.old) (spot_at stream.new (asks_ended next)) cache.new (bytes_of out.new)) }
     ensures stopped { IfOk result (λ next. HasStopped most next stream.old stream.new (bytes_of out.new)) }
-    ensures err { OnErr result (Stops moment.seconds (spot_at stream.old first) cache.old cache.new) }
+    ensures err { OnErr result (StopsForMemory moment.seconds (spot_at stream.old first) cache.old cache.new) }
     ensures within { IsWithin most (bytes_of out.old) → IsWithin most (bytes_of out.new) }
 {
     for index in first..request.asks() {
@@ -176,8 +176,8 @@ pub fn serve(
     requires { IsOnWay (spot_at stream.old first) }
     ensures ok { IfOk result (λ next. RunsOn moment.seconds (spot_at stream.old first) cache.old (bytes_of out.old) (spot_at stream.new next) cache.new (bytes_of out.new)) }
     ensures way { IfOk result (λ next. IsOnWay (spot_at stream.new next)) }
-    ensures all { OnOk result (IsAnswered most stream.new (bytes_of out.new)) }
-    ensures err { OnErr result (Stops moment.seconds (spot_at stream.old first) cache.old cache.new) }
+    ensures all { OnOk result (IsAnsweredSoFar most stream.new (bytes_of out.new)) }
+    ensures err { OnErr result (StopsForMemory moment.seconds (spot_at stream.old first) cache.old cache.new) }
     ensures within { IsWithin most (bytes_of out.old) → IsWithin most (bytes_of out.new) }
 {
     let mut next = first;

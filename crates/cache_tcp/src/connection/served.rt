@@ -4,8 +4,8 @@ ghost use Rattle.std.specs.Prelude.{◌≡◌, ◌↔◌, pos, ◌≤ℤ◌, tru
 ghost use Rattle.wire_parts.specs.declared.skip.Skip.TheVariants.{Nothing};
 ghost use Rattle.wire_parts.specs.Sending.{bytes_of};
 ghost use Rattle.wire_parts.specs.Stream.{Stands, Closed, extended};
-ghost use Rattle.wire_stream.specs.Held.{held_at};
-ghost use Rattle.cache_tcp.specs.Steps.{RunsOn, Stops, IsAnswered, IsWithin, at_front, spot_at};
+ghost use Rattle.wire_stream.specs.Held.{bytes_at};
+ghost use Rattle.cache_tcp.specs.Steps.{RunsOn, StopsForMemory, IsAnsweredSoFar, IsWithin, at_front, spot_at};
 ghost use Rattle.cache_tcp.specs.Flushing.{IsBetween};
 
 use crate::connection::moment::Moment;
@@ -93,9 +93,9 @@ impl Served {
     ) -> Result<(), AllocError>
         requires { pos 0 ≤ℤ moment }
         ensures ok { OnOk result (RunsOn moment self.old cache.old (bytes_of out.old) self.new cache.new (bytes_of out.new)) }
-        ensures all { OnOk result (IsAnswered most self.new.place (bytes_of out.new)) }
+        ensures all { OnOk result (IsAnsweredSoFar most self.new.place (bytes_of out.new)) }
         ensures err { OnErr result (self.new ≡ at_front Closed) }
-        ensures stops { OnErr result (Stops moment self.old cache.old cache.new) }
+        ensures stops { OnErr result (StopsForMemory moment self.old cache.old cache.new) }
         ensures within { IsWithin most (bytes_of out.old) → IsWithin most (bytes_of out.new) }
     {
         let now = Moment { seconds: moment };

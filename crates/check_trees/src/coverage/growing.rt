@@ -1,7 +1,7 @@
 //! Small plain trees, made from a seed.
 
 ghost use Rattle.std.specs.Prelude.{IfOk};
-ghost use Rattle.check_trees.specs.Small.{IsSmall, IsOver};
+ghost use Rattle.check_trees.specs.Small.{IsSmall, IsOverTwo};
 
 use crate::picking::pick;
 use mc_types::{Op, ServerId};
@@ -33,7 +33,7 @@ fn leaf(seed: &mut u32) -> Plain
 fn over(alloc: Global, seed: &mut u32, first: Plain, second: Plain) -> Result<Plain, AllocError>
     requires first { IsSmall 3 43 first }
     requires second { IsSmall 3 43 second }
-    ensures { IfOk result (IsOver first second) }
+    ensures { IfOk result (IsOverTwo first second) }
 {
     let form = match pick(seed, 5) {
         0 => PlainForm::AllSync(vec![in alloc; first, second]?),

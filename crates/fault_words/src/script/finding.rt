@@ -5,7 +5,7 @@ ghost use Rattle.script_events.specs.LinesAfter.{lines_after};
 ghost use Rattle.script_events.specs.Scripted.{scripted_of};
 ghost use Rattle.script_events.specs.Told.{either, bad_event_line, bad_line, servers_said, told_from};
 ghost use Rattle.script_events.specs.Lines.{lines_of};
-ghost use Rattle.fault_words.specs.Finding.{IsWrongLine, IsWrong, FindsIn, bytes_said};
+ghost use Rattle.fault_words.specs.Finding.{IsWrongLine, IsWrong, FindsBadLine, bytes_said};
 ghost use Rattle.fault_words.specs.Lines.{line_numbered};
 ghost use Rattle.fault_words.specs.Misfits.{bytes_before_bad};
 
@@ -139,7 +139,7 @@ fn bad_line_after<'a>(
 ///
 /// Source: mcgate's own.
 pub fn bad_line_in_script(alloc: Global, text: &str) -> Result<Option<BadLine<'_>>, AllocError>
-    ensures { IfOk result (FindsIn text.now) }
+    ensures { IfOk result (FindsBadLine text.now) }
 {
     let front = front_of(text);
     match read_first(alloc, front.line) {

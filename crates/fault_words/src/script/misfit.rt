@@ -1,7 +1,7 @@
 //! Why an event that a line says can't be.
 
 ghost use Rattle.std.specs.Prelude.{◌≡◌, ◌≤◌, map, sum_by};
-ghost use Rattle.script_events.specs.Caches.{server_of};
+ghost use Rattle.script_events.specs.Caches.{loss_server};
 ghost use Rattle.script_events.specs.Scripted.{scripted_of};
 ghost use Rattle.script_events.specs.Bad.{len_of};
 ghost use Rattle.fault_words.specs.Misfits.{misfit_of, bytes_before_bad};
@@ -32,7 +32,7 @@ pub enum Misfit {
 }
 
 fn server_of(loss: &Loss) -> u32
-    ensures { result ≡ server_of loss.now }
+    ensures { result ≡ loss_server loss.now }
 {
     match loss {
         Loss::Item(server, _) => server.number(),

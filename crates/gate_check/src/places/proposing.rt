@@ -2,7 +2,7 @@
 
 ghost use Rattle.std.specs.Prelude.{◌≡◌, ◌↔◌, ◌<◌, [], ◌∷◌, IfOk, IsTrue, MatchResult, length};
 ghost use Rattle.gate_check.specs.Tables.{IsTable, IsPlaceFault};
-ghost use Rattle.gate_check.specs.Proposed.{IsProposal, last_of, IsLast, IsWithRun, AreProposed, IsProposedBy};
+ghost use Rattle.gate_check.specs.Proposed.{IsProposal, last_of, IsLastRun, IsWithRun, AreProposed, IsProposedBy};
 
 use crate::places::making::places;
 use crate::places::rows::put_row;
@@ -23,7 +23,7 @@ fn last_servers<'a>(runs: &'a [Run]) -> &'a [ServerId]
 
 // Whether the last run has these servers.
 fn is_last(runs: &[Run], servers: &[ServerId]) -> bool
-    ensures { IsTrue result ↔ IsLast runs.now servers.now }
+    ensures { IsTrue result ↔ IsLastRun runs.now servers.now }
 {
     !runs.is_empty() && last_servers(runs) == servers
 }

@@ -5,7 +5,7 @@ ghost use Rattle.mc_types.specs.declared.ask.Op.TheVariants.{Delete};
 ghost use Rattle.route_tree.specs.Plan.{count, count_of_all, count_of_policies};
 ghost use Rattle.route_tree.specs.Form.{plans_of, plan_policies_of};
 ghost use Rattle.route_tree.specs.declared.limits.TheConstants.{ROUTE_LIMIT};
-ghost use Rattle.gate_coverage.specs.Computed.{is_get, fails, fails_some, fails_each, fails_last, fails_head, fails_policy};
+ghost use Rattle.gate_coverage.specs.Computed.{asks_get, fails, fails_some, fails_each, fails_last, fails_head, fails_policy};
 ghost use Rattle.gate_gaps.specs.Turns as turns;
 ghost use Rattle.gate_gaps.specs.Turns.{tries, tries_all, tries_first, tries_head, tries_policy, acks, acks_first, acks_head, acks_policy, finds, finds_first, finds_some, finds_head, finds_policy};
 
@@ -180,7 +180,7 @@ fn trying_policy(policies: &[(Op, Plain)], default: &Plain, op: Op) -> Tried
 
 // The first that is there.
 fn or_else(first: Option<u32>, other: Option<u32>) -> Option<u32>
-    ensures { result ≡ turns.or_else first other }
+    ensures { result ≡ turns.or_that first other }
 {
     match first {
         Some(number) => Some(number),

@@ -5,7 +5,7 @@ ghost use Rattle.route_tree.specs.Each.{Each};
 ghost use Rattle.route_tree.specs.Plan.{Plan};
 ghost use Rattle.gate_coverage.specs.Seen.{plan_of};
 ghost use Rattle.gate_growth.specs.Puts.{Puts};
-ghost use Rattle.gate_growth.specs.Marks.{IsTaken, IsClear, IsMarkOf, MayFollow, IsRefusedFor};
+ghost use Rattle.gate_growth.specs.Marks.{IsTaken, IsClear, IsMarkOf, MayStandAfter, IsRefusedFor};
 ghost use Rattle.gate_growth.specs.Computed.{first_left, refusal, mark_after};
 
 use crate::puts::puts;
@@ -52,7 +52,7 @@ pub fn after(mark: Mark, number: u32, seen: Seen, server: ServerId) -> Mark
 /// After one more tree, of this number: or the first one whose deletes may leave what it takes, itself the last. It takes
 /// no memory.
 pub fn follow(mark: Mark, number: u32, seen: Seen, server: ServerId) -> Result<Mark, u32>
-    ensures { (arbitrary : Bool) (plans : List Plan) → length plans ≡ number → IsMarkOf arbitrary plans server mark → MatchResult result (λ new. MayFollow arbitrary plans (plan_of seen.entry) server × IsMarkOf arbitrary (plans ++ plan_of seen.entry ∷ []) server new) (IsRefusedFor arbitrary plans (plan_of seen.entry) server) }
+    ensures { (arbitrary : Bool) (plans : List Plan) → length plans ≡ number → IsMarkOf arbitrary plans server mark → MatchResult result (λ new. MayStandAfter arbitrary plans (plan_of seen.entry) server × IsMarkOf arbitrary (plans ++ plan_of seen.entry ∷ []) server new) (IsRefusedFor arbitrary plans (plan_of seen.entry) server) }
 {
     let clear = is_clear(seen, server);
     match refusal(mark.left, number, is_taken(seen, server), clear) {

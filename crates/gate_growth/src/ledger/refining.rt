@@ -5,9 +5,9 @@ ghost use Rattle.route_tree.specs.Route.{Route};
 ghost use Rattle.route_tree.specs.Place.{sizes, prefixes, prefix_text};
 ghost use Rattle.gate_check.specs.Tables.{most_rows, AreSizes, IsMultiple};
 ghost use Rattle.gate_check.specs.Texts.{ordered};
-ghost use Rattle.gate_growth.specs.Classes.{given, given_one, prefixes_of, IsBestAt};
+ghost use Rattle.gate_growth.specs.Classes.{given, given_one, class_prefixes, IsBestAt};
 ghost use Rattle.gate_growth.specs.PlaceRows.{AreRowsOf};
-ghost use Rattle.gate_growth.specs.Finer.{is_longer, IfFinerRows};
+ghost use Rattle.gate_growth.specs.Finer.{begins_longer, IfFinerRows};
 ghost use Rattle.gate_growth.specs.declared.ledger.class.ClassPages.{ClassPages};
 
 use crate::ledger::class::ClassPages;
@@ -37,7 +37,7 @@ pub fn finer_rows(
 ) -> Result<Option<FinerRows>, AllocError>
     requires some { 0 < modulus }
     requires within { modulus ≤ most_rows }
-    ensures rows { IfOk result (λ found. (trees : List Route) → AreRowsOf trees (prefixes_of classes.now) modulus → IfFinerRows trees tree.now found) }
+    ensures rows { IfOk result (λ found. (trees : List Route) → AreRowsOf trees (class_prefixes classes.now) modulus → IfFinerRows trees tree.now found) }
     ensures small { IfOk result (λ found. IfSome found (λ finer. (0 < finer.modulus) × (finer.modulus ≤ most_rows))) }
 {
     let modulus = match finer_modulus(alloc, modulus, tree)? {
@@ -90,7 +90,7 @@ fn finer_prefixes(
     classes: &[ClassPages],
     tree: &Tree,
 ) -> Result<Vec<Key>, AllocError>
-    ensures { IfOk result (λ texts. texts.items ≡ ordered (given (prefixes_of classes.now) ++ prefixes tree.now)) }
+    ensures { IfOk result (λ texts. texts.items ≡ ordered (given (class_prefixes classes.now) ++ prefixes tree.now)) }
 {
     let mut list = Vec::new(alloc);
     for class in classes {
@@ -128,7 +128,7 @@ pub fn class_of(classes: &[ClassPages], text: &[u8]) -> usize
 fn better(classes: &[ClassPages], best: usize, index: usize, text: &[u8]) -> usize
     requires best { best < length classes.now }
     requires index { index < length classes.now }
-    ensures { (a b : ClassPages) → slice_get classes.now best ≡ Some a → slice_get classes.now index ≡ Some b → result ≡ (if is_longer (prefix_text a.prefix) (prefix_text b.prefix) text.now then index else best) }
+    ensures { (a b : ClassPages) → slice_get classes.now best ≡ Some a → slice_get classes.now index ≡ Some b → result ≡ (if begins_longer (prefix_text a.prefix) (prefix_text b.prefix) text.now then index else best) }
 {
     let own = prefix_text(&classes[index].prefix);
     let other = prefix_text(&classes[best].prefix);
@@ -141,7 +141,7 @@ fn better(classes: &[ClassPages], best: usize, index: usize, text: &[u8]) -> usi
 
 // Whether the second begins the text and is longer than the first.
 fn is_longer(other: &[u8], own: &[u8], text: &[u8]) -> bool
-    ensures { result ≡ is_longer other.now own.now text.now }
+    ensures { result ≡ begins_longer other.now own.now text.now }
 {
     text.starts_with(own) && other.len() < own.len()
 }

@@ -4,7 +4,7 @@ ghost use Rattle.std.specs.Prelude.{◌≡◌, ℕ, List, [], ◌∷◌, ◌++�
 ghost use Rattle.route_tree.specs.Plan.{Plan};
 ghost use Rattle.gate_coverage.specs.Seen.{plan_of};
 ghost use Rattle.gate_growth.specs.Marks.{IsMarkOf};
-ghost use Rattle.gate_growth.specs.Rows.{servers_of, AreCellsOf, IfRefused, IsRefusedAt, lesser, lesser_of};
+ghost use Rattle.gate_growth.specs.Rows.{cell_servers, AreCellsOf, IfRefused, IsRefusedAt, lesser_refusal, lesser_of};
 
 use crate::ledger::mark::{Mark, after, follow};
 use gate_coverage::Seen;
@@ -45,7 +45,7 @@ pub fn cells_after(
     number: u32,
     seen: Seen,
 ) -> Result<Vec<Cell>, AllocError>
-    ensures servers { IfOk result (λ new. servers_of new.items ≡ servers_of cells.now) }
+    ensures servers { IfOk result (λ new. cell_servers new.items ≡ cell_servers cells.now) }
     ensures marks { IfOk result (λ new. (arbitrary : ℕ → Bool) (plans : List Plan) → length plans ≡ number → AreCellsOf arbitrary plans cells.now → AreCellsOf arbitrary (plans ++ plan_of seen.entry ∷ []) new.items) }
 {
     let mut new = Vec::new(alloc);
@@ -81,7 +81,7 @@ fn refused_at(cell: Cell, number: u32, seen: Seen) -> Option<Refused>
 
 // The one for the earlier generation; of one generation that of the smaller server; of equal ones the first.
 fn lesser(best: Option<Refused>, here: Option<Refused>) -> Option<Refused>
-    ensures { result ≡ lesser best here }
+    ensures { result ≡ lesser_refusal best here }
 {
     match here {
         None => best,

@@ -8,9 +8,9 @@ ghost use Rattle.gate_coverage.specs.Seen.{plan_of};
 ghost use Rattle.gate_check.specs.Looking.{IsFirstTaken};
 ghost use Rattle.gate_growth.specs.Marks.{IsTaken};
 ghost use Rattle.gate_growth.specs.Pages.{IsFirstOf, IfRefusedOf};
-ghost use Rattle.gate_growth.specs.Classes.{prefixes_of};
+ghost use Rattle.gate_growth.specs.Classes.{class_prefixes};
 ghost use Rattle.gate_growth.specs.LeftGaps.{IsLeftBy, IfLeftBy, earlier};
-ghost use Rattle.gate_growth.specs.Turning.{Turns, TurnsPage, TurnsGap};
+ghost use Rattle.gate_growth.specs.Turning.{TurnsTrees, TurnsPage, TurnsGap};
 
 use crate::ledger::class::ClassPages;
 use crate::ledger::page::{Beginning, Page, turn_page};
@@ -77,8 +77,8 @@ pub fn turned_classes(
     requires counted { 0 < step.now.modulus }
     requires below { Each (λ s. s < length step.now.begun.now) (tree_servers step.now.tree.now) }
     requires few { length step.now.begun.now < 2 ^ 32 }
-    ensures prefixes { IfOk result (λ all. prefixes_of all.classes.items ≡ None ∷ map Some texts.now) }
-    ensures turned { IfOk result (λ all. Turns known.now step.now all.classes.items all.gap) }
+    ensures prefixes { IfOk result (λ all. class_prefixes all.classes.items ≡ None ∷ map Some texts.now) }
+    ensures turned { IfOk result (λ all. TurnsTrees known.now step.now all.classes.items all.gap) }
 {
     let mut all = TurnedAll {
         classes: Vec::new(alloc),
@@ -103,8 +103,8 @@ fn add_class(
     requires counted { 0 < step.now.modulus }
     requires below { Each (λ s. s < length step.now.begun.now) (tree_servers step.now.tree.now) }
     requires few { length step.now.begun.now < 2 ^ 32 }
-    ensures prefixes { IfOk result (λ _. prefixes_of all.new.classes.items ≡ prefixes_of all.old.classes.items ++ prefix.now ∷ []) }
-    ensures turned { IfOk result (λ _. Turns known.now step.now all.old.classes.items all.old.gap → Turns known.now step.now all.new.classes.items all.new.gap) }
+    ensures prefixes { IfOk result (λ _. class_prefixes all.new.classes.items ≡ class_prefixes all.old.classes.items ++ prefix.now ∷ []) }
+    ensures turned { IfOk result (λ _. TurnsTrees known.now step.now all.old.classes.items all.old.gap → TurnsTrees known.now step.now all.new.classes.items all.new.gap) }
 {
     let more = turned_class(alloc, known, prefix, step)?;
     all.gap = earlier(all.gap, more.gap);
@@ -124,7 +124,7 @@ fn turned_class(
     requires below { Each (λ s. s < length step.now.begun.now) (tree_servers step.now.tree.now) }
     requires few { length step.now.begun.now < 2 ^ 32 }
     ensures prefix { IfOk result (λ turned. turned.class.prefix ≡ prefix.now) }
-    ensures turned { IfOk result (λ turned. Turns known.now step.now (turned.class ∷ []) turned.gap) }
+    ensures turned { IfOk result (λ turned. TurnsTrees known.now step.now (turned.class ∷ []) turned.gap) }
 {
     let class = &known[class_of(known, prefix_text(prefix))];
     let mut pages = Vec::new(alloc);

@@ -1,14 +1,14 @@
 //! How many slots servers have.
 
 ghost use Rattle.std.specs.Prelude.{◌≡◌, ◌≤◌, length};
-ghost use Rattle.gate_plan.specs.Slots.{count_of};
+ghost use Rattle.gate_plan.specs.Slots.{slots_of_server};
 
 use mc_types::ServerId;
 use std::alloc::{AllocError, Global};
 
 /// How many of these slots a server has.
 pub fn count_of(slots: &[ServerId], server: ServerId) -> usize
-    ensures count { result ≡ count_of server slots.now }
+    ensures count { result ≡ slots_of_server server slots.now }
     ensures few { result ≤ length slots.now }
 {
     match slots {

@@ -43,7 +43,7 @@ pub fn value_of(alloc: Global, text: &str) -> Result<Value, AllocError>
 
 // The servers that the plain tree has for these operations.
 fn servers_of(alloc: Global, plain: &Plain, ops: &[Op]) -> Result<Vec<ServerId>, AllocError>
-    ensures { IfOk result (λ servers. servers.items ≡ spec.servers_of plain.now ops.now) }
+    ensures { IfOk result (λ servers. servers.items ≡ spec.plan_servers plain.now ops.now) }
 {
     let mut servers = Vec::new(alloc);
     for op in ops {
@@ -54,7 +54,7 @@ fn servers_of(alloc: Global, plain: &Plain, ops: &[Op]) -> Result<Vec<ServerId>,
 
 // Those that it has for some operation.
 fn all_servers_of(alloc: Global, plain: &Plain) -> Result<Vec<ServerId>, AllocError>
-    ensures { IfOk result (λ servers. servers.items ≡ spec.servers_of plain.now all_ops) }
+    ensures { IfOk result (λ servers. servers.items ≡ spec.plan_servers plain.now all_ops) }
 {
     let ops = Op::all();
     servers_of(alloc, plain, &ops)
@@ -170,7 +170,7 @@ pub fn write_limits<W: Write>(
     plain: &Plain,
     out: &mut W,
 ) -> Result<(), RunFault>
-    ensures ok { OnOk result (Appends (W.contents out.old) (W.contents out.new) (limits_lines servers.now pools.now (view value.now) (spec.servers_of plain.now all_ops))) }
+    ensures ok { OnOk result (Appends (W.contents out.old) (W.contents out.new) (limits_lines servers.now pools.now (view value.now) (spec.plan_servers plain.now all_ops))) }
     ensures err { IfErr result IsNoOverrun }
 {
     let asked = all_servers_of(alloc, plain)?;

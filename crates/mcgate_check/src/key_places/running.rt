@@ -4,7 +4,7 @@ ghost use Rattle.std.specs.Prelude.{◌≤◌, [], ◌∷◌, IfOk, IfErr, OnOk}
 ghost use Rattle.serde_json.specs.Read.{read};
 ghost use Rattle.gate_check.specs.Tables.{IsTable};
 ghost use Rattle.mcgate_check.specs.Checking.{IsNoOverrun};
-ghost use Rattle.gate_gaps.specs.Pools.{pools_in};
+ghost use Rattle.gate_gaps.specs.Pools.{named_pools_in};
 ghost use Rattle.mcgate_check.specs.Blocks.{WritesBlocks};
 ghost use Rattle.mcgate_check.specs.Finding.{FindsAt, FindsKeys};
 ghost use Rattle.mcgate_check.specs.LimitLines.{limits_value};
@@ -32,7 +32,7 @@ fn write_found<W: Write>(
     out: &mut W,
 ) -> Result<(), RunFault>
     requires { IsTable (config.now.tree ∷ []) table.now }
-    ensures ok { OnOk result (WritesBlocks config.now.servers (pools_in config.now.servers (read text.now)) (limits_value (read text.now)) config.now.tree keys.now (W.contents out.old) (W.contents out.new)) }
+    ensures ok { OnOk result (WritesBlocks config.now.servers (named_pools_in config.now.servers (read text.now)) (limits_value (read text.now)) config.now.tree keys.now (W.contents out.old) (W.contents out.new)) }
     ensures err { IfErr result IsNoOverrun }
 {
     let pools = read_pools(alloc, text, config.servers())?;

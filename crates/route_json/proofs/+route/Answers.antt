@@ -9,7 +9,7 @@ use Rattle.route_tree.specs.Form.{policies_of, prefixes_of}
 use Rattle.route_json.specs.Fault.{Fault, fault_of}
 use Rattle.route_json.specs.Fits.{NodeFits, seconds, AreKeys}
 use Rattle.route_json.specs.Reading.{each, named}
-use Rattle.route_json.specs.Routes.{counts, route, node, policy_op, prefix_of}
+use Rattle.route_json.specs.Routes.{counts_route, route, node, policy_op, prefix_of}
 use Rattle.route_json.proofs.Each.{entries, named_ok, named_bad, named_stops, stops, values_step}
 use Rattle.route_json.proofs.Fitting.{reads_go, listed_fits, ops_fit, prefixes_fit, seconds_push, keys_push}
 use Rattle.route_json.proofs.Gives.{passed}
@@ -26,7 +26,7 @@ pub route::route-returns-in_err-add-clause-gives : goal.route::route-returns-in_
 route::route-returns-in_err-add-clause-gives t c =
     let p = err_from_is_err_and c.from_residual.result c.from_residual.ensures.1 in
     let is : c.args.place.levels ≡ suc (c.args.place.levels - 1) = omega arith in
-    rw (p.1, p.2) (passed (fault_of c.in_err-add.field-0.0) (counts c.args.place.weight c.args.count.now.routes) (route c.args.pools.now.0 c.args.place.levels c.args.place.weight c.args.field.now (view c.args.value.now) c.args.count.now.routes) c.in_err-add.ensures.gives (λ f k. route_many c.args.pools.now.0 c.args.place.weight c.args.field.now (view c.args.value.now) c.args.count.now.routes c.args.place.levels (c.args.place.levels - 1) f is k))
+    rw (p.1, p.2) (passed (fault_of c.in_err-add.field-0.0) (counts_route c.args.place.weight c.args.count.now.routes) (route c.args.pools.now.0 c.args.place.levels c.args.place.weight c.args.field.now (view c.args.value.now) c.args.count.now.routes) c.in_err-add.ensures.gives (λ f k. route_many c.args.pools.now.0 c.args.place.weight c.args.field.now (view c.args.value.now) c.args.count.now.routes c.args.place.levels (c.args.place.levels - 1) f is k))
 
 pub route::route-returns-in_err-form-clause-gives : goal.route::route-returns-in_err-form-clause-gives
 route::route-returns-in_err-form-clause-gives t c =

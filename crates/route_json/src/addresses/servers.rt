@@ -4,7 +4,7 @@ ghost use Rattle.std.specs.Prelude.{◌≡◌, ◌<◌, [], ◌∷◌, ◌++◌,
 ghost use Rattle.std.specs.List.{list_any};
 ghost use Rattle.std.specs.Str.{bytes_eq};
 ghost use Rattle.route_json.specs.NumberedServers.{AreServers};
-ghost use Rattle.route_json.specs.ServerNames.{have_epochs, is_over};
+ghost use Rattle.route_json.specs.ServerNames.{have_epochs, epoch_is_over};
 
 use crate::addresses::name::{address_in, are_some_in_epochs, is_named};
 use indexmap::IndexSet;
@@ -75,7 +75,7 @@ impl Servers {
 
     /// Whether the epoch of a server is over: a server of a later number has its address.
     pub fn is_over(&self, server: ServerId) -> bool
-        ensures { result ≡ is_over self.now server }
+        ensures { result ≡ epoch_is_over self.now server }
     {
         match self.get(server) {
             Some(name) => {

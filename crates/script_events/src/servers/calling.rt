@@ -6,7 +6,7 @@ ghost use Rattle.fresh_runs.specs.ScriptLog.{Cut};
 ghost use Rattle.cache_server.specs.Contents.{at_moment};
 ghost use Rattle.script_events.specs.Caches.{changed_at};
 ghost use Rattle.script_events.specs.Servers.{manner_of};
-ghost use Rattle.script_events.specs.Calling.{AppliesAt, IsMade, IsRefused, made_of};
+ghost use Rattle.script_events.specs.Calling.{AppliesAt, CallIsMade, IsRefused, made_of};
 
 use crate::servers::cutting::read_cut;
 use crate::servers::event::Made;
@@ -58,7 +58,7 @@ fn cut_call(
 ) -> Result<Made, AllocError>
     requires there { server < length caches.old.items }
     requires ask { IsAsk ask.now }
-    ensures ok { IfOk result (λ made. IsMade (Some (Cut count)) stamp moment.seconds caches.old.items server ask.now made caches.new.items) }
+    ensures ok { IfOk result (λ made. CallIsMade (Some (Cut count)) stamp moment.seconds caches.old.items server ask.now made caches.new.items) }
     ensures err { OnErr result (IsRefused (Some (Cut count)) stamp moment.seconds caches.old.items server ask.now caches.new.items) }
     ensures count { length caches.new.items ≡ length caches.old.items }
 {
@@ -79,7 +79,7 @@ fn fail_call(
 ) -> Result<Made, AllocError>
     requires there { server < length caches.old.items }
     requires ask { IsAsk ask.now }
-    ensures ok { IfOk result (λ made. IsMade (Some (manner_of manner)) stamp moment.seconds caches.old.items server ask.now made caches.new.items) }
+    ensures ok { IfOk result (λ made. CallIsMade (Some (manner_of manner)) stamp moment.seconds caches.old.items server ask.now made caches.new.items) }
     ensures err { OnErr result (IsRefused (Some (manner_of manner)) stamp moment.seconds caches.old.items server ask.now caches.new.items) }
     ensures count { length caches.new.items ≡ length caches.old.items }
 {
@@ -112,7 +112,7 @@ pub fn make_call(
 ) -> Result<Made, AllocError>
     requires there { server < length caches.old.items }
     requires ask { IsAsk ask.now }
-    ensures ok { IfOk result (λ made. IsMade (option_map manner_of named) stamp moment.seconds caches.old.items server ask.now made caches.new.items) }
+    ensures ok { IfOk result (λ made. CallIsMade (option_map manner_of named) stamp moment.seconds caches.old.items server ask.now made caches.new.items) }
     ensures err { OnErr result (IsRefused (option_map manner_of named) stamp moment.seconds caches.old.items server ask.now caches.new.items) }
     ensures count { length caches.new.items ≡ length caches.old.items }
 {

@@ -4,7 +4,7 @@ ghost use Rattle.std.specs.Prelude.{◌≡◌, length, nat_le, Some, None, if◌
 ghost use Rattle.mc_types.specs.Asks.{IsAsk};
 ghost use Rattle.mc_types.specs.Fits.{Fits};
 ghost use Rattle.wire_answers.specs.Fitting.{IsText, AreTexts};
-ghost use Rattle.wire_answers.specs.Spelling.{spelling_of};
+ghost use Rattle.wire_answers.specs.Spelling.{answer_spelling};
 ghost use Rattle.script_events.specs.Cutting.{answer_of};
 
 use bytes::BytesMut;
@@ -51,7 +51,7 @@ pub fn read_cut(
 ) -> Result<Option<Answer>, AllocError>
     requires ask { IsAsk ask.now }
     requires fits { Fits ask.now answer.now }
-    ensures { IfOk result (λ read. read ≡ (if nat_le (length (spelling_of ask.now answer.now)) count then Some answer.now else None)) }
+    ensures { IfOk result (λ read. read ≡ (if nat_le (length (answer_spelling ask.now answer.now)) count then Some answer.now else None)) }
 {
     are_texts(ask.tokens.as_slice());
     let mut text = BytesMut::new(alloc);

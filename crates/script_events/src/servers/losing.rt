@@ -2,7 +2,7 @@
 
 ghost use Rattle.std.specs.Prelude.{◌≡◌, ℕ, ◌++◌, ◌∷◌, [], List, if◌then◌else◌, nat_eq, length, OnOk, OnErr};
 ghost use Rattle.fresh_runs.specs.Run.{after_event};
-ghost use Rattle.script_events.specs.Caches.{loss_of, held_at, after_loss, listed};
+ghost use Rattle.script_events.specs.Caches.{loss_of, cache_held, after_loss, losses_named};
 ghost use Rattle.script_events.specs.Losing.{AreLost};
 
 use crate::servers::event::Loss;
@@ -13,7 +13,7 @@ use std::collections::BTreeMap;
 /// One loss; a server that isn't there has nothing to lose. It takes no memory.
 pub fn lose_one(caches: &mut Vec<Cache>, loss: &Loss)
     ensures contents { caches.new.items ≡ after_loss (loss_of loss.now) caches.old.items }
-    ensures held { (s : ℕ) (k : List ℕ) → held_at caches.new.items s k ≡ after_event (loss_of loss.now) (held_at caches.old.items) s k }
+    ensures held { (s : ℕ) (k : List ℕ) → cache_held caches.new.items s k ≡ after_event (loss_of loss.now) (cache_held caches.old.items) s k }
     ensures count { length caches.new.items ≡ length caches.old.items }
 {
     match loss {
@@ -50,8 +50,8 @@ pub fn add_loss(
     turn: u64,
     loss: Loss,
 ) -> Result<(), AllocError>
-    ensures ok { OnOk result ((t : ℕ) → listed named.new t ≡ (if nat_eq turn t then listed named.old t ++ loss ∷ [] else listed named.old t)) }
-    ensures err { OnErr result ((t : ℕ) → listed named.new t ≡ listed named.old t) }
+    ensures ok { OnOk result ((t : ℕ) → losses_named named.new t ≡ (if nat_eq turn t then losses_named named.old t ++ loss ∷ [] else losses_named named.old t)) }
+    ensures err { OnErr result ((t : ℕ) → losses_named named.new t ≡ losses_named named.old t) }
 {
     if let Some(losses) = named.get_mut(&turn) {
         return match losses.push(loss) {

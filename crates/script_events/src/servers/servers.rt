@@ -3,9 +3,9 @@
 ghost use Rattle.std.specs.Prelude.{◌≡◌, ◌+◌, ◌<◌, ◌≤◌, ◌↔◌, ℕ, List, pos, ◌≤ℤ◌, ◌++◌, ◌∷◌, [], length, if◌then◌else◌, nat_eq, Some, Err, option_map, IfOk, IfErr, OnOk, OnErr};
 ghost use Rattle.mc_types.specs.Asks.{IsAsk, data_limit};
 ghost use Rattle.fresh_runs.specs.Run.{after_event};
-ghost use Rattle.cache_server.specs.Contents.{storing, opening};
+ghost use Rattle.cache_server.specs.Contents.{storing_item, opening};
 ghost use Rattle.script_events.specs.Limits.{last_turn};
-ghost use Rattle.script_events.specs.Caches.{loss_of, held_at, changed_at, after_loss};
+ghost use Rattle.script_events.specs.Caches.{loss_of, cache_held, changed_at, after_loss};
 ghost use Rattle.script_events.specs.Losing.{AreLost};
 
 use crate::servers::calling::make_call;
@@ -39,7 +39,7 @@ pub struct ScriptServers {
 
 impl ScriptServers {
     ghost use Rattle.script_events.specs.declared.servers.event.FleetFault.TheVariants.{Spent};
-    ghost use Rattle.script_events.specs.Servers.{manner_of, caches_of, count_of, turn_of, moment_of, named_of, lost_of, AreNewServers, Answers, Stops};
+    ghost use Rattle.script_events.specs.Servers.{manner_of, caches_of, count_of_servers, turn_of, moment_now, named_of, lost_of, AreNewServers, Answers, Stops};
 
     /// So many servers, each of which holds nothing yet and then at most 1,024 items, at moment 0. The only error is running out
     /// of memory.
@@ -62,7 +62,7 @@ impl ScriptServers {
 
     /// How many servers there are.
     pub fn servers(&self) -> usize
-        ensures { result ≡ count_of self.now }
+        ensures { result ≡ count_of_servers self.now }
     {
         self.caches.len()
     }
@@ -77,11 +77,11 @@ impl ScriptServers {
     /// The server holds these data under the key, without flags and expiry, with stamp 0; where it is full, the least recently used
     /// item goes. The only error is running out of memory, which changes nothing.
     pub fn hold(&mut self, server: ServerId, key: &Key, body: &[u8]) -> Result<(), AllocError>
-        requires there { server < count_of self.old }
+        requires there { server < count_of_servers self.old }
         requires short { length body.now ≤ data_limit }
-        ensures ok { OnOk result (caches_of self.new ≡ changed_at server (λ c. storing c key.now (opening body.now)) (caches_of self.old)) }
+        ensures ok { OnOk result (caches_of self.new ≡ changed_at server (λ c. storing_item c key.now (opening body.now)) (caches_of self.old)) }
         ensures err { OnErr result (caches_of self.new ≡ caches_of self.old) }
-        ensures count { count_of self.new ≡ count_of self.old }
+        ensures count { count_of_servers self.new ≡ count_of_servers self.old }
         ensures rest { self.new ≡ record self.old { caches = self.new.caches } }
     {
         self.caches[server.number() as usize].hold(key, body)
@@ -129,8 +129,8 @@ impl ScriptServers {
     /// This is lost now; of a server that isn't there nothing is lost. It takes no memory.
     pub fn lose(&mut self, loss: &Loss)
         ensures contents { caches_of self.new ≡ after_loss (loss_of loss.now) (caches_of self.old) }
-        ensures held { (s : ℕ) (k : List ℕ) → held_at (caches_of self.new) s k ≡ after_event (loss_of loss.now) (held_at (caches_of self.old)) s k }
-        ensures count { count_of self.new ≡ count_of self.old }
+        ensures held { (s : ℕ) (k : List ℕ) → cache_held (caches_of self.new) s k ≡ after_event (loss_of loss.now) (cache_held (caches_of self.old)) s k }
+        ensures count { count_of_servers self.new ≡ count_of_servers self.old }
         ensures rest { self.new ≡ record self.old { caches = self.new.caches } }
     {
         lose_one(&mut self.caches, loss);
@@ -139,7 +139,7 @@ impl ScriptServers {
     /// The time from now on, in seconds. It takes no memory.
     pub fn set_moment(&mut self, moment: i64)
         requires { pos 0 ≤ℤ moment }
-        ensures now { moment_of self.new ≡ moment }
+        ensures now { moment_now self.new ≡ moment }
         ensures rest { self.new ≡ record self.old { moment = self.new.moment } }
     {
         self.moment = Moment { seconds: moment };
@@ -156,7 +156,7 @@ impl ScriptServers {
     fn lose_named(&mut self)
         requires { turn_of self.old < last_turn }
         ensures lost { AreLost (lost_of self.old (turn_of self.old + 1)) (caches_of self.old) (caches_of self.new) }
-        ensures count { count_of self.new ≡ count_of self.old }
+        ensures count { count_of_servers self.new ≡ count_of_servers self.old }
         ensures rest { self.new ≡ record self.old { caches = self.new.caches } }
     {
         if let Some(losses) = self.losses.get(&(self.turn + 1)) {
@@ -173,13 +173,13 @@ impl ScriptServers {
     /// losses: then what had expired at the server is gone too, or, where the answer is to be cut, the call may have been applied. No
     /// call is counted then.
     pub fn answer(&mut self, stamp: u64, server: ServerId, ask: &Ask) -> Result<Made, FleetFault>
-        requires there { server < count_of self.old }
+        requires there { server < count_of_servers self.old }
         requires ask { IsAsk ask.now }
         ensures ok { IfOk result (λ made. Answers stamp self.old server ask.now made self.new) }
         ensures err { OnErr result (turn_of self.new ≡ turn_of self.old) }
         ensures stops { IfErr result (λ fault. Stops fault stamp self.old server ask.now self.new) }
         ensures spent { (result ≡ Err Spent) ↔ (turn_of self.old ≡ last_turn) }
-        ensures count { count_of self.new ≡ count_of self.old }
+        ensures count { count_of_servers self.new ≡ count_of_servers self.old }
         ensures rest { self.new ≡ record self.old { caches = self.new.caches; turn = self.new.turn } }
     {
         if self.turn == u64::MAX {

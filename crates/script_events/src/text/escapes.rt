@@ -2,7 +2,7 @@
 
 ghost use Rattle.std.specs.Prelude.{◌≡◌, ◌<◌, ◌≤◌, Some, None, length, drop, IfSome, MatchOption};
 ghost use Rattle.script_events.specs.Escapes.{hex_value, hex_byte, letter_value, unescaped, onto};
-ghost use Rattle.script_events.specs.Reads.{Reads};
+ghost use Rattle.script_events.specs.Reads.{ReadsPart};
 
 use crate::text::fault::LineFault;
 use std::alloc::Global;
@@ -74,7 +74,7 @@ fn first_byte(text: &[u8]) -> Option<Spelled>
 /// [`LineFault::Unreadable`] comes exactly where something else stands after a backslash, and otherwise running out of memory is the only
 /// error. The escapes are mcgate's own.
 pub fn unescape(alloc: Global, text: &[u8]) -> Result<Vec<u8>, LineFault>
-    ensures { Reads (λ v. v.items) (unescaped text.now) result }
+    ensures { ReadsPart (λ v. v.items) (unescaped text.now) result }
 {
     let mut bytes = Vec::new(alloc);
     let mut at = 0;

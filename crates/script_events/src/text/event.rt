@@ -1,7 +1,7 @@
 //! The events of a script, line by line.
 ghost use Rattle.std.specs.Prelude.{◌≡◌, ◌^◌, Some};
 ghost use Rattle.script_events.specs.Scripted.{manner_of, loss_of, scripted_of};
-ghost use Rattle.script_events.specs.Reads.{Reads};
+ghost use Rattle.script_events.specs.Reads.{ReadsPart};
 ghost use Rattle.script_events.specs.Seen.{sent_seen};
 ghost use Rattle.script_events.specs.Events.{client_said, server_said, turn_said, key_said, count_said, cut_said, manner_said, sent_said, piece_said, add_said, result_said, hold_said, fail_said, item_loss_said, restart_loss_said, loss_said, lose_said, restart_said, at_said, moment_said, said_after, event_said};
 
@@ -13,7 +13,7 @@ use mc_types::{Key, SCRIPT_CLIENTS, ServerId};
 use std::alloc::Global;
 
 fn read_client(word: &[u8]) -> Result<u8, LineFault>
-    ensures { Reads (λ c. c) (client_said word.now) result }
+    ensures { ReadsPart (λ c. c) (client_said word.now) result }
 {
     match number_under(SCRIPT_CLIENTS as u64, word) {
         Some(client) => Ok(client as u8),
@@ -22,7 +22,7 @@ fn read_client(word: &[u8]) -> Result<u8, LineFault>
 }
 
 fn read_server(word: &[u8]) -> Result<ServerId, LineFault>
-    ensures { Reads (λ s. s) (server_said word.now) result }
+    ensures { ReadsPart (λ s. s) (server_said word.now) result }
 {
     match number_under(1 << 32, word) {
         Some(server) => Ok(ServerId::new(server as u32)),
@@ -31,7 +31,7 @@ fn read_server(word: &[u8]) -> Result<ServerId, LineFault>
 }
 
 fn read_turn(word: &[u8]) -> Result<u32, LineFault>
-    ensures { Reads (λ t. t) (turn_said word.now) result }
+    ensures { ReadsPart (λ t. t) (turn_said word.now) result }
 {
     match number_under(1 << 32, word) {
         Some(0) | None => Err(LineFault::Unreadable),
@@ -40,7 +40,7 @@ fn read_turn(word: &[u8]) -> Result<u32, LineFault>
 }
 
 fn read_key(alloc: Global, text: &[u8]) -> Result<Key, LineFault>
-    ensures { Reads (λ k. k) (key_said text.now) result }
+    ensures { ReadsPart (λ k. k) (key_said text.now) result }
 {
     let bytes = unescape(alloc, text)?;
     match Key::read(bytes.as_slice()) {
@@ -50,7 +50,7 @@ fn read_key(alloc: Global, text: &[u8]) -> Result<Key, LineFault>
 }
 
 fn read_count(word: &[u8]) -> Result<u32, LineFault>
-    ensures { Reads (λ n. n) (count_said word.now) result }
+    ensures { ReadsPart (λ n. n) (count_said word.now) result }
 {
     match number_under(1 << 32, word) {
         Some(count) => Ok(count as u32),
@@ -59,7 +59,7 @@ fn read_count(word: &[u8]) -> Result<u32, LineFault>
 }
 
 fn read_cut(text: &[u8]) -> Result<Manner, LineFault>
-    ensures { Reads manner_of (cut_said text.now) result }
+    ensures { ReadsPart manner_of (cut_said text.now) result }
 {
     match cut(text) {
         Some(parts) if parts.word == b"cut".as_slice() => {
@@ -71,7 +71,7 @@ fn read_cut(text: &[u8]) -> Result<Manner, LineFault>
 }
 
 fn read_manner(text: &[u8]) -> Result<Manner, LineFault>
-    ensures { Reads manner_of (manner_said text.now) result }
+    ensures { ReadsPart manner_of (manner_said text.now) result }
 {
     if text == b"before".as_slice() {
         Ok(Manner::Before)
@@ -92,7 +92,7 @@ struct Sent {
 }
 
 fn read_sent(alloc: Global, text: &[u8]) -> Result<Sent, LineFault>
-    ensures { Reads sent_seen (sent_said text.now) result }
+    ensures { ReadsPart sent_seen (sent_said text.now) result }
 {
     let Some(parts) = cut(text) else {
         return Err(LineFault::Unreadable);
@@ -103,28 +103,28 @@ fn read_sent(alloc: Global, text: &[u8]) -> Result<Sent, LineFault>
 }
 
 fn read_piece(alloc: Global, text: &[u8]) -> Result<Event, LineFault>
-    ensures { Reads scripted_of (piece_said text.now) result }
+    ensures { ReadsPart scripted_of (piece_said text.now) result }
 {
     let Sent { client, bytes } = read_sent(alloc, text)?;
     Ok(Event::Piece(client, bytes))
 }
 
 fn read_add(alloc: Global, text: &[u8]) -> Result<Event, LineFault>
-    ensures { Reads scripted_of (add_said text.now) result }
+    ensures { ReadsPart scripted_of (add_said text.now) result }
 {
     let Sent { client, bytes } = read_sent(alloc, text)?;
     Ok(Event::Add(client, bytes))
 }
 
 fn read_result(text: &[u8]) -> Result<Event, LineFault>
-    ensures { Reads scripted_of (result_said text.now) result }
+    ensures { ReadsPart scripted_of (result_said text.now) result }
 {
     let server = read_server(text)?;
     Ok(Event::Result(server))
 }
 
 fn read_hold(alloc: Global, text: &[u8]) -> Result<Event, LineFault>
-    ensures { Reads scripted_of (hold_said text.now) result }
+    ensures { ReadsPart scripted_of (hold_said text.now) result }
 {
     let Some(parts) = cut(text) else {
         return Err(LineFault::Unreadable);
@@ -139,7 +139,7 @@ fn read_hold(alloc: Global, text: &[u8]) -> Result<Event, LineFault>
 }
 
 fn read_fail(text: &[u8]) -> Result<Event, LineFault>
-    ensures { Reads scripted_of (fail_said text.now) result }
+    ensures { ReadsPart scripted_of (fail_said text.now) result }
 {
     let Some(parts) = cut(text) else {
         return Err(LineFault::Unreadable);
@@ -150,7 +150,7 @@ fn read_fail(text: &[u8]) -> Result<Event, LineFault>
 }
 
 fn read_item_loss(alloc: Global, text: &[u8]) -> Result<Loss, LineFault>
-    ensures { Reads loss_of (item_loss_said text.now) result }
+    ensures { ReadsPart loss_of (item_loss_said text.now) result }
 {
     let Some(parts) = cut(text) else {
         return Err(LineFault::Unreadable);
@@ -161,14 +161,14 @@ fn read_item_loss(alloc: Global, text: &[u8]) -> Result<Loss, LineFault>
 }
 
 fn read_restart_loss(text: &[u8]) -> Result<Loss, LineFault>
-    ensures { Reads loss_of (restart_loss_said text.now) result }
+    ensures { ReadsPart loss_of (restart_loss_said text.now) result }
 {
     let server = read_server(text)?;
     Ok(Loss::Restart(server))
 }
 
 fn read_loss(alloc: Global, word: &[u8], text: &[u8]) -> Result<Loss, LineFault>
-    ensures { Reads loss_of (loss_said word.now text.now) result }
+    ensures { ReadsPart loss_of (loss_said word.now text.now) result }
 {
     if word == b"lose".as_slice() {
         read_item_loss(alloc, text)
@@ -180,21 +180,21 @@ fn read_loss(alloc: Global, word: &[u8], text: &[u8]) -> Result<Loss, LineFault>
 }
 
 fn read_lose(alloc: Global, text: &[u8]) -> Result<Event, LineFault>
-    ensures { Reads scripted_of (lose_said text.now) result }
+    ensures { ReadsPart scripted_of (lose_said text.now) result }
 {
     let loss = read_item_loss(alloc, text)?;
     Ok(Event::Now(loss))
 }
 
 fn read_restart(text: &[u8]) -> Result<Event, LineFault>
-    ensures { Reads scripted_of (restart_said text.now) result }
+    ensures { ReadsPart scripted_of (restart_said text.now) result }
 {
     let loss = read_restart_loss(text)?;
     Ok(Event::Now(loss))
 }
 
 fn read_at(alloc: Global, text: &[u8]) -> Result<Event, LineFault>
-    ensures { Reads scripted_of (at_said text.now) result }
+    ensures { ReadsPart scripted_of (at_said text.now) result }
 {
     let Some(parts) = cut(text) else {
         return Err(LineFault::Unreadable);
@@ -208,7 +208,7 @@ fn read_at(alloc: Global, text: &[u8]) -> Result<Event, LineFault>
 }
 
 fn read_moment(text: &[u8]) -> Result<Event, LineFault>
-    ensures { Reads scripted_of (moment_said text.now) result }
+    ensures { ReadsPart scripted_of (moment_said text.now) result }
 {
     match number_under(1 << 63, text) {
         Some(moment) => Ok(Event::Moment(moment as i64)),
@@ -217,7 +217,7 @@ fn read_moment(text: &[u8]) -> Result<Event, LineFault>
 }
 
 fn read_lines_after(alloc: Global, word: &[u8], text: &[u8]) -> Result<Event, LineFault>
-    ensures { Reads scripted_of (said_after word.now text.now) result }
+    ensures { ReadsPart scripted_of (said_after word.now text.now) result }
 {
     if word == b">".as_slice() {
         read_piece(alloc, text)
@@ -247,7 +247,7 @@ fn read_lines_after(alloc: Global, word: &[u8], text: &[u8]) -> Result<Event, Li
 /// [`LineFault::Unreadable`] comes exactly where it says none, and otherwise running out of memory is the only error. That such an event
 /// can be (that its server is there, say) is not asked here. The lines are mcgate's own.
 pub fn read_event(alloc: Global, line: &[u8]) -> Result<Event, LineFault>
-    ensures { Reads scripted_of (event_said line.now) result }
+    ensures { ReadsPart scripted_of (event_said line.now) result }
 {
     match cut(line) {
         Some(parts) => read_lines_after(alloc, parts.word, parts.rest),

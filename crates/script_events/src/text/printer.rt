@@ -2,7 +2,7 @@
 
 ghost use Rattle.std.specs.Prelude.{OnOk, IsSome, map};
 ghost use Rattle.std.specs.Io.KnownBytes.{Appends};
-ghost use Rattle.script_events.specs.Scripted.{shown_by};
+ghost use Rattle.script_events.specs.Scripted.{output_shown};
 ghost use Rattle.route_json.specs.Fault.{fault_of};
 ghost use Rattle.script_events.specs.Printed.{shown_lines, report_line, bad_line_line, config_fault_line};
 
@@ -14,7 +14,7 @@ use text_words::escapes::Escaped;
 
 /// Writes a line `< C TEXT` for each output of a transcript, with the bytes in the escapes. The format is mcgate's own.
 pub fn write_outputs<W: Write>(outputs: &[Output], out: &mut W) -> io::Result<()>
-    ensures { OnOk result (Appends (W.contents out.old) (W.contents out.new) (shown_lines (map shown_by outputs.now))) }
+    ensures { OnOk result (Appends (W.contents out.old) (W.contents out.new) (shown_lines (map output_shown outputs.now))) }
 {
     for output in outputs {
         let bytes = Escaped(output.bytes.as_slice());

@@ -1,15 +1,15 @@
 //! Scripts as text: their first line, and their events.
 ghost use Rattle.std.specs.Prelude.{◌≡◌, ◌+◌, ◌≤◌, ◌<◌, ◌^◌, Ok, IfOk, IfSome, map, length};
 ghost use Rattle.serde_json.specs.Read.{read};
-ghost use Rattle.script_events.specs.Reloads.{AreInOrder};
+ghost use Rattle.script_events.specs.Reloads.{ReloadsInOrder};
 ghost use Rattle.script_events.specs.Scripted.{scripted_of};
 ghost use Rattle.route_json.specs.Configs.{read_or, read_after};
 ghost use Rattle.script_events.specs.LinesAfter.{lines_after};
 ghost use Rattle.script_events.specs.FirstLine.{size_said, pool_said, pool_or_bad, read_or_fault, first_said, ReadsFirst};
 ghost use Rattle.script_events.specs.Events.{event_said};
-ghost use Rattle.script_events.specs.Told.{said_or_not, loads_or_not, line_means, servers_known, told_from, told, told_over, bad_event_line, AreChainedFrom, ReadsScript};
+ghost use Rattle.script_events.specs.Told.{said_or_not, loads_or_not, line_means, servers_known, told_from, text_told, told_over, bad_event_line, AreChainedFrom, ReadsScript};
 ghost use Rattle.script_events.specs.Lines.{lines_of};
-ghost use Rattle.script_events.specs.Read.{meaning_of, ReadsLines};
+ghost use Rattle.script_events.specs.Read.{line_meaning, ReadsLines};
 
 use crate::text::configured::{ConfiguredScript, ScriptFault, servers_known};
 use crate::text::event::read_event;
@@ -78,7 +78,7 @@ fn json_config_after(alloc: Global, servers: Servers, json: &str) -> Result<Conf
 }
 
 fn read_reload(alloc: Global, known: &Servers, json: &str) -> Result<Meaning, AllocError>
-    ensures { IfOk result (λ m. meaning_of m ≡ loads_or_not (read_or_fault (read_after known.now (read json.now)))) }
+    ensures { IfOk result (λ m. line_meaning m ≡ loads_or_not (read_or_fault (read_after known.now (read json.now)))) }
 {
     match json_config_after(alloc, known.copy(alloc)?, json) {
         Ok(config) => Ok(Meaning::Loads(config)),
@@ -88,7 +88,7 @@ fn read_reload(alloc: Global, known: &Servers, json: &str) -> Result<Meaning, Al
 }
 
 fn read_said(alloc: Global, line: &[u8]) -> Result<Meaning, AllocError>
-    ensures { IfOk result (λ m. meaning_of m ≡ said_or_not (event_said line.now)) }
+    ensures { IfOk result (λ m. line_meaning m ≡ said_or_not (event_said line.now)) }
 {
     match read_event(alloc, line) {
         Ok(event) => Ok(Meaning::Says(event)),
@@ -98,7 +98,7 @@ fn read_said(alloc: Global, line: &[u8]) -> Result<Meaning, AllocError>
 }
 
 fn read_line(alloc: Global, known: &Servers, line: &str) -> Result<Meaning, AllocError>
-    ensures { IfOk result (λ m. meaning_of m ≡ line_means known.now line.now) }
+    ensures { IfOk result (λ m. line_meaning m ≡ line_means known.now line.now) }
 {
     let bytes = line.as_bytes();
     if bytes.is_empty() || bytes[0] == b'#' {
@@ -178,7 +178,7 @@ pub fn read_lines_after(
 ) -> Result<ConfiguredScript, ScriptFault>
     requires { above + length (lines_after further) < 2 ^ 64 }
     ensures script { ReadsScript (Ok (told_from (above + 1) config (lines_after further.entry))) result }
-    ensures order { IfOk result (λ s. AreInOrder (length s.script.events.items) (length (servers_known s.config.servers s.reloads.items)) 0 s.reloads.items) }
+    ensures order { IfOk result (λ s. ReloadsInOrder (length s.script.events.items) (length (servers_known s.config.servers s.reloads.items)) 0 s.reloads.items) }
     ensures chained { IfOk result (λ s. AreChainedFrom s.config.servers s.reloads.items) }
 {
     let Reading {
@@ -215,8 +215,8 @@ pub fn read_lines_after(
 ///   line; a server is unknown to it where no configuration read before the unreadable line has it. Such an event alone is no fault here:
 ///   [`ConfiguredScript::line_of`] tells its line once the run has refused it.
 pub fn read_script(alloc: Global, text: &str) -> Result<ConfiguredScript, ScriptFault>
-    ensures script { ReadsScript (told text.now) result }
-    ensures order { IfOk result (λ s. AreInOrder (length s.script.events.items) (length (servers_known s.config.servers s.reloads.items)) 0 s.reloads.items) }
+    ensures script { ReadsScript (text_told text.now) result }
+    ensures order { IfOk result (λ s. ReloadsInOrder (length s.script.events.items) (length (servers_known s.config.servers s.reloads.items)) 0 s.reloads.items) }
     ensures chained { IfOk result (λ s. AreChainedFrom s.config.servers s.reloads.items) }
 {
     let front = front_of(text);
@@ -234,7 +234,7 @@ pub fn read_events(
     text: &str,
 ) -> Result<ConfiguredScript, ScriptFault>
     ensures script { ReadsScript (Ok (told_over config text.now)) result }
-    ensures order { IfOk result (λ s. AreInOrder (length s.script.events.items) (length (servers_known s.config.servers s.reloads.items)) 0 s.reloads.items) }
+    ensures order { IfOk result (λ s. ReloadsInOrder (length s.script.events.items) (length (servers_known s.config.servers s.reloads.items)) 0 s.reloads.items) }
     ensures chained { IfOk result (λ s. AreChainedFrom s.config.servers s.reloads.items) }
 {
     read_lines_after(alloc, config, 0, Some(text))

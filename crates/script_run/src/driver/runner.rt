@@ -7,7 +7,7 @@ ghost use Rattle.script_events.specs.declared.servers.event.FleetFault.TheVarian
 ghost use Rattle.core_proxy.specs.CoreState.{IsOut};
 ghost use Rattle.core_proxy.specs.Polls.{Polls};
 ghost use Rattle.core_commands.specs.declared.sharing.Sharing.TheVariants.{Alone};
-ghost use Rattle.script_events.specs.Servers.{count_of, turn_of, Answers};
+ghost use Rattle.script_events.specs.Servers.{count_of_servers, turn_of, Answers};
 ghost use Rattle.script_run.specs.Laws.{stamp_shown, CountsPoll, CountsOne, IsBegin};
 ghost use Rattle.script_run.specs.Standing.{log_calls_at};
 ghost use Rattle.script_run.specs.Breaking.{fleet_fault_of, AreGivenAll};
@@ -91,7 +91,7 @@ fn answer(
     requires { IsAsk ask.now }
     ensures ok { IfOk result (λ made. Answers stamp servers.old server ask.now made servers.new) }
     ensures rest { servers.new ≡ record servers.old { caches = servers.new.caches; turn = servers.new.turn } }
-    ensures count { count_of servers.new ≡ count_of servers.old }
+    ensures count { count_of_servers servers.new ≡ count_of_servers servers.old }
     ensures err { IfErr result (λ fault. (turn_of servers.new ≡ turn_of servers.old) × AreGivenAll fault servers.old) }
 {
     if server.number() as usize >= servers.servers() {
@@ -135,9 +135,9 @@ fn lesser(one: Option<ServerId>, other: ServerId) -> ServerId
 }
 
 impl Runner {
-    ghost use Rattle.script_run.specs.Running.{kept_of, Moves, Stays, MovesByOne, MovesAt, MovesFed, MovesFedAtOnce, MovesGiven, IsLoadedBy, AllAreIdle, AreStalled, KeepStalled, IsAtRest, AreAskedYet};
+    ghost use Rattle.script_run.specs.Running.{kept_of, Moves, Stays, MovesByOne, MovesAt, MovesFed, MovesFedAtOnce, MovesGiven, IsLoadedBy, AllAreIdle, AreStalled, KeepStalled, RunnerRests, AreAskedYet};
     ghost use Rattle.script_run.specs.Progressing.{TakesSo, LeavesSo, LeavesAllStill};
-    ghost use Rattle.script_run.specs.Breaking.{IsLastBegun, StopsAt, StopsFed, StopsGiving, StopsAfter};
+    ghost use Rattle.script_run.specs.Breaking.{IsLastBegun, StopsAt, StopsFed, StopsGiving, BreaksOffAfter};
     ghost use Rattle.script_run.specs.Turns.{TakesFirst, MovesInTurn};
 
     /// No client was opened; commands begin on this tree.
@@ -406,7 +406,7 @@ impl Runner {
         server: ServerId,
     ) -> Result<(), FleetFault>
         ensures ok { OnOk result ((before : Runner) → TakesFirst server ticket before self.old → MovesByOne server before servers.old self.new servers.new) }
-        ensures count { count_of servers.new ≡ count_of servers.old }
+        ensures count { count_of_servers servers.new ≡ count_of_servers servers.old }
         ensures clients { self.new.clients ≡ self.old.clients }
         ensures err { IfErr result (λ fault. StopsGiving fault servers.old servers.new) }
     {
@@ -435,7 +435,7 @@ impl Runner {
         server: ServerId,
     ) -> Result<(), FleetFault>
         ensures ok { OnOk result (MovesAt server self.old servers.old self.new servers.new) }
-        ensures count { count_of servers.new ≡ count_of servers.old }
+        ensures count { count_of_servers servers.new ≡ count_of_servers servers.old }
         ensures clients { OnOk result (self.new.clients ≡ self.old.clients) }
         ensures err { IfErr result (λ fault. StopsGiving fault servers.old servers.new) }
     {
@@ -453,10 +453,10 @@ impl Runner {
         server: ServerId,
     ) -> Result<(), FleetFault>
         ensures ok { OnOk result (MovesAt server self.old servers.old self.new servers.new) }
-        ensures count { count_of servers.new ≡ count_of servers.old }
+        ensures count { count_of_servers servers.new ≡ count_of_servers servers.old }
         ensures clients { OnOk result (self.new.clients ≡ self.old.clients) }
         ensures stalled { OnOk result (AreStalled self.new) }
-        ensures err { IfErr result (λ fault. StopsAfter (AreAskedYet server self.old servers.old) self.old servers.old fault servers.new) }
+        ensures err { IfErr result (λ fault. BreaksOffAfter (AreAskedYet server self.old servers.old) self.old servers.old fault servers.new) }
     {
         self.give_first(servers, server)?;
         self.go_on()
@@ -478,11 +478,11 @@ impl Runner {
     /// nothing is left to do for any client. The errors are those of [`settle_first`](Runner::settle_first).
     pub fn settle_all(&mut self, servers: &mut ScriptServers) -> Result<(), FleetFault>
         ensures ok { OnOk result (MovesInTurn self.old servers.old self.new servers.new) }
-        ensures count { count_of servers.new ≡ count_of servers.old }
+        ensures count { count_of_servers servers.new ≡ count_of_servers servers.old }
         ensures none { OnOk result (self.new.out.items ≡ []) }
         ensures clients { OnOk result (self.new.clients ≡ self.old.clients) }
-        ensures rest { OnOk result (IsAtRest self.new) }
-        ensures err { IfErr result (λ fault. StopsAfter (λ results. Unit {0}) self.old servers.old fault servers.new) }
+        ensures rest { OnOk result (RunnerRests self.new) }
+        ensures err { IfErr result (λ fault. BreaksOffAfter (λ results. Unit {0}) self.old servers.old fault servers.new) }
     {
         for _round in 0..u64::MAX {
             let is_idle = self.poll_all()?;

@@ -7,7 +7,7 @@ ghost use Rattle.wire_parts.specs.Sending.{bytes_of};
 ghost use Rattle.mc_types.specs.declared.ask.Dialect.TheVariants.{Meta};
 ghost use Rattle.wire_stream.specs.Usual.{IsUsualTo};
 ghost use Rattle.serve_links.specs.Dialects.{asked_in};
-ghost use Rattle.core_accepted.specs.Late.{is_store};
+ghost use Rattle.core_accepted.specs.Late.{begins_stamp};
 ghost use Rattle.core_accepted.specs.Results.{IsSettled};
 ghost use Rattle.serve_links.specs.Calls.{IsReadFor, IsReadNext, IsFirstLate, IsReadLate, as_late, first_asked, stores_first, FitsFirst, SettlesFirst, SettlesNext};
 ghost use Rattle.mc_types.specs.declared.call.Outcome.TheVariants.{Failed};
@@ -108,7 +108,7 @@ pub fn fail_call(core: &mut ServedCore, ticket: Ticket)
 
 // Whether a call of this operation begins an item anew.
 fn begins_item(op: Op) -> bool
-    ensures { result ≡ is_store op }
+    ensures { result ≡ begins_stamp op }
 {
     match op {
         Op::Set | Op::Add | Op::Replace | Op::Cas => true,

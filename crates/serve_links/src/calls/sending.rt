@@ -3,9 +3,9 @@
 ghost use Rattle.std.specs.Prelude.{◌≡◌, ◌++◌, true, codes, OnOk, OnErr};
 ghost use Rattle.mc_types.specs.Asks.{IsAsk};
 ghost use Rattle.wire_stream.specs.Spelling.{spelling_of};
-ghost use Rattle.wire_classic.specs.Spelling.{stores, ask_line};
+ghost use Rattle.wire_classic.specs.Spelling.{stores_data, ask_line};
 ghost use Rattle.wire_parts.specs.Sending.{bytes_of};
-ghost use Rattle.serve_links.specs.Sending.{is_store};
+ghost use Rattle.serve_links.specs.Sending.{is_classic_store};
 
 use mc_types::{Ask, Dialect, Op};
 use std::alloc::AllocError;
@@ -15,7 +15,7 @@ use wire_stream::{SHARED_FROM, write_ask};
 
 // Whether it is a store in the classic dialect.
 fn is_store(ask: &Ask) -> bool
-    ensures { result ≡ is_store ask.now }
+    ensures { result ≡ is_classic_store ask.now }
 {
     match (ask.dialect, ask.op) {
         (Dialect::Classic, Op::Set) | (Dialect::Classic, Op::Add) => true,
@@ -27,7 +27,7 @@ fn is_store(ask: &Ask) -> bool
 
 // The line of a store, its data, which are shared, and what stands after them.
 fn send_store(ask: &Ask, out: &mut SendBuffer) -> Result<(), AllocError>
-    requires { stores ask.now.op ≡ true }
+    requires { stores_data ask.now.op ≡ true }
     ensures ok { OnOk result (bytes_of out.new ≡ bytes_of out.old ++ ask_line ask.now ++ ask.now.body ++ codes "\r\n") }
     ensures err { OnErr result (bytes_of out.new ≡ bytes_of out.old) }
 {

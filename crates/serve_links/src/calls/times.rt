@@ -2,7 +2,7 @@
 
 ghost use Rattle.std.specs.Prelude.{◌≡◌, ◌<◌, OnOk};
 ghost use Rattle.std.specs.VecDeque.{deque_len, deque_capacity};
-ghost use Rattle.serve_links.specs.Counting.{took, with_outcome};
+ghost use Rattle.serve_links.specs.Counting.{took, with_call_outcome};
 
 use crate::tally::CallTally;
 use mc_types::Outcome;
@@ -65,7 +65,7 @@ impl CallTimes {
 
     /// The first of those that are out had this outcome.
     pub fn note_settled(&mut self, outcome: &Outcome)
-        ensures { self.new.tally ≡ with_outcome outcome.now self.old }
+        ensures { self.new.tally ≡ with_call_outcome outcome.now self.old }
     {
         let micros = self.end_first();
         match outcome {

@@ -3,7 +3,7 @@
 
 ghost use Rattle.std.specs.Prelude.{◌≡◌, false, ◌↔◌, ◌<◌, ◌≤◌, ◌++◌, ◌||◌, [], length, drop, IsTrue, IfOk, OnOk, OnErr, MatchResult};
 ghost use Rattle.wire_parts.specs.Sending.{bytes_of};
-ghost use Rattle.serve_wire.specs.Ends.{Reads, Sends, StaysReadable, StaysWritable};
+ghost use Rattle.serve_wire.specs.Ends.{ReadsConnection, Sends, StaysReadable, StaysWritable};
 
 use crate::{ReadOutcome, Ready, Wire, WriteOutcome};
 use bytes::BytesMut;
@@ -203,7 +203,7 @@ impl Conn {
     /// Source: mcgate's own.
     pub fn read_once<W: Wire>(&mut self, wire: &mut W, room: usize) -> Result<Got, AllocError>
         requires { 0 < room }
-        ensures ok { IfOk result (λ got. Reads self.old.number self.old.limits.held self.old.held.items got self.new.held.items (W.history wire.old) (W.history wire.new)) }
+        ensures ok { IfOk result (λ got. ReadsConnection self.old.number self.old.limits.held self.old.held.items got self.new.held.items (W.history wire.old) (W.history wire.new)) }
         ensures err { OnErr result ((self.new.held.items ≡ self.old.held.items) × (W.history wire.new ≡ W.history wire.old)) }
         ensures unsent { self.new.unsent ≡ self.old.unsent }
         ensures rest { (self.new.number ≡ self.old.number) × (self.new.limits ≡ self.old.limits) }

@@ -2,8 +2,8 @@
 
 ghost use Rattle.std.specs.Prelude.{◌≡◌, ◌≤◌, ◌<◌, ℕ, [], false, length, IfSome, IfOk};
 ghost use Rattle.std.specs.Io.Slices.{io_slices_bytes};
-ghost use Rattle.serve_wire.specs.Events.{IsNew, is_open, time};
-ghost use Rattle.serve_wire.specs.Calls.{Adds, Fits};
+ghost use Rattle.serve_wire.specs.Events.{IsUntold, is_open, time};
+ghost use Rattle.serve_wire.specs.Calls.{Adds, FitsOffer};
 
 use crate::memory::peer::Peer;
 use crate::{Accepted, Connected, Lead, ReadOutcome, Record, Report, Wire, WriteOutcome};
@@ -85,7 +85,7 @@ pub struct Memory {
     shown: u64,
     log: Record,
     ghost clock: { shown ≡ time log.events },
-    ghost fresh: { (c : ℕ) → count ≤ c → IsNew c log.events × (is_open c log.events ≡ false) },
+    ghost fresh: { (c : ℕ) → count ≤ c → IsUntold c log.events × (is_open c log.events ≡ false) },
 }
 
 fn earlier(first: Option<u64>, other: Option<u64>) -> Option<u64> {
@@ -364,7 +364,7 @@ fn read_line(lines: &mut Vec<Line>, conn: usize, now: u64, into: &mut BytesMut) 
 }
 
 fn write_line(lines: &mut Vec<Line>, conn: usize, now: u64, bytes: &[u8]) -> WriteOutcome
-    ensures { Fits result bytes.now }
+    ensures { FitsOffer result bytes.now }
 {
     match line_at(lines, conn) {
         Some(line) => line.peer.write(now, bytes),

@@ -1,7 +1,7 @@
 //! A far end with its script.
 
 ghost use Rattle.std.specs.Prelude.{◌<◌, length};
-ghost use Rattle.serve_wire.specs.Calls.{Adds, Fits};
+ghost use Rattle.serve_wire.specs.Calls.{Adds, FitsOffer};
 
 use crate::{ReadOutcome, Ready, WriteOutcome};
 use bytes::BytesMut;
@@ -216,7 +216,7 @@ impl Peer {
 
     /// One write.
     pub fn write(&mut self, now: u64, bytes: &[u8]) -> WriteOutcome
-        ensures { Fits result bytes.now }
+        ensures { FitsOffer result bytes.now }
     {
         self.go_on(now);
         if self.take_interrupt() {

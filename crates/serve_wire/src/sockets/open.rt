@@ -4,7 +4,7 @@
 ghost use Rattle.std.specs.Prelude.{◌≡◌, ◌∷◌, ◌<◌, ◌≤◌, ◌++◌, length, take};
 ghost use Rattle.std.specs.Io.Slices.{io_slices_bytes};
 ghost use Rattle.serve_wire.specs.Events.{takes};
-ghost use Rattle.serve_wire.specs.Calls.{Adds, Fits, Reads, Writes};
+ghost use Rattle.serve_wire.specs.Calls.{Adds, FitsOffer, ReadsBehind, Writes};
 
 use crate::{ReadOutcome, Record, WriteOutcome};
 use bytes::BytesMut;
@@ -67,7 +67,7 @@ fn read_some(mut stream: &TcpStream, into: &mut BytesMut) -> ReadOutcome
 }
 
 fn write_some(mut stream: &TcpStream, bytes: &[u8]) -> WriteOutcome
-    ensures { Fits result bytes.now }
+    ensures { FitsOffer result bytes.now }
 {
     match stream.write(bytes) {
         Ok(0) => WriteOutcome::Failed,
@@ -81,7 +81,7 @@ fn write_some(mut stream: &TcpStream, bytes: &[u8]) -> WriteOutcome
 }
 
 fn write_some_parts(stream: &TcpStream, parts: &[IoSlice<'_>]) -> WriteOutcome
-    ensures { Fits result (io_slices_bytes parts.now) }
+    ensures { FitsOffer result (io_slices_bytes parts.now) }
 {
     match stream.write_vectored(parts) {
         Ok(0) => WriteOutcome::Failed,
@@ -98,7 +98,7 @@ impl Open {
     /// One read, noted under its own number.
     pub fn read(&self, log: &mut Record, into: &mut BytesMut) -> ReadOutcome
         requires { 0 < into.old.spare }
-        ensures { Reads self.now.number result into.old.items into.new.items into.old.spare into.new.spare log.old.events log.new.events }
+        ensures { ReadsBehind self.now.number result into.old.items into.new.items into.old.spare into.new.spare log.old.events log.new.events }
     {
         let len = into.len();
         let outcome = read_some(&self.stream, into);

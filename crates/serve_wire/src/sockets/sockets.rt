@@ -2,7 +2,7 @@
 
 ghost use Rattle.std.specs.Prelude.{◌≡◌, ◌≤◌, ◌<◌, ◌+◌, ◌*◌, ℕ, [], false, IfSome, IfOk, OnSome};
 ghost use Rattle.serve_wire.specs.Calls.{Accepts};
-ghost use Rattle.serve_wire.specs.Events.{IsNew, is_open, time};
+ghost use Rattle.serve_wire.specs.Events.{IsUntold, is_open, time};
 
 use crate::sockets::listener::{Listener, accept_at};
 use crate::sockets::open::{Address, Open, Owner, Place};
@@ -71,7 +71,7 @@ pub struct Sockets {
     micros: u64,
     log: Record,
     ghost clock: { shown ≡ time log.events },
-    ghost fresh: { (c : ℕ) → count * 16777216 ≤ c → IsNew c log.events × (is_open c log.events ≡ false) },
+    ghost fresh: { (c : ℕ) → count * 16777216 ≤ c → IsUntold c log.events × (is_open c log.events ≡ false) },
 }
 
 fn watch(poll: &Poll, socket: RawFd, token: usize) -> io::Result<()> {

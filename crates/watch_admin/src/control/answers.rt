@@ -1,7 +1,7 @@
 //! The bytes of answers: a digit that says what became of the request, the end of a line, and the text.
 
 ghost use Rattle.std.specs.Prelude.{◌≡◌, ◌≢◌, ◌+◌, ◌++◌, List, ℕ, MatchOption, OnOk};
-ghost use Rattle.watch_admin.specs.ControlAnswers.{digit_of, answer_of};
+ghost use Rattle.watch_admin.specs.ControlAnswers.{digit_of, control_answer};
 
 use std::alloc::AllocError;
 
@@ -45,7 +45,7 @@ impl Ruling {
 
 /// Adds the answer of this verdict and text.
 pub fn put_answer(verdict: Ruling, text: &[u8], out: &mut Vec<u8>) -> Result<(), AllocError>
-    ensures { OnOk result (out.new.items ≡ out.old.items ++ answer_of verdict text.now) }
+    ensures { OnOk result (out.new.items ≡ out.old.items ++ control_answer verdict text.now) }
 {
     out.push(verdict.digit())?;
     out.push(b'\n')?;
@@ -54,7 +54,7 @@ pub fn put_answer(verdict: Ruling, text: &[u8], out: &mut Vec<u8>) -> Result<(),
 
 /// The verdict and the text of an answer, if these bytes are one.
 pub fn read_answer(bytes: &[u8]) -> Option<(Ruling, &[u8])>
-    ensures { MatchOption result ((verdict : Ruling) (text : List ℕ) → bytes.now ≢ answer_of verdict text) (λ read. bytes.now ≡ answer_of read.0 read.1.now) }
+    ensures { MatchOption result ((verdict : Ruling) (text : List ℕ) → bytes.now ≢ control_answer verdict text) (λ read. bytes.now ≡ control_answer read.0 read.1.now) }
 {
     match bytes {
         [b'0', b'\n', text @ ..] => Some((Ruling::Done, text)),

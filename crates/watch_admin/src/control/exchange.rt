@@ -1,7 +1,7 @@
 //! What came of one who asks, and the answer.
 
 ghost use Rattle.std.specs.Prelude.{◌≡◌, IfOk};
-ghost use Rattle.watch_admin.specs.ControlAnswers.{answer_of};
+ghost use Rattle.watch_admin.specs.ControlAnswers.{control_answer};
 
 use crate::control::answers::{Ruling, put_answer};
 use crate::sending::Sending;
@@ -38,7 +38,7 @@ impl Exchange {
 
 /// The answer of this verdict and text, to be sent. The only error is that memory was refused.
 pub fn answering(alloc: Global, verdict: Ruling, text: &[u8]) -> Result<Sending, AllocError>
-    ensures answer { IfOk result (λ sending. sending.answer.items ≡ answer_of verdict text.now) }
+    ensures answer { IfOk result (λ sending. sending.answer.items ≡ control_answer verdict text.now) }
     ensures sent { IfOk result (λ sending. sending.sent ≡ 0) }
 {
     let mut answer = Vec::new(alloc);

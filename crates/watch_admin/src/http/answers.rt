@@ -2,7 +2,7 @@
 
 ghost use Rattle.std.specs.Prelude.{◌≡◌, OnOk};
 ghost use Rattle.std.specs.Io.KnownBytes.{Appends};
-ghost use Rattle.watch_admin.specs.HttpReplies.{kind_of, refusal_words, field_of, status_line, kind_line, length_line, close_lines, front_text, body_text, answer_text, http_refusal_text, page_text};
+ghost use Rattle.watch_admin.specs.HttpReplies.{page_kind, refusal_words, field_of, status_line, kind_line, length_line, close_lines, front_text, body_text, answer_text, http_refusal_text, page_text};
 
 use crate::http::request::{Page, Refusal};
 use std::io;
@@ -10,7 +10,7 @@ use std::io::Write;
 
 // The media type of a page.
 fn kind_of(page: Page) -> &'static str
-    ensures { result.now ≡ kind_of page }
+    ensures { result.now ≡ page_kind page }
 {
     match page {
         Page::Home => "text/html; charset=utf-8",

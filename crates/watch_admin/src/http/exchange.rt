@@ -3,7 +3,7 @@
 ghost use Rattle.std.specs.Prelude.{◌≡◌, ◌≤◌, ◌+◌, [], ◌++◌, IfOk, length};
 ghost use Rattle.watch_admin.specs.declared.http.request.AskedPage.TheVariants.{Unfinished, For, Refused};
 ghost use Rattle.watch_admin.specs.HttpRequests.{AsksPage};
-ghost use Rattle.watch_admin.specs.HttpReplies.{page_text, Answers};
+ghost use Rattle.watch_admin.specs.HttpReplies.{page_text, AnswersVisitor};
 ghost use Rattle.watch_admin.specs.Sending.{GoesUpTo};
 
 use crate::http::answers::{write_page, write_refusal};
@@ -33,7 +33,7 @@ pub struct Waiting {
 pub struct Answering {
     came: Vec<u8>,
     sending: Sending,
-    ghost answers: { ∥ Answers came.items sending.answer.items ∥₁ },
+    ghost answers: { ∥ AnswersVisitor came.items sending.answer.items ∥₁ },
 }
 
 /// Where a client stands.

@@ -1,7 +1,7 @@
 //! The codes of meta answers: their words, and which of them answer which operation.
 
 ghost use Rattle.std.specs.Prelude.{◌≡◌};
-ghost use Rattle.wire_answers.specs.Line.{code_word, code_of, takes, is_count};
+ghost use Rattle.wire_answers.specs.Line.{code_word, code_of, takes_code, is_count};
 
 use mc_types::{Code, Op};
 
@@ -42,7 +42,7 @@ pub fn code_of(word: &[u8]) -> Option<Code>
 
 /// Whether the code answers an ask of the operation that wants the data, or one that doesn't.
 pub fn takes(op: Op, value: bool, code: Code) -> bool
-    ensures { result ≡ takes op value code }
+    ensures { result ≡ takes_code op value code }
 {
     match op {
         Op::Get | Op::Gat => match code {

@@ -5,7 +5,7 @@ ghost use Rattle.text_words.specs.Word.{words};
 ghost use Rattle.mc_types.specs.Wanted.{wanted_of};
 ghost use Rattle.wire_answers.specs.Told.{none_told};
 ghost use Rattle.wire_answers.specs.Tokens.{with_words};
-ghost use Rattle.wire_answers.specs.Line.{as_asked, all_stand, is_size, value_said, value_words, coded, meta_said};
+ghost use Rattle.wire_answers.specs.Line.{as_asked, all_stand, is_size, value_said, value_line_words, coded, meta_said};
 
 use crate::meta::codes::{code_of, is_count, takes};
 use crate::meta::token::{data_size, tokens_told};
@@ -77,7 +77,7 @@ fn value_said(ask: &Ask, wanted: Wanted, len: u32, told: Told) -> Option<MetaLin
 fn value_words(ask: &Ask, wanted: Wanted, line: &[u8], at: usize) -> Option<MetaLine>
     requires wanted { wanted ≡ wanted_of ask.now.tokens }
     requires at { at ≤ length line.now }
-    ensures { result ≡ value_words ask.now (words (drop at line.now)) }
+    ensures { result ≡ value_line_words ask.now (words (drop at line.now)) }
 {
     let word = next_word(line, at)?;
     let len = data_size(&line[word.start..word.end])?;

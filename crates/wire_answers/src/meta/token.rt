@@ -8,7 +8,7 @@ ghost use Rattle.mc_types.specs.Asks.{data_limit};
 ghost use Rattle.mc_types.specs.Tokens.{wants, LetterC, LetterF, LetterK, LetterS, LetterT};
 ghost use Rattle.mc_types.specs.Wanted.{wanted_of};
 ghost use Rattle.wire_answers.specs.Told.{none_told};
-ghost use Rattle.wire_answers.specs.Tokens.{ttl_in, is_opaque, asks_opaque, with_token, with_word, with_words};
+ghost use Rattle.wire_answers.specs.Tokens.{ttl_in, is_opaque_token, asks_opaque, with_token, with_word, with_words};
 
 use crate::meta::told::Told;
 use mc_types::{Ask, DATA_LIMIT, Token, Wanted};
@@ -35,7 +35,7 @@ fn ttl(text: &[u8]) -> Option<i64>
 }
 
 fn is_opaque(text: &[u8], token: &Token) -> bool
-    ensures { result ≡ is_opaque text.now token.now }
+    ensures { result ≡ is_opaque_token text.now token.now }
 {
     match token {
         Token::Opaque(asked) => asked.as_bytes() == text,

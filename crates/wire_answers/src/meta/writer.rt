@@ -2,14 +2,14 @@
 
 ghost use Rattle.std.specs.Prelude.{◌≡◌, ◌++◌, ◌∷◌, [], take, length, OnOk, OnErr, decimal};
 ghost use Rattle.std.specs.Fmt.{signed_decimal};
-ghost use Rattle.text_words.specs.Spelling.{line_of};
+ghost use Rattle.text_words.specs.Spelling.{words_line};
 ghost use Rattle.wire_answers.specs.MetaSpelling.{
   number_token,
   ttl_token,
   token_words,
   tokens_words,
   len_words,
-  meta_words,
+  meta_line_words,
   data_block,
   meta_spelling,
   led,
@@ -133,7 +133,7 @@ pub fn put_meta_line(
     fields: &Fields,
     out: &mut BytesMut,
 ) -> Result<(), AllocError>
-    ensures ok { OnOk result (out.new.items ≡ out.old.items ++ line_of (meta_words ask.now code fields.now)) }
+    ensures ok { OnOk result (out.new.items ≡ out.old.items ++ words_line (meta_line_words ask.now code fields.now)) }
     ensures err { OnErr result (take (length out.old.items) out.new.items ≡ out.old.items) }
 {
     out.extend_from_slice(code_word(code))?;

@@ -20,11 +20,11 @@ pub struct ReceiveBuffer {
 
 impl Model for ReceiveBuffer {
     ghost use Rattle.std.specs.Prelude.{List, ℕ};
-    ghost use Rattle.wire_parts.specs.Sources.{bytes_held, AreApart};
+    ghost use Rattle.wire_parts.specs.Sources.{source_held, AreApart};
 
     ghost Value = { List ℕ };
 
-    ghost view = { λ b. bytes_held b.frozen b.growing.items };
+    ghost view = { λ b. source_held b.frozen b.growing.items };
 
     ghost invariant = { λ b. AreApart b.frozen b.growing.items };
 }

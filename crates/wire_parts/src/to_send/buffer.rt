@@ -4,7 +4,7 @@ ghost use Rattle.std.specs.Prelude.{◌≡◌, ◌+◌, ◌<◌, ◌≤◌, ◌=
 ghost use Rattle.std.specs.VecDeque.{deque_len, deque_capacity};
 ghost use Rattle.bytes.specs.Unread.{IsChunkOf};
 ghost use Rattle.std.specs.Io.Slices.{io_slices_bytes};
-ghost use Rattle.wire_parts.specs.Sending.{bytes_of, part_at, Begins};
+ghost use Rattle.wire_parts.specs.Sending.{bytes_of, part_at, BeginsWithBytes};
 
 use crate::to_send::piece::Piece;
 use bytes::BytesMut;
@@ -175,7 +175,7 @@ impl SendBuffer {
 
     /// The first pieces that are to be sent, as many as one write takes. They may be empty only where a piece is.
     pub fn parts(&self) -> [IoSlice<'_>; 4]
-        ensures { Begins (io_slices_bytes result) (bytes_of self.now) }
+        ensures { BeginsWithBytes (io_slices_bytes result) (bytes_of self.now) }
     {
         [
             IoSlice::new(self.part(0)),

@@ -1,7 +1,7 @@
 //! A piece of what is to be sent.
 
 ghost use Rattle.std.specs.Prelude.{◌≡◌, ◌≤◌, length, drop};
-ghost use Rattle.wire_parts.specs.Sending.{bytes_in};
+ghost use Rattle.wire_parts.specs.Sending.{sending_bytes};
 
 use bytes::BytesMut;
 use mc_types::Body;
@@ -18,7 +18,7 @@ pub enum Piece {
 impl Piece {
     /// What of the piece is still to be sent.
     pub fn as_slice(&self) -> &[u8]
-        ensures { result.now ≡ bytes_in self.now }
+        ensures { result.now ≡ sending_bytes self.now }
     {
         match self {
             Piece::Text(text) => text.as_slice(),
@@ -28,15 +28,15 @@ impl Piece {
 
     /// How many bytes of the piece are still to be sent.
     pub fn len(&self) -> usize
-        ensures { result ≡ length (bytes_in self.now) }
+        ensures { result ≡ length (sending_bytes self.now) }
     {
         self.as_slice().len()
     }
 
     // The piece once so many bytes more are gone.
     pub(crate) fn sent_on(self, count: usize) -> Piece
-        requires { count ≤ length (bytes_in self) }
-        ensures { bytes_in result ≡ drop count (bytes_in self) }
+        requires { count ≤ length (sending_bytes self) }
+        ensures { sending_bytes result ≡ drop count (sending_bytes self) }
     {
         match self {
             Piece::Text(mut text) => {

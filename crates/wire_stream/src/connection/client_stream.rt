@@ -6,8 +6,8 @@ ghost use Rattle.wire_parts.specs.Stream.{Place, Stands, Closed, skipped, extend
 ghost use Rattle.wire_stream.specs.Message.{message_in};
 ghost use Rattle.wire_stream.specs.Asks.{asks_of, IsClientAsk};
 ghost use Rattle.wire_stream.specs.declared.requests.reader.Read.TheVariants.{Request as Requests};
-ghost use Rattle.wire_stream.specs.Held.{held_at, IsReadAt};
-ghost use Rattle.wire_stream.specs.ClientStreams.{IsWalkAt, IsKept};
+ghost use Rattle.wire_stream.specs.Held.{bytes_at, IsReadAt};
+ghost use Rattle.wire_stream.specs.ClientStreams.{IsWalkAt, WalkIsKept};
 
 use crate::{Asks, Read, Request, SHARED_FROM, Skip, TextStream};
 use mc_types::{Ask, SharedAsk};
@@ -34,13 +34,13 @@ pub struct ClientStream {
 
 impl Model for ClientStream {
     ghost use Rattle.wire_parts.specs.Stream.{Place};
-    ghost use Rattle.wire_stream.specs.ClientStreams.{IsKept};
+    ghost use Rattle.wire_stream.specs.ClientStreams.{WalkIsKept};
 
     ghost Value = { Place };
 
     ghost view = { λ s. s.stream };
 
-    ghost invariant = { λ s. IsKept s.stream s.walk };
+    ghost invariant = { λ s. WalkIsKept s.stream s.walk };
 }
 
 // A drop that is a call keeps the proof of a caller short.
@@ -61,7 +61,7 @@ impl Walk {
     // Goes past one ask.
     fn step(&mut self, alloc: Global, stream: &TextStream) -> Result<(), AllocError>
         requires at { IsWalkAt stream.now self.old }
-        requires there { self.old.taken < length (asks_of (message_in (held_at stream.now) self.old.request)) }
+        requires there { self.old.taken < length (asks_of (message_in (bytes_at stream.now) self.old.request)) }
         requires fits { self.old.taken + 1 < 2 ^ 64 }
         ensures at { OnOk result (IsWalkAt stream.now self.new) }
         ensures request { self.new.request ≡ self.old.request }
@@ -76,7 +76,7 @@ impl Walk {
     fn go_to(&mut self, alloc: Global, stream: &TextStream, i: usize) -> Result<(), AllocError>
         requires at { IsWalkAt stream.now self.old }
         requires before { self.old.taken ≤ i }
-        requires there { i < length (asks_of (message_in (held_at stream.now) self.old.request)) }
+        requires there { i < length (asks_of (message_in (bytes_at stream.now) self.old.request)) }
         ensures at { OnOk result (IsWalkAt stream.now self.new) }
         ensures request { self.new.request ≡ self.old.request }
         ensures taken { OnOk result (self.new.taken ≡ i) }
@@ -95,8 +95,8 @@ impl Walk {
         stream: &TextStream,
     ) -> Result<SharedAsk, AllocError>
         requires at { IsWalkAt stream.now self.now }
-        requires there { self.now.taken < length (asks_of (message_in (held_at stream.now) self.now.request)) }
-        ensures value { IfOk result (λ ask. slice_get (asks_of (message_in (held_at stream.now) self.now.request)) self.now.taken ≡ Some ask) }
+        requires there { self.now.taken < length (asks_of (message_in (bytes_at stream.now) self.now.request)) }
+        ensures value { IfOk result (λ ask. slice_get (asks_of (message_in (bytes_at stream.now) self.now.request)) self.now.taken ≡ Some ask) }
         ensures ask { IfOk result IsClientAsk }
     {
         let mut asks = self.asks;
@@ -140,7 +140,7 @@ impl ClientStream {
 
     /// How many bytes are held.
     pub fn held_len(&self) -> usize
-        ensures { result ≡ length (held_at self.now) }
+        ensures { result ≡ length (bytes_at self.now) }
     {
         self.stream.held().len()
     }
@@ -185,8 +185,8 @@ impl ClientStream {
         i: usize,
     ) -> Result<SharedAsk, AllocError>
         requires read { IsReadAt self.old (Requests request.now) }
-        requires there { i < length (asks_of (message_in (held_at self.old) request.now)) }
-        ensures value { IfOk result (λ ask. slice_get (asks_of (message_in (held_at self.old) request.now)) i ≡ Some ask) }
+        requires there { i < length (asks_of (message_in (bytes_at self.old) request.now)) }
+        ensures value { IfOk result (λ ask. slice_get (asks_of (message_in (bytes_at self.old) request.now)) i ≡ Some ask) }
         ensures ask { IfOk result IsClientAsk }
         ensures same { self.new ≡ self.old }
     {
@@ -215,8 +215,8 @@ impl ClientStream {
         i: usize,
     ) -> Result<SharedAsk, AllocError>
         requires read { IsReadAt self.now (Requests request.now) }
-        requires there { i < length (asks_of (message_in (held_at self.now) request.now)) }
-        ensures value { IfOk result (λ ask. slice_get (asks_of (message_in (held_at self.now) request.now)) i ≡ Some ask) }
+        requires there { i < length (asks_of (message_in (bytes_at self.now) request.now)) }
+        ensures value { IfOk result (λ ask. slice_get (asks_of (message_in (bytes_at self.now) request.now)) i ≡ Some ask) }
         ensures ask { IfOk result IsClientAsk }
     {
         request.ask(alloc, spare, &self.stream.received(), i)
@@ -233,8 +233,8 @@ impl ClientStream {
         i: usize,
     ) -> Result<SharedAsk, AllocError>
         requires read { IsReadAt self.old (Requests request.now) }
-        requires there { i < length (asks_of (message_in (held_at self.old) request.now)) }
-        ensures value { IfOk result (λ ask. slice_get (asks_of (message_in (held_at self.old) request.now)) i ≡ Some ask) }
+        requires there { i < length (asks_of (message_in (bytes_at self.old) request.now)) }
+        ensures value { IfOk result (λ ask. slice_get (asks_of (message_in (bytes_at self.old) request.now)) i ≡ Some ask) }
         ensures ask { IfOk result IsClientAsk }
         ensures same { self.new ≡ self.old }
     {
@@ -247,7 +247,7 @@ impl ClientStream {
 
     /// A request of so many bytes is done.
     pub fn pass_request(&mut self, used: usize)
-        requires { used ≤ length (held_at self.old) }
+        requires { used ≤ length (bytes_at self.old) }
         ensures passed { (held : List ℕ) → self.old ≡ Stands Nothing held → self.new ≡ Stands Nothing (drop used held) }
         ensures closed { self.old ≡ Closed → self.new ≡ Closed }
     {
@@ -257,7 +257,7 @@ impl ClientStream {
 
     /// A refused message of so many bytes is done, and what `skip` says is passed over after them.
     pub fn pass_refused(&mut self, used: usize, skip: Skip)
-        requires { used ≤ length (held_at self.old) }
+        requires { used ≤ length (bytes_at self.old) }
         ensures passed { (held : List ℕ) → self.old ≡ Stands Nothing held → self.new ≡ skipped skip (drop used held) }
         ensures closed { self.old ≡ Closed → self.new ≡ Closed }
     {
@@ -267,7 +267,7 @@ impl ClientStream {
 
     /// Where nothing is held, the room for it goes back: whether nothing is.
     pub fn give_back(&mut self, alloc: Global) -> bool
-        ensures none { IsTrue result ↔ (held_at self.old ≡ []) }
+        ensures none { IsTrue result ↔ (bytes_at self.old ≡ []) }
         ensures same { self.new ≡ self.old }
     {
         self.stream.give_back(alloc)

@@ -3,10 +3,10 @@
 ghost use Rattle.std.specs.Prelude.{◌≡◌, ◌≤◌, ℕ, List, [], false, drop, length, OnOk, OnErr, IfOk};
 ghost use Rattle.wire_parts.specs.declared.skip.Skip.TheVariants.{Nothing};
 ghost use Rattle.wire_parts.specs.Stream.{Stands, extended};
-ghost use Rattle.wire_stream.specs.Held.{held_at, IsReadAt};
+ghost use Rattle.wire_stream.specs.Held.{bytes_at, IsReadAt};
 ghost use Rattle.wire_stream.specs.Replies.{shown_text};
 ghost use Rattle.wire_stream.specs.Fronts.{AsksNone, PassesMessage};
-ghost use Rattle.wire_stream.specs.Steps.{output_of, GoesTo, Shows};
+ghost use Rattle.wire_stream.specs.Steps.{connection_output, GoesTo, ShowsReply};
 
 use crate::connection::client_stream::ClientStream;
 use crate::connection::front::{Passed, pass};
@@ -26,7 +26,7 @@ impl Connection {
     /// A client that said nothing yet. It takes no memory. Data of its stores are copied, as a server keeps them.
     pub fn new(alloc: Global) -> Connection
         ensures stream { result.stream ≡ Stands Nothing [] }
-        ensures output { output_of result ≡ [] }
+        ensures output { connection_output result ≡ [] }
     {
         Connection {
             stream: ClientStream::copying(alloc),
@@ -47,7 +47,7 @@ impl Connection {
     pub fn pass(&mut self, read: Read, version: &[u8]) -> Result<Passed, AllocError>
         requires read { IsReadAt self.old.stream read }
         requires asks { AsksNone self.old.stream read }
-        ensures ok { IfOk result (λ passed. PassesMessage version.now self.old.stream (output_of self.old) passed self.new.stream (output_of self.new)) }
+        ensures ok { IfOk result (λ passed. PassesMessage version.now self.old.stream (connection_output self.old) passed self.new.stream (connection_output self.new)) }
         ensures err { OnErr result (GoesTo self.old self.old.stream [] self.new) }
     {
         pass(read, version, &mut self.stream, &mut self.output)
@@ -70,7 +70,7 @@ impl Connection {
         reply: &Answer,
         used: usize,
     ) -> Result<(), AllocError>
-        requires { used ≤ length (held_at self.old.stream) }
+        requires { used ≤ length (bytes_at self.old.stream) }
         ensures ok { OnOk result ((held : List ℕ) → self.old.stream ≡ Stands Nothing held → GoesTo self.old (Stands Nothing (drop used held)) (shown_text quiet last ask.now reply.now) self.new) }
         ensures err { OnErr result (GoesTo self.old self.old.stream [] self.new) }
     {
@@ -90,8 +90,8 @@ impl Connection {
         reply: &Answer,
         used: usize,
     ) -> Result<bool, AllocError>
-        requires { used ≤ length (held_at self.old.stream) }
-        ensures ok { IfOk result (λ ended. Shows self.old used quiet last ask.now reply.now ended self.new) }
+        requires { used ≤ length (bytes_at self.old.stream) }
+        ensures ok { IfOk result (λ ended. ShowsReply self.old used quiet last ask.now reply.now ended self.new) }
         ensures err { OnErr result (GoesTo self.old self.old.stream [] self.new) }
     {
         if ends_message(last, reply) {
@@ -106,10 +106,10 @@ impl Connection {
     /// The output so far, a copy, which is then empty. The only error is running out of memory, which leaves the output as it
     /// was.
     pub fn take_output(&mut self, alloc: Global) -> Result<Vec<u8>, AllocError>
-        ensures bytes { IfOk result (λ bytes. bytes.items ≡ output_of self.old) }
-        ensures output { OnOk result (output_of self.new ≡ []) }
+        ensures bytes { IfOk result (λ bytes. bytes.items ≡ connection_output self.old) }
+        ensures output { OnOk result (connection_output self.new ≡ []) }
         ensures stream { self.new.stream ≡ self.old.stream }
-        ensures err { OnErr result (output_of self.new ≡ output_of self.old) }
+        ensures err { OnErr result (connection_output self.new ≡ connection_output self.old) }
     {
         let bytes = self.output.as_slice().to_vec(alloc)?;
         self.output.clear();

@@ -5,7 +5,7 @@ ghost use Rattle.std.specs.Prelude.{◌≡◌, ◌≤◌, ◌++◌, ℕ, List, d
 ghost use Rattle.wire_parts.specs.declared.refusal.RefusalReason.TheVariants.{Unknown};
 ghost use Rattle.wire_parts.specs.declared.skip.Skip.TheVariants.{Nothing};
 ghost use Rattle.wire_parts.specs.Stream.{Stands, Closed, skipped, after_own};
-ghost use Rattle.wire_stream.specs.Held.{held_at, IsReadAt};
+ghost use Rattle.wire_stream.specs.Held.{bytes_at, IsReadAt};
 ghost use Rattle.wire_stream.specs.Replies.{refusal_text, long_line_text};
 ghost use Rattle.wire_stream.specs.TextProtocol.{own_passed};
 ghost use Rattle.wire_stream.specs.Fronts.{AsksNone, IsFrontOf, PassesMessage};
@@ -90,7 +90,7 @@ fn refuse(
     stream: &mut ClientStream,
     output: &mut BytesMut,
 ) -> Result<(), AllocError>
-    requires { used ≤ length (held_at stream.old) }
+    requires { used ≤ length (bytes_at stream.old) }
     ensures place { OnOk result ((held : List ℕ) → stream.old ≡ Stands Nothing held → stream.new ≡ skipped skip (drop used held)) }
     ensures text { OnOk result (output.new.items ≡ output.old.items ++ refusal_text why) }
     ensures stays { OnErr result (stream.new ≡ stream.old) }
@@ -109,7 +109,7 @@ fn answer_own(
     stream: &mut ClientStream,
     output: &mut BytesMut,
 ) -> Result<(), AllocError>
-    requires { used ≤ length (held_at stream.old) }
+    requires { used ≤ length (bytes_at stream.old) }
     ensures place { OnOk result ((held : List ℕ) → stream.old ≡ Stands Nothing held → stream.new ≡ after_own own (drop used held)) }
     ensures text { OnOk result (output.new.items ≡ output.old.items ++ own_passed version.now own) }
     ensures stays { OnErr result (stream.new ≡ stream.old) }

@@ -1,7 +1,7 @@
 //! Which dialects a server speaks.
 
 ghost use Rattle.std.specs.Prelude.{◌≡◌, ◌++◌, codes, OnOk, OnErr};
-ghost use Rattle.wire_stream.specs.Learning.{dialect_of, TellsDialect};
+ghost use Rattle.wire_stream.specs.Learning.{line_dialect, TellsDialect};
 
 use bytes::BytesMut;
 use mc_types::Dialect;
@@ -30,7 +30,7 @@ pub fn write_noop(out: &mut BytesMut) -> Result<(), AllocError>
 }
 
 fn dialect_of(text: &[u8]) -> Option<Dialect>
-    ensures { result ≡ dialect_of text.now }
+    ensures { result ≡ line_dialect text.now }
 {
     if text == b"MN".as_slice() {
         return Some(Dialect::Meta);

@@ -3,7 +3,7 @@
 ghost use Rattle.std.specs.Prelude.{◌≡◌, ◌++◌, true, Some, IfOk, OnOk, OnErr};
 ghost use Rattle.mc_types.specs.Asks.{IsAsk};
 ghost use Rattle.wire_stream.specs.Spelling.{spelling_of};
-ghost use Rattle.wire_answers.specs.Reading.{Reads, LiesWithin};
+ghost use Rattle.wire_answers.specs.Reading.{ReadsAnswer, LiesWithin};
 ghost use Rattle.wire_stream.specs.Form.{is_retrieval, meta_form};
 ghost use Rattle.wire_stream.specs.Kept.{IsKeptFor};
 
@@ -25,13 +25,13 @@ pub struct MetaForms {
 }
 
 impl Model for MetaForms {
-    ghost use Rattle.wire_stream.specs.Kept.{AreKept};
+    ghost use Rattle.wire_stream.specs.Kept.{FormsAreKept};
 
     ghost Value = { Unit {0} };
 
     ghost view = { λ _. tt };
 
-    ghost invariant = { λ f. AreKept f.get f.gets };
+    ghost invariant = { λ f. FormsAreKept f.get f.gets };
 }
 
 // The form becomes that of this get. It takes no memory.
@@ -82,7 +82,7 @@ fn read_kept(
     received: &Received,
 ) -> Result<AnswerRead, AllocError>
     requires { IsKeptFor ask.now.with_cas kept.old }
-    ensures reads { IfOk result (Reads (meta_form ask.now) received.now) }
+    ensures reads { IfOk result (ReadsAnswer (meta_form ask.now) received.now) }
     ensures within { IfOk result (LiesWithin received.now) }
     ensures kept { IsKeptFor ask.now.with_cas kept.new }
 {
@@ -132,7 +132,7 @@ impl MetaForms {
         ask: &Ask,
         received: &Received,
     ) -> Result<AnswerRead, AllocError>
-        ensures reads { IfOk result (Reads (meta_form ask.now) received.now) }
+        ensures reads { IfOk result (ReadsAnswer (meta_form ask.now) received.now) }
         ensures within { IfOk result (LiesWithin received.now) }
     {
         if ask.with_cas {

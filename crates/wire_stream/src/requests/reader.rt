@@ -6,7 +6,7 @@ ghost use Rattle.wire_meta.specs.Message as metas;
 ghost use Rattle.wire_meta.specs.CommandWords as meta_words;
 ghost use Rattle.wire_parts.specs.Message.{Refusal, lift_found};
 ghost use Rattle.wire_stream.specs.Both.{Classic, Meta};
-ghost use Rattle.wire_stream.specs.Message.{Found, IsMeant, Reads};
+ghost use Rattle.wire_stream.specs.Message.{AnyFound, IsMeant, Reads};
 
 use crate::requests::other_protocol::{is_binary, is_http};
 use crate::requests::request::Request;
@@ -36,7 +36,7 @@ pub enum Read {
 }
 
 fn of_refused(text: &[u8], why: RefusalReason, used: usize, skip: Skip) -> Read
-    ensures { (bytes : List ℕ) (found : Found) → found ≡ Some (Refusal why skip, used) → IsMeant text.now bytes result found }
+    ensures { (bytes : List ℕ) (found : AnyFound) → found ≡ Some (Refusal why skip, used) → IsMeant text.now bytes result found }
 {
     if is_http(text, why) {
         return Read::OtherProtocol;
@@ -46,7 +46,7 @@ fn of_refused(text: &[u8], why: RefusalReason, used: usize, skip: Skip) -> Read
 
 // A line of this text, as it was read in its dialect.
 fn of_classic(text: &[u8], read: wire_classic::ClassicRead) -> Read
-    ensures { (bytes : List ℕ) (found : texts.Found) → texts.IsMeant bytes read found → IsMeant text.now bytes result (lift_found Classic found) }
+    ensures { (bytes : List ℕ) (found : texts.ClassicFound) → texts.ClassicIsMeant bytes read found → IsMeant text.now bytes result (lift_found Classic found) }
 {
     match read {
         // It returns by itself: the value of a match is copied once more.
@@ -62,7 +62,7 @@ fn of_classic(text: &[u8], read: wire_classic::ClassicRead) -> Read
 }
 
 fn of_meta(text: &[u8], read: wire_meta::MetaRead) -> Read
-    ensures { (bytes : List ℕ) (found : metas.Found) → metas.IsMeant bytes read found → IsMeant text.now bytes result (lift_found Meta found) }
+    ensures { (bytes : List ℕ) (found : metas.MetaFound) → metas.MetaIsMeant bytes read found → IsMeant text.now bytes result (lift_found Meta found) }
 {
     match read {
         // It returns by itself: the value of a match is copied once more.

@@ -121,7 +121,7 @@ impl Request {
 impl MetaAsks {
     fn next(&mut self, alloc: Global, received: &Received) -> Result<Option<Ask>, AllocError>
         requires { metas.IsMetaReadFrom received.now self.old.request }
-        ensures value { IfOk result (λ next. next ≡ slice_get (meta_asks.asks_of (metas.message_in received.now self.old.request)) self.old.taken) }
+        ensures value { IfOk result (λ next. next ≡ slice_get (meta_asks.meta_asks_of (metas.meta_message_in received.now self.old.request)) self.old.taken) }
         ensures ask { IfOk result (λ next. IfSome next IsClientAsk) }
         ensures taken { IfOk result (λ next. self.new.taken ≡ counted next self.old.taken) }
         ensures request { self.new.request ≡ self.old.request }

@@ -1,7 +1,7 @@
 //! For which keys a get copies by a tree.
 
 ghost use Rattle.std.specs.Prelude.{IfOk};
-ghost use Rattle.core_accepted.specs.Copying.{CopiesSome, IsFirstOf};
+ghost use Rattle.core_accepted.specs.Copying.{CopiesSome, IsFirstCopied};
 
 use gate_check::places::collecting::add_prefixes;
 use mc_types::Key;
@@ -19,7 +19,7 @@ pub enum Copied {
 
 // The first of the texts for which a get copies.
 fn first_of(tree: &Tree, texts: &[Key]) -> Option<Key>
-    ensures { IsFirstOf tree.now texts.now result }
+    ensures { IsFirstCopied tree.now texts.now result }
 {
     match texts {
         [] => None,

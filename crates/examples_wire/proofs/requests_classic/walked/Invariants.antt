@@ -1,5 +1,5 @@
-use Rattle.wire_classic.specs.Asks.{IsWalk}
+use Rattle.wire_classic.specs.Asks.{IsClassicWalk}
 use Rattle.examples_wire.proofs.requests_classic.walked.Given as goal
 
 abbrev pub invariant-loop : goal.invariant-loop
-invariant-loop l = IsWalk l.bytes l.walk
+invariant-loop l = IsClassicWalk l.bytes l.walk

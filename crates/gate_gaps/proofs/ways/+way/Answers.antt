@@ -3,7 +3,7 @@ use Rattle.std.proofs.lemmas.Result.{IfOk-weaker}
 use Rattle.route_tree.specs.Plan.{AllSync, Failover, MissFailover, ByOperation}
 use Rattle.route_tree.specs.PlanCode.{plan_size, policies_plan_size}
 use Rattle.route_tree.specs.Form.{plans_of, plan_policies_of, plan_of_form}
-use Rattle.gate_coverage.specs.Computed.{taken}
+use Rattle.gate_coverage.specs.Computed.{takes_server}
 use Rattle.gate_gaps.specs.Ways.{policy_taken}
 use Rattle.gate_gaps.proofs.Reaching.{by_all_sync, by_failover, by_miss_failover, by_policy, parted, taken_later, adds_here, adds_there, no_policies, parted_policies, policy_later}
 use Rattle.gate_gaps.proofs.ways.+way.Goals as goal
@@ -12,25 +12,25 @@ pub add_way-add_way_among-requires : goal.add_way-add_way_among-requires
 add_way-add_way_among-requires t c =
     let is = ap (λ xs. AllSync (plans_of xs)) c.deref.ensures.value ∙ ap plan_of_form (sym c.in-AllSync.is) ∙ c.form.ensures.form in
     let size = ap plan_size is in
-    (omega (arith, c.decreases, size), (by_all_sync c.args.op c.args.server (plans_of c.deref.result.now) (subst (λ p. taken p c.args.op c.args.server ≡ true) (sym is) c.requires), search rules))
+    (omega (arith, c.decreases, size), (by_all_sync c.args.op c.args.server (plans_of c.deref.result.now) (subst (λ p. takes_server p c.args.op c.args.server ≡ true) (sym is) c.requires), search rules))
 
 pub add_way-add_way_among-requires-in-Failover : goal.add_way-add_way_among-requires-in-Failover
 add_way-add_way_among-requires-in-Failover t c =
     let is = ap (λ xs. Failover (plans_of xs)) c.deref-in-Failover.ensures.value ∙ ap plan_of_form (sym c.in-Failover.is) ∙ c.form.ensures.form in
     let size = ap plan_size is in
-    (omega (arith, c.decreases, size), (by_failover c.args.op c.args.server (plans_of c.deref-in-Failover.result.now) (subst (λ p. taken p c.args.op c.args.server ≡ true) (sym is) c.requires), search rules))
+    (omega (arith, c.decreases, size), (by_failover c.args.op c.args.server (plans_of c.deref-in-Failover.result.now) (subst (λ p. takes_server p c.args.op c.args.server ≡ true) (sym is) c.requires), search rules))
 
 pub add_way-add_way_among-requires-in-MissFailover : goal.add_way-add_way_among-requires-in-MissFailover
 add_way-add_way_among-requires-in-MissFailover t c =
     let is = ap (λ xs. MissFailover (plans_of xs)) c.deref-in-MissFailover.ensures.value ∙ ap plan_of_form (sym c.in-MissFailover.is) ∙ c.form.ensures.form in
     let size = ap plan_size is in
-    (omega (arith, c.decreases, size), (by_miss_failover c.args.op c.args.server (plans_of c.deref-in-MissFailover.result.now) (subst (λ p. taken p c.args.op c.args.server ≡ true) (sym is) c.requires), search rules))
+    (omega (arith, c.decreases, size), (by_miss_failover c.args.op c.args.server (plans_of c.deref-in-MissFailover.result.now) (subst (λ p. takes_server p c.args.op c.args.server ≡ true) (sym is) c.requires), search rules))
 
 pub add_way-add_way_by-requires : goal.add_way-add_way_by-requires
 add_way-add_way_by-requires t c =
     let is = ap₂ (λ ps d. ByOperation (plan_policies_of ps d)) c.deref-in-ByOperation.ensures.value c.deref-in-ByOperation-2.ensures ∙ ap plan_of_form (sym c.in-ByOperation.is) ∙ c.form.ensures.form in
     let size = ap plan_size is in
-    (omega (arith, c.decreases, size), by_policy c.args.op c.args.server (plan_policies_of c.deref-in-ByOperation.result.now c.deref-in-ByOperation-2.result.now) (subst (λ p. taken p c.args.op c.args.server ≡ true) (sym is) c.requires))
+    (omega (arith, c.decreases, size), by_policy c.args.op c.args.server (plan_policies_of c.deref-in-ByOperation.result.now c.deref-in-ByOperation-2.result.now) (subst (λ p. takes_server p c.args.op c.args.server ≡ true) (sym is) c.requires))
 
 pub add_way_among-add_way_among-requires : goal.add_way_among-add_way_among-requires
 add_way_among-add_way_among-requires t c =

@@ -2,7 +2,7 @@ use Rattle.std.proofs.Common.{◌≡◌, ℕ, ◌<◌, ◌+◌, inl, inr, refl, 
 use Rattle.std.specs.Prelude.{◌⊎◌}
 use Rattle.std.proofs.lemmas.Bool.{cases_lt}
 use Rattle.script_events.specs.declared.script.Output.{Output}
-use Rattle.script_events.specs.Scripted.{transcript_of, shown_by}
+use Rattle.script_events.specs.Scripted.{transcript_of, output_shown}
 use Rattle.route_job.proofs.Executing.{on_err}
 use Rattle.script_run.specs.Stepping.{HandsOut, HandsSome}
 use Rattle.script_run.proofs.Steps.{hands_nothing, hands_then, hands_some}
@@ -20,7 +20,7 @@ loop-client-init c = record {
 
 pub returns-in_err-give-clause-err : goal.returns-in_err-give-clause-err
 returns-in_err-give-clause-err c =
-    on_err c.from_residual.result (subst (λ (l : List Output). HandsSome (transcript_of c.args.transcript.now) (map shown_by l) c.args.runner.now) (sym c.in_err-give.ensures.err)
+    on_err c.from_residual.result (subst (λ (l : List Output). HandsSome (transcript_of c.args.transcript.now) (map output_shown l) c.args.runner.now) (sym c.in_err-give.ensures.err)
     (hands_some (λ n. n < c.loop-client.client) (transcript_of c.args.transcript.now) (transcript_of c.loop-client.transcript) c.args.runner.now c.loop-client.runner c.loop-client.invariant.hands))
 
 -- the clients up to this one are those before it and itself

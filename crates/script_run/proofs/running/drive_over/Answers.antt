@@ -2,10 +2,10 @@ use Rattle.std.proofs.Common.{◌≡◌, ℕ, ◌+◌, List, length, map, take, 
 use Rattle.std.proofs.lemmas.Result.{IfOk-weaker}
 use Rattle.script_events.specs.declared.script.Output.{Output}
 use Rattle.script_events.specs.Bad.{bad_in}
-use Rattle.script_events.specs.Reloads.{AreInOrder}
-use Rattle.script_events.specs.Scripted.{scripted_of, shown_by, transcript_of}
+use Rattle.script_events.specs.Reloads.{ReloadsInOrder}
+use Rattle.script_events.specs.Scripted.{scripted_of, output_shown, transcript_of}
 use Rattle.script_events.proofs.BadEvents.{good_here, not_here}
-use Rattle.script_events.specs.Servers.{count_of}
+use Rattle.script_events.specs.Servers.{count_of_servers}
 use Rattle.script_events.specs.declared.script.Transcript.{Transcript}
 use Rattle.std.proofs.lemmas.List.{length-map, drop-map}
 use Rattle.script_run.proofs.Come.{all_came, marks_on, marks_none, on_ok_so}
@@ -16,7 +16,7 @@ use Rattle.script_run.proofs.running.drive_over.Goals as goal
 
 -- so many outputs are in the transcript
 shown_all : (t : Transcript) (items : List Output) → items ≡ t.shown.items → length items ≡ length (transcript_of t)
-shown_all t items is = ap (λ (l : List Output). length l) is ∙ sym (length-map t.shown.items shown_by)
+shown_all t items is = ap (λ (l : List Output). length l) is ∙ sym (length-map t.shown.items output_shown)
 
 pub loop-next-init : goal.loop-next-init
 loop-next-init c = record {
@@ -30,7 +30,7 @@ loop-next-init c = record {
 }
 
 pub load_due-requires : goal.load_due-requires
-load_due-requires c = record { within = c.loop-next.invariant.within; order = (length c.args.events.now, count_of c.args.servers.now, c.loop-next.invariant.order) }
+load_due-requires c = record { within = c.loop-next.invariant.within; order = (length c.args.events.now, count_of_servers c.args.servers.now, c.loop-next.invariant.order) }
 
 pub returns-in_err-loaded-clause-err : goal.returns-in_err-loaded-clause-err
 returns-in_err-loaded-clause-err c =
@@ -51,7 +51,7 @@ befall-requires c =
     let i = c.loop-next.next in
     let x = c.index-events-next.result in
     record {
-      good = (map scripted_of (take i xs), subst (λ (n : ℕ). bad_in n (map scripted_of (take i xs)) (scripted_of x) ≡ false) (sym v.count) (good_here (count_of c.args.servers.now) xs i x c.loop-next-test.true c.index-events-next.is v.ahead));
+      good = (map scripted_of (take i xs), subst (λ (n : ℕ). bad_in n (map scripted_of (take i xs)) (scripted_of x) ≡ false) (sym v.count) (good_here (count_of_servers c.args.servers.now) xs i x c.loop-next-test.true c.index-events-next.is v.ahead));
     }
 
 pub returns-in_err-befall-clause-err : goal.returns-in_err-befall-clause-err
@@ -87,7 +87,7 @@ loop-next-preserved c =
     let i = c.loop-next.next in
     let x = c.index-events-next.result in
     let lt = c.loop-next-test.true in
-    let count = count_of c.args.servers.now in
+    let count = count_of_servers c.args.servers.now in
     let good : bad_in count (map scripted_of (take i xs)) (scripted_of x) ≡ false = good_here count xs i x lt c.index-events-next.is v.ahead in
     record {
       count = c.in_ok-befall.ensures.count ∙ v.count;
@@ -108,7 +108,7 @@ load_due-requires-2 c =
     let v = c.loop-next.invariant in
     let xs = c.args.events.now in
     let end : c.loop-next.next ≡ length xs = omega arith in
-    record { within = v.within; order = (length xs, count_of c.args.servers.now, subst (λ (n : ℕ). AreInOrder (length xs) (count_of c.args.servers.now) n (drop c.loop-next.loaded c.args.reloads.now)) end v.order) }
+    record { within = v.within; order = (length xs, count_of_servers c.args.servers.now, subst (λ (n : ℕ). ReloadsInOrder (length xs) (count_of_servers c.args.servers.now) n (drop c.loop-next.loaded c.args.reloads.now)) end v.order) }
 
 pub returns-in_err-_all-clause-err : goal.returns-in_err-_all-clause-err
 returns-in_err-_all-clause-err c =
@@ -131,7 +131,7 @@ returns-clause-ok c =
     let reloads = c.args.reloads.now in
     let e = c.in_ok-_all.ensures in
     let end : c.loop-next.next ≡ length xs = omega arith in
-    let all = all_came (length xs) (count_of c.args.servers.now) 0 reloads c.in_ok-_all._all c.requires.order e.within e.due in
+    let all = all_came (length xs) (count_of_servers c.args.servers.now) 0 reloads c.in_ok-_all._all c.requires.order e.within e.due in
     IfOk-weaker c.finish.result _ _
     (λ report d first h. d first c.args.refused.now reloads (map scripted_of xs) c.load_due-2.new.marks.items
     (stood_last first c.args.refused.now reloads xs c.loop-next.next (length c.as_slice-shown-2.result.now) c.loop-next.loaded c.in_ok-_all._all (transcript_of c.loop-next.transcript) c.loop-next.marks.items c.load_due-2.new.marks.items c.loop-next.runner c.load_due-2.new.runner c.loop-next.servers end all
@@ -145,7 +145,7 @@ returns-clause-err c =
     let reloads = c.args.reloads.now in
     let e = c.in_ok-_all.ensures in
     let end : c.loop-next.next ≡ length xs = omega arith in
-    let all = all_came (length xs) (count_of c.args.servers.now) 0 reloads c.in_ok-_all._all c.requires.order e.within e.due in
+    let all = all_came (length xs) (count_of_servers c.args.servers.now) 0 reloads c.in_ok-_all._all c.requires.order e.within e.due in
     err_weaker c.finish.result _ _
     (λ fault d first h. d first c.args.refused.now reloads (map scripted_of xs) c.load_due-2.new.marks.items
     (stood_last first c.args.refused.now reloads xs c.loop-next.next (length c.as_slice-shown-2.result.now) c.loop-next.loaded c.in_ok-_all._all (transcript_of c.loop-next.transcript) c.loop-next.marks.items c.load_due-2.new.marks.items c.loop-next.runner c.load_due-2.new.runner c.loop-next.servers end all
@@ -155,4 +155,4 @@ returns-clause-err c =
 pub returns-clause-marked : goal.returns-clause-marked
 returns-clause-marked c =
     let e = c.in_ok-_all.ensures in
-    on_ok_so c.finish.result _ (e.marked c.loop-next.invariant.marked ∙ all_came (length c.args.events.now) (count_of c.args.servers.now) 0 c.args.reloads.now c.in_ok-_all._all c.requires.order e.within e.due)
+    on_ok_so c.finish.result _ (e.marked c.loop-next.invariant.marked ∙ all_came (length c.args.events.now) (count_of_servers c.args.servers.now) 0 c.args.reloads.now c.in_ok-_all._all c.requires.order e.within e.due)

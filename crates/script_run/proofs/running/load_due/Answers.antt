@@ -1,5 +1,5 @@
 use Rattle.std.proofs.Common.{◌≡◌, ℕ, ◌+◌, drop, refl, ◌∙◌, subst, arith}
-use Rattle.script_events.specs.Reloads.{AreInOrder}
+use Rattle.script_events.specs.Reloads.{ReloadsInOrder}
 use Rattle.route_job.proofs.Executing.{on_err}
 use Rattle.script_events.proofs.Due.{due_at, order_at, order_on}
 use Rattle.script_run.proofs.Come.{at_place, mark_more, mark_count}
@@ -25,7 +25,7 @@ loop-marks-preserved c =
       loads = loads_then refused reloads next c.args.shown c.args.before n (n + 1) c.args.marks.now.items c.loop-marks.marks.items c.mark.new.marks.items c.args.runner.now c.loop-marks.runner c.take_over.new.runner v.loads
           (loads_one c.standing_says.ensures refused reloads next c.args.shown n c.loop-marks.marks.items c.mark.new.marks.items r c.is_refused.result c.loop-marks.runner c.take_over.new.runner place (at_place reloads n r lt c.index-reloads-loaded.is) c.is_refused.ensures c.in_ok-mark.ensures.ok c.in_ok-take_over.ensures.takes);
       clients = c.in_ok-take_over.ensures.clients ∙ v.clients;
-      order = λ end servers h. subst (λ (p : ℕ). AreInOrder end servers p (drop (n + 1) reloads)) place (order_at end servers n next reloads r lt c.index-reloads-loaded.is (v.order end servers h)).3;
+      order = λ end servers h. subst (λ (p : ℕ). ReloadsInOrder end servers p (drop (n + 1) reloads)) place (order_at end servers n next reloads r lt c.index-reloads-loaded.is (v.order end servers h)).3;
       within = omega (arith, lt);
       marked = λ e. mark_count n c.args.shown c.loop-marks.marks.items c.mark.new.marks.items c.in_ok-mark.ensures.ok (v.marked e);
       marks = λ h. mark_more c.args.shown c.loop-marks.marks.items c.mark.new.marks.items c.in_ok-mark.ensures.ok (v.marks h);

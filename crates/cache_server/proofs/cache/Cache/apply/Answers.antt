@@ -4,7 +4,7 @@ use Rattle.std.specs.Map.{keys_of}
 use Rattle.cache_server.specs.Contents.{Contents, same_key, at_moment}
 use Rattle.cache_server.specs.Sound.{AreEntries}
 use Rattle.cache_server.specs.Table.{Applies}
-use Rattle.cache_server.specs.Held.{holds, IsCall, IsLoss, lost_by, expired_keys}
+use Rattle.cache_server.specs.Held.{holds, IsServerCall, IsLoss, keys_lost_by, expired_keys}
 use Rattle.cache_server.proofs.CallLemmas.{call_is, expired_is, if_ok, on_err}
 use Rattle.cache_server.proofs.cache.Cache.apply.Goals as goal
 
@@ -17,7 +17,7 @@ returns-clause-call c =
     let small : now < 2 ^ 63 = search rules in
     let done : IfOk c.serve.result (λ r. Applies c.args.moment c.args.stamp c.args.ask.now old r.0 r.1 c.serve.new.self) = search rules in
     if_ok c.serve.result (λ r. Applies c.args.moment c.args.stamp c.args.ask.now old r.0 r.1 c.serve.new.self)
-    (λ r. IsCall c.args.stamp c.args.ask.now (holds old) (lost_by now c.args.stamp c.args.ask.now old) r.0 r.1 (holds c.serve.new.self))
+    (λ r. IsServerCall c.args.stamp c.args.ask.now (holds old) (keys_lost_by now c.args.stamp c.args.ask.now old) r.0 r.1 (holds c.serve.new.self))
     (λ r serves. call_is now c.args.stamp c.args.ask.now old r.0 r.1 c.serve.new.self small c.requires.ask are distinct serves)
     done
 

@@ -1,7 +1,7 @@
 use Rattle.std.proofs.Common.{ℕ, Option, length, inl, inr, refl, subst, arith}
 use Rattle.wire_parts.specs.Sending.{bytes_of}
 use Rattle.wire_stream.proofs.Fronts.{front_is, more_stuck}
-use Rattle.cache_tcp.specs.Steps.{spot_at, count_of, RunsOn, HasStopped}
+use Rattle.cache_tcp.specs.Steps.{spot_at, asks_ended, RunsOn, HasStopped}
 use Rattle.cache_tcp.proofs.Exits.{on_err}
 use Rattle.cache_tcp.proofs.Keys.{way_key}
 use Rattle.cache_tcp.proofs.Fronts.{runs_join, runs_pass, stops_join, pass_shorter, none_asked, within_pass, below_len}
@@ -44,7 +44,7 @@ loop-alloc-preserved c =
     let m = c.args.moment.seconds in
     let u = bytes_of l.out in
     let v = bytes_of k.out in
-    let more = subst (λ (o : Option ℕ). RunsOn m (spot_at l.stream l.next) l.cache u (spot_at k.stream (count_of o)) k.cache v) c.in-None.is c.in_ok-serve_request-in-Keys.ensures.ok in
+    let more = subst (λ (o : Option ℕ). RunsOn m (spot_at l.stream l.next) l.cache u (spot_at k.stream (asks_ended o)) k.cache v) c.in-None.is c.in_ok-serve_request-in-Keys.ensures.ok in
     record {
       way = inl refl;
       runs = runs_join m (spot_at c.args.stream.now c.args.first) (spot_at l.stream l.next) (spot_at k.stream 0) c.args.cache.now l.cache k.cache (bytes_of c.args.out.now) u v l.invariant.runs more;
@@ -58,7 +58,7 @@ returns-in-Some-clause-ok c =
     let m = c.args.moment.seconds in
     let u = bytes_of l.out in
     let v = bytes_of k.out in
-    let more = subst (λ (o : Option ℕ). RunsOn m (spot_at l.stream l.next) l.cache u (spot_at k.stream (count_of o)) k.cache v) c.in-Some.is c.in_ok-serve_request-in-Keys.ensures.ok in
+    let more = subst (λ (o : Option ℕ). RunsOn m (spot_at l.stream l.next) l.cache u (spot_at k.stream (asks_ended o)) k.cache v) c.in-Some.is c.in_ok-serve_request-in-Keys.ensures.ok in
     runs_join m (spot_at c.args.stream.now c.args.first) (spot_at l.stream l.next) (spot_at k.stream c.in-Some.index) c.args.cache.now l.cache k.cache (bytes_of c.args.out.now) u v l.invariant.runs more
 
 pub returns-in-Some-clause-way : goal.returns-in-Some-clause-way

@@ -1,6 +1,6 @@
 use Rattle.std.proofs.Common.{length}
 use Rattle.wire_parts.specs.Sending.{bytes_of}
-use Rattle.wire_stream.specs.Held.{held_at}
+use Rattle.wire_stream.specs.Held.{bytes_at}
 use Rattle.cache_tcp.specs.Steps.{spot_at, IsOnWay, RunsOn, IsWithin}
 use Rattle.cache_tcp.proofs.connection.serve.serve.Given as goal
 
@@ -12,4 +12,4 @@ invariant-loop-alloc l = record {
 }
 
 abbrev pub decreases-loop-alloc : goal.decreases-loop-alloc
-decreases-loop-alloc l = length (held_at l.stream)
+decreases-loop-alloc l = length (bytes_at l.stream)

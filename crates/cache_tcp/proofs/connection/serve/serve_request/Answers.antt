@@ -1,7 +1,7 @@
 use Rattle.std.proofs.Common.{ℕ, ◌<◌, List, length, sym, ◌∙◌, subst, refl, arith}
 use Rattle.wire_parts.specs.Sending.{bytes_of}
 use Rattle.wire_parts.specs.Stream.{Place}
-use Rattle.wire_stream.specs.Held.{held_at}
+use Rattle.wire_stream.specs.Held.{bytes_at}
 use Rattle.cache_tcp.specs.Steps.{spot_at, IsWithin}
 use Rattle.cache_tcp.proofs.Exits.{on_err}
 use Rattle.cache_tcp.proofs.Keys.{way_on, stays_at, key_on_way}
@@ -48,7 +48,7 @@ pub returns-then-branch-clause-stopped : goal.returns-then-branch-clause-stopped
 returns-then-branch-clause-stopped c =
     let l = c.loop-index in
     let k = c.serve_key.new in
-    subst (λ (p : Place). length (held_at k.stream) < length (held_at p)) l.invariant.stays
+    subst (λ (p : Place). length (bytes_at k.stream) < length (bytes_at p)) l.invariant.stays
     (next_shorter c.args.moment.seconds l.stream k.stream l.index l.cache k.cache (bytes_of l.out) (bytes_of k.out) _ c.in_ok-serve_key.ensures.ok c.if-branch.true)
 
 pub returns-then-branch-clause-within : goal.returns-then-branch-clause-within

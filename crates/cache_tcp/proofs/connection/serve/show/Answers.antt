@@ -1,12 +1,12 @@
 use Rattle.std.proofs.Common.{ℕ, ◌+◌, ◌≤◌, length, sym, ap, subst, nat_eq}
 use Rattle.wire_parts.specs.Sending.{bytes_of}
-use Rattle.wire_stream.specs.Held.{held_at}
+use Rattle.wire_stream.specs.Held.{bytes_at}
 use Rattle.wire_stream.proofs.Fronts.{used_held}
 use Rattle.cache_tcp.proofs.Keys.{shows_next}
 use Rattle.cache_tcp.proofs.connection.serve.show.Goals as goal
 
 pub end_with-requires : goal.end_with-requires
-end_with-requires c = subst (λ (n : ℕ). n ≤ length (held_at c.args.stream.now)) (sym c.used.ensures) (used_held c.args.stream.now c.args.request.now c.requires.front)
+end_with-requires c = subst (λ (n : ℕ). n ≤ length (bytes_at c.args.stream.now)) (sym c.used.ensures) (used_held c.args.stream.now c.args.request.now c.requires.front)
 
 pub returns-clause-ok : goal.returns-clause-ok
 returns-clause-ok c =

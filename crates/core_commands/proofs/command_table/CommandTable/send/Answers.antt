@@ -5,7 +5,7 @@ use Rattle.indexmap.specs.IndexMap.{get, with_value_at}
 use Rattle.route_job.proofs.Jobs.{on_err}
 use Rattle.route_job.specs.Jobs.{server_of_pending, IsCalling}
 use Rattle.core_commands.specs.declared.command.Command.{Command}
-use Rattle.core_commands.specs.Counts.{SetsCountAt, AreCounted}
+use Rattle.core_commands.specs.Counts.{SetsCountAt, CountsCommands}
 use Rattle.core_commands.proofs.ByPlace.{through_place}
 use Rattle.core_commands.proofs.Commands.{some_command}
 use Rattle.core_commands.proofs.Counting.{same_map, written, counted_sent}
@@ -21,7 +21,7 @@ invariant_of-self c = λ on.
     let found = c.in-Some-get_index_mut.ensures.value ∙ c.in-Some.ensures.value in
     let through = through_place c.args.number table.by_number place a x c.in-Some-get_index_mut.ensures.unique (sym c.in-Some.ensures.index) (sym found) in
     let same_through = subst (λ w. WritesThrough nat_eq (nat_eq c.args.number) table.by_number w new) c.in_err-ticket.ensures.err through in
-    subst (λ m. AreCounted m table.clearing table.copying table.at_server table.waiting) (sym (same_map nat_eq (nat_eq c.args.number) table.by_number new a (sym found) same_through)) (c.self.invariant on)
+    subst (λ m. CountsCommands m table.clearing table.copying table.at_server table.waiting) (sym (same_map nat_eq (nat_eq c.args.number) table.by_number new a (sym found) same_through)) (c.self.invariant on)
 
 pub returns-in_err-ticket-clause-err : goal.returns-in_err-ticket-clause-err
 returns-in_err-ticket-clause-err c =

@@ -3,7 +3,7 @@ use Rattle.core_client.specs.Clients.{has_own}
 use Rattle.std.proofs.Common.{◌≡◌, false, ◌+◌, sym, refl, ap, ◌∙◌, nat_eq, cond, Some}
 use Rattle.std.specs.Map.{lookup}
 use Rattle.core_proxy.specs.Steps.{Turns}
-use Rattle.core_client.specs.Fronts.{Stays}
+use Rattle.core_client.specs.Fronts.{ClientStays}
 use Rattle.core_client.specs.Nexts.{CanBegin}
 use Rattle.core_proxy.specs.Polls.{ClientIsServed}
 use Rattle.core_proxy.proofs.Clients.{written}
@@ -23,7 +23,7 @@ returns-then-is_err-2-clause-err c =
     let was = sym c.in-Some.ensures.value in
     let w = written old c.args.client x y was in
     let t : Turns old _ c.args.client (Some x) (Some y) = record { was = w.was; is = w.is; others = w.others; commands = λ n. ap (lookup (nat_eq n)) c.make_room.ensures.entries; tree = refl; limits = refl; number = refl } in
-    let same = when_err c.begin-begun.result (Stays x y) (sym c.is_err-2.ensures.value ∙ c.if-is_err-2.true) c.begin-begun.ensures.err in
+    let same = when_err c.begin-begun.result (ClientStays x y) (sym c.is_err-2.ensures.value ∙ c.if-is_err-2.true) c.begin-begun.ensures.err in
     (still_goes old _ c.args.client x y t same, still_served old _ c.args.client x y t same (of_client old c.args.client (CanBegin c.args.request.now c.args.ask) x was c.requires.key).served)
 
 pub returns-clause-ok : goal.returns-clause-ok

@@ -1,10 +1,10 @@
-use Rattle.core_proxy.specs.CoreState.{client_at, GoesBy}
+use Rattle.core_proxy.specs.CoreState.{client_at, GoesByEntries}
 use Rattle.core_proxy.specs.Polls.{ForClient, ClientIsServed, AreShown, queue_len, StandsStill}
 use Rattle.core_proxy.proofs.proxy.Core.show_all.Given as goal
 
 abbrev pub invariant-loop : goal.invariant-loop
 invariant-loop l = record {
-  goes : GoesBy l.fn.self (AreShown l.client) l.self;
+  goes : GoesByEntries l.fn.self (AreShown l.client) l.self;
   served : ForClient l.self l.client ClientIsServed;
   still : StandsStill l.fn.self l.self;
 }

@@ -1,6 +1,6 @@
-use Rattle.gate_gaps.specs.Leaking.{alone}
+use Rattle.gate_gaps.specs.Leaking.{key_alone}
 use Rattle.gate_gaps.proofs.Leaking as lemmas
 use Rattle.gate_gaps.proofs.leaks.laws.gaps_leak.Goals as goal
 
 pub returns : goal.returns
-returns c = lemmas.gaps_leak alone
+returns c = lemmas.gaps_leak key_alone

@@ -3,7 +3,7 @@ use Rattle.route_tree.specs.Each.{Each, IsIn}
 use Rattle.route_tree.specs.At.{plain_for}
 use Rattle.route_tree.specs.Servers.{servers}
 use Rattle.gate_growth.specs.declared.ledger.row.Cell.{Cell}
-use Rattle.gate_growth.specs.Rows.{servers_of}
+use Rattle.gate_growth.specs.Rows.{cell_servers}
 use Rattle.gate_growth.specs.Pages.{IsPageOf}
 use Rattle.gate_growth.proofs.ledger.page.all_cells.Goals as goal
 
@@ -16,4 +16,4 @@ returns c = λ arbitrary plans begun page.
     let named : c.deref-2.result.now ≡ servers plain = c.deref-2.ensures.value ∙ c.in_ok-add_servers.ensures ∙ ap (λ (l : List ℕ). l ++ servers plain) c.new-named.ensures.items in
     let cells : c.in_ok-cells.cells.items ≡ c.args.page.now.cells.items = c.in_ok-cells.ensures.items ∙ c.deref.ensures.value in
     let with = c.in_ok-add_cells.ensures arbitrary plans begun (subst (λ (l : List Cell). IsPageOf arbitrary plans bound l others) (sym cells) page) in
-    (with.page, subst (λ (l : List ℕ). Each (λ s. IsIn s (servers_of new)) l) named with.have)
+    (with.page, subst (λ (l : List ℕ). Each (λ s. IsIn s (cell_servers new)) l) named with.have)

@@ -3,7 +3,7 @@ use Rattle.route_tree.specs.At.{plain_for}
 use Rattle.gate_growth.specs.declared.ledger.row.Cell.{Cell}
 use Rattle.gate_growth.specs.declared.ledger.page.Beginning.TheVariants.{Any}
 use Rattle.gate_growth.specs.Marks.{IsMarkOf}
-use Rattle.gate_growth.specs.Rows.{servers_of, AreCellsOf, IfRefused}
+use Rattle.gate_growth.specs.Rows.{cell_servers, AreCellsOf, IfRefused}
 use Rattle.gate_growth.specs.Pages.{unnamed_mark}
 use Rattle.gate_growth.proofs.Paging.{all_refused, page_after}
 use Rattle.gate_growth.proofs.ledger.page.turn_page.Goals as goal
@@ -18,7 +18,7 @@ returns c = λ arbitrary plans size begun page.
     let new = c.in_ok-cells_after.field-0.items in
     let old = c.in_ok-cells.ensures arbitrary plans begun page in
     let marks = c.in_ok-cells_after.ensures.marks arbitrary plans size (subst (AreCellsOf arbitrary plans) (sym c.deref-2.ensures.value) old.0.marks) in
-    let servers = c.in_ok-cells_after.ensures.servers ∙ ap servers_of c.deref-2.ensures.value in
+    let servers = c.in_ok-cells_after.ensures.servers ∙ ap cell_servers c.deref-2.ensures.value in
     let refused = c.first_refused-refused.ensures arbitrary plans size (subst (AreCellsOf arbitrary plans) (sym c.deref.ensures.value) old.0.marks) in
     let unnamed : c.new-unnamed.result ≡ bound = c.new-unnamed.ensures in (
       page_after arbitrary plans later bound cells new others c.others_after.result old.0 old.1 servers marks

@@ -4,7 +4,7 @@ use Rattle.route_tree.proofs.Places.{each_append, each_left, each_right}
 use Rattle.gate_coverage.specs.Seen.{plan_of}
 use Rattle.gate_growth.specs.declared.ledger.row.Cell.{Cell}
 use Rattle.gate_growth.specs.Marks.{IsMarkOf}
-use Rattle.gate_growth.specs.Rows.{servers_of, AreCellsOf}
+use Rattle.gate_growth.specs.Rows.{cell_servers, AreCellsOf}
 use Rattle.gate_growth.proofs.ledger.row.cells_after.Goals as goal
 
 pub loop-cell-preserved : goal.loop-cell-preserved
@@ -16,9 +16,9 @@ loop-cell-preserved c =
     let server = λ (k : Cell). k.server in
     let all : take (i + 1) xs ≡ take i xs ++ x ∷ [] = take_more xs i x c.loop-cell-test.true ∙ ap (λ y. take i xs ++ y ∷ []) (sym c.cell-item.is) in
     let one : new.server ≡ x.server = c.cell_after.ensures.server in
-    let servers : servers_of (c.loop-cell.new.items ++ new ∷ []) ≡ servers_of (take i xs ++ x ∷ []) =
+    let servers : cell_servers (c.loop-cell.new.items ++ new ∷ []) ≡ cell_servers (take i xs ++ x ∷ []) =
     map-append server c.loop-cell.new.items (new ∷ []) ∙ ap₂ (λ (l : List ℕ) (s : ℕ). l ++ s ∷ []) c.loop-cell.invariant.0 one ∙ sym (map-append server (take i xs) (x ∷ [])) in (
-      ap servers_of c.in_ok-push.ensures.items ∙ servers ∙ ap servers_of (sym all),
+      ap cell_servers c.in_ok-push.ensures.items ∙ servers ∙ ap cell_servers (sym all),
       (λ arbitrary plans size of.
           let more = plans ++ plan_of c.args.seen ∷ [] in
           let both : AreCellsOf arbitrary plans (take i xs ++ x ∷ []) = subst (AreCellsOf arbitrary plans) all of in
@@ -29,7 +29,7 @@ loop-cell-preserved c =
     )
 
 pub returns-clause-servers : goal.returns-clause-servers
-returns-clause-servers c = c.loop-cell.invariant.0 ∙ ap servers_of (take_all c.loop-cell.cell-index c.args.cells.now c.loop-cell-test.false)
+returns-clause-servers c = c.loop-cell.invariant.0 ∙ ap cell_servers (take_all c.loop-cell.cell-index c.args.cells.now c.loop-cell-test.false)
 
 pub returns-clause-marks : goal.returns-clause-marks
 returns-clause-marks c = λ arbitrary plans size of.

@@ -3,7 +3,7 @@ use Rattle.std.proofs.lemmas.List.{take_more}
 use Rattle.gate_coverage.specs.Seen.{plan_of}
 use Rattle.gate_growth.specs.declared.ledger.row.Cell.{Cell}
 use Rattle.gate_growth.specs.Marks.{IsMarkOf}
-use Rattle.gate_growth.specs.Rows.{IfRefused, lesser}
+use Rattle.gate_growth.specs.Rows.{IfRefused, lesser_refusal}
 use Rattle.gate_growth.proofs.Rowing.{more_refused, each_read}
 use Rattle.gate_growth.proofs.ledger.row.first_refused.Goals as goal
 
@@ -18,4 +18,4 @@ loop-cell-preserved c = λ arbitrary plans size of.
     let h = more_refused arbitrary plans later (take i xs) x c.loop-cell.best here (c.loop-cell.invariant arbitrary plans size of) (c.refused_at-here.ensures (arbitrary x.server) plans size mark) in
     let all : take (i + 1) xs ≡ take i xs ++ x ∷ [] = take_more xs i x c.loop-cell-test.true ∙ ap (λ y. take i xs ++ y ∷ []) (sym c.cell-item.is) in
     subst (λ best. IfRefused arbitrary plans later (take (i + 1) xs) best) (sym c.lesser-best.ensures)
-    (subst (λ ys. IfRefused arbitrary plans later ys (lesser c.loop-cell.best here)) (sym all) h)
+    (subst (λ ys. IfRefused arbitrary plans later ys (lesser_refusal c.loop-cell.best here)) (sym all) h)

@@ -1,6 +1,6 @@
 use Rattle.std.proofs.Common.{◌++◌, ◌∷◌, [], List, sym, subst}
 use Rattle.gate_growth.specs.declared.ledger.class.ClassPages.{ClassPages}
-use Rattle.gate_growth.specs.Turning.{Turns}
+use Rattle.gate_growth.specs.Turning.{TurnsTrees}
 use Rattle.gate_growth.proofs.Turnings.{turns_both}
 use Rattle.gate_growth.proofs.ledger.turning.add_class.Goals as goal
 
@@ -10,5 +10,5 @@ returns-clause-turned c = λ before.
     let step = c.args.step.now in
     let all = c.args.all.now in
     let class = c.in_ok-more.more.class in
-    subst (λ (l : List ClassPages). Turns known step l c.earlier-all.result) (sym c.in_ok-push.ensures.items)
-    (subst (Turns known step (all.classes.items ++ class ∷ [])) (sym c.earlier-all.ensures) (turns_both known step all.classes.items (class ∷ []) all.gap c.in_ok-more.more.gap before c.in_ok-more.ensures.turned))
+    subst (λ (l : List ClassPages). TurnsTrees known step l c.earlier-all.result) (sym c.in_ok-push.ensures.items)
+    (subst (TurnsTrees known step (all.classes.items ++ class ∷ [])) (sym c.earlier-all.ensures) (turns_both known step all.classes.items (class ∷ []) all.gap c.in_ok-more.more.gap before c.in_ok-more.ensures.turned))

@@ -1,8 +1,8 @@
 use Rattle.std.proofs.Common.{◌≡◌, ◌++◌, ◌∷◌, ◌+◌, [], ℕ, List, Option, None, Some, map, take, ap, sym, subst, ◌∙◌}
 use Rattle.std.proofs.lemmas.List.{take_more, map-append}
 use Rattle.gate_growth.specs.declared.ledger.class.ClassPages.{ClassPages}
-use Rattle.gate_growth.specs.Classes.{prefixes_of}
-use Rattle.gate_growth.specs.Turning.{Turns}
+use Rattle.gate_growth.specs.Classes.{class_prefixes}
+use Rattle.gate_growth.specs.Turning.{TurnsTrees}
 use Rattle.gate_growth.proofs.Turnings.{turns_none}
 use Rattle.gate_growth.proofs.ledger.turning.turned_classes.Goals as goal
 
@@ -10,8 +10,8 @@ pub loop-text-init : goal.loop-text-init
 loop-text-init c =
     let known = c.args.known.now in
     let step = c.args.step.now in (
-      c.in_ok-add_class.ensures.prefixes ∙ ap (λ (l : List ClassPages). prefixes_of l ++ None ∷ []) c.new.ensures.items,
-      c.in_ok-add_class.ensures.turned (subst (λ (l : List ClassPages). Turns known step l None) (sym c.new.ensures.items) (turns_none known step)),
+      c.in_ok-add_class.ensures.prefixes ∙ ap (λ (l : List ClassPages). class_prefixes l ++ None ∷ []) c.new.ensures.items,
+      c.in_ok-add_class.ensures.turned (subst (λ (l : List ClassPages). TurnsTrees known step l None) (sym c.new.ensures.items) (turns_none known step)),
     )
 
 pub loop-text-preserved : goal.loop-text-preserved

@@ -1,7 +1,7 @@
 use Rattle.std.proofs.Common.{◌≡◌, ◌+◌, ◌∷◌, length, sym, ap, ◌∙◌, arith}
 use Rattle.route_json.specs.Servers.{Addresses}
 use Rattle.script_events.specs.LinesAfter.{lines_after}
-use Rattle.script_events.specs.Read.{meaning_of}
+use Rattle.script_events.specs.Read.{line_meaning}
 use Rattle.script_events.specs.Told.{Loads, line_means, servers_known}
 use Rattle.script_events.proofs.Further.{loads_one}
 use Rattle.script_events.proofs.text.reader.read_further.Goals as goal
@@ -14,7 +14,7 @@ loop-rest-preserved c =
     let here : lines_after l.rest ≡ line ∷ left = ap lines_after c.in-Some.is ∙ c.front_of-front.ensures.lines in
     let known : c.servers_known.result.now ≡ servers_known c.args.servers.now l.reloads.items = c.servers_known.ensures ∙ ap (servers_known c.args.servers.now) c.deref.ensures.value in
     let means : Loads c.in-Loads.config ≡ line_means (servers_known c.args.servers.now l.reloads.items) line =
-    ap meaning_of (sym c.in-Loads.is) ∙ c.in_ok-read_line.ensures ∙ ap (λ (u : Addresses). line_means u line) known in
+    ap line_meaning (sym c.in-Loads.is) ∙ c.in_ok-read_line.ensures ∙ ap (λ (u : Addresses). line_means u line) known in
     let many : c.len-at.result ≡ length l.events.items = omega arith in
     record {
       few = omega (arith, ap length here);

@@ -5,9 +5,9 @@ use Rattle.mc_types.specs.KeyText.{IsKey}
 use Rattle.mc_types.specs.Parts.{ask_of}
 use Rattle.mc_types.specs.declared.ask.Ask.{Ask}
 use Rattle.std.specs.Option.{option_map}
-use Rattle.wire_classic.specs.Asks.{asks_of, retrieval_ask}
+use Rattle.wire_classic.specs.Asks.{classic_asks_of, retrieval_ask}
 use Rattle.wire_classic.specs.Places.{order_in}
-use Rattle.wire_classic.specs.Message.{message_in}
+use Rattle.wire_classic.specs.Message.{classic_message_in}
 use Rattle.wire_classic.proofs.AskLemmas.{found, asks_sound}
 use Rattle.wire_classic.proofs.WalkLemmas.{key_there, nth_ask, no_ask, stands, all_taken, next_key, next_place, back_at, first_ask, single_at}
 use Rattle.wire_classic.proofs.asking.Asks.next.Goals as goal
@@ -46,7 +46,7 @@ returns-in-Some-2 c =
     let value = first_ask (order_in c.args.received.now c.args.self.now.request.command) (text_at c.args.received.now c.args.self.now.request.block) c.in_ok-ask-in-Some-2.ask c.args.self.now.taken is zero in
     record {
       value = sym value;
-      ask = found IsClassicAsk (asks_of (message_in c.args.received.now c.args.self.now.request)) c.args.self.now.taken c.in_ok-ask-in-Some-2.ask (asks_sound c.args.received.now c.args.self.now.request c.requires.read) value;
+      ask = found IsClassicAsk (classic_asks_of (classic_message_in c.args.received.now c.args.self.now.request)) c.args.self.now.taken c.in_ok-ask-in-Some-2.ask (asks_sound c.args.received.now c.args.self.now.request c.requires.read) value;
       taken = omega arith;
       request = refl;
       walk = record { read = c.requires.read; place = single_at c.args.received.now (text_at c.args.received.now c.args.self.now.request.block) c.args.self.now.request.command c.args.self.now.at 1 c.in_ok-ask-in-Some-2.ask is };
@@ -54,11 +54,11 @@ returns-in-Some-2 c =
     }
 
 pub returns-in-Some-clause-ask : goal.returns-in-Some-clause-ask
-returns-in-Some-clause-ask c = found IsClassicAsk (asks_of (message_in c.args.received.now c.args.self.now.request)) c.args.self.now.taken c.in_ok-ask-in-Some.ask (asks_sound c.args.received.now c.args.self.now.request c.requires.read) (sym (returns-in-Some-clause-value c))
+returns-in-Some-clause-ask c = found IsClassicAsk (classic_asks_of (classic_message_in c.args.received.now c.args.self.now.request)) c.args.self.now.taken c.in_ok-ask-in-Some.ask (asks_sound c.args.received.now c.args.self.now.request c.requires.read) (sym (returns-in-Some-clause-value c))
 
 pub of-requires-in-Some-2 : goal.of-requires-in-Some-2
 of-requires-in-Some-2 c =
     let zero : c.args.self.now.taken ≡ 0 = omega arith in
     let is = sym c.in_ok-single-in_default.ensures ∙ ap (option_map ask_of) c.in-Some-2.is in
     let value = first_ask (order_in c.args.received.now c.args.self.now.request.command) (text_at c.args.received.now c.args.self.now.request.block) (ask_of c.in-Some-2.parts) c.args.self.now.taken is zero in
-    (found IsClassicAsk (asks_of (message_in c.args.received.now c.args.self.now.request)) c.args.self.now.taken (ask_of c.in-Some-2.parts) (asks_sound c.args.received.now c.args.self.now.request c.requires.read) value).well_formed.key
+    (found IsClassicAsk (classic_asks_of (classic_message_in c.args.received.now c.args.self.now.request)) c.args.self.now.taken (ask_of c.in-Some-2.parts) (asks_sound c.args.received.now c.args.self.now.request c.requires.read) value).well_formed.key

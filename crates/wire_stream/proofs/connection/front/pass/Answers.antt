@@ -1,5 +1,5 @@
 use Rattle.std.proofs.Common.{ℕ, ◌≤◌, length, sym, subst}
-use Rattle.wire_stream.specs.Held.{held_at, IsReadAt}
+use Rattle.wire_stream.specs.Held.{bytes_at, IsReadAt}
 use Rattle.wire_stream.specs.Fronts.{AsksNone}
 use Rattle.wire_stream.proofs.Fronts.{front_is, used_held, used_refused}
 use Rattle.wire_stream.proofs.Passing.{long_line_passed, other_passed, refused_passed, own_passed_by}
@@ -8,7 +8,7 @@ use Rattle.wire_stream.proofs.connection.front.pass.Goals as goal
 pub answer_own-requires : goal.answer_own-requires
 answer_own-requires c =
     let place = c.args.stream.now in
-    subst (λ (n : ℕ). n ≤ length (held_at place)) (sym c.used.ensures)
+    subst (λ (n : ℕ). n ≤ length (bytes_at place)) (sym c.used.ensures)
     (used_held place c.in-Request.request (front_is place c.in-Request.request (subst (IsReadAt place) c.in-Request.is c.requires.read)))
 
 pub refuse-requires : goal.refuse-requires
@@ -36,4 +36,4 @@ returns-in_ok-answer_own-in-Request-clause-ok c =
     let place = c.args.stream.now in
     own_passed_by c.args.version.now place c.answer_own.new.stream c.args.output.now.items c.answer_own.new.output.items c.in-Request.request c.own.result c.used.result
     (subst (IsReadAt place) c.in-Request.is c.requires.read) (subst (AsksNone place) c.in-Request.is c.requires.asks)
-    c.used.ensures (c.own.ensures (held_at place)) c.in_ok-answer_own-in-Request.ensures.place c.in_ok-answer_own-in-Request.ensures.text
+    c.used.ensures (c.own.ensures (bytes_at place)) c.in_ok-answer_own-in-Request.ensures.place c.in_ok-answer_own-in-Request.ensures.text

@@ -6,7 +6,7 @@ use Rattle.route_tree.specs.Servers.{tree_servers}
 use Rattle.gate_growth.specs.declared.ledger.class.ClassPages.{ClassPages}
 use Rattle.gate_growth.specs.declared.ledger.turning.LeftGap.{LeftGap}
 use Rattle.gate_growth.specs.Pages.{AreBegun}
-use Rattle.gate_growth.specs.Classes.{prefixes_of, ArePagesOf}
+use Rattle.gate_growth.specs.Classes.{class_prefixes, ArePagesOf}
 use Rattle.gate_growth.specs.PlaceRows.{AreRowsOf, AreTooManyPlaces}
 use Rattle.gate_growth.specs.Finer.{IfFinerRows}
 use Rattle.gate_growth.specs.Turning.{AreBefore, AreKnown, AreTurned}
@@ -17,7 +17,7 @@ use Rattle.gate_growth.proofs.ledger.book.Ledger.next.Goals as goal
 pub returns-in-None-clause-next : goal.returns-in-None-clause-next
 returns-in-None-clause-next c = λ arbitrary trees is opened.
     let self = c.args.self.now in
-    let rows = subst (λ (l : List ClassPages). AreRowsOf trees (prefixes_of l) self.modulus) (sym c.deref.ensures.value) is.known.rows in
+    let rows = subst (λ (l : List ClassPages). AreRowsOf trees (class_prefixes l) self.modulus) (sym c.deref.ensures.value) is.known.rows in
     subst (λ (t : Route). AreTooManyPlaces (trees ++ t ∷ [])) c.tree-tree.ensures.tree
     (subst (IfFinerRows trees c.tree-tree.result.now) c.in-None.is (c.in_ok-finer_rows.ensures.rows trees rows))
 
@@ -50,15 +50,15 @@ returns-in-Some-gap-clause-next c = λ arbitrary trees is opened.
     let known : AreKnown arbitrary trees self.modulus (length self.begun.items) c.deref-4.result.now = subst (AreKnown arbitrary trees self.modulus (length self.begun.items)) (sym c.deref-4.ensures.value) is.known in
     let turned_old : AreTurned arbitrary trees old modulus bound classes c.in_ok-classes.field-0.gap = c.in_ok-classes.ensures.turned arbitrary trees self.modulus (length self.begun.items) before within known in
     let turned : AreTurned arbitrary trees tree modulus bound classes (Some c.in-Some-gap.left) = subst (λ (g : Option LeftGap). AreTurned arbitrary trees tree modulus bound classes g) c.in-Some-gap.is (subst (λ (t : Route). AreTurned arbitrary trees t modulus bound classes c.in_ok-classes.field-0.gap) same turned_old) in
-    let old_rows = subst (λ (l : List ClassPages). AreRowsOf trees (prefixes_of l) self.modulus) (sym c.deref.ensures.value) is.known.rows in
+    let old_rows = subst (λ (l : List ClassPages). AreRowsOf trees (class_prefixes l) self.modulus) (sym c.deref.ensures.value) is.known.rows in
     let finer = subst (IfFinerRows trees old) c.in-Some.is (c.in_ok-finer_rows.ensures.rows trees old_rows) in
-    let prefixes : prefixes_of classes ≡ None ∷ map Some c.in-Some.finer.texts.items = c.in_ok-classes.ensures.prefixes ∙ ap (λ (l : List (List ℕ)). None ∷ map Some l) c.deref-5.ensures.value in
-    let rows : AreRowsOf (trees ++ tree ∷ []) (prefixes_of classes) modulus =
+    let prefixes : class_prefixes classes ≡ None ∷ map Some c.in-Some.finer.texts.items = c.in_ok-classes.ensures.prefixes ∙ ap (λ (l : List (List ℕ)). None ∷ map Some l) c.deref-5.ensures.value in
+    let rows : AreRowsOf (trees ++ tree ∷ []) (class_prefixes classes) modulus =
     subst (λ (os : List (Option (List ℕ))). AreRowsOf (trees ++ tree ∷ []) os modulus) (sym prefixes) (subst (λ (t : Route). AreRowsOf (trees ++ t ∷ []) (None ∷ map Some c.in-Some.finer.texts.items) modulus) same finer) in
     let left = c.in-Some-gap.left in
     let next = c.saturating_add.ensures in
     let some = c.if-self.false in
-    first_left arbitrary trees tree is.trees_are good (prefixes_of classes) modulus rows left.generation self.count c.saturating_add.result left.gap turned.1 is.count (omega (arith, some)) (λ low. (omega (arith, next, low)))
+    first_left arbitrary trees tree is.trees_are good (class_prefixes classes) modulus rows left.generation self.count c.saturating_add.result left.gap turned.1 is.count (omega (arith, some)) (λ low. (omega (arith, next, low)))
 
 pub returns-clause-next : goal.returns-clause-next
 returns-clause-next c = λ arbitrary trees is opened.
@@ -81,15 +81,15 @@ returns-clause-next c = λ arbitrary trees is opened.
     let known : AreKnown arbitrary trees self.modulus (length self.begun.items) c.deref-4.result.now = subst (AreKnown arbitrary trees self.modulus (length self.begun.items)) (sym c.deref-4.ensures.value) is.known in
     let turned_old : AreTurned arbitrary trees old modulus bound classes c.in_ok-classes.field-0.gap = c.in_ok-classes.ensures.turned arbitrary trees self.modulus (length self.begun.items) before within known in
     let turned : AreTurned arbitrary trees tree modulus bound classes None = subst (λ (g : Option LeftGap). AreTurned arbitrary trees tree modulus bound classes g) c.in-None-gap.is (subst (λ (t : Route). AreTurned arbitrary trees t modulus bound classes c.in_ok-classes.field-0.gap) same turned_old) in
-    let old_rows = subst (λ (l : List ClassPages). AreRowsOf trees (prefixes_of l) self.modulus) (sym c.deref.ensures.value) is.known.rows in
+    let old_rows = subst (λ (l : List ClassPages). AreRowsOf trees (class_prefixes l) self.modulus) (sym c.deref.ensures.value) is.known.rows in
     let finer = subst (IfFinerRows trees old) c.in-Some.is (c.in_ok-finer_rows.ensures.rows trees old_rows) in
-    let prefixes : prefixes_of classes ≡ None ∷ map Some c.in-Some.finer.texts.items = c.in_ok-classes.ensures.prefixes ∙ ap (λ (l : List (List ℕ)). None ∷ map Some l) c.deref-5.ensures.value in
-    let rows : AreRowsOf (trees ++ tree ∷ []) (prefixes_of classes) modulus =
+    let prefixes : class_prefixes classes ≡ None ∷ map Some c.in-Some.finer.texts.items = c.in_ok-classes.ensures.prefixes ∙ ap (λ (l : List (List ℕ)). None ∷ map Some l) c.deref-5.ensures.value in
+    let rows : AreRowsOf (trees ++ tree ∷ []) (class_prefixes classes) modulus =
     subst (λ (os : List (Option (List ℕ))). AreRowsOf (trees ++ tree ∷ []) os modulus) (sym prefixes) (subst (λ (t : Route). AreRowsOf (trees ++ t ∷ []) (None ∷ map Some c.in-Some.finer.texts.items) modulus) same finer) in
     record {
       count = ap (λ n. n + 1) is.count ∙ sym (length_push trees tree);
       trees_are = are_more arbitrary trees tree is.trees_are good;
-      sound = sound_with arbitrary trees tree is.trees_are good (prefixes_of classes) modulus rows is.sound turned.1;
+      sound = sound_with arbitrary trees tree is.trees_are good (class_prefixes classes) modulus rows is.sound turned.1;
       begun = began;
       known = record {
         rows = rows;

@@ -5,7 +5,7 @@ use Rattle.std.specs.BTreeMap.{is_at}
 use Rattle.std.proofs.lemmas.List.{replicate_more}
 use Rattle.cache_server.specs.Contents.{empty}
 use Rattle.script_events.specs.Limits.{capacity}
-use Rattle.script_events.specs.Caches.{losses_of}
+use Rattle.script_events.specs.Caches.{entry_losses}
 use Rattle.script_events.specs.Servers.{manner_of}
 use Rattle.script_events.proofs.servers.servers.ScriptServers.new.Goals as goal
 
@@ -23,5 +23,5 @@ returns c =
       turn = refl;
       moment = refl;
       named = λ t. ap (λ es. option_map manner_of (lookup (is_at (nat_cmp t)) es)) c.new-2.ensures.empty;
-      lost = λ t. ap (λ es. losses_of (lookup (is_at (nat_cmp t)) es)) c.new-3.ensures.empty;
+      lost = λ t. ap (λ es. entry_losses (lookup (is_at (nat_cmp t)) es)) c.new-3.ensures.empty;
     }

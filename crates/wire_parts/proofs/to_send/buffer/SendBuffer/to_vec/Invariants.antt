@@ -1,7 +1,7 @@
 use Rattle.std.proofs.Common.{◌≡◌, ◌++◌, drop}
 use Rattle.std.specs.List.{flat_map}
-use Rattle.wire_parts.specs.Sending.{bytes_in}
+use Rattle.wire_parts.specs.Sending.{sending_bytes}
 use Rattle.wire_parts.proofs.to_send.buffer.SendBuffer.to_vec.Given as goal
 
 abbrev pub invariant-loop-i : goal.invariant-loop-i
-invariant-loop-i l = l.bytes.items ++ flat_map bytes_in (drop l.i l.self.pieces.items) ≡ flat_map bytes_in l.self.pieces.items
+invariant-loop-i l = l.bytes.items ++ flat_map sending_bytes (drop l.i l.self.pieces.items) ≡ flat_map sending_bytes l.self.pieces.items
