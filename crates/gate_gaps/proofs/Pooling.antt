@@ -1,12 +1,13 @@
 -- The loops that read pools.
 use Rattle.std.proofs.Common.{◌≡◌, ◌<◌, ℕ, ◌+◌, List, [], ◌∷◌, ◌++◌, length, drop, get_or, drop-cons, add-one, append_assoc, sym, ap, ap₂, ◌∙◌}
 use Rattle.std.specs.List.{flat_map}
+use Rattle.route_json.specs.Reading.{members, values}
 use Rattle.serde_json.specs.Data.{Data}
 use Rattle.serde_json.specs.View.{view, items_view, members_view}
 use Rattle.serde_json.specs.declared.value.Value.{Value}
 use Rattle.serde_json.proofs.Views.{Entry}
 use Rattle.route_json.specs.NumberedServers.{Addresses}
-use Rattle.gate_gaps.specs.Pools.{NamedPool, NamedPools, pool_by_name, named_pools_of, values, members}
+use Rattle.gate_gaps.specs.Pools.{NamedPool, NamedPools, pool_by_name, named_pools_of}
 
 -- the members of a map's entries
 abbrev pub entries : List Entry → List (List ℕ × Data)

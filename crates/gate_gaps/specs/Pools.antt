@@ -2,6 +2,7 @@
 use Rattle.std.specs.Prelude.{ℕ, List, [], ◌∷◌, codes, Option, Some, None, option_to_list, option_and_then, replicate, position, slice_get, map}
 use Rattle.std.specs.List.{flat_map}
 use Rattle.std.specs.Str.{bytes_eq}
+use Rattle.route_json.specs.Reading.{members, values}
 use Rattle.serde_json.specs.Data.{Data, null, boolean, number, string, array, object, Items, no_items, item, Members, no_members, member}
 use Rattle.serde_json.specs.Find.{get, as_number, as_str, as_u64}
 use Rattle.route_json.specs.NumberedServers.{Addresses}
@@ -15,16 +16,6 @@ NamedPool = List ℕ × List ℕ × List ℕ
 -- pools in byte order of their names
 abbrev pub NamedPools : Type 0
 NamedPools = List NamedPool
-
--- the values of a JSON list
-abbrev pub values : Items → List Data
-values no_items = []
-values (item d ds) = d ∷ values ds
-
--- the names and values of a JSON object, in byte order of the names
-abbrev pub members : Members → List (List ℕ × Data)
-members no_members = []
-members (member name d ms) = (name, d) ∷ members ms
 
 -- a server of this weight
 abbrev pub member_with_weight : ℕ → Option ℕ → Option Member

@@ -2,11 +2,12 @@
 
 ghost use Rattle.std.specs.Prelude.{◌≡◌, ◌++◌, IfOk, codes, option_map, option_to_list, position, replicate};
 ghost use Rattle.std.specs.Str.{bytes_eq};
+ghost use Rattle.route_json.specs.Reading.{members, values};
 ghost use Rattle.serde_json.specs.Find.{get};
 ghost use Rattle.serde_json.specs.Read.{read};
 ghost use Rattle.serde_json.specs.View.{view, items_view, members_view};
 ghost use Rattle.route_json.specs.ServerTexts.{server_in};
-ghost use Rattle.gate_gaps.specs.Pools.{member_with_weight, member_at, member_of, members_of, members_in, member_servers, member_slots, member_placed, table_of, member_slots_or, pool_by_name, named_pools_of, object_in, pools_at, named_pools_in, values, members};
+ghost use Rattle.gate_gaps.specs.Pools.{member_with_weight, member_at, member_of, members_of, members_in, member_servers, member_slots, member_placed, table_of, member_slots_or, pool_by_name, named_pools_of, object_in, pools_at, named_pools_in};
 
 use mc_types::ServerId;
 use route_json::addresses::{Servers, read_server};

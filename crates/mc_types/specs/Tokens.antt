@@ -1,5 +1,6 @@
 -- The return flags of meta asks. Source: memcached's protocol.txt, "Meta Commands".
 use Rattle.std.specs.Prelude.{Bool, true, false, List, [], ◌∷◌, ◌||◌, ◌&&◌, not}
+use Rattle.mc_types.specs.OpaqueText.{IsOpaque}
 use Rattle.mc_types.specs.declared.token.Token.{Token}
 use Rattle.mc_types.specs.declared.token.Token.TheVariants.{Cas, Flags, Key, Size, Ttl, Value, Opaque}
 
@@ -39,3 +40,8 @@ wants (t ∷ ts) x = same_letter (letter_of t) x || wants ts x
 abbrev pub are_served : List Letter → List Token → Bool
 are_served served [] = true
 are_served served (t ∷ ts) = has_letter served (letter_of t) && not (wants ts (letter_of t)) && are_served served ts
+
+-- the text of `O` is one
+abbrev pub TokenIsText : Token → Type 0
+TokenIsText (Opaque text) = IsOpaque text
+TokenIsText _ = Unit {0}

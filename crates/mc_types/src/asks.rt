@@ -270,7 +270,7 @@ fn has_shape(ask: &Ask) -> bool
     }
 }
 
-/// Whether the ask is one that a client can write. Each ask of the core is, so a link tests it and no condition on tickets is kept.
+/// Whether the ask is one that a client can write. Each ask of a core is, which its tickets and calls keep; a memcached server in memory tests it.
 #[tactic(auto, using(crate::proofs::AskTest::too_long))]
 pub fn is_ask(ask: &Ask) -> bool
     ensures { IsTrue result ↔ IsAsk ask.now }

@@ -6,7 +6,7 @@ use Rattle.std.proofs.lemmas.List.{length-map}
 use Rattle.std.proofs.lemmas.Option.{slice_get-get_or}
 use Rattle.route_json.specs.Configuration.{Configuration}
 use Rattle.script_events.specs.FirstLine.{WhyNot}
-use Rattle.script_events.specs.Told.{Told, bad_line, bad_event_line, either, servers_said, events_said, lines_said, servers_known, IsScriptOf, ReadsScript, Numbered}
+use Rattle.script_events.specs.Told.{Told, bad_line, bad_event_line, either, servers_said, events_said, lines_said, servers_known, IsScriptOf, ReadsScript, Numbered, count_known}
 use Rattle.script_events.specs.declared.text.configured.ConfiguredScript.{ConfiguredScript}
 use Rattle.script_events.specs.Scripted.{Scripted, scripted_of}
 use Rattle.script_events.specs.declared.script.Reload.{Reload}
@@ -17,7 +17,7 @@ use Rattle.mcgate_check.specs.declared.status.RunFault.{RunFault}
 use Rattle.mcgate_check.specs.declared.status.RunFault.TheVariants.{NoMemory, Writer, TooManyCalls}
 use Rattle.gate_check.specs.Gate.{IsCertified}
 use Rattle.mcgate_check.specs.Checking.{PrintsRefused, IsNoOverrun}
-use Rattle.mcgate_loopback.specs.Running.{loopback_events, servers_of, WritesRun, LoopbackBreaksOff, LoopbackRuns, LoopbackRunsScript, RunsTold}
+use Rattle.mcgate_loopback.specs.Running.{loopback_events, WritesRun, LoopbackBreaksOff, LoopbackRuns, LoopbackRunsScript, RunsTold}
 
 pub both_written : (old mid new : Option (List ℕ)) (a b : List ℕ) → Appends old mid a → Appends mid new b → Appends old new (a ++ b)
 both_written None mid new a b x y = tt
@@ -49,13 +49,13 @@ either_none None = refl
 either_none (Some n) = refl
 
 -- where each line can be read, the bad line is that of an event that can't be
-bad_is : (t : Told) (script : ConfiguredScript) → IsScriptOf t script → bad_line (Ok t) ≡ bad_event_line (servers_of script) (loopback_events script) script.lines.items
+bad_is : (t : Told) (script : ConfiguredScript) → IsScriptOf t script → bad_line (Ok t) ≡ bad_event_line (count_known script) (loopback_events script) script.lines.items
 bad_is t script h =
     ap (λ (o : Option ℕ). either (bad_event_line (servers_said t) (events_said t) (lines_said t)) o) h.whole ∙ either_none (bad_event_line (servers_said t) (events_said t) (lines_said t))
     ∙ ap (λ (c : Configuration). bad_event_line (length (servers_known c.servers t.loads)) (events_said t) (lines_said t)) (sym h.configuration)
     ∙ ap (λ (rs : List Reload). bad_event_line (length (servers_known script.config.servers rs)) (events_said t) (lines_said t)) (sym h.reloads)
-    ∙ ap (λ (es : List Scripted). bad_event_line (servers_of script) es (lines_said t)) (sym h.events)
-    ∙ ap (λ (ls : List ℕ). bad_event_line (servers_of script) (loopback_events script) ls) (sym h.lines)
+    ∙ ap (λ (es : List Scripted). bad_event_line (count_known script) es (lines_said t)) (sym h.events)
+    ∙ ap (λ (ls : List ℕ). bad_event_line (count_known script) (loopback_events script) ls) (sym h.lines)
 
 runs_said : (t : Told) (script : ConfiguredScript) (old new : Option (List ℕ)) (status : ℕ) → IsScriptOf t script → LoopbackRuns script.config script.reloads.items old new status → LoopbackRuns t.configuration t.loads old new status
 runs_said t script old new status h p = rw (← h.configuration, ← h.reloads) p

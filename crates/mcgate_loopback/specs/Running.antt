@@ -8,7 +8,7 @@ use Rattle.script_events.specs.declared.script.Reload.{Reload}
 use Rattle.script_events.specs.Scripted.{Scripted, scripted_of}
 use Rattle.script_events.specs.Bad.{first_bad}
 use Rattle.script_events.specs.FirstLine.{WhyNot}
-use Rattle.script_events.specs.Told.{Told, text_told, bad_line, bad_event_line, servers_known, ReadsScript}
+use Rattle.script_events.specs.Told.{Told, text_told, bad_line, bad_event_line, servers_known, ReadsScript, count_known}
 use Rattle.script_events.specs.declared.text.configured.ConfiguredScript.{ConfiguredScript}
 use Rattle.script_events.specs.declared.text.configured.ScriptFault.{ScriptFault}
 use Rattle.script_events.specs.Printed.{bad_line_line}
@@ -49,20 +49,16 @@ LoopbackRuns config reloads old new status = ((status ≡ 0) × IsCertified conf
 abbrev pub loopback_events : ConfiguredScript → List Scripted
 loopback_events script = map scripted_of script.script.events.items
 
--- how many servers all its configurations have together
-abbrev pub servers_of : ConfiguredScript → ℕ
-servers_of script = length (servers_known script.config.servers script.reloads.items)
-
 -- an event can't be, and the line of the first such was written
 pub record HasBadEvent (script : ConfiguredScript) (old new : Option (List ℕ)) : Type 0 where
   pub line : ℕ
-  pub bad : bad_event_line (servers_of script) (loopback_events script) script.lines.items ≡ Some line
+  pub bad : bad_event_line (count_known script) (loopback_events script) script.lines.items ≡ Some line
   pub printed : Appends old new (bad_line_line line)
 
 -- each of its events can be, and it ran or was refused; or one can't, and the line of the first was written
 abbrev pub LoopbackRunsScript : ConfiguredScript → Option (List ℕ) → Option (List ℕ) → ℕ → Type 0
 LoopbackRunsScript script old new status =
-    ((first_bad (servers_of script) (loopback_events script) ≡ None) × LoopbackRuns script.config script.reloads.items old new status)
+    ((first_bad (count_known script) (loopback_events script) ≡ None) × LoopbackRuns script.config script.reloads.items old new status)
     ⊎ ((status ≡ 2) × HasBadEvent script old new)
 
 -- ---- what a text says

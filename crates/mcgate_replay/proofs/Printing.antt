@@ -10,7 +10,7 @@ use Rattle.route_json.specs.Servers.{Addresses}
 use Rattle.script_events.specs.FirstLine.{WhyNot}
 use Rattle.script_events.specs.Printed.{shown_lines}
 use Rattle.script_events.specs.Events.{◌>>=◌}
-use Rattle.script_events.specs.Told.{Told, bad_line, bad_event_line, either, servers_said, events_said, lines_said, servers_known, AreChainedFrom, IsScriptOf, ReadsScript, Numbered}
+use Rattle.script_events.specs.Told.{Told, bad_line, bad_event_line, either, servers_said, events_said, lines_said, servers_known, AreChainedFrom, IsScriptOf, ReadsScript, Numbered, count_known}
 use Rattle.script_events.specs.declared.text.configured.ConfiguredScript.{ConfiguredScript}
 use Rattle.script_events.specs.declared.script.Output.{Output}
 use Rattle.script_events.specs.Reloads.{ReloadsInOrder}
@@ -28,7 +28,7 @@ use Rattle.mcgate_check.specs.declared.status.RunFault.{RunFault}
 use Rattle.mcgate_check.specs.declared.status.RunFault.TheVariants.{NoMemory, Writer, TooManyCalls}
 use Rattle.mcgate_replay.specs.declared.judging.Judging.{Judging}
 use Rattle.mcgate_replay.specs.Growing.{asks_no_gate, excluded_by}
-use Rattle.mcgate_replay.specs.Replay.{ReplaysTold, excluded_line, bad_line_by, RunsScript, RunsGood, BreaksTreeOff, BreaksScriptOff, ReplayBreaksOff, BrokeOff, run_fault_of, HasReloads, replayed_events, reloads_of, servers_of, load_line, load_lines, with_loads}
+use Rattle.mcgate_replay.specs.Replay.{ReplaysTold, excluded_line, bad_line_by, RunsScript, RunsGood, BreaksTreeOff, BreaksScriptOff, ReplayBreaksOff, BrokeOff, run_fault_of, HasReloads, replayed_events, reloads_of, load_line, load_lines, with_loads}
 
 pub both_written : (old mid new : Option (List ℕ)) (a b : List ℕ) → Appends old mid a → Appends mid new b → Appends old new (a ++ b)
 both_written None mid new a b x y = tt
@@ -132,13 +132,13 @@ paired (Ok t) script h =
     ap length h.lines ∙ length-map t.said (λ (x : Numbered). x.line) ∙ sym (length-map t.said (λ (x : Numbered). x.event)) ∙ ap length (sym h.events) ∙ length-map script.script.events.items scripted_of
 
 -- where each line can be read, the bad line is that of an event that can't be
-bad_is : (t : Told) (script : ConfiguredScript) → IsScriptOf t script → bad_line (Ok t) ≡ bad_event_line (servers_of script) (replayed_events script) script.lines.items
+bad_is : (t : Told) (script : ConfiguredScript) → IsScriptOf t script → bad_line (Ok t) ≡ bad_event_line (count_known script) (replayed_events script) script.lines.items
 bad_is t script h =
     ap (λ (o : Option ℕ). either (bad_event_line (servers_said t) (events_said t) (lines_said t)) o) h.whole ∙ either_none (bad_event_line (servers_said t) (events_said t) (lines_said t))
     ∙ ap (λ (c : Configuration). bad_event_line (length (servers_known c.servers t.loads)) (events_said t) (lines_said t)) (sym h.configuration)
     ∙ ap (λ (rs : List Reload). bad_event_line (length (servers_known script.config.servers rs)) (events_said t) (lines_said t)) (sym h.reloads)
-    ∙ ap (λ (es : List Scripted). bad_event_line (servers_of script) es (lines_said t)) (sym h.events)
-    ∙ ap (λ (ls : List ℕ). bad_event_line (servers_of script) (replayed_events script) ls) (sym h.lines)
+    ∙ ap (λ (es : List Scripted). bad_event_line (count_known script) es (lines_said t)) (sym h.events)
+    ∙ ap (λ (ls : List ℕ). bad_event_line (count_known script) (replayed_events script) ls) (sym h.lines)
 
 either_both : (one other : Option ℕ) → one ≡ None → other ≡ None → either one other ≡ None
 either_both one other none nor = ap (λ (o : Option ℕ). either o other) none ∙ nor
@@ -151,10 +151,10 @@ excluded_is judging t script h =
     ∙ ap (λ (ls : List ℕ). excluded_line judging script.config (replayed_events script) ls) (sym h.lines)
 
 bad_by_is : (judging : Judging) (t : Told) (script : ConfiguredScript) → IsScriptOf t script
-    → bad_line_by judging (Ok t) ≡ either (bad_event_line (servers_of script) (replayed_events script) script.lines.items) (excluded_line judging script.config (replayed_events script) script.lines.items)
+    → bad_line_by judging (Ok t) ≡ either (bad_event_line (count_known script) (replayed_events script) script.lines.items) (excluded_line judging script.config (replayed_events script) script.lines.items)
 bad_by_is judging t script h =
     ap (λ (o : Option ℕ). either o (excluded_line judging t.configuration (events_said t) (lines_said t))) (bad_is t script h)
-    ∙ ap (either (bad_event_line (servers_of script) (replayed_events script) script.lines.items)) (excluded_is judging t script h)
+    ∙ ap (either (bad_event_line (count_known script) (replayed_events script) script.lines.items)) (excluded_is judging t script h)
 
 -- a bad line is bad whatever else is
 pub bad_by : (judging : Judging) (t : Result Told WhyNot) (line : ℕ) → bad_line t ≡ Some line → bad_line_by judging t ≡ Some line
@@ -166,7 +166,7 @@ none_at found lines none = ap (λ (o : Option ℕ). o >>= slice_get lines) none
 
 pub replays : (judging : Judging) (t : Result Told WhyNot) (script : ConfiguredScript) (old new : Option (List ℕ)) (status : ℕ) → ReadsScript t (Ok script) → RunsScript judging script old new status → ReplaysTold judging t old new status
 replays judging (Err why) script old new status h r = absurd h
-replays judging (Ok t) script old new status h (inl r) = inl (record { script = t; said = refl; good = bad_by_is judging t script h ∙ either_both _ _ (none_at (first_bad (servers_of script) (replayed_events script)) script.lines.items r.good) (none_at (excluded_by judging script.config (replayed_events script)) script.lines.items r.fits); runs = runs_said judging t script old new status h r.runs })
+replays judging (Ok t) script old new status h (inl r) = inl (record { script = t; said = refl; good = bad_by_is judging t script h ∙ either_both _ _ (none_at (first_bad (count_known script) (replayed_events script)) script.lines.items r.good) (none_at (excluded_by judging script.config (replayed_events script)) script.lines.items r.fits); runs = runs_said judging t script old new status h r.runs })
 replays judging (Ok t) script old new status h (inr r) = inr (r.0, inr (record { line = r.1.line; bad = bad_by_is judging t script h ∙ r.1.bad; printed = r.1.printed }))
 
 broken_said : (judging : Judging) (t : Told) (script : ConfiguredScript) (old new : Option (List ℕ)) (fault : RunFault) → IsScriptOf t script → BreaksTreeOff judging script.config (reloads_of script) (replayed_events script) old new fault → BreaksTreeOff judging t.configuration t.loads (events_said t) old new fault

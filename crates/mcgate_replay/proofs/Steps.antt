@@ -3,6 +3,7 @@ use Rattle.std.proofs.Common.{◌≡◌, ℕ, ◌≤◌, ◌++◌, arith, Bool, 
 use Rattle.std.specs.Prelude.{IfOk, IfErr, OnOk}
 use Rattle.std.specs.Io.KnownBytes.{Appends}
 use Rattle.std.proofs.lemmas.List.{length-map, length-replicate}
+use Rattle.script_events.specs.Told.{count_known}
 use Rattle.route_json.specs.Configuration.{Configuration}
 use Rattle.script_events.specs.Printed.{report_line}
 use Rattle.script_events.specs.declared.text.configured.ConfiguredScript.{ConfiguredScript}
@@ -25,7 +26,7 @@ use Rattle.mcgate_check.specs.declared.status.RunFault.TheVariants.{NoMemory, Wr
 use Rattle.mcgate_replay.specs.declared.judging.Judging.{Judging}
 use Rattle.mcgate_replay.specs.declared.judging.Judging.TheVariants.{Any}
 use Rattle.mcgate_replay.specs.Growing.{asks_no_gate}
-use Rattle.mcgate_replay.specs.Replay.{RunsEvents, PrintsPart, BreaksTreeOff, Wrote, BrokeOff, AreLoadings, HasReloads, reloads_of, servers_of, transcript_lines}
+use Rattle.mcgate_replay.specs.Replay.{RunsEvents, PrintsPart, BreaksTreeOff, Wrote, BrokeOff, AreLoadings, HasReloads, reloads_of, transcript_lines}
 use Rattle.mcgate_replay.proofs.Printing.{first_few}
 
 true_is_not_false : true ≡ false → ⊥
@@ -39,13 +40,13 @@ counted servers made new = ap length new.caches ∙ length-replicate servers (em
 pub new_servers : (servers : ℕ) (made : ScriptServers) → AreNewServers servers made → AreNewServers (count_of_servers made) made
 new_servers servers made new = subst (λ (n : ℕ). AreNewServers n made) (sym (counted servers made new)) new
 
-pub enough : (script : ConfiguredScript) (servers : ℕ) (made : ScriptServers) → servers ≡ servers_of script → AreNewServers servers made → HasReloads script → length script.config.servers ≤ count_of_servers made
+pub enough : (script : ConfiguredScript) (servers : ℕ) (made : ScriptServers) → servers ≡ count_known script → AreNewServers servers made → HasReloads script → length script.config.servers ≤ count_of_servers made
 enough script servers made is new has =
     let few = first_few script.config.servers (reloads_of script) has.chained in
     let count = counted servers made new in
     omega (arith, few, is, count)
 
-pub in_order : (script : ConfiguredScript) (reloads : List Reload) (servers : ℕ) (made : ScriptServers) → reloads ≡ reloads_of script → servers ≡ servers_of script → AreNewServers servers made → HasReloads script → ReloadsInOrder (length script.script.events.items) (count_of_servers made) 0 reloads
+pub in_order : (script : ConfiguredScript) (reloads : List Reload) (servers : ℕ) (made : ScriptServers) → reloads ≡ reloads_of script → servers ≡ count_known script → AreNewServers servers made → HasReloads script → ReloadsInOrder (length script.script.events.items) (count_of_servers made) 0 reloads
 in_order script reloads servers made same is new has =
     subst (λ (rs : List Reload). ReloadsInOrder (length script.script.events.items) (count_of_servers made) 0 rs) (sym same)
     (subst (λ (n : ℕ). ReloadsInOrder (length script.script.events.items) n 0 (reloads_of script)) (sym (counted servers made new ∙ is)) has.order)

@@ -22,7 +22,7 @@ use Rattle.script_run.specs.declared.accepted.judging.Loading.TheVariants.{Loade
 use Rattle.script_run.specs.Reloads.{loading_is_refused}
 use Rattle.script_events.specs.FirstLine.{WhyNot}
 use Rattle.script_events.specs.Events.{◌>>=◌}
-use Rattle.script_events.specs.Told.{Told, text_told, told_over, bad_line, bad_event_line, either, events_said, lines_said, servers_known, AreChainedFrom, ReadsScript}
+use Rattle.script_events.specs.Told.{Told, text_told, told_over, bad_line, bad_event_line, either, events_said, lines_said, servers_known, AreChainedFrom, ReadsScript, count_known}
 use Rattle.script_events.specs.declared.text.configured.ConfiguredScript.{ConfiguredScript}
 use Rattle.script_events.specs.declared.text.configured.ScriptFault.{ScriptFault}
 use Rattle.script_events.specs.Printed.{shown_lines, report_line, bad_line_line}
@@ -49,10 +49,6 @@ replayed_events script = scripted script.script
 -- the configurations that it loads
 abbrev pub reloads_of : ConfiguredScript → List Reload
 reloads_of script = script.reloads.items
-
--- how many servers all its configurations have together
-abbrev pub servers_of : ConfiguredScript → ℕ
-servers_of script = length (servers_known script.config.servers script.reloads.items)
 
 -- ---- the lines of a transcript
 
@@ -159,7 +155,7 @@ RunsGood judging config reloads events old new status =
 
 -- each of its events can be, and it ran or was refused
 pub record RanScript (judging : Judging) (script : ConfiguredScript) (old new : Option (List ℕ)) (status : ℕ) : Type 0 where
-  pub good : first_bad (servers_of script) (replayed_events script) ≡ None
+  pub good : first_bad (count_known script) (replayed_events script) ≡ None
   pub fits : excluded_by judging script.config (replayed_events script) ≡ None
   pub runs : RunsGood judging script.config (reloads_of script) (replayed_events script) old new status
 
@@ -172,7 +168,7 @@ excluded_line judging config events lines = do
 -- one can't, or where each can puts on a server what that can't have held at first, and the line of the first was written
 pub record HasBadEventBy (judging : Judging) (script : ConfiguredScript) (old new : Option (List ℕ)) : Type 0 where
   pub line : ℕ
-  pub bad : either (bad_event_line (servers_of script) (replayed_events script) script.lines.items) (excluded_line judging script.config (replayed_events script) script.lines.items) ≡ Some line
+  pub bad : either (bad_event_line (count_known script) (replayed_events script) script.lines.items) (excluded_line judging script.config (replayed_events script) script.lines.items) ≡ Some line
   pub printed : Appends old new (bad_line_line line)
 
 abbrev pub RunsScript : Judging → ConfiguredScript → Option (List ℕ) → Option (List ℕ) → ℕ → Type 0
@@ -183,7 +179,7 @@ BreaksScriptOff judging script old new fault = BreaksTreeOff judging script.conf
 
 -- its reloads stand in the order of their places, and each list of servers begins with the one before it
 pub record HasReloads (script : ConfiguredScript) : Type 0 where
-  pub order : ReloadsInOrder (length script.script.events.items) (servers_of script) 0 (reloads_of script)
+  pub order : ReloadsInOrder (length script.script.events.items) (count_known script) 0 (reloads_of script)
   pub chained : AreChainedFrom script.config.servers (reloads_of script)
 
 -- ---- what a text says

@@ -2,10 +2,10 @@
 
 ghost use Rattle.std.specs.Prelude.{◌≡◌, ◌≤◌, ◌<◌, Ok, Some, None, IfOk, IfErr, IfSome, MatchOption, length};
 ghost use Rattle.script_events.specs.Bad.{first_bad};
-ghost use Rattle.script_events.specs.Told.{either, IsReading, text_told, told_over};
+ghost use Rattle.script_events.specs.Told.{either, IsReading, text_told, told_over, count_known};
 ghost use Rattle.mcgate_replay.specs.Growing.{first_excluded, excluded_by};
 ghost use Rattle.mcgate_replay.specs.declared.judging.Judging.TheVariants.{Asked, Begun};
-ghost use Rattle.mcgate_replay.specs.Replay.{Replays, ReplaysOver, ReplaysRead, BreaksReadOff, RunsScript, RunsGood, BreaksTreeOff, BreaksScriptOff, HasReloads, IsBrokenOff, Overran, ReplayBreaksOff, servers_of, replayed_events, reloads_of};
+ghost use Rattle.mcgate_replay.specs.Replay.{Replays, ReplaysOver, ReplaysRead, BreaksReadOff, RunsScript, RunsGood, BreaksTreeOff, BreaksScriptOff, HasReloads, IsBrokenOff, Overran, ReplayBreaksOff, replayed_events, reloads_of};
 
 use crate::holds::excluded_event;
 use crate::judging::Judging;
@@ -82,7 +82,7 @@ fn run_good<W: Write>(
 
 // The place of the first event that can't be; where each can, of the first that puts on a server what that can't have held at first.
 fn bad_event(judging: Judging, script: &ConfiguredScript) -> Option<usize>
-    ensures first { MatchOption result ((first_bad (servers_of script.now) (replayed_events script.now) ≡ None) × (excluded_by judging script.now.config (replayed_events script.now) ≡ None)) (λ at. Some at ≡ either (first_bad (servers_of script.now) (replayed_events script.now)) (excluded_by judging script.now.config (replayed_events script.now))) }
+    ensures first { MatchOption result ((first_bad (count_known script.now) (replayed_events script.now) ≡ None) × (excluded_by judging script.now.config (replayed_events script.now) ≡ None)) (λ at. Some at ≡ either (first_bad (count_known script.now) (replayed_events script.now)) (excluded_by judging script.now.config (replayed_events script.now))) }
     ensures within { IfSome result (λ at. at < length script.now.script.events.items) }
 {
     match first_bad_event(script.server_count(), &script.script) {

@@ -1,6 +1,7 @@
 -- The first of some children, and the others.
 use Rattle.std.proofs.Common.{◌≡◌, ℕ, suc, zero, ◌+◌, ◌≤◌, ◌<◌, Bool, true, false, List, nat_lt, MatchBool, cond, refl, sym, ap, subst, arith}
 use Rattle.std.proofs.lemmas.Bool.{le-ltb, lt-ltb, MatchBool-at_true, MatchBool-at_false}
+use Rattle.route_tree.specs.Copies.{is_get}
 use Rattle.mc_types.specs.declared.ask.Ask.{Ask}
 use Rattle.mc_types.specs.declared.ask.Op.{Op}
 use Rattle.mc_types.specs.declared.ask.Op.TheVariants.{Get, Gat, Set, Add, Replace, Append, Prepend, Cas, Delete, Incr, Decr, Touch}
@@ -11,7 +12,7 @@ use Rattle.route_tree.specs.Operation.{same_op}
 use Rattle.route_tree.specs.Plan.{Plan, Plans, PlanPolicies, Otherwise, Policy, End, More, AllSync, count, count_of_all, count_of_policies}
 use Rattle.route_tree.specs.Levels.{chosen_plan}
 use Rattle.route_tree.specs.Word.{Given, rank, GivesOnly, Then, Word, WordOfFirst, WordOfPolicy, AfterCold, AfterWarm, IfGet}
-use Rattle.route_job.specs.Parts.{SameAt, worse, WorstWith, AfterFirst, is_get}
+use Rattle.route_job.specs.Parts.{SameAt, worse, WorstWith, AfterFirst}
 use Rattle.route_job.proofs.Same.{same_refl, same_trans, all_begin, worst_more, worst_one, first_begin, choice_true, choice_false}
 
 pub enter_all_is : (ps : Plans) (p : Plan) (qs : Plans) → ps ≡ More p qs → (ask : Ask) (origin : Origin) (b : ℕ) → SameAt b (Word (AllSync ps) ask origin) (Then (Word p ask origin) (WorstWith qs ask origin))

@@ -45,10 +45,6 @@ abbrev pub hit_data : Answer → List ℕ
 hit_data (Hit flags body cas) = body
 hit_data _ = []
 
-abbrev pub is_get : Op → Bool
-is_get Get = true
-is_get _ = false
-
 -- the end of a command that was refused memory
 abbrev pub broken_reply : Given
 broken_reply = record { reply = ServerError (own_text OutOfMemory); from = None }

@@ -1,10 +1,10 @@
 //! The asks that a warm-up makes of its own, and which asks it is for.
 
 ghost use Rattle.std.specs.Prelude.{◌≡◌, pos, [], false, Some, None, IfOk};
+ghost use Rattle.route_tree.specs.Copies.{is_get};
 ghost use Rattle.mc_types.specs.declared.ask.Op.TheVariants.{Add};
 ghost use Rattle.mc_types.specs.declared.ask.Dialect.TheVariants.{Classic};
 ghost use Rattle.route_tree.specs.Word.{plain_get, refill, is_plain_get};
-ghost use Rattle.route_job.specs.Parts.{is_get};
 
 use crate::done::Done;
 use crate::formed_ask::FormedAsk;

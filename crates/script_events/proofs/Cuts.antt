@@ -2,12 +2,13 @@
 use Rattle.std.proofs.Common.{◌≡◌, ℕ, zero, suc, ◌+◌, ◌<◌, ◌≤◌, Bool, true, false, cond, List, [], ◌∷◌, ◌++◌, length, take, get_or, Some, None, refl, ap, subst, arith, append-nil}
 use Rattle.std.specs.Prelude.{nat_le, drop}
 use Rattle.std.proofs.lemmas.Bool.{leb-true, leb-false}
+use Rattle.mc_types.specs.Tokens.{TokenIsText}
 use Rattle.mc_types.specs.Asks.{IsAsk}
 use Rattle.mc_types.specs.Fits.{Fits}
 use Rattle.mc_types.specs.declared.ask.Ask.{Ask}
 use Rattle.mc_types.specs.declared.answer.Answer.{Answer}
 use Rattle.mc_types.specs.declared.token.Token.{Token}
-use Rattle.wire_answers.specs.Fitting.{IsText, AreTexts}
+use Rattle.wire_answers.specs.Fitting.{AreTexts}
 use Rattle.wire_answers.specs.Spelling.{answer_spelling}
 use Rattle.wire_answers.specs.Reading.{Spells, ReadsAnswer, LiesWithin}
 use Rattle.wire_answers.specs.declared.reader.AnswerRead.{AnswerRead}
@@ -18,12 +19,12 @@ use Rattle.script_events.specs.Cutting.{answer_of}
 
 -- ---- texts of opaque tokens
 
-texts_suc : (xs : List Token) (i : ℕ) (x : Token) → i < length xs → x ≡ get_or xs i x → AreTexts (take i xs) → IsText x → AreTexts (take (suc i) xs)
+texts_suc : (xs : List Token) (i : ℕ) (x : Token) → i < length xs → x ≡ get_or xs i x → AreTexts (take i xs) → TokenIsText x → AreTexts (take (suc i) xs)
 texts_suc [] i x lt is h t = absurd (omega (arith, lt))
-texts_suc (y ∷ xs) zero x lt is h t = (subst IsText is t, tt)
+texts_suc (y ∷ xs) zero x lt is h t = (subst TokenIsText is t, tt)
 texts_suc (y ∷ xs) (suc i) x lt is h t = (h.0, texts_suc xs i x (omega (arith, lt)) is h.1 t)
 
-pub texts_more : (xs : List Token) (i : ℕ) (x : Token) → i < length xs → x ≡ get_or xs i x → AreTexts (take i xs) → IsText x → AreTexts (take (i + 1) xs)
+pub texts_more : (xs : List Token) (i : ℕ) (x : Token) → i < length xs → x ≡ get_or xs i x → AreTexts (take i xs) → TokenIsText x → AreTexts (take (i + 1) xs)
 texts_more xs i x lt is h t = let one : suc i ≡ i + 1 = omega arith in subst (λ (n : ℕ). AreTexts (take n xs)) one (texts_suc xs i x lt is h t)
 
 -- ---- the cut

@@ -106,6 +106,10 @@ abbrev pub servers_known : Addresses → List Reload → Addresses
 servers_known used [] = used
 servers_known used (r ∷ rs) = servers_known r.config.servers rs
 
+-- how many servers all configurations of a script have together
+abbrev pub count_known : ConfiguredScript → ℕ
+count_known script = length (servers_known script.config.servers script.reloads.items)
+
 -- each list of servers begins with the one before it
 abbrev pub AreChainedFrom : Addresses → List Reload → Type 0
 AreChainedFrom used [] = Unit {0}

@@ -12,7 +12,7 @@ use Rattle.text_words.specs.Spelling.{words_line}
 use Rattle.text_words.proofs.Spaced.{IsPlain, literal, decimal_word, signed_word, all_plain}
 use Rattle.mc_types.specs.KeyText.{IsKey}
 use Rattle.mc_types.specs.OpaqueText.{is_opaque_byte}
-use Rattle.mc_types.specs.Tokens.{Letter, LetterC, LetterF, LetterK, LetterS, LetterT, LetterV, LetterO, has_letter, wants, are_served}
+use Rattle.mc_types.specs.Tokens.{Letter, LetterC, LetterF, LetterK, LetterS, LetterT, LetterV, LetterO, has_letter, wants, are_served, TokenIsText}
 use Rattle.mc_types.specs.Tokens as served
 use Rattle.mc_types.specs.Asks.{IsExptime, HasShape, HasShapeOf, shape_of, data_limit, of_get, of_store, of_delete, of_count}
 use Rattle.mc_types.specs.Asks as shapes
@@ -33,7 +33,7 @@ use Rattle.wire_meta.specs.Order.{meta_order_of, mixes, comparing}
 use Rattle.wire_meta.specs.Grammar.{meta_grammar}
 use Rattle.wire_meta.specs.Message.{BeginsMeta}
 use Rattle.wire_meta.specs.Spelling.{meta_kind, kind_word, mode_letter, mode_word, token_word, meta_token_words, meta_cas_words, exptime_words, value_words, flag_words, block_by, line_words, meta_order_for}
-use Rattle.wire_meta.specs.Asks.{IsText, IsMetaAsk, get_op, store_op, ask_by, meta_asks_by, meta_is_quiet}
+use Rattle.wire_meta.specs.Asks.{IsMetaAsk, get_op, store_op, ask_by, meta_asks_by, meta_is_quiet}
 use Rattle.wire_parts.specs.Requests.{AsksAreReadBack, MessagesAreOneAsk}
 use Rattle.wire_meta.specs.Laws.{meta_requests}
 use Rattle.wire_meta.proofs.ServedLemmas.{served_by}
@@ -57,7 +57,7 @@ signed_short (negsuc n) h = let small = h.sfits in let le : length (decimal (suc
 signed_token : (l : ℕ) (z : ℤ) → 33 ≤ l → IsExptime z → IsToken (l ∷ signed_decimal z)
 signed_token l z le h = lettered l (signed_decimal z) le (signed_word z (fits z h)) (signed_short z (fits z h))
 
-token_token : (t : Token) → IsText t → IsToken (token_word t)
+token_token : (t : Token) → TokenIsText t → IsToken (token_word t)
 token_token tokens.Cas h = record { plain = literal (codes "c") refl (omega arith); short = omega arith }
 token_token tokens.Flags h = record { plain = literal (codes "f") refl (omega arith); short = omega arith }
 token_token tokens.Key h = record { plain = literal (codes "k") refl (omega arith); short = omega arith }
@@ -152,11 +152,11 @@ words_len : (ts : List Token) → length (meta_token_words ts) ≡ length ts
 words_len [] = refl
 words_len (t ∷ ts) = ap suc (words_len ts)
 
-token_tokens : (ts : List Token) → AllByRecursion IsText ts → AreTokens (meta_token_words ts)
+token_tokens : (ts : List Token) → AllByRecursion TokenIsText ts → AreTokens (meta_token_words ts)
 token_tokens [] h = tt
 token_tokens (t ∷ ts) h = (token_token t h.0, token_tokens ts h.1)
 
-few_tokens : (letters : List Letter) (ts : List Token) → are_served letters ts ≡ true → AllByRecursion IsText ts → AreFew 7 (meta_token_words ts)
+few_tokens : (letters : List Letter) (ts : List Token) → are_served letters ts ≡ true → AllByRecursion TokenIsText ts → AreFew 7 (meta_token_words ts)
 few_tokens letters ts e h = record {
   are = token_tokens ts h;
   few =
@@ -187,7 +187,7 @@ pub record IsSpelled (kind : Kind) (ask : Ask) (v : Values) : Type 0 where
   pub key : IsKey ask.key
   pub short : length ask.body ≤ data_limit
   pub served : are_served (served_by kind) ask.tokens ≡ true
-  pub texts : AllByRecursion IsText ask.tokens
+  pub texts : AllByRecursion TokenIsText ask.tokens
   pub valued : AreValued kind (value_words kind ask) (undated v)
   pub date : v.exptime ≡ ask.exptime
   pub dated : IsDate kind ask.exptime

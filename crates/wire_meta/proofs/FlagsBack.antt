@@ -8,7 +8,7 @@ use Rattle.std.proofs.lemmas.List.{append-nil}
 use Rattle.std.proofs.lemmas.List.Folds.{list_any-append}
 use Rattle.text_words.specs.Number.{number_below, signed_number}
 use Rattle.mc_types.specs.OpaqueText.{IsOpaque}
-use Rattle.mc_types.specs.Tokens.{Letter, same_letter, has_letter, wants, are_served}
+use Rattle.mc_types.specs.Tokens.{Letter, same_letter, has_letter, wants, are_served, TokenIsText}
 use Rattle.mc_types.specs.Tokens as served
 use Rattle.mc_types.specs.declared.token.Token.{Token}
 use Rattle.mc_types.specs.declared.token.Token.TheVariants as tokens
@@ -17,7 +17,6 @@ use Rattle.wire_meta.specs.declared.command.Kind.{Kind}
 use Rattle.wire_meta.specs.declared.command.Values.{Values}
 use Rattle.wire_meta.specs.Flags.{flag_letter, flag_text, is_served, stands_in, has_value, is_opaque, flag_of, flags_of, or_else, read_in, values_of, tokens_in, flag_wants, mode_of}
 use Rattle.wire_meta.specs.Spelling.{token_word, meta_token_words, exptime_words}
-use Rattle.wire_meta.specs.Asks.{IsText}
 use Rattle.wire_meta.proofs.SeenLemmas.{stands-more, else_none}
 use Rattle.wire_meta.proofs.ServedLemmas.{byte_of, apart, served_by, same_served}
 
@@ -108,7 +107,7 @@ token_loud (tokens.Opaque text) = refl
 opaque_passes : (text : Word) → IsOpaque text → is_opaque text ≡ true
 opaque_passes text h = rw (le-leb 1 (length text) h.some, le-leb (length text) 32 h.short, h.bytes) refl
 
-token_value : (kind : Kind) (t : Token) → IsText t → has_value kind (flag_letter (token_word t)) (flag_text (token_word t)) ≡ true
+token_value : (kind : Kind) (t : Token) → TokenIsText t → has_value kind (flag_letter (token_word t)) (flag_text (token_word t)) ≡ true
 token_value kind tokens.Cas h = refl
 token_value kind tokens.Flags h = refl
 token_value kind tokens.Key h = refl
@@ -117,7 +116,7 @@ token_value kind tokens.Ttl h = refl
 token_value kind tokens.Value h = refl
 token_value kind (tokens.Opaque text) h = opaque_passes text h
 
-token_wanted : (t : Token) → IsText t → flag_wants (token_word t) ≡ Some t
+token_wanted : (t : Token) → TokenIsText t → flag_wants (token_word t) ≡ Some t
 token_wanted tokens.Cas h = refl
 token_wanted tokens.Flags h = refl
 token_wanted tokens.Key h = refl
@@ -164,7 +163,7 @@ stands_wants x (t ∷ ts) =
     rw (one, stands_wants x ts) refl
 
 module _ (kind : Kind) (vs : List Word) (v : Values) (h : AreValued kind vs v) where
-  fit_all : (ts : List Token) → are_served (served_by kind) ts ≡ true → AllByRecursion IsText ts → Fits kind (meta_token_words ts ++ vs)
+  fit_all : (ts : List Token) → are_served (served_by kind) ts ≡ true → AllByRecursion TokenIsText ts → Fits kind (meta_token_words ts ++ vs)
   fit_all [] e x = h.fit
   fit_all (t ∷ ts) e x =
       let a = and_parts (has_letter (served_by kind) (served.letter_of t) && not (wants ts (served.letter_of t))) (are_served (served_by kind) ts) e in
@@ -187,15 +186,15 @@ module _ (kind : Kind) (vs : List Word) (v : Values) (h : AreValued kind vs v) w
       let differ : eqb (flag_letter (token_word t)) 84 ≡ false = ne_eqb (flag_letter (token_word t)) 84 (λ s. let f : true ≡ false = sym (ap is_valued s) ∙ token_valued t in cc) in
       rw differ (undated_all ts)
 
-  pub flags_back : (date : Option ℤ) (ts : List Token) → IsDate kind date → are_served (served_by kind) ts ≡ true → AllByRecursion IsText ts → flags_of kind [] (exptime_words date ++ (meta_token_words ts ++ vs)) ≡ Ok (exptime_words date ++ (meta_token_words ts ++ vs))
+  pub flags_back : (date : Option ℤ) (ts : List Token) → IsDate kind date → are_served (served_by kind) ts ≡ true → AllByRecursion TokenIsText ts → flags_of kind [] (exptime_words date ++ (meta_token_words ts ++ vs)) ≡ Ok (exptime_words date ++ (meta_token_words ts ++ vs))
   flags_back None ts d e x = pass kind (meta_token_words ts ++ vs) (fit_all ts e x) (once_all ts e)
   flags_back (Some z) ts d e x = pass kind ((84 ∷ signed_decimal z) ∷ (meta_token_words ts ++ vs)) (d.0, rw d.1 refl, fit_all ts e x) (rw (undated_all ts, once_all ts e) refl)
 
-  others_back : (ts : List Token) → AllByRecursion IsText ts → tokens_in (meta_token_words ts ++ vs) ≡ ts
+  others_back : (ts : List Token) → AllByRecursion TokenIsText ts → tokens_in (meta_token_words ts ++ vs) ≡ ts
   others_back [] x = h.none
   others_back (t ∷ ts) x = rw (token_wanted t x.0, others_back ts x.1) refl
 
-  pub tokens_back : (date : Option ℤ) (ts : List Token) → AllByRecursion IsText ts → tokens_in (exptime_words date ++ (meta_token_words ts ++ vs)) ≡ ts
+  pub tokens_back : (date : Option ℤ) (ts : List Token) → AllByRecursion TokenIsText ts → tokens_in (exptime_words date ++ (meta_token_words ts ++ vs)) ≡ ts
   tokens_back None ts x = others_back ts x
   tokens_back (Some z) ts x = others_back ts x
 

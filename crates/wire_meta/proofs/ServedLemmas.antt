@@ -5,7 +5,7 @@ use Rattle.std.specs.List.{AllByRecursion, list_all}
 use Rattle.std.proofs.lemmas.Bool.{cases_Bool, and_parts, leb-true, eqb-true, eq-eqb}
 use Rattle.std.proofs.lemmas.List.{append-nil}
 use Rattle.mc_types.specs.OpaqueText.{IsOpaque, is_opaque_byte}
-use Rattle.mc_types.specs.Tokens.{Letter, LetterC, LetterF, LetterK, LetterS, LetterT, LetterV, LetterO, same_letter, has_letter, wants, are_served}
+use Rattle.mc_types.specs.Tokens.{Letter, LetterC, LetterF, LetterK, LetterS, LetterT, LetterV, LetterO, same_letter, has_letter, wants, are_served, TokenIsText}
 use Rattle.mc_types.specs.Tokens as served
 use Rattle.mc_types.specs.Asks.{of_get, of_store, of_delete, of_count}
 use Rattle.mc_types.specs.declared.token.Token.{Token}
@@ -16,7 +16,6 @@ use Rattle.wire_parts.specs.Tests.{Word, ◌>>=◌}
 use Rattle.wire_meta.specs.declared.command.Kind.{Kind}
 use Rattle.wire_meta.specs.declared.command.Kind.TheVariants.{Get, Store, Delete, Count}
 use Rattle.wire_meta.specs.Flags.{flag_letter, flag_text, is_served, stands_in, has_value, is_opaque, flag_of, flags_of, flag_wants, wanted_by, tokens_in}
-use Rattle.wire_meta.specs.Asks.{IsText}
 use Rattle.wire_meta.proofs.SeenLemmas.{stands-more}
 
 -- the byte of a letter
@@ -138,7 +137,7 @@ opaque_is text e =
 
 -- a token has the letter of its flag, and a text that is one
 abbrev IsOf : ℕ → Token → Type 0
-IsOf letter t = (letter ≡ byte_of (served.letter_of t)) × IsText t
+IsOf letter t = (letter ≡ byte_of (served.letter_of t)) × TokenIsText t
 
 opaque_by : (letter : ℕ) (text : Word) (t : Token) → letter ≡ 79 → (if is_opaque text then Some (tokens.Opaque text) else None) ≡ Some t → IsOf letter t
 opaque_by letter text t is e = by_if (IsOf letter) (is_opaque text) (tokens.Opaque text) t None (λ h. (is, opaque_is text h)) (not_none t) e
@@ -184,7 +183,7 @@ then_passed (Err why) f o e = absurd cc
 -- flags after others that were let through
 pub record AreServed (kind : Kind) (before words all : List Word) : Type 0 where
   pub served : are_served (served_by kind) (tokens_in words) ≡ true
-  pub texts : AllByRecursion IsText (tokens_in words)
+  pub texts : AllByRecursion TokenIsText (tokens_in words)
   pub new : (x : Letter) → stands_in (byte_of x) before ≡ true → wants (tokens_in words) x ≡ false
   pub all_are : all ≡ before ++ words
 
@@ -215,7 +214,7 @@ one_more kind before words all word None is p h =
     let same : tokens_in (word ∷ words) ≡ tokens_in words = rw is refl in
     record {
       served = ap (are_served (served_by kind)) same ∙ h.served;
-      texts = subst (AllByRecursion IsText) (sym same) h.texts;
+      texts = subst (AllByRecursion TokenIsText) (sym same) h.texts;
       new = λ x e. ap (λ ts. wants ts x) same ∙ h.new x (still before word x e);
       all_are = h.all_are ∙ append_assoc before (word ∷ []) words;
     }
@@ -227,7 +226,7 @@ one_more kind before words all word (Some t) is p h =
     let let_through : are_served (served_by kind) (t ∷ tokens_in words) ≡ true = rw (mine, alone, h.served) refl in
     record {
       served = ap (are_served (served_by kind)) same ∙ let_through;
-      texts = subst (AllByRecursion IsText) (sym same) (of.1, h.texts);
+      texts = subst (AllByRecursion TokenIsText) (sym same) (of.1, h.texts);
       new = λ x e.
           let a : same_letter (served.letter_of t) x ≡ false = other before word t x of.0 p.first e in
           let b : wants (t ∷ tokens_in words) x ≡ false = rw (a, h.new x (still before word x e)) refl in

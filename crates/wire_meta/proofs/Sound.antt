@@ -8,7 +8,7 @@ use Rattle.text_words.specs.Word.{text_at}
 use Rattle.text_words.specs.declared.word.Span.{Span}
 use Rattle.text_words.specs.Number.{number_below, signed_number}
 use Rattle.mc_types.specs.KeyText.{IsKey}
-use Rattle.mc_types.specs.Tokens.{are_served}
+use Rattle.mc_types.specs.Tokens.{are_served, TokenIsText}
 use Rattle.mc_types.specs.Asks.{IsAsk, IsExptime, data_limit, of_get, of_store, of_count}
 use Rattle.mc_types.specs.declared.token.Token.{Token}
 use Rattle.mc_types.specs.declared.ask.Ask.{Ask}
@@ -34,7 +34,7 @@ use Rattle.wire_meta.specs.Order.{MetaOrder, Asking, OfItself, asking, meta_stor
 use Rattle.wire_meta.specs.Places.{meta_order_in, flags_in, MetaLiesIn}
 use Rattle.wire_meta.specs.Grammar.{meta_grammar, meta_block_len}
 use Rattle.wire_meta.specs.Message.{BeginsMeta, IsMetaReadFrom}
-use Rattle.wire_meta.specs.Asks.{ask_by, meta_asks_by, IsText, IsMetaAsk, get_op, store_op, meta_bare_ask}
+use Rattle.wire_meta.specs.Asks.{ask_by, meta_asks_by, IsMetaAsk, get_op, store_op, meta_bare_ask}
 use Rattle.wire_parts.specs.Requests.{AsksAreWellFormed}
 use Rattle.wire_meta.specs.Laws.{meta_requests}
 use Rattle.wire_meta.proofs.ServedLemmas.{served_by, are_let_through}
@@ -48,7 +48,7 @@ IsShort (Some n) = n ≤ data_limit
 pub record IsSoundAsking (kind : Kind) (key : Word) (n : Option ℕ) (flags : List Word) : Type 0 where
   pub key_is : IsKey key
   pub served : are_served (served_by kind) (tokens_in flags) ≡ true
-  pub texts : AllByRecursion IsText (tokens_in flags)
+  pub texts : AllByRecursion TokenIsText (tokens_in flags)
   pub short : IsShort n
 
 abbrev pub IsSound : MetaOrder → Type 0
@@ -58,7 +58,7 @@ IsSound (OfItself own) = Unit {0}
 sound_flags : (kind : Kind) (key : Word) (n : Option ℕ) (words flags : List Word) → IsKey key → IsShort n → flags_of kind [] words ≡ Ok flags → IsSoundAsking kind key n flags
 sound_flags kind key n words flags k s e =
     let a = are_let_through kind [] words flags e in
-    record { key_is = k; served = ap (λ ws. are_served (served_by kind) (tokens_in ws)) a.all_are ∙ a.served; texts = subst (λ ws. AllByRecursion IsText (tokens_in ws)) (sym a.all_are) a.texts; short = s }
+    record { key_is = k; served = ap (λ ws. are_served (served_by kind) (tokens_in ws)) a.all_are ∙ a.served; texts = subst (λ ws. AllByRecursion TokenIsText (tokens_in ws)) (sym a.all_are) a.texts; short = s }
 
 by_asking : (kind : Kind) (ws : List Word) (o : MetaOrder) → asking kind ws ≡ Ok o → IsSound o
 by_asking kind [] o h = absurd cc

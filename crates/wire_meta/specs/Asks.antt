@@ -1,6 +1,7 @@
 -- What a meta message asks. Source: memcached's protocol.txt, "Meta Commands": the modes, and what a flag that is left out stands for.
 use Rattle.std.specs.Prelude.{◌≡◌, ℕ, ℤ, pos, Bool, false, List, [], ◌∷◌, Option, Some, None, unwrap_or}
 use Rattle.std.specs.List.{AllByRecursion}
+use Rattle.mc_types.specs.Tokens.{TokenIsText}
 use Rattle.mc_types.specs.OpaqueText.{IsOpaque}
 use Rattle.mc_types.specs.Asks.{IsAsk}
 use Rattle.mc_types.specs.declared.token.Token.{Token}
@@ -74,13 +75,8 @@ abbrev pub meta_own_of : MetaMessage → Option ProxyCommand
 meta_own_of (Served order block) = meta_own_by order
 meta_own_of (Refusal why skip) = None
 
--- the text of `O` is one
-abbrev pub IsText : Token → Type 0
-IsText (tokens.Opaque text) = IsOpaque text
-IsText _ = Unit {0}
-
 -- a well formed ask of the meta dialect
 pub record IsMetaAsk (ask : Ask) : Type 0 where
   pub well_formed : IsAsk ask
   pub meta : ask.dialect ≡ Meta
-  pub texts : AllByRecursion IsText ask.tokens
+  pub texts : AllByRecursion TokenIsText ask.tokens

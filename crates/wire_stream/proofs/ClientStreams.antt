@@ -2,6 +2,7 @@
 use Rattle.std.proofs.Common.{◌≡◌, ℕ, ◌+◌, ◌<◌, List, length, Option, Some, None, inl, inr, ap, sym, subst, ◌∙◌, arith}
 use Rattle.std.specs.Prelude.{slice_get, Result, Ok, Err, OnOk, OnErr}
 use Rattle.std.proofs.lemmas.Option.{slice_get_cases}
+use Rattle.wire_classic.specs.Asks.{asks_taken}
 use Rattle.mc_types.specs.declared.ask.Ask.{Ask}
 use Rattle.wire_parts.specs.Stream.{Place, extended}
 use Rattle.wire_parts.proofs.Streams.{one_message}
@@ -9,7 +10,7 @@ use Rattle.wire_stream.specs.declared.requests.reader.Read.TheVariants.{Request 
 use Rattle.wire_stream.specs.declared.requests.request.Request.{Request}
 use Rattle.wire_stream.specs.Both.{both_grammar}
 use Rattle.wire_stream.specs.Message.{message_in, used_of}
-use Rattle.wire_stream.specs.Asks.{asks_of, counted, request_of, taken_of}
+use Rattle.wire_stream.specs.Asks.{asks_of, request_of, taken_of}
 use Rattle.wire_stream.proofs.RequestLaws.{read_still, walk_still}
 use Rattle.wire_stream.specs.Held.{bytes_at, IsReadAt}
 use Rattle.wire_stream.specs.declared.connection.client_stream.Walk.{Walk}
@@ -49,9 +50,9 @@ ask_within xs n lt = elim (slice_get_cases xs n).1 [
   | inr past ↦ absurd (omega (arith, lt, past.0))
 ]
 
--- where there is a next ask it is counted
-pub counted_one : (next : Option Ask) (xs : List Ask) (n : ℕ) → next ≡ slice_get xs n → n < length xs → counted next n ≡ n + 1
-counted_one next xs n is lt = ap (λ o. counted o n) (is ∙ (ask_within xs n lt).1)
+-- where there is a next ask it is asks_taken
+pub counted_one : (next : Option Ask) (xs : List Ask) (n : ℕ) → next ≡ slice_get xs n → n < length xs → asks_taken next n ≡ n + 1
+counted_one next xs n is lt = ap (λ o. asks_taken o n) (is ∙ (ask_within xs n lt).1)
 
 -- what a walk gives next is the ask that it stands at
 pub next_is : (place : Place) (walk : Walk) (bytes : List ℕ) (next : Option Ask) → bytes ≡ bytes_at place → IsWalkAt place walk

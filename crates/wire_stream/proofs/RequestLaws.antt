@@ -2,7 +2,7 @@
 use Rattle.std.proofs.Common.{◌≡◌, ℕ, true, false, List, [], ◌∷◌, ◌++◌, length, Option, Some, None, refl, sym, ap, subst}
 use Rattle.std.specs.List.{AllByRecursion}
 use Rattle.std.specs.Prelude.{Result, Ok, Err, IfOk, IfSome}
-use Rattle.mc_types.specs.Tokens.{are_served}
+use Rattle.mc_types.specs.Tokens.{are_served, TokenIsText}
 use Rattle.mc_types.specs.Asks.{HasShape, classic_shape}
 use Rattle.mc_types.specs.declared.ask.Ask.{Ask}
 use Rattle.mc_types.specs.declared.ask.Op.{Op}
@@ -25,7 +25,7 @@ use Rattle.wire_classic.proofs.OneAsk as text_one
 use Rattle.wire_meta.specs.declared.command.MetaRequest.{MetaRequest}
 use Rattle.wire_meta.specs.Message as metas
 use Rattle.wire_meta.specs.Asks as meta_asks
-use Rattle.wire_meta.specs.Asks.{IsText, IsMetaAsk}
+use Rattle.wire_meta.specs.Asks.{IsMetaAsk}
 use Rattle.wire_meta.proofs.Front as meta_front
 use Rattle.wire_meta.proofs.Back as meta_back
 use Rattle.wire_meta.proofs.Sound as meta_sound
@@ -60,7 +60,7 @@ walk_still bytes more (walks.Classic a) h = text_walks.walk_still bytes more a h
 walk_still bytes more (walks.Meta a) h = (meta_front.read_still bytes more a.request h).0
 
 -- a classic ask wants no tokens back
-no_texts : (tokens : List Token) → are_served [] tokens ≡ true → AllByRecursion IsText tokens
+no_texts : (tokens : List Token) → are_served [] tokens ≡ true → AllByRecursion TokenIsText tokens
 no_texts [] e = tt
 no_texts (t ∷ ts) e = absurd cc
 

@@ -1,13 +1,13 @@
 -- What a message of either dialect asks, one ask for each key. Source: memcached's protocol.txt, the lines of each command.
 use Rattle.std.specs.Prelude.{ℕ, ◌+◌, Bool, false, List, [], Option, Some, None}
 use Rattle.std.specs.List.{AllByRecursion}
+use Rattle.mc_types.specs.Tokens.{TokenIsText}
 use Rattle.mc_types.specs.Asks.{IsAsk}
 use Rattle.mc_types.specs.declared.ask.Ask.{Ask}
 use Rattle.wire_parts.specs.declared.proxy_command.ProxyCommand.{ProxyCommand}
 use Rattle.wire_parts.specs.Message.{Served, Refusal}
 use Rattle.wire_classic.specs.Asks as texts
 use Rattle.wire_meta.specs.Asks as metas
-use Rattle.wire_meta.specs.Asks.{IsText}
 use Rattle.wire_meta.specs.Message as meta_messages
 use Rattle.wire_stream.specs.declared.requests.request.Request.{Request}
 use Rattle.wire_stream.specs.declared.requests.request.Request.TheVariants as requests
@@ -44,7 +44,7 @@ own_of (Refusal why skip) = None
 -- a well formed ask, of either dialect
 pub record IsClientAsk (ask : Ask) : Type 0 where
   pub well_formed : IsAsk ask
-  pub texts : AllByRecursion IsText ask.tokens
+  pub texts : AllByRecursion TokenIsText ask.tokens
 
 -- the request whose asks a walk goes over
 abbrev pub request_of : Asks → Request
@@ -60,8 +60,3 @@ taken_of (walks.Meta a) = a.taken
 abbrev pub IsWalk : List ℕ → Asks → Type 0
 IsWalk bytes (walks.Classic a) = texts.IsClassicWalk bytes a
 IsWalk bytes (walks.Meta a) = meta_messages.IsMetaReadFrom bytes a.request
-
--- how many were taken after this answer
-abbrev pub counted : Option Ask → ℕ → ℕ
-counted None taken = taken
-counted (Some ask) taken = taken + 1

@@ -1,9 +1,10 @@
 //! An answer of which only the first bytes come.
 
 ghost use Rattle.std.specs.Prelude.{◌≡◌, length, nat_le, Some, None, if◌then◌else◌, IfOk};
+ghost use Rattle.mc_types.specs.Tokens.{TokenIsText};
 ghost use Rattle.mc_types.specs.Asks.{IsAsk};
 ghost use Rattle.mc_types.specs.Fits.{Fits};
-ghost use Rattle.wire_answers.specs.Fitting.{IsText, AreTexts};
+ghost use Rattle.wire_answers.specs.Fitting.{AreTexts};
 ghost use Rattle.wire_answers.specs.Spelling.{answer_spelling};
 ghost use Rattle.script_events.specs.Cutting.{answer_of};
 
@@ -14,7 +15,7 @@ use wire_stream::{AnswerRead, read_answer, write_answer};
 
 // The text of an opaque token is one.
 fn is_text(token: &Token)
-    ensures { IsText token.now }
+    ensures { TokenIsText token.now }
 {
     if let Token::Opaque(text) = token {
         let _bytes = text.as_bytes();

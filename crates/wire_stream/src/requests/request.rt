@@ -1,9 +1,10 @@
 //! What a request of either dialect asks: its asks, one for each key.
 ghost use Rattle.std.specs.Prelude.{◌≡◌, ℕ, List, ◌<◌, IfOk, IfSome, OnErr, Some, length, slice_get};
+ghost use Rattle.wire_classic.specs.Asks.{asks_taken};
 ghost use Rattle.wire_meta.specs.Message as metas;
 ghost use Rattle.wire_meta.specs.Asks as meta_asks;
 ghost use Rattle.wire_stream.specs.Message.{IsReadFrom, message_in, used_of};
-ghost use Rattle.wire_stream.specs.Asks.{asks_of, quiet_of, own_of, request_of, taken_of, counted, IsWalk, IsClientAsk};
+ghost use Rattle.wire_stream.specs.Asks.{asks_of, quiet_of, own_of, request_of, taken_of, IsWalk, IsClientAsk};
 
 use mc_types::{Ask, SharedAsk, Tokens};
 use std::alloc::{AllocError, Global};
@@ -90,7 +91,7 @@ impl Request {
         }
     }
 
-    /// The ask of this number, counted from 0: a copy, in the memory of the spare one where nobody else holds that, whose data may share the
+    /// The ask of this number, asks_taken from 0: a copy, in the memory of the spare one where nobody else holds that, whose data may share the
     /// buffer that they came in. It walks over the keys before it; a walk over all asks is `walk`. The only error is running out of memory.
     pub fn ask(
         &self,
@@ -123,7 +124,7 @@ impl MetaAsks {
         requires { metas.IsMetaReadFrom received.now self.old.request }
         ensures value { IfOk result (λ next. next ≡ slice_get (meta_asks.meta_asks_of (metas.meta_message_in received.now self.old.request)) self.old.taken) }
         ensures ask { IfOk result (λ next. IfSome next IsClientAsk) }
-        ensures taken { IfOk result (λ next. self.new.taken ≡ counted next self.old.taken) }
+        ensures taken { IfOk result (λ next. self.new.taken ≡ asks_taken next self.old.taken) }
         ensures request { self.new.request ≡ self.old.request }
         ensures err { OnErr result (self.new ≡ self.old) }
     {
@@ -146,7 +147,7 @@ impl Asks {
         requires { IsWalk received.now self.old }
         ensures value { IfOk result (λ next. next ≡ slice_get (asks_of (message_in received.now (request_of self.old))) (taken_of self.old)) }
         ensures ask { IfOk result (λ next. IfSome next IsClientAsk) }
-        ensures taken { IfOk result (λ next. taken_of self.new ≡ counted next (taken_of self.old)) }
+        ensures taken { IfOk result (λ next. taken_of self.new ≡ asks_taken next (taken_of self.old)) }
         ensures request { request_of self.new ≡ request_of self.old }
         ensures walk { IsWalk received.now self.new }
         ensures err { OnErr result (self.new ≡ self.old) }

@@ -1,6 +1,7 @@
 use Rattle.std.proofs.Common.{◌∙◌, ℕ, List, ap, string_bytes}
+use Rattle.route_json.specs.Reading.{members}
 use Rattle.serde_json.specs.View.{view, members_view}
-use Rattle.gate_gaps.specs.Pools.{pool_by_name, named_pools_of, members}
+use Rattle.gate_gaps.specs.Pools.{pool_by_name, named_pools_of}
 use Rattle.gate_gaps.proofs.Pooling.{entries, pools_go}
 use Rattle.gate_gaps.proofs.pools.pools_of.Goals as goal
 

@@ -1,6 +1,7 @@
 use Rattle.std.proofs.Common.{◌≡◌, ◌++◌}
+use Rattle.route_json.specs.Reading.{members}
 use Rattle.serde_json.specs.View.{members_view}
-use Rattle.gate_gaps.specs.Pools.{members, named_pools_of}
+use Rattle.gate_gaps.specs.Pools.{named_pools_of}
 use Rattle.gate_gaps.proofs.pools.pools_of.Given as goal
 
 abbrev pub invariant-loop-name : goal.invariant-loop-name

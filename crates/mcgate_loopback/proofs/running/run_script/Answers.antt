@@ -1,5 +1,6 @@
 use Rattle.std.proofs.Common.{refl, inr}
-use Rattle.mcgate_loopback.specs.Running.{loopback_events, servers_of}
+use Rattle.script_events.specs.Told.{count_known}
+use Rattle.mcgate_loopback.specs.Running.{loopback_events}
 use Rattle.mcgate_loopback.proofs.Reading.{event_line}
 use Rattle.mcgate_loopback.proofs.running.run_script.Goals as goal
 
@@ -8,7 +9,7 @@ returns-in_ok-write_bad_line-in-Some-clause-ok g c = inr (
   refl,
   record {
     line = c.unwrap-line.result;
-    bad = event_line (servers_of c.args.configured.now) c.server_count.result (loopback_events c.args.configured.now) c.args.configured.now.lines.items c.in-Some.event c.line_of.result c.unwrap-line.result c.server_count.ensures c.in-Some.ensures.first c.line_of.ensures c.unwrap-line.ensures;
+    bad = event_line (count_known c.args.configured.now) c.server_count.result (loopback_events c.args.configured.now) c.args.configured.now.lines.items c.in-Some.event c.line_of.result c.unwrap-line.result c.server_count.ensures c.in-Some.ensures.first c.line_of.ensures c.unwrap-line.ensures;
     printed = c.in_ok-write_bad_line-in-Some.ensures;
   },
 )
