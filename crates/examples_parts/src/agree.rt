@@ -4,7 +4,7 @@ ghost use Rattle.std.specs.Prelude.{◌≡◌, ◌↔◌, ℕ, IsTrue, IfSome, l
 ghost use Rattle.mc_types.specs.Items.{number_made};
 ghost use Rattle.mc_types.specs.Agree.{AnswerAgrees, AgreesFetch, AgreesHeld, AgreesAdd, AgreesCount, CountsTo, MatchesFields};
 
-use crate::marks::HeldItem;
+use crate::holding::HeldItem;
 use itoa::Buffer;
 use mc_types::{Answer, Ask, Body, Code, Fields, Op};
 use text_words::arithmetic::incr_or_decr;

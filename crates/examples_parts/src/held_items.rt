@@ -2,7 +2,8 @@
 //! commands", and from the rule that a stamp is the number of the command whose data began the item.
 
 use crate::agree::agrees;
-use crate::marks::{HeldItem, Mark, held};
+use crate::holding::{HeldItem, held};
+use crate::marks::Mark;
 use crate::reading::{ask, drop_answer, drop_ask, halves, key, number, same, wire};
 use mc_types::{Answer, Ask, Body, Key};
 use std::alloc::{AllocError, Global};

@@ -4,6 +4,7 @@
 //! change of an example proves the example alone.
 #![tactic(auto)]
 
+#[cfg(test)]
 mod agree;
 #[cfg(test)]
 mod answering;
@@ -22,6 +23,8 @@ mod far_ends;
 mod fresh_cores;
 #[cfg(test)]
 mod held_items;
+#[cfg(test)]
+mod holding;
 mod marks;
 #[cfg(test)]
 mod polls;
