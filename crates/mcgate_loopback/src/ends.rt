@@ -10,6 +10,7 @@ use mc_types::limits::SCRIPT_CLIENTS;
 use route_json::Config;
 use route_json::addresses::Servers;
 use script_events::{Event, Output, PIECE_CUT, Reload, Script};
+use serde_json::Value;
 use serve_proxy::{Beginning, Beginnings, ProxyEnd, ServerDialect, Settings, text_at};
 use serve_wire::Wire;
 use serve_wire::sockets::Sockets;
@@ -252,7 +253,9 @@ impl Ends {
     fn load_next(&mut self, config: &Config) -> io::Result<Result<u32, ReloadFault>> {
         let addresses = self.servers.addresses()?;
         let config = config.copy(self.alloc)?;
-        match self.proxy.load(config, &addresses) {
+        // A script's servers have no limits of their own.
+        let usual = self.proxy.usual_limits();
+        match self.proxy.load(config, &addresses, usual, &Value::Null) {
             Ok(generation) => {
                 self.generation = generation;
                 Ok(Ok(generation))
