@@ -9,8 +9,7 @@ use gate_check::{Accepted, judge};
 use route_json::addresses::Servers;
 use route_json::addresses::servers::MAX_SERVERS;
 use route_json::{Config, read_config, read_config_after};
-use serde_json::Value;
-use serve_proxy::{Beginnings, LinkNews, ProxyEnd, Settings, VersionText, text_at};
+use serve_proxy::{Beginnings, LinkLimits, LinkNews, ProxyEnd, Settings, VersionText, text_at};
 use serve_wire::Wire;
 use serve_wire::sockets::Sockets;
 use std::alloc::{AllocError, Global};
@@ -166,24 +165,9 @@ fn load(
     config: Config,
     servers: &Servers,
 ) -> Result<String, Fail> {
-    let usual = proxy.usual_limits();
-    match proxy.load(config, servers, usual, &Value::Null) {
+    match proxy.load(config, servers) {
         Ok(number) => Ok(number.to_string(alloc)?),
         Err(_) => Ok("refused".to_string(alloc)?),
-    }
-}
-
-// What says that a call to the server of this name may take 200 milliseconds.
-fn said_of(alloc: Global, name: &str) -> Result<Value, Fail> {
-    let pool = format!(in alloc; "\"servers\":[\"{name}\"],\"call_ms\":200")?;
-    let said = format!(in alloc; "{{\"pools\":{{\"A\":{{{pool}}}}}}}")?;
-    Ok(Value::from_str(alloc, said.as_str())?)
-}
-
-fn limited(alloc: Global, servers: &Servers, server: usize) -> Result<Value, Fail> {
-    match text_at(servers, server) {
-        Some(name) => said_of(alloc, name),
-        None => Err("no such server")?,
     }
 }
 
@@ -658,14 +642,15 @@ impl<'a> TurnedEnds<'a> {
         }
     }
 
-    // A call of the last proxy to the server may take 200 milliseconds from now on, as its pool says it.
-    fn limit(&mut self, server: usize) -> Result<(), Fail> {
-        let said = limited(self.rt.alloc(), &self.servers()?, server)?;
+    // A call of the last proxy to the server may take 200 milliseconds from now on.
+    fn limit(&mut self, server: usize) {
         if let Some(proxy) = last_of(&mut self.proxies) {
-            let usual = proxy.usual_limits();
-            proxy.limit(usual, &said);
+            let limits = LinkLimits {
+                call_ms: 200,
+                ..proxy.usual_limits()
+            };
+            proxy.limit(server, limits);
         }
-        Ok(())
     }
 
     fn next_news(&mut self) -> Option<(usize, LinkNews)> {
@@ -750,7 +735,10 @@ impl TurnedEnds<'_> {
                 self.empty_first(at);
                 Ok(())
             }
-            "limit" => self.limit(at),
+            "limit" => {
+                self.limit(at);
+                Ok(())
+            }
             _ => Err("no such event")?,
         }
     }

@@ -1,6 +1,6 @@
 //! `mcgate serve`: the configuration is read and judged, and then served.
 
-ghost use Rattle.std.specs.Prelude.{◌≡◌, IfOk, false, [], ℕ, List, Some, slice_get, OnOk, ◌∷◌, string_bytes};
+ghost use Rattle.std.specs.Prelude.{◌≡◌, IfOk, false, [], ℕ, List, Some, slice_get, OnOk, ◌∷◌};
 ghost use Rattle.serve_wire.specs.Events.{looks_up};
 ghost use Rattle.serve_links.specs.Story.{HasHappened};
 ghost use Rattle.serve_links.specs.Story.{Agrees, texts_of};
@@ -326,7 +326,6 @@ fn start<R: Net + Clock + AllocGlobal + Eprint>(
 ) -> io::Result<Serving<Sockets>>
     ensures begins { IfOk result (λ serving. BeginsServing servable job.now.begun job.now.settings serving.end) }
     ensures in_use { IfOk result (λ serving. IsUsedFirst job.now.fleet servable serving.in_use) }
-    ensures text { IfOk result (λ serving. serving.text ≡ started.text) }
 {
     let servers = servable.servers(rt.alloc())?;
     let in_use = servable.used_first(rt.alloc(), job.fleet)?;
@@ -352,10 +351,8 @@ fn start<R: Net + Clock + AllocGlobal + Eprint>(
 /// tells it things is answered, where it listens for them. What it was in the end comes with the exit status after the turns that were asked, or once it has drained, or with why
 /// it ended before.
 ///
-/// Each server has the limits that its pools say in the text in use, which is `started`'s at first, and the settings' where they say none.
-///
 /// [`Stop::Device`] comes where the system's wait or clock fails, and [`Stop::Memory`] where memory was refused for a configuration that is
-/// read while it runs, or for the limits of the first one. An error comes where the system doesn't watch the listeners, or memory was refused for the proxy itself.
+/// read while it runs. An error comes where the system doesn't watch the listeners, or memory was refused for the proxy itself.
 pub fn serve_to_end<R: Files + Input + Net + Clock + AllocGlobal + Print + Eprint>(
     rt: &R,
     job: &ServeJob<'_>,
@@ -366,7 +363,7 @@ pub fn serve_to_end<R: Files + Input + Net + Clock + AllocGlobal + Print + Eprin
     watching: Option<Watching>,
     controlling: Option<Controlling>,
 ) -> io::Result<(Serving<Sockets>, Result<u8, Stop>)>
-    ensures served { IfOk result (λ ended. HasServed servable (string_bytes started.text) job.now.begun job.now.settings ended.0.end) }
+    ensures served { IfOk result (λ ended. HasServed servable job.now.begun job.now.settings ended.0.end) }
     ensures fresh { IfOk result (λ ended. StaysFresh servable job.now.begun ended.0.end.core.value) }
 {
     let mut serving = start(

@@ -10,7 +10,6 @@ use mc_types::limits::SCRIPT_CLIENTS;
 use route_json::Config;
 use route_json::addresses::Servers;
 use script_events::{Event, Output, PIECE_CUT, Reload, Script};
-use serde_json::Value;
 use serve_proxy::{Beginning, Beginnings, ProxyEnd, ServerDialect, Settings, text_at};
 use serve_wire::Wire;
 use serve_wire::sockets::Sockets;
@@ -253,9 +252,7 @@ impl Ends {
     fn load_next(&mut self, config: &Config) -> io::Result<Result<u32, ReloadFault>> {
         let addresses = self.servers.addresses()?;
         let config = config.copy(self.alloc)?;
-        // A script's servers have no limits of their own.
-        let usual = self.proxy.usual_limits();
-        match self.proxy.load(config, &addresses, usual, &Value::Null) {
+        match self.proxy.load(config, &addresses) {
             Ok(generation) => {
                 self.generation = generation;
                 Ok(Ok(generation))

@@ -9,6 +9,7 @@ mod emptying;
 pub mod folders;
 pub mod histories;
 mod input_end;
+mod limits;
 pub mod lines;
 pub mod listens;
 pub mod names;

@@ -3,20 +3,15 @@
 ghost use Rattle.std.specs.Prelude.{◌≡◌, ◌≢◌, ◌⊎◌, ◌≤◌, true, false, IsTrue, IfOk, IfSome, OnOk, string_bytes, ℕ, List, Some, ◌∷◌, length, slice_get};
 ghost use Rattle.serve_wire.specs.Events.{looks_up};
 ghost use Rattle.serve_wire.specs.declared.outcomes.Lead.TheVariants.{Other};
-ghost use Rattle.serve_links.specs.Story.{HasHappened, servers_of};
-ghost use Rattle.serve_links.specs.Lateness.{usual_limits};
-ghost use Rattle.serde_json.specs.Read.{read};
-ghost use Rattle.serde_json.specs.View.{view};
+ghost use Rattle.serve_links.specs.Story.{HasHappened};
 ghost use Rattle.core_accepted.specs.declared.loading.LoadFault.TheVariants.{Refused};
 ghost use Rattle.gate_check.specs.declared.reloading.ReloadFault.TheVariants.{NoMemory};
-ghost use Rattle.serve_proxy.specs.Ends.{Stay, StayButLimits, AllGoOn, AllLoad};
-ghost use Rattle.serve_proxy.specs.Limiting.{value_limits, text_limits, AreLimited};
+ghost use Rattle.serve_proxy.specs.Ends.{Stay, StayButLimits, AllGoOn, AllGrow, IsLoadOf};
 ghost use Rattle.core_accepted.specs.Logs.{TreesAreSound};
 ghost use Rattle.serve_proxy.specs.LogsGoOn.{LogsAreFresh};
 ghost use Rattle.serve_proxy.specs.Stalls.{held_by_all};
 ghost use Rattle.core_accepted.specs.Loading.{IsLoaded};
-ghost use Rattle.mcgate_serve.specs.Serves.{TextSaysAfter, MayLoad, MayLoadBeside, MayLoadText, LoadsOne, LoadsText};
-ghost use Rattle.mcgate_serve.specs.Limits.{ServesByTexts, ServesFrom};
+ghost use Rattle.mcgate_serve.specs.Serves.{TextSaysAfter, proxy_of, GoesOnServing, MayLoad, MayLoadBeside, MayLoadText, LoadsOne, LoadsText};
 ghost use Rattle.mcgate_serve.specs.InFleet.{StandsBeside, in_use_after};
 ghost use Rattle.mcgate_serve.specs.Remembers.{StandsIn, StandsIfLoaded};
 ghost use Rattle.mcgate_serve.specs.LooksUp.{AreLookedUp};
@@ -29,6 +24,7 @@ use crate::draining::Draining;
 use crate::emptying::Emptying;
 use crate::histories::input_of;
 use crate::input_end::InputEnd;
+use crate::limits::own_limits;
 use crate::lines::Lines;
 use crate::listens::Listens;
 use crate::names::{Names, follows};
@@ -51,6 +47,7 @@ use mcgate_args::serve_arguments::ServeJob;
 use mcgate_check::reload_lines::{write_kept, write_loaded, write_unchecked};
 use mcgate_check::status::DONE;
 use route_json::addresses::Servers;
+use route_json::limits::limits_of;
 use route_json::{Config, ConfigFault, read_config_after};
 use serde_json::Value;
 use serve_links::LinkNews;
@@ -153,6 +150,8 @@ pub struct Serving<W: Wire> {
     emptying: Option<Emptying>,
     /// Whether no server waits until those of earlier epochs at its address have no calls any more.
     have_begun: bool,
+    /// Whether each server has the limits that the configuration in use says.
+    are_limited: bool,
 }
 
 // The text of a regular file; else a line of detail says why there is none. Of what is no such file the program doesn't wait for a text.
@@ -182,21 +181,17 @@ fn failed_answer(alloc: Global, details: &Details) -> Result<String, AllocError>
     format!(in alloc; "reload failed: {why}\n")
 }
 
-// A configuration that was read, its servers once more, and the text's value.
+// A configuration that was read, and its servers once more.
 fn read_after(
     alloc: Global,
     servers: &Servers,
     text: &str,
-) -> Result<(Config, Servers, Value), ConfigFault>
-    ensures says { IfOk result (λ read. TextSaysAfter servers.now text.now read.0) }
-    ensures value { IfOk result (λ given. read text.now ≡ Some (view given.2)) }
+) -> Result<(Config, Servers), ConfigFault>
+    ensures { IfOk result (λ read. TextSaysAfter servers.now text.now read.0) }
 {
     let config = read_config_after(alloc, servers.copy(alloc)?, text)?;
     let servers = config.servers().copy(alloc)?;
-    match Value::from_str(alloc, text) {
-        Ok(said) => Ok((config, servers, said)),
-        Err(_) => Err(ConfigFault::NoMemory),
-    }
+    Ok((config, servers))
 }
 
 // The lesser of two, where there are two.
@@ -309,7 +304,6 @@ impl<W: Wire + Drop> Serving<W> {
     ) -> io::Result<Serving<W>>
         ensures end { IfOk result (λ serving. serving.end ≡ end) }
         ensures in_use { IfOk result (λ serving. serving.in_use ≡ in_use) }
-        ensures text { IfOk result (λ serving. serving.text ≡ started.text) }
     {
         let (text, memory) = started.into_parts();
         let before = before_of(&memory);
@@ -337,6 +331,7 @@ impl<W: Wire + Drop> Serving<W> {
             draining: None,
             emptying: None,
             have_begun: false,
+            are_limited: false,
         })
     }
 }
@@ -364,26 +359,10 @@ impl<W: Listens> Serving<W> {
         rt: &R,
         job: &ServeJob<'_>,
     ) -> Result<u8, Stop>
-        ensures ends { ServesFrom W.history job.now.settings (string_bytes self.old.text) self.old.end self.new.end }
+        ensures ends { GoesOnServing W.history self.old.end self.new.end }
     {
-        self.limit_servers(rt.alloc(), job)?;
         self.tell_start(rt, job)?;
         self.run(rt, job)
-    }
-
-    // Each server gets the limits that its pools say in the text.
-    fn limit_servers(&mut self, alloc: Global, job: &ServeJob<'_>) -> Result<(), Stop>
-        ensures limited { OnOk result (AreLimited (text_limits (usual_limits job.now.settings) (string_bytes self.old.text)) (servers_of self.new.end.sockets.links.all.items)) }
-        ensures core { self.new.end.core ≡ self.old.end.core }
-        ensures ends { StayButLimits W.history self.old.end.sockets self.new.end.sockets }
-    {
-        match Value::from_str(alloc, self.text.as_str()) {
-            Ok(said) => {
-                self.end.limit(job.settings.link_limits(), &said);
-                Ok(())
-            }
-            Err(_) => Err(Stop::Memory),
-        }
     }
 
     // Tells that it listens, and with a tree of which no gate was asked what that means.
@@ -530,7 +509,7 @@ impl<W: Listens> Serving<W> {
         rt: &R,
         job: &ServeJob<'_>,
     ) -> Result<u8, Stop>
-        ensures ends { ServesByTexts W.history job.now.settings self.old.end self.new.end }
+        ensures ends { GoesOnServing W.history self.old.end self.new.end }
     {
         self.begin_emptying(rt, job)?;
         self.run_turns(rt, job)?;
@@ -543,7 +522,7 @@ impl<W: Listens> Serving<W> {
         rt: &R,
         job: &ServeJob<'_>,
     ) -> Result<(), Stop>
-        ensures ends { ServesByTexts W.history job.now.settings self.old.end self.new.end }
+        ensures ends { GoesOnServing W.history self.old.end self.new.end }
     {
         for _ in 0..job.turns.map_or(u64::MAX, u64::from) {
             self.turn(rt, job)?;
@@ -562,7 +541,7 @@ impl<W: Listens> Serving<W> {
         rt: &R,
         job: &ServeJob<'_>,
     ) -> Result<bool, Stop>
-        ensures ends { ServesByTexts W.history job.now.settings self.old.end self.new.end }
+        ensures ends { GoesOnServing W.history self.old.end self.new.end }
     {
         self.lines.look(rt);
         self.tell_news(rt);
@@ -571,13 +550,14 @@ impl<W: Listens> Serving<W> {
         self.look_if_due(rt, job)?;
         self.turn_watching(rt);
         self.take_orders(rt, job)?;
-        self.keep_epochs();
+        self.keep_servers(rt.alloc());
         Ok(self.has_drained(rt)?)
     }
 
     // What is done after the last one.
+    #[tactic(auto, using(crate::proofs::Loads::serves_still))]
     fn end_all<R: Files + AllocGlobal + Eprint>(&mut self, rt: &R) -> u8
-        ensures ends { AllGoOn W.history self.old.end.core.value self.old.end.sockets self.new.end.core.value self.new.end.sockets }
+        ensures ends { GoesOnServing W.history self.old.end self.new.end }
     {
         self.end.end_turns();
         self.end_controlling(rt);
@@ -591,11 +571,11 @@ impl<W: Listens> Serving<W> {
         job: &ServeJob<'_>,
     ) -> Result<(), Stop>
         ensures core { self.new.end.core ≡ self.old.end.core }
-        ensures ends { Stay W.history self.old.end.sockets self.new.end.sockets }
+        ensures ends { StayButLimits W.history self.old.end.sockets self.new.end.sockets }
     {
         let emptying = Emptying::read(rt, job.history, job.settings.flushes_new)?;
         self.emptying = Some(emptying);
-        self.keep_epochs();
+        self.keep_servers(rt.alloc());
         Ok(())
     }
 
@@ -646,6 +626,49 @@ impl<W: Listens> Serving<W> {
         }
         self.mark_emptying();
         self.have_begun = self.end.keep_epochs(&self.servers);
+    }
+
+    // Calls go to servers as the configuration in use says it: while their epochs last, and within their limits.
+    fn keep_servers(&mut self, alloc: Global)
+        ensures core { self.new.end.core ≡ self.old.end.core }
+        ensures ends { StayButLimits W.history self.old.end.sockets self.new.end.sockets }
+    {
+        self.keep_epochs();
+        self.keep_limits(alloc)
+    }
+
+    // Each server gets the limits that its pools say, where there is another configuration. Where memory is refused that is for the next turn.
+    fn keep_limits(&mut self, alloc: Global)
+        ensures core { self.new.end.core ≡ self.old.end.core }
+        ensures ends { StayButLimits W.history self.old.end.sockets self.new.end.sockets }
+    {
+        if self.are_limited {
+            return;
+        }
+        if let Ok(value) = Value::from_str(alloc, self.text.as_str()) {
+            self.limit_servers(&value);
+            self.are_limited = true;
+        }
+    }
+
+    // Each server gets the limits that its pools say.
+    fn limit_servers(&mut self, config: &Value)
+        ensures core { self.new.end.core ≡ self.old.end.core }
+        ensures ends { StayButLimits W.history self.old.end.sockets self.new.end.sockets }
+    {
+        for at in 0..self.servers.len() {
+            self.limit_server(config, at);
+        }
+    }
+
+    fn limit_server(&mut self, config: &Value, at: usize)
+        ensures core { self.new.end.core ≡ self.old.end.core }
+        ensures ends { StayButLimits W.history self.old.end.sockets self.new.end.sockets }
+    {
+        if let Some(text) = text_at(&self.servers, at) {
+            let limits = own_limits(self.end.usual_limits(), limits_of(config, text));
+            self.end.limit(at, limits);
+        }
     }
 
     fn millis<R: Clock>(&self, rt: &R) -> io::Result<u64> {
@@ -1108,7 +1131,7 @@ impl<W: Listens> Serving<W> {
         rt: &R,
         job: &ServeJob<'_>,
     ) -> Result<(), Stop>
-        ensures ends { ServesByTexts W.history job.now.settings self.old.end self.new.end }
+        ensures ends { GoesOnServing W.history self.old.end self.new.end }
     {
         if self.is_due(rt, job)? {
             return self.look(rt, job);
@@ -1123,7 +1146,7 @@ impl<W: Listens> Serving<W> {
         rt: &R,
         job: &ServeJob<'_>,
     ) -> Result<(), Stop>
-        ensures ends { ServesByTexts W.history job.now.settings self.old.end self.new.end }
+        ensures ends { GoesOnServing W.history self.old.end self.new.end }
     {
         self.turns = 0;
         self.since = Instant::now(rt)?;
@@ -1170,6 +1193,7 @@ impl<W: Listens> Serving<W> {
         if is_used {
             self.text = text;
             self.refused = None;
+            self.are_limited = false;
         } else {
             self.refused = Some(text);
         }
@@ -1183,7 +1207,7 @@ impl<W: Listens> Serving<W> {
         text: String,
     ) -> Result<(), Stop>
         ensures core { MayLoadText self.old.in_use self.old.servers (string_bytes text) self.old.end.core.value self.new.end.core.value }
-        ensures ends { ServesByTexts W.history job.now.settings self.old.end self.new.end }
+        ensures ends { GoesOnServing W.history self.old.end self.new.end }
         ensures remembered { StandsIfLoaded self.old.end.core.value self.new.end.core.value self.new.memory (string_bytes text) }
         ensures in_use { IfOk result (λ _. LoadsText self.old.in_use self.new.in_use self.old.servers (string_bytes text) self.old.end.core.value self.new.end.core.value) }
     {
@@ -1206,11 +1230,11 @@ impl<W: Listens> Serving<W> {
         said: &mut Vec<u8>,
     ) -> Result<bool, Stop>
         ensures core { MayLoadText self.old.in_use self.old.servers (string_bytes text) self.old.end.core.value self.new.end.core.value }
-        ensures ends { ServesByTexts W.history job.now.settings self.old.end self.new.end }
+        ensures ends { GoesOnServing W.history self.old.end self.new.end }
         ensures remembered { StandsIfLoaded self.old.end.core.value self.new.end.core.value self.new.memory (string_bytes text) }
         ensures in_use { IfOk result (λ _. LoadsText self.old.in_use self.new.in_use self.old.servers (string_bytes text) self.old.end.core.value self.new.end.core.value) }
     {
-        let is_used = self.judge_text(rt, job, text.as_str(), said)?;
+        let is_used = self.judge_text(rt, job.any, text.as_str(), said)?;
         self.note_said(rt, job, text, is_used, said.as_slice());
         Ok(is_used)
     }
@@ -1240,7 +1264,7 @@ impl<W: Listens> Serving<W> {
         rt: &R,
         job: &ServeJob<'_>,
     ) -> Result<(), Stop>
-        ensures ends { ServesByTexts W.history job.now.settings self.old.end self.new.end }
+        ensures ends { GoesOnServing W.history self.old.end self.new.end }
     {
         self.drain_at_end(rt, job)?;
         self.take_words(rt, job)
@@ -1251,7 +1275,7 @@ impl<W: Listens> Serving<W> {
         rt: &R,
         job: &ServeJob<'_>,
     ) -> Result<(), Stop>
-        ensures ends { ServesByTexts W.history job.now.settings self.old.end self.new.end }
+        ensures ends { GoesOnServing W.history self.old.end self.new.end }
     {
         if self.has_input_ended(rt) {
             return self.begin_draining(rt, job);
@@ -1277,7 +1301,7 @@ impl<W: Listens> Serving<W> {
         rt: &R,
         job: &ServeJob<'_>,
     ) -> Result<(), Stop>
-        ensures ends { ServesByTexts W.history job.now.settings self.old.end self.new.end }
+        ensures ends { GoesOnServing W.history self.old.end self.new.end }
     {
         self.turn_controlling(rt);
         for _ in 0..PLACES {
@@ -1316,7 +1340,7 @@ impl<W: Listens> Serving<W> {
         place: usize,
         line: &[u8],
     ) -> Result<(), Stop>
-        ensures ends { ServesByTexts W.history job.now.settings self.old.end self.new.end }
+        ensures ends { GoesOnServing W.history self.old.end self.new.end }
     {
         match request_of(line) {
             Request::Drain => self.drain(rt, job, place),
@@ -1383,7 +1407,7 @@ impl<W: Listens> Serving<W> {
         job: &ServeJob<'_>,
         place: usize,
     ) -> Result<(), Stop>
-        ensures ends { ServesByTexts W.history job.now.settings self.old.end self.new.end }
+        ensures ends { GoesOnServing W.history self.old.end self.new.end }
     {
         self.keep(place);
         self.begin_draining(rt, job)
@@ -1401,7 +1425,7 @@ impl<W: Listens> Serving<W> {
     // Nobody is accepted from now on, if that wasn't so before.
     #[tactic(auto, using(crate::proofs::Loads::serves_still))]
     fn begin_draining<R: Clock + Eprint>(&mut self, rt: &R, job: &ServeJob<'_>) -> Result<(), Stop>
-        ensures ends { ServesByTexts W.history job.now.settings self.old.end self.new.end }
+        ensures ends { GoesOnServing W.history self.old.end self.new.end }
     {
         if self.draining.is_some() {
             return Ok(());
@@ -1423,9 +1447,9 @@ impl<W: Listens> Serving<W> {
     }
 
     // Whether it drains, and all clients are gone or its time is up. While it drains, clients go of which nothing is under way.
-    #[tactic(auto, using(crate::proofs::Loads::goes_still))]
+    #[tactic(auto, using(crate::proofs::Loads::serves_still))]
     fn has_drained<R: Clock>(&mut self, rt: &R) -> io::Result<bool>
-        ensures ends { AllGoOn W.history self.old.end.core.value self.old.end.sockets self.new.end.core.value self.new.end.sockets }
+        ensures ends { GoesOnServing W.history self.old.end self.new.end }
     {
         let Some(draining) = self.draining else {
             return Ok(false);
@@ -1471,7 +1495,7 @@ impl<W: Listens> Serving<W> {
         job: &ServeJob<'_>,
         place: usize,
     ) -> Result<(), Stop>
-        ensures ends { ServesByTexts W.history job.now.settings self.old.end self.new.end }
+        ensures ends { GoesOnServing W.history self.old.end self.new.end }
     {
         self.turns = 0;
         self.since = Instant::now(rt)?;
@@ -1504,7 +1528,7 @@ impl<W: Listens> Serving<W> {
         place: usize,
         text: String,
     ) -> Result<(), Stop>
-        ensures ends { ServesByTexts W.history job.now.settings self.old.end self.new.end }
+        ensures ends { GoesOnServing W.history self.old.end self.new.end }
     {
         let mut said = Vec::new(rt.alloc());
         let is_used = self.load_new(rt, job, text, &mut said)?;
@@ -1573,12 +1597,12 @@ impl<W: Listens> Serving<W> {
     fn judge_text<R: Files + Net + AllocGlobal + Eprint, O: Write>(
         &mut self,
         rt: &R,
-        job: &ServeJob<'_>,
+        any: bool,
         text: &str,
         out: &mut O,
     ) -> Result<bool, Stop>
         ensures core { MayLoadText self.old.in_use self.old.servers text.now self.old.end.core.value self.new.end.core.value }
-        ensures ends { ServesByTexts W.history job.now.settings self.old.end self.new.end }
+        ensures ends { GoesOnServing W.history self.old.end self.new.end }
         ensures remembered { StandsIfLoaded self.old.end.core.value self.new.end.core.value self.new.memory text.now }
         ensures in_use { IfOk result (λ _. LoadsText self.old.in_use self.new.in_use self.old.servers text.now self.old.end.core.value self.new.end.core.value) }
     {
@@ -1587,7 +1611,7 @@ impl<W: Listens> Serving<W> {
             writeln!(out, "reload unchanged generation={generation}")?;
             return Ok(true);
         }
-        self.remember_and_load(rt, job, text, out)
+        self.remember_and_load(rt, any, text, out)
     }
 
     // Loads the configuration of the text, once it stands in the history, where one is kept. Whether it was loaded.
@@ -1595,12 +1619,12 @@ impl<W: Listens> Serving<W> {
     fn remember_and_load<R: Files + Net + AllocGlobal + Eprint, O: Write>(
         &mut self,
         rt: &R,
-        job: &ServeJob<'_>,
+        any: bool,
         text: &str,
         out: &mut O,
     ) -> Result<bool, Stop>
         ensures core { MayLoadText self.old.in_use self.old.servers text.now self.old.end.core.value self.new.end.core.value }
-        ensures ends { ServesByTexts W.history job.now.settings self.old.end self.new.end }
+        ensures ends { GoesOnServing W.history self.old.end self.new.end }
         ensures remembered { StandsIfLoaded self.old.end.core.value self.new.end.core.value self.new.memory text.now }
         ensures in_use { IfOk result (λ _. LoadsText self.old.in_use self.new.in_use self.old.servers text.now self.old.end.core.value self.new.end.core.value) }
     {
@@ -1616,7 +1640,7 @@ impl<W: Listens> Serving<W> {
         }
         match remember(rt, &mut self.lines, &mut self.memory, text, out)? {
             Remembering::Refused => Ok(false),
-            Remembering::Stands(old) => self.load_remembered(rt, job, text, old, out),
+            Remembering::Stands(old) => self.load_remembered(rt, any, text, old, out),
         }
     }
 
@@ -1625,18 +1649,18 @@ impl<W: Listens> Serving<W> {
     fn load_remembered<R: Files + Net + AllocGlobal + Eprint, O: Write>(
         &mut self,
         rt: &R,
-        job: &ServeJob<'_>,
+        any: bool,
         text: &str,
         old: Option<String>,
         out: &mut O,
     ) -> Result<bool, Stop>
         requires stands { StandsIn self.old.memory text.now }
         ensures core { MayLoadText self.old.in_use self.old.servers text.now self.old.end.core.value self.new.end.core.value }
-        ensures ends { ServesByTexts W.history job.now.settings self.old.end self.new.end }
+        ensures ends { GoesOnServing W.history self.old.end self.new.end }
         ensures remembered { StandsIfLoaded self.old.end.core.value self.new.end.core.value self.new.memory text.now }
         ensures in_use { IfOk result (λ _. LoadsText self.old.in_use self.new.in_use self.old.servers text.now self.old.end.core.value self.new.end.core.value) }
     {
-        if self.load_text(rt, job, text, out)? {
+        if self.load_text(rt, any, text, out)? {
             return Ok(true);
         }
         forget(rt, &mut self.lines, &mut self.memory, old)?;
@@ -1648,18 +1672,18 @@ impl<W: Listens> Serving<W> {
     fn load_text<R: Net + AllocGlobal + Eprint, O: Write>(
         &mut self,
         rt: &R,
-        job: &ServeJob<'_>,
+        any: bool,
         text: &str,
         out: &mut O,
     ) -> Result<bool, Stop>
         ensures core { MayLoadText self.old.in_use self.old.servers text.now self.old.end.core.value self.new.end.core.value }
-        ensures ends { ServesByTexts W.history job.now.settings self.old.end self.new.end }
+        ensures ends { GoesOnServing W.history self.old.end self.new.end }
         ensures memory { self.new.memory ≡ self.old.memory }
         ensures unused { IfOk result (λ used. IsTrue used ⊎ (self.new.end.core.value ≡ self.old.end.core.value)) }
         ensures in_use { IfOk result (λ _. LoadsText self.old.in_use self.new.in_use self.old.servers text.now self.old.end.core.value self.new.end.core.value) }
     {
         match read_after(rt.alloc(), &self.servers, text) {
-            Ok((config, servers, said)) => self.load_beside(rt, job, config, servers, &said, out),
+            Ok((config, servers)) => self.load_beside(rt, any, config, servers, out),
             Err(fault) => {
                 print_fault(&fault, out)?;
                 Ok(false)
@@ -1672,20 +1696,19 @@ impl<W: Listens> Serving<W> {
     fn load_beside<R: Net + AllocGlobal + Eprint, O: Write>(
         &mut self,
         rt: &R,
-        job: &ServeJob<'_>,
+        any: bool,
         config: Config,
         servers: Servers,
-        said: &Value,
         out: &mut O,
     ) -> Result<bool, Stop>
         ensures core { MayLoadBeside self.old.in_use config self.old.end.core.value self.new.end.core.value }
-        ensures ends { AllLoad W.history config (value_limits (usual_limits job.now.settings) (view said.now)) self.old.end.core.value self.old.end.sockets self.new.end.core.value self.new.end.sockets }
+        ensures ends { AllGrow (IsLoadOf config) (proxy_of W.history self.old.end) (proxy_of W.history self.new.end) }
         ensures memory { self.new.memory ≡ self.old.memory }
         ensures unused { IfOk result (λ used. IsTrue used ⊎ (self.new.end.core.value ≡ self.old.end.core.value)) }
         ensures in_use { IfOk result (λ used. LoadsOne used config self.old.in_use self.new.in_use self.old.end.core.value self.new.end.core.value) }
     {
         if self.may_follow(rt.alloc(), &config, out)? {
-            return self.load_next(rt, job, config, servers, said, out);
+            return self.load_next(rt, any, config, servers, out);
         }
         Ok(false)
     }
@@ -1710,21 +1733,20 @@ impl<W: Listens> Serving<W> {
     fn load_next<R: Net + AllocGlobal + Eprint, O: Write>(
         &mut self,
         rt: &R,
-        job: &ServeJob<'_>,
+        any: bool,
         config: Config,
         servers: Servers,
-        said: &Value,
         out: &mut O,
     ) -> Result<bool, Stop>
         requires beside { StandsBeside self.old.in_use config }
         ensures core { MayLoadBeside self.old.in_use config self.old.end.core.value self.new.end.core.value }
-        ensures ends { AllLoad W.history config (value_limits (usual_limits job.now.settings) (view said.now)) self.old.end.core.value self.old.end.sockets self.new.end.core.value self.new.end.sockets }
+        ensures ends { AllGrow (IsLoadOf config) (proxy_of W.history self.old.end) (proxy_of W.history self.new.end) }
         ensures memory { self.new.memory ≡ self.old.memory }
         ensures unused { IfOk result (λ used. IsTrue used ⊎ (self.new.end.core.value ≡ self.old.end.core.value)) }
         ensures in_use { IfOk result (λ used. LoadsOne used config self.old.in_use self.new.in_use self.old.end.core.value self.new.end.core.value) }
     {
         let next = self.in_use_after(rt.alloc(), &config)?;
-        if self.load(rt, job, config, servers, said, out)? {
+        if self.load(rt, any, config, servers, out)? {
             self.in_use = next;
             return Ok(true);
         }
@@ -1796,14 +1818,13 @@ impl<W: Listens> Serving<W> {
     fn load<R: Net + AllocGlobal + Eprint, O: Write>(
         &mut self,
         rt: &R,
-        job: &ServeJob<'_>,
+        any: bool,
         config: Config,
         servers: Servers,
-        said: &Value,
         out: &mut O,
     ) -> Result<bool, Stop>
         ensures core { MayLoad config self.old.end.core.value self.new.end.core.value }
-        ensures ends { AllLoad W.history config (value_limits (usual_limits job.now.settings) (view said.now)) self.old.end.core.value self.old.end.sockets self.new.end.core.value self.new.end.sockets }
+        ensures ends { AllGrow (IsLoadOf config) (proxy_of W.history self.old.end) (proxy_of W.history self.new.end) }
         ensures memory { self.new.memory ≡ self.old.memory }
         ensures in_use { self.new.in_use ≡ self.old.in_use }
         ensures looked { IfOk result (λ used. IsTrue used → AreLookedUp (length self.old.servers) servers (W.history self.new.end.sockets.wire)) }
@@ -1812,15 +1833,12 @@ impl<W: Listens> Serving<W> {
         ensures unused { IfOk result (λ used. IsTrue used ⊎ (self.new.end.core.value ≡ self.old.end.core.value)) }
     {
         self.resolve(rt, &servers)?;
-        match self
-            .end
-            .load(config, &servers, job.settings.link_limits(), said)
-        {
+        match self.end.load(config, &servers) {
             Ok(generation) => {
                 self.servers = servers;
                 self.have_begun = false;
                 self.generation = generation;
-                print_loaded(job.any, generation.saturating_add(self.before), out)?;
+                print_loaded(any, generation.saturating_add(self.before), out)?;
                 Ok(true)
             }
             Err(fault) => {

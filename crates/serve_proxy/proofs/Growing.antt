@@ -23,7 +23,7 @@ use Rattle.serve_links.specs.declared.calls.late_call.LateCall.{LateCall}
 use Rattle.serve_links.specs.declared.settings.LinkLimits.{LinkLimits}
 use Rattle.serve_links.specs.declared.link.Link.{Link}
 use Rattle.serve_links.specs.Links.{IsDown}
-use Rattle.serve_links.specs.CoreSteps.{Step, Loaded, Walks, StepsAreOf}
+use Rattle.serve_links.specs.CoreSteps.{Step, Loaded}
 use Rattle.serve_links.specs.declared.settings.Greeting.{Greeting}
 use Rattle.serve_links.specs.Story.{fed_in, gave_in, ClientIsTold, said_asks, said_late, address_and_limits, LineState, line_of, Unused, LineAgrees, LinesAgree, AnEnd, Agrees, AllGoFrom, AllGo, texts_of, servers_of, MayAllGo}
 use Rattle.serve_links.specs.Shut.{drain_of, link_conn, IsShutBut}
@@ -32,14 +32,10 @@ use Rattle.serve_links.specs.Called.{TellsCallsOut}
 use Rattle.serve_links.proofs.Called.{walks_tell_calls}
 use Rattle.serve_links.proofs.Shutting.{shut_quiet}
 use Rattle.serve_links.proofs.Walked.{walked, of_both}
-use Rattle.serve_proxy.specs.Ends.{link_lines, down_line, AddsLines, EndsStay, with_limits, AllGrowFrom, AllGrow, IsLoadOf, AllLoad, HasNoConns}
-use Rattle.serve_proxy.specs.Limiting.{limited_by, AreLimited}
-use Rattle.serve_proxy.specs.declared.sockets.Sockets.{Sockets}
-use Rattle.serve_proxy.specs.declared.links.Links.{Links}
+use Rattle.serve_proxy.specs.Ends.{link_lines, down_line, AddsLines, EndsStay, with_limits, AllGrowFrom, AllGrow, IsLoadOf, HasNoConns}
 use Rattle.serve_proxy.specs.Beginning.{limits_by, BeginsFresh, BeginsUnchecked}
 use Rattle.serve_proxy.proofs.Conns.{conns_grow}
 use Rattle.serve_proxy.proofs.Going.{stays, agree_told, had_quiet, lines_told, get_line, texts_by_lines}
-use Rattle.serve_proxy.proofs.Staying.{stay_limits}
 use Rattle.serve_links.proofs.LinkGoes.{same_line, has_none}
 
 -- ---- lines that are added
@@ -150,7 +146,7 @@ pub grows : {P Q : List Step → AnEnd → Type 0} {Is : Step → Type 0} {a b :
 grows {a = a} {b = b} g = record { steps = g.steps; kinds = g.kinds; walks = g.walks; agree = g.agree; texts = ([], texts_kept a.links b.links g.servers.same ∙ sym (append-nil (texts_of a.links))) }
 
 -- one after another
-unfoldable pub then_grows : {P Q R : List Step → AnEnd → Type 0} {Is : Step → Type 0} {a b c : AnEnd} → AllGrowFrom P Q Is a b → AllGrowFrom Q R Is b c → AllGrowFrom P R Is a c
+pub then_grows : {P Q R : List Step → AnEnd → Type 0} {Is : Step → Type 0} {a b c : AnEnd} → AllGrowFrom P Q Is a b → AllGrowFrom Q R Is b c → AllGrowFrom P R Is a c
 then_grows {P} {Q} {R} {Is} {a} {b} {c} g k =
     record {
       steps = k.steps ++ g.steps;
@@ -256,8 +252,6 @@ pub limited_grows :
     {Is : Step → Type 0} {h h' : List WireEvent} {cs cs' : Clients} {ls ls' : List Link} (core : ServedCore) → ((any : LinkLimits) → EndsStay h h' cs cs' (with_limits any ls) (with_limits any ls'))
     → AllGrow Is (record { core = core; history = h; clients = cs; links = ls }) (record { core = core; history = h'; clients = cs'; links = ls' })
 limited_grows {Is} {h} {h'} {cs} {cs'} {ls} {ls'} core stay =
-    let any : LinkLimits = record { call_ms = 0; connect_ms = 0; fail_limit = 0; retry_ms = 0; stores_wait = false } in
-    let g : AllGo Is (record { core = core; history = h; clients = cs; links = with_limits any ls }) (record { core = core; history = h'; clients = cs'; links = with_limits any ls' }) = stays core (stay any) in
     record {
       steps = g.steps;
       kinds = g.kinds;
@@ -265,56 +259,12 @@ limited_grows {Is} {h} {h'} {cs} {cs'} {ls} {ls'} core stay =
       agree = λ past was. agrees_from any (g.steps ++ past) core h' cs' ls' (g.agree past (agrees_to any past core h cs ls was));
       texts = ([], sym (texts_limited any ls') ∙ texts_kept (with_limits any ls) (with_limits any ls') g.servers.same ∙ texts_limited any ls ∙ sym (append-nil (texts_of ls)));
     }
+  where
+    any : LinkLimits
+    any = record { call_ms = 0; connect_ms = 0; fail_limit = 0; retry_ms = 0; stores_wait = false }
 
-texts_by : (limits : List ℕ → LinkLimits) (links : List Link) → texts_of (limited_by limits links) ≡ texts_of links
-texts_by limits [] = refl
-texts_by limits (link ∷ links) = ap (λ l. link.text.items ∷ l) (texts_by limits links)
-
-pub texts_limited_by : (limits : List ℕ → LinkLimits) (ls ls' : List Link) → ls' ≡ limited_by limits ls → texts_of ls' ≡ texts_of ls
-texts_limited_by limits ls ls' same = ap texts_of same ∙ texts_by limits ls
-
--- each link has its limits so
-are_limited : (limits : List ℕ → LinkLimits) (links : List Link) → AreLimited limits (servers_of (limited_by limits links))
-are_limited limits [] = tt
-are_limited limits (link ∷ links) = (refl, are_limited limits links)
-
-pub are_limited_by : (limits : List ℕ → LinkLimits) (ls ls' : List Link) → ls' ≡ limited_by limits ls → AreLimited limits (servers_of ls')
-are_limited_by limits ls ls' same = subst (λ l. AreLimited limits (servers_of l)) (sym same) (are_limited limits ls)
-
--- no step is of no kind
-pub no_steps : (steps : List Step) → StepsAreOf (λ step. ⊥) steps → steps ≡ []
-no_steps [] kinds = refl
-no_steps (step ∷ steps) kinds = absurd kinds.0
-
--- what is done without any step is done by steps of each kind
-unfoldable pub of_none : {Is : Step → Type 0} {a b : AnEnd} → AllGrow (λ step. ⊥) a b → AllGrow Is a b
-of_none {Is} {a} {b} g = record { steps = []; kinds = tt; walks = subst (λ l. Walks l a.core b.core) (no_steps g.steps g.kinds) g.walks; agree = λ past was. subst (λ l. Agrees (l ++ past) b) (no_steps g.steps g.kinds) (g.agree past was); texts = g.texts }
-
--- a configuration was loaded, links were added, and each has its limits so
-load_limits :
-    {h : List WireEvent} {cs : Clients} (limits : List ℕ → LinkLimits) (ls ls' ls'' : List Link) (configuration : Configuration) (generation : ℕ) (a b : ServedCore) → IsLoaded a configuration generation b → AddsLines ls ls' → ls'' ≡ limited_by limits ls'
-    → AllGrow (IsLoadOf configuration) (record { core = a; history = h; clients = cs; links = ls }) (record { core = b; history = h; clients = cs; links = ls'' })
-load_limits {h} {cs} limits ls ls' ls'' configuration generation a b loaded adds same =
-    then_grows (then_grows (load_grows configuration generation a b loaded) (links_grow {ls = ls} {ls' = ls'} b adds)) (of_none (limited_grows b (stay_limits h cs limits ls' ls'' same)))
-
-pub all_load :
-    {W : Type 0} {history : W → List WireEvent} {limits : List ℕ → LinkLimits} {configuration : Configuration} {a b : ServedCore} (generation : ℕ) (old : Sockets W) (more new : Links) → IsLoaded a configuration generation b
-    → AddsLines old.links.all.items more.all.items → new.all.items ≡ limited_by limits more.all.items → AllLoad history configuration limits a old b (record old { links = new })
-unfolding load_limits then_grows load_grows links_grow of_none
-all_load {limits = limits} {configuration = configuration} {a = a} {b = b} generation old more new loaded adds same = record {
-  grows = load_limits limits old.links.all.items more.all.items new.all.items configuration generation a b loaded adds same;
-  limited = inr (generation, refl, are_limited_by limits more.all.items new.all.items same);
-}
-
--- nothing was
-pub load_none : {W : Type 0} {history : W → List WireEvent} {limits : List ℕ → LinkLimits} {configuration : Configuration} {a b : ServedCore} (old : Sockets W) → b ≡ a → AllLoad history configuration limits a old b old
-unfolding same_grows
-load_none {a = a} {b = b} old same = record { grows = same_grows a b same; limited = inl (refl, refl) }
-
--- from a core that is the same
-pub load_from :
-    {W : Type 0} {history : W → List WireEvent} {limits : List ℕ → LinkLimits} {configuration : Configuration} {a x b : ServedCore} {old new : Sockets W} → x ≡ a → AllLoad history configuration limits x old b new → AllLoad history configuration limits a old b new
-load_from {history = history} {limits = limits} {configuration = configuration} {b = b} {old = old} {new = new} same g = subst (λ y. AllLoad history configuration limits y old b new) same g
+    g : AllGo Is (record { core = core; history = h; clients = cs; links = with_limits any ls }) (record { core = core; history = h'; clients = cs'; links = with_limits any ls' })
+    g = stays core (stay any)
 
 -- ---- an end that begins
 

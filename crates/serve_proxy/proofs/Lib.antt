@@ -16,6 +16,5 @@ pub mod Sparing
 pub mod Refusing
 pub mod Drained
 pub mod Turns
-mod Limited
 pub mod Emptied
 pub mod Shedding

@@ -20,11 +20,10 @@ use Rattle.serve_links.specs.declared.news.Cause.{Cause}
 use Rattle.serve_links.specs.declared.news.Cause.TheVariants as causes
 use Rattle.serve_wire.specs.declared.conn.conn.Got.{Got}
 use Rattle.serve_wire.specs.declared.conn.conn.Got.TheVariants as got
-use Rattle.serve_proxy.specs.Limiting.{AreLimited}
 use Rattle.serve_proxy.specs.declared.sockets.Sockets.{Sockets}
 use Rattle.serve_links.specs.Lateness.{AwaitsLate}
 use Rattle.serve_links.specs.Talks.{Standing, standing_after}
-use Rattle.serve_links.specs.Story.{LineState, line_of, LineAgrees, LineFails, LineCalled, LineGoesFrom, LineGoes, OneGoes, AnEnd, Agrees, AgreesGiven, AgreesBut, AgreesCalled, AgreesSent, AllGoFrom, AllGo, texts_of, servers_of}
+use Rattle.serve_links.specs.Story.{LineState, line_of, LineAgrees, LineFails, LineCalled, LineGoesFrom, LineGoes, OneGoes, AnEnd, Agrees, AgreesGiven, AgreesBut, AgreesCalled, AgreesSent, AllGoFrom, AllGo, texts_of}
 
 -- what each link has to do with its connection and its calls
 abbrev pub link_lines : List Link → List LineState
@@ -269,12 +268,6 @@ AllGrow = AllGrowFrom Agrees Agrees
 abbrev pub IsLoadOf : Configuration → Step → Type 0
 IsLoadOf configuration step = (generation : ℕ) × (step ≡ Loaded configuration generation)
 
--- nothing is loaded, and each link has the limits that it had; or this configuration alone, and each has these
-abbrev pub LimitsLoad : Configuration → (List ℕ → LinkLimits) → List Step → (old new : List Link) → Type 0
-LimitsLoad configuration limits steps old new =
-    ((steps ≡ []) × (servers_of new ≡ servers_of old)) ⊎ ((generation : ℕ) × (steps ≡ Loaded configuration generation ∷ []) × AreLimited limits (servers_of new))
-
--- nothing is done with the core but that this configuration is loaded, and the ends go on with that; each server has these limits then
-pub record AllLoad {W : Type 0} (history : W → List WireEvent) (configuration : Configuration) (limits : List ℕ → LinkLimits) (core : ServedCore) (sockets : Sockets W) (core' : ServedCore) (sockets' : Sockets W) : Type 0 where
-  pub grows : AllGrow (IsLoadOf configuration) (end_of history core sockets) (end_of history core' sockets')
-  pub limited : LimitsLoad configuration limits grows.steps sockets.links.all.items sockets'.links.all.items
+-- nothing is done with the core but that this configuration is loaded, and the ends go on with that
+abbrev pub AllLoad : {W : Type 0} → (W → List WireEvent) → Configuration → ServedCore → Sockets W → ServedCore → Sockets W → Type 0
+AllLoad history configuration core sockets core' sockets' = AllGrow (IsLoadOf configuration) (end_of history core sockets) (end_of history core' sockets')

@@ -2,6 +2,7 @@
 //! of them. Nothing here knows the core.
 
 ghost use Rattle.std.specs.Prelude.{◌≡◌, ◌↔◌, Bool, true, false, None, Some, [], ◌∷◌, ◌++◌, drop, length, IsTrue, IsSome, IfOk, IfErr, OnOk, MatchOption, slice_get};
+ghost use Rattle.serve_links.specs.declared.settings.LinkLimits.{LinkLimits};
 ghost use Rattle.serve_links.specs.declared.link.Link.{Link};
 ghost use Rattle.serve_clients.specs.declared.clients.Clients.{Clients};
 ghost use Rattle.serve_links.specs.Lateness.{IsConnectLateAt, LinkIsRead};
@@ -10,17 +11,14 @@ ghost use Rattle.serve_links.specs.Epochs.{LinkIsQuiet};
 ghost use Rattle.route_json.specs.ServerNames.{epoch_is_over};
 ghost use Rattle.serve_proxy.specs.Epochs.{share_address, HaveEnded, EpochIsInTurn, EpochsAreInTurn, Retires};
 ghost use Rattle.serve_proxy.specs.Emptying.{AddsEach, EmptiesAt};
-ghost use Rattle.serve_proxy.specs.Limiting.{value_limits, limited_by};
-ghost use Rattle.serde_json.specs.View.{view};
+ghost use Rattle.serve_proxy.specs.Limiting.{LimitsAt};
 ghost use Rattle.serve_links.specs.Story.{line_of, texts_of};
-ghost use Rattle.serve_proxy.specs.Ends.{link_lines, LinksTake, LinksGive, LineStands, LineTakes, HoldsAwaited, HoldsAwaitedAt, IsOpenAt, AsksIn, AwaitsLateAt, AwaitsNoneAt, EndsGo, AddsLines};
+ghost use Rattle.serve_proxy.specs.Ends.{link_lines, LinksTake, LinksGive, LineStands, LineTakes, HoldsAwaited, HoldsAwaitedAt, IsOpenAt, AsksIn, AwaitsLateAt, AwaitsNoneAt, EndsGo, AddsLines, with_limits};
 
 use crate::clock::earlier;
-use crate::limiting::limit_links;
 use crate::texts::{is_over, share_address, text_at};
 use mc_types::{Ask, Dialect};
 use route_json::addresses::Servers;
-use serde_json::Value;
 use serve_links::calls::SentCall;
 use serve_links::{Cause, KEPT_ROOM, Lateness, Link, LinkLimits, LinkNews, Opening, Settings};
 use serve_wire::{Ready, Wire};
@@ -254,12 +252,22 @@ impl Links {
         }
     }
 
-    /// Each server has the limits that the value of a configuration says of it, and these where it says none, from now on.
-    pub fn limit(&mut self, usual: LinkLimits, said: &Value)
-        ensures { self.new.all.items ≡ limited_by (value_limits usual (view said.now)) self.old.all.items }
+    /// The server of this number has these limits from now on.
+    pub fn limit(&mut self, at: usize, limits: LinkLimits)
+        ensures limited { LimitsAt at limits self.old.all.items self.new.all.items }
+        ensures rest { (any : LinkLimits) → with_limits any self.new.all.items ≡ with_limits any self.old.all.items }
     {
-        limit_links(&mut self.all, usual, said);
-        self.note_limits()
+        self.put_limits(at, limits);
+        self.note_limit(at)
+    }
+
+    fn put_limits(&mut self, at: usize, limits: LinkLimits)
+        ensures limited { LimitsAt at limits self.old.all.items self.new.all.items }
+        ensures rest { (any : LinkLimits) → with_limits any self.new.all.items ≡ with_limits any self.old.all.items }
+    {
+        if let Some(link) = self.all.get_mut(at) {
+            link.limit(limits);
+        }
     }
 
     /// How many milliseconds a call to this server may take.
@@ -672,7 +680,6 @@ impl Links {
 
     /// All were looked at: none is late before the first of them is.
     pub fn note_limits(&mut self)
-        ensures all { self.new.all ≡ self.old.all }
         ensures lines { link_lines self.new.all.items ≡ link_lines self.old.all.items }
     {
         let mut first = None;

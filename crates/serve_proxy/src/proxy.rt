@@ -3,12 +3,11 @@
 
 ghost use Rattle.std.specs.Prelude.{◌≡◌, ◌↔◌, ◌≤◌, [], ◌∷◌, ◌++◌, drop, length, true, IsTrue, IfOk, IfErr, OnOk, OnErr};
 ghost use Rattle.core_accepted.specs.Loading.{IsLoaded};
-ghost use Rattle.serde_json.specs.View.{view};
 ghost use Rattle.serve_wire.specs.Events.{looks_up};
 ghost use Rattle.serve_links.specs.CoreSteps.{GoesOn, OnlyFails};
 ghost use Rattle.serve_links.specs.Lateness.{usual_limits};
 ghost use Rattle.serve_links.specs.Links.{IsDownAt, IsClosedAt};
-ghost use Rattle.serve_links.specs.Story.{Agrees, texts_of, servers_of};
+ghost use Rattle.serve_links.specs.Story.{Agrees, texts_of};
 ghost use Rattle.serve_proxy.specs.Ends.{Stay, StayButLimits, end_of, AllGoOn, AllDrop, AllLoad, HasNoConns};
 ghost use Rattle.core_accepted.specs.Logs.{TreesAreSound};
 ghost use Rattle.serve_proxy.specs.LogsGoOn.{LogsAreFresh};
@@ -16,7 +15,7 @@ ghost use Rattle.serve_proxy.specs.Stalls.{held_by_all};
 ghost use Rattle.serve_proxy.specs.Stillness.{EndIsStill};
 ghost use Rattle.serve_proxy.specs.Beginning.{BeginsFresh, BeginsUnchecked, LoadStops};
 ghost use Rattle.serve_proxy.specs.Emptying.{EmptiesAt};
-ghost use Rattle.serve_proxy.specs.Limiting.{value_limits, AreLimited};
+ghost use Rattle.serve_proxy.specs.Limiting.{LimitsAt};
 ghost use Rattle.serve_proxy.specs.Epochs.{EpochsAreInTurn};
 
 use crate::accepting::accept_ready;
@@ -37,7 +36,6 @@ use gate_check::{Accepted, ReloadFault};
 use route_json::Config;
 use route_json::addresses::{Servers, address_in};
 use route_tree::Tree;
-use serde_json::Value;
 use serve_links::{CallTally, Cause, Link, LinkLimits, LinkNews, Settings, Tally};
 use serve_wire::{Lead, Wire};
 use std::alloc::{AllocError, Global};
@@ -174,26 +172,16 @@ impl<W: Wire> ProxyEnd<W> {
     /// Commands that begin from now on run by this configuration's tree, and those that are under way end on the trees on which they
     /// began. It gives the number of the generation. `servers` are all its servers, of which those in use keep their texts.
     ///
-    /// Each server has the limits then that the value of the configuration says of it, and these where it says none.
-    ///
-    /// After a fault the tree in use is kept, and each server's limits; `NoMemory` may also come after the tree was loaded, and then calls of new servers fail.
-    pub fn load(
-        &mut self,
-        config: Config,
-        servers: &Servers,
-        usual: LinkLimits,
-        said: &Value,
-    ) -> Result<u32, LoadFault>
+    /// After a fault the tree in use is kept; `NoMemory` may also come after the tree was loaded, and then calls of new servers fail.
+    pub fn load(&mut self, config: Config, servers: &Servers) -> Result<u32, LoadFault>
         ensures loaded { IfOk result (λ generation. IsLoaded self.old.core.value config generation self.new.core.value) }
         ensures refused { IfErr result (λ fault. LoadStops self.old.core.value config fault self.new.core.value) }
-        ensures ends { AllLoad W.history config (value_limits usual (view said.now)) self.old.core.value self.old.sockets self.new.core.value self.new.sockets }
+        ensures ends { AllLoad W.history config self.old.core.value self.old.sockets self.new.core.value self.new.sockets }
         ensures wire { self.new.sockets.wire ≡ self.old.sockets.wire }
         ensures texts { OnOk result (texts_of self.new.sockets.links.all.items ≡ texts_of self.old.sockets.links.all.items ++ drop (length self.old.sockets.links.all.items) servers.now) }
     {
         let generation = self.core.load(self.sockets.alloc, config)?;
-        let added = self.sockets.links.add(servers);
-        self.sockets.links.limit(usual, said);
-        if added.is_err() {
+        if self.sockets.links.add(servers).is_err() {
             return Err(LoadFault::Refused(ReloadFault::NoMemory));
         }
         Ok(generation)
@@ -208,16 +196,16 @@ impl<W: Wire> ProxyEnd<W> {
         self.sockets.links.empty_first(server);
     }
 
-    /// Each server has the limits that the value of a configuration says of it, and these where it says none, from now on.
-    pub fn limit(&mut self, usual: LinkLimits, said: &Value)
-        ensures limited { AreLimited (value_limits usual (view said.now)) (servers_of self.new.sockets.links.all.items) }
+    /// The server of this number has these limits from now on.
+    pub fn limit(&mut self, server: usize, limits: LinkLimits)
+        ensures limited { LimitsAt server limits self.old.sockets.links.all.items self.new.sockets.links.all.items }
         ensures core { self.new.core ≡ self.old.core }
         ensures ends { StayButLimits W.history self.old.sockets self.new.sockets }
     {
-        self.sockets.links.limit(usual, said);
+        self.sockets.links.limit(server, limits);
     }
 
-    /// The limits of a server of which nothing is said.
+    /// The limits of a server that has none of its own.
     pub fn usual_limits(&self) -> LinkLimits
         ensures { result ≡ usual_limits self.now.sockets.links.settings }
     {

@@ -8,7 +8,6 @@ use examples_tables::playing::{Stage, cut, first_line, play_lines, shown, yes_or
 use gate_check::{Accepted, judge};
 use route_json::addresses::Servers;
 use route_json::{Config, read_config, read_config_after};
-use serde_json::Value;
 use serve_proxy::{Beginnings, LinkNews, ProxyEnd, ServerDialect, Settings, text_at};
 use serve_wire::Wire;
 use serve_wire::memory::Memory;
@@ -1183,8 +1182,7 @@ fn load(
     config: Config,
     servers: &Servers,
 ) -> Result<String, Fail> {
-    let usual = proxy.usual_limits();
-    match proxy.load(config, servers, usual, &Value::Null) {
+    match proxy.load(config, servers) {
         Ok(number) => Ok(number.to_string(alloc)?),
         Err(_) => Ok("refused".to_string(alloc)?),
     }

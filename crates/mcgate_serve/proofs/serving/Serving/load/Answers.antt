@@ -1,26 +1,25 @@
-use Rattle.serde_json.specs.View.{view}
-use Rattle.serve_links.specs.Lateness.{usual_limits}
+use Rattle.serve_proxy.proofs.Growing.{then_grows}
 use Rattle.std.proofs.Common.{ap, inr, subst, length}
 use Rattle.core_accepted.specs.declared.served.ServedCore.{ServedCore}
 use Rattle.core_accepted.specs.Loading.{IsLoaded}
-use Rattle.mcgate_serve.proofs.Loads.{stay_loads, loads_by, load_still, not_loaded}
+use Rattle.mcgate_serve.proofs.Loads.{stood, not_loaded}
 use Rattle.mcgate_serve.proofs.LookedUp.{looked_as}
 use Rattle.mcgate_serve.proofs.serving.Serving.load.Goals as goal
 
 pub returns-in_err-resolve-clause-ends : goal.returns-in_err-resolve-clause-ends
-returns-in_err-resolve-clause-ends g c = stay_loads g.W.Wire.history c.args.self.now.end c.resolve.new.self.end c.resolve.ensures.core c.resolve.ensures.ends (load_still g.W.Wire.history c.args.config _ c.resolve.new.self.end)
+returns-in_err-resolve-clause-ends g c = stood g.W.Wire.history c.args.self.now.end c.resolve.new.self.end c.resolve.ensures.core c.resolve.ensures.ends
 
 pub returns-in_err-print_loaded-in-Ok-clause-ends : goal.returns-in_err-print_loaded-in-Ok-clause-ends
-returns-in_err-print_loaded-in-Ok-clause-ends g c = loads_by c.link_limits.result (usual_limits c.args.job.now.settings) (view c.args.said.now) c.link_limits.ensures (stay_loads g.W.Wire.history c.args.self.now.end c.resolve.new.self.end c.resolve.ensures.core c.resolve.ensures.ends c.load.ensures.ends)
+returns-in_err-print_loaded-in-Ok-clause-ends g c = then_grows (stood g.W.Wire.history c.args.self.now.end c.resolve.new.self.end c.resolve.ensures.core c.resolve.ensures.ends) c.load.ensures.ends
 
 pub returns-in_err-print_kept-in-Err-clause-ends : goal.returns-in_err-print_kept-in-Err-clause-ends
-returns-in_err-print_kept-in-Err-clause-ends g c = loads_by c.link_limits.result (usual_limits c.args.job.now.settings) (view c.args.said.now) c.link_limits.ensures (stay_loads g.W.Wire.history c.args.self.now.end c.resolve.new.self.end c.resolve.ensures.core c.resolve.ensures.ends c.load.ensures.ends)
+returns-in_err-print_kept-in-Err-clause-ends g c = then_grows (stood g.W.Wire.history c.args.self.now.end c.resolve.new.self.end c.resolve.ensures.core c.resolve.ensures.ends) c.load.ensures.ends
 
 pub returns-in_ok-print_loaded-in-Ok-clause-ends : goal.returns-in_ok-print_loaded-in-Ok-clause-ends
-returns-in_ok-print_loaded-in-Ok-clause-ends g c = loads_by c.link_limits.result (usual_limits c.args.job.now.settings) (view c.args.said.now) c.link_limits.ensures (stay_loads g.W.Wire.history c.args.self.now.end c.resolve.new.self.end c.resolve.ensures.core c.resolve.ensures.ends c.load.ensures.ends)
+returns-in_ok-print_loaded-in-Ok-clause-ends g c = then_grows (stood g.W.Wire.history c.args.self.now.end c.resolve.new.self.end c.resolve.ensures.core c.resolve.ensures.ends) c.load.ensures.ends
 
 pub returns-in_ok-print_kept-in-Err-clause-ends : goal.returns-in_ok-print_kept-in-Err-clause-ends
-returns-in_ok-print_kept-in-Err-clause-ends g c = loads_by c.link_limits.result (usual_limits c.args.job.now.settings) (view c.args.said.now) c.link_limits.ensures (stay_loads g.W.Wire.history c.args.self.now.end c.resolve.new.self.end c.resolve.ensures.core c.resolve.ensures.ends c.load.ensures.ends)
+returns-in_ok-print_kept-in-Err-clause-ends g c = then_grows (stood g.W.Wire.history c.args.self.now.end c.resolve.new.self.end c.resolve.ensures.core c.resolve.ensures.ends) c.load.ensures.ends
 
 pub returns-in_ok-print_kept-in-Err-clause-unused : goal.returns-in_ok-print_kept-in-Err-clause-unused
 returns-in_ok-print_kept-in-Err-clause-unused g c =
