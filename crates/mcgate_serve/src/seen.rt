@@ -29,8 +29,6 @@ struct Name {
 #[derive(Drop)]
 pub struct Seen {
     pub config: ConfigNumbers,
-    /// How many clients were closed, as they took too little.
-    pub closed_slow: u64,
     /// Whether its file couldn't be read when that was tried last.
     pub is_unread: bool,
     // Servers whose names led to no machine once.
@@ -52,7 +50,6 @@ impl Seen {
                 unchanged: 0,
                 refused: 0,
             },
-            closed_slow: 0,
             is_unread: false,
             names: Vec::new(alloc),
             failures: Vec::new(alloc),

@@ -743,7 +743,6 @@ impl<W: Listens> Serving<W> {
         ensures ends { Stay W.history self.old.end.sockets self.new.end.sockets }
     {
         if let Some(count) = self.end.next_stalled() {
-            self.seen.closed_slow = self.seen.closed_slow.saturating_add(count);
             let line = format_args!("mcgate: clients closed that took too little: {count}");
             self.lines.warn(rt, line);
         }

@@ -13,7 +13,7 @@ use gate_gaps::names::op_name;
 use mc_types::{Op, ServerId};
 use route_json::addresses::Servers;
 use serve_links::{CAUSES, Link, SPANS};
-use serve_proxy::{ProxyEnd, text_at};
+use serve_proxy::{DEPARTURES, ProxyEnd, text_at};
 use serve_wire::Wire;
 use std::alloc::{AllocError, Global};
 use std::io;
@@ -28,8 +28,8 @@ use watch_admin::http::request::Page;
 use watch_admin::http::visitors::Visitors;
 use watch_admin::json::write_json;
 use watch_admin::numbers::{
-    CallNumbers, ClientNumbers, CommandNumbers, CommandTimes, FailureNumbers, LimitNumbers,
-    Numbers, ProcessNumbers, ServerNumbers, SpanNumbers, families_of,
+    CallNumbers, CauseNumbers, ClientNumbers, CommandNumbers, CommandTimes, LimitNumbers, Numbers,
+    ProcessNumbers, ServerNumbers, SpanNumbers, families_of,
 };
 use watch_admin::places::PLACES;
 use watch_admin::prometheus::write_prometheus;
@@ -78,7 +78,7 @@ fn process_use<R: Files + AllocGlobal>(rt: &R) -> Used {
     }
 }
 
-fn clients_of<W: Wire>(end: &ProxyEnd<W>, seen: &Seen) -> ClientNumbers
+fn clients_of<W: Wire>(end: &ProxyEnd<W>) -> ClientNumbers
     ensures accepted { result.accepted ≡ end.now.core.value.tally.opened }
     ensures refused { result.refused ≡ end.now.core.value.tally.refused }
 {
@@ -88,10 +88,25 @@ fn clients_of<W: Wire>(end: &ProxyEnd<W>, seen: &Seen) -> ClientNumbers
         connected: end.clients() as u64,
         accepted: of_core.opened,
         refused: of_core.refused,
-        closed_slow: seen.closed_slow,
         read_bytes: tally.read,
         sent_bytes: tally.shown,
     }
+}
+
+// How many clients have gone, for each cause.
+fn departures_of<W: Wire>(
+    alloc: Global,
+    end: &ProxyEnd<W>,
+) -> Result<Vec<CauseNumbers>, AllocError> {
+    let gone = end.tally().gone;
+    let mut departures = Vec::new(alloc);
+    for why in DEPARTURES {
+        departures.push(CauseNumbers {
+            cause: why.name(),
+            count: gone.of(why),
+        })?;
+    }
+    Ok(departures)
 }
 
 // How many commands of these operations have ended.
@@ -172,14 +187,14 @@ fn command_times_of<W: Wire>(alloc: Global, end: &ProxyEnd<W>) -> Result<Command
 }
 
 // How often the link of a server failed, for each cause.
-fn failures_by_cause(alloc: Global, link: &Link) -> Result<Vec<FailureNumbers>, AllocError> {
+fn failures_by_cause(alloc: Global, link: &Link) -> Result<Vec<CauseNumbers>, AllocError> {
     let mut failures = Vec::new(alloc);
-    failures.push(FailureNumbers {
+    failures.push(CauseNumbers {
         cause: "call_late",
         count: link.tally.late,
     })?;
     for cause in CAUSES {
-        failures.push(FailureNumbers {
+        failures.push(CauseNumbers {
             cause: cause.name(),
             count: link.tally.failed(cause),
         })?;
@@ -276,7 +291,8 @@ fn numbers_of<R: Files + AllocGlobal, W: Wire>(
             lost_lines: times.lost_lines,
         },
         config: seen.config,
-        clients: clients_of(end, seen),
+        clients: clients_of(end),
+        departures: departures_of(rt.alloc(), end)?,
         commands: commands_of(rt.alloc(), end)?,
         command_times: command_times_of(rt.alloc(), end)?,
         calls: calls_of(end),

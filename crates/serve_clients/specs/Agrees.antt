@@ -12,11 +12,11 @@ use Rattle.serve_clients.specs.Marks.{client_of}
 abbrev pub end_said_of : Client → ℕ × List ℕ × List ℕ × Bool × Bool
 end_said_of x = (x.conn.number, x.conn.held.items, bytes_of x.conn.unsent, x.is_broken, x.is_ended)
 
--- a client's end is broken off: nothing is held of it and nothing is to be sent, and the rest is as it was
+-- a client's end is broken off, for whatever cause: nothing is held of it and nothing is to be sent, and the rest is as it was
 pub record Breaks (old new : Client) : Type 0 where
   pub none_held : new.conn.held.items ≡ []
   pub none_unsent : bytes_of new.conn.unsent ≡ []
-  pub rest : new ≡ record old { conn = record old.conn { held = new.conn.held; unsent = new.conn.unsent }; is_ended = true; is_broken = true }
+  pub rest : new ≡ record old { conn = record old.conn { held = new.conn.held; unsent = new.conn.unsent }; is_ended = true; is_broken = true; leaves = new.leaves }
 
 -- what is known of this client's input and output is what its connection delivered and took, but for what its end holds of both; of one that
 -- is broken off it is the first of that, and nothing more is taken from it

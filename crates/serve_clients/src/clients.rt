@@ -11,6 +11,7 @@ ghost use Rattle.serve_clients.specs.Waits.{waits_a_turn};
 ghost use Rattle.serve_clients.specs.Holdings.{unshown, reply_bytes, input_left, held_for, held_at, MayBegin, MayGoOn, ClientIsQuiet};
 ghost use Rattle.serve_clients.specs.declared.clients.TheConstants.{HELD_BACK, INPUT};
 
+use crate::departures::Departure;
 use serve_wire::Ready;
 use serve_wire::conn::{Conn, Limits};
 use std::alloc::{AllocError, Global};
@@ -63,6 +64,8 @@ pub struct Client {
     pub is_ended: bool,
     /// It is broken off: nothing more goes to it either.
     pub is_broken: bool,
+    // Why it goes, but for what its connection or the core shows when it is gone.
+    leaves: Option<Departure>,
     pub is_ready: bool,
     pub has_output: bool,
     /// A command of it waits for a key or a server.
@@ -91,6 +94,7 @@ impl Client {
             is_held_back: false,
             is_ended: false,
             is_broken: false,
+            leaves: None,
             is_ready: false,
             has_output: false,
             is_busy: false,
@@ -215,6 +219,17 @@ impl Client {
         self.input = self.input.min(self.fed);
     }
 
+    /// The core has refused a message of it, and is done with that. Whether it closed the client for it.
+    pub fn has_refused(&mut self, is_closed: bool)
+        ensures { self.new ≡ record self.old { input = min self.old.input self.old.fed; leaves = self.new.leaves } }
+    {
+        self.has_passed();
+        self.leaves = match self.leaves {
+            None if is_closed => Some(Departure::Foreign),
+            leaves => leaves,
+        };
+    }
+
     /// The core holds nothing of what it sent.
     pub fn end_input(&mut self)
         ensures { self.new ≡ record self.old { input = 0 } }
@@ -308,10 +323,36 @@ impl Client {
         self.is_held_back
     }
 
-    /// Its connection is gone, or is of no use any more: what is still to be sent is lost.
-    pub fn break_off(&mut self)
+    /// Nothing more is read of it. Unless it had ended, that is why it goes.
+    pub fn end(&mut self, why: Departure)
+        ensures { self.new ≡ record self.old { is_ended = true; leaves = self.new.leaves } }
+    {
+        self.leaves = if self.is_ended {
+            self.leaves
+        } else {
+            Some(why)
+        };
+        self.is_ended = true;
+    }
+
+    // Why it goes, now that it is gone; whether the core has closed it.
+    fn departure(&self, is_closed: bool) -> Departure {
+        match self.leaves {
+            Some(why) => why,
+            None if is_closed => Departure::Quit,
+            None => Departure::Ended,
+        }
+    }
+
+    /// Its connection is gone, or is of no use any more: what is still to be sent is lost. Unless it was broken off before, that is why it goes.
+    pub fn break_off(&mut self, why: Departure)
         ensures broken { Breaks self.old self.new }
     {
+        self.leaves = if self.is_broken {
+            self.leaves
+        } else {
+            Some(why)
+        };
         self.is_ended = true;
         self.is_broken = true;
         self.conn.held.clear();
@@ -800,6 +841,14 @@ impl Clients {
         match self.all.get(id) {
             Some(Some(client)) => client.held(),
             _ => 0,
+        }
+    }
+
+    /// Why the client of this id goes, now that it is gone; whether the core has closed it.
+    pub fn departure(&self, id: usize, is_closed: bool) -> Departure {
+        match self.all.get(id) {
+            Some(Some(client)) => client.departure(is_closed),
+            _ => Departure::Ended,
         }
     }
 

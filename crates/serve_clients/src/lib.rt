@@ -10,5 +10,7 @@
 #![tactic(auto)]
 
 mod clients;
+mod departures;
 
 pub use clients::{Client, Clients, SHARE};
+pub use departures::{DEPARTURES, Departure, Departures};

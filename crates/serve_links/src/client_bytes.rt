@@ -11,7 +11,7 @@ ghost use Rattle.serve_links.specs.Pieces.{FeedsPiece, FeedsHeld};
 use crate::tally::Tally;
 use core_accepted::ServedCore;
 use core_proxy::CoreFault;
-use serve_clients::Client;
+use serve_clients::{Client, Departure};
 use serve_wire::Wire;
 use serve_wire::conn::{Got, send};
 
@@ -29,7 +29,7 @@ pub fn read_once<W: Wire>(client: &mut Client, wire: &mut W, tally: &mut Tally)
     let room = client.read_room();
     match client.conn.read_once(wire, room).unwrap_or(Got::Failed) {
         Got::Ended => client.is_ended = true,
-        Got::Failed => client.break_off(),
+        Got::Failed => client.break_off(Departure::Broken),
         Got::Bytes => {
             client.has_read();
             tally.note_read(client.conn.held.len());
@@ -47,13 +47,13 @@ fn send_unsent<W: Wire>(client: &mut Client, wire: &mut W)
     ensures broken { client.old.is_broken ≡ true → client.new.is_broken ≡ true }
 {
     if client.is_broken {
-        client.break_off();
+        client.break_off(Departure::Broken);
         return;
     }
     if send(&mut client.conn, wire) {
         return;
     }
-    client.break_off();
+    client.break_off(Departure::Broken);
 }
 
 /// What is to be sent to the client goes out, as far as it is taken. Whether the client is to be served for that: it takes what is
@@ -86,7 +86,7 @@ pub fn feed_held(core: &mut ServedCore, id: usize, client: &mut Client)
         Ok(()) => client.conn.held.clear(),
         // The core takes it when it has done what it holds.
         Err(CoreFault::InputFull) => {}
-        Err(_) => client.break_off(),
+        Err(_) => client.break_off(Departure::NoRoom),
     }
 }
 

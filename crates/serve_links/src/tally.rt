@@ -4,6 +4,7 @@ ghost use Rattle.std.specs.Prelude.{◌≡◌, ◌<◌};
 ghost use Rattle.serve_links.specs.Counting.{span_of, with_answer, with_failure};
 
 use crate::news::Cause;
+use serve_clients::Departures;
 
 /// What an end has done so far, beside its core.
 #[derive(Clone, Copy)]
@@ -12,6 +13,8 @@ pub struct Tally {
     pub read: u64,
     /// How many bytes it had for them, sent or not.
     pub shown: u64,
+    /// How many of its clients have gone, and for what.
+    pub gone: Departures,
 }
 
 /// What has become of the calls of a server that went out.
@@ -83,7 +86,11 @@ fn span_of(micros: u64) -> usize
 impl Tally {
     /// Nothing yet.
     pub fn new() -> Tally {
-        Tally { read: 0, shown: 0 }
+        Tally {
+            read: 0,
+            shown: 0,
+            gone: Departures::new(),
+        }
     }
 
     /// So many bytes were read.

@@ -411,7 +411,7 @@ gone_go {h} {h'} {cs} {cs'} {ls} id gone dropped before core does sent = record 
 -- ---- what the core gave
 
 -- nothing more is read of it
-pub ended_agrees : (h : List WireEvent) (x y : Client) → y ≡ record x { is_ended = true } → GoesOnAgreeing h h x y
+pub ended_agrees : (h : List WireEvent) (x y : Client) → y ≡ record x { is_ended = true; leaves = y.leaves } → GoesOnAgreeing h h x y
 ended_agrees h x y is = λ input output id was.
     subst (λ z. EndAgrees h input output id z) (sym is) (record { stands = was.stands; lost = was.lost; ended = λ on. ((was.ended on).0, refl) })
 

@@ -10,7 +10,7 @@ ghost use Rattle.serve_proxy.specs.Stillness.{MayAccept};
 
 use crate::sockets::Sockets;
 use core_accepted::ServedCore;
-use serve_clients::Client;
+use serve_clients::{Client, Departure};
 use serve_wire::conn::turn_away;
 use serve_wire::{Accepted, Wire};
 
@@ -116,6 +116,7 @@ fn keep_client<W: Wire>(core: &mut ServedCore, sockets: &mut Sockets<W>, id: usi
     let _ = sockets.clients.remove(id);
     sockets.wire.close(conn);
     let _ = core.close(id);
+    sockets.tally.gone.note(Departure::NoRoom);
 }
 
 impl<W: Wire> Sockets<W> {

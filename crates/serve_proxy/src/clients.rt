@@ -11,7 +11,7 @@ ghost use Rattle.serve_proxy.specs.Ends.{Stay, GoAlone, AllGoClosed};
 ghost use Rattle.serve_proxy.specs.Budgets.{share_by};
 
 use crate::sockets::{Sockets, close_if_any};
-use serve_clients::Client;
+use serve_clients::{Client, Departure};
 use serve_links::IDLE_ROOM;
 use serve_wire::Wire;
 
@@ -32,13 +32,6 @@ pub enum Rest {
 
 // So many things are done for a client before the next one's turn.
 const POLLS: usize = 128;
-
-// Nothing more is read of it.
-fn end(client: &mut Client)
-    ensures { client.new ≡ record client.old { is_ended = true } }
-{
-    client.is_ended = true;
-}
 
 // Whether one of its commands may go on, or begin where it has so large a share. Of one that is broken off none begins, once all that have
 // begun wait for answers.
@@ -100,6 +93,15 @@ impl<W: Wire> Sockets<W> {
         }
     }
 
+    /// The core has refused a message of it, and is done with that. Whether it closed the client for it.
+    pub fn note_refused(&mut self, id: usize, is_closed: bool)
+        ensures ends { Stay W.history self.old self.new }
+    {
+        if let Some(client) = self.clients.get_mut(id) {
+            client.has_refused(is_closed);
+        }
+    }
+
     /// The core holds nothing of what it sent, if it is so.
     pub fn end_input_if(&mut self, id: usize, is_so: bool)
         ensures ends { Stay W.history self.old self.new }
@@ -146,12 +148,12 @@ impl<W: Wire> Sockets<W> {
         }
     }
 
-    /// Nothing more is read of it.
-    pub fn end_client(&mut self, id: usize)
+    /// Nothing more is read of it. Unless it had ended, that is why it goes.
+    pub fn end_client(&mut self, id: usize, why: Departure)
         ensures ends { GoAlone W.history self.old self.new }
     {
         if let Some(client) = self.clients.get_mut(id) {
-            end(client);
+            client.end(why);
         }
     }
 
@@ -230,10 +232,11 @@ impl<W: Wire> Sockets<W> {
         close_if_any(&mut self.wire, conn);
     }
 
-    /// It is gone, and its connection is closed.
-    pub fn remove_client(&mut self, id: usize)
+    /// It is gone for this, and its connection is closed.
+    pub fn remove_client(&mut self, id: usize, why: Departure)
         ensures ends { AllGoClosed W.history id self.old self.new }
     {
+        self.tally.gone.note(why);
         self.stalls.forget(id);
         self.times.forget(id);
         self.drop_end(id);

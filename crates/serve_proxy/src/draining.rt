@@ -8,6 +8,7 @@ ghost use Rattle.serve_proxy.specs.Ends.{Stay, AllGoOn};
 use crate::showing::give_back_client;
 use crate::sockets::Sockets;
 use core_accepted::ServedCore;
+use serve_clients::Departure;
 use serve_wire::Wire;
 
 /// Nothing more is read of clients of which nothing is under way. Each of them is closed by the next turn.
@@ -30,7 +31,7 @@ fn end_if_quiet<W: Wire>(core: &mut ServedCore, sockets: &mut Sockets<W>, id: us
     if !sockets.is_quiet(id) {
         return;
     }
-    sockets.end_client(id);
+    sockets.end_client(id, Departure::Drained);
     sockets.mark_ready_if(id, true)
 }
 

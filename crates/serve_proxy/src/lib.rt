@@ -46,6 +46,7 @@ mod worklist;
 
 pub use core_accepted::{Beginning, Beginnings};
 pub use proxy::ProxyEnd;
+pub use serve_clients::{DEPARTURES, Departure};
 pub use serve_links::{
     CallTally, Cause, LinkLimits, LinkNews, ServerDialect, Settings, Tally, VersionText,
 };

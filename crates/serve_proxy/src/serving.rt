@@ -18,7 +18,7 @@ use crate::showing::{lend_room, show_lent};
 use crate::sockets::Sockets;
 use core_accepted::ServedCore;
 use core_proxy::{CoreFault, Poll as Polled};
-use serve_clients::{Client, Clients};
+use serve_clients::{Client, Clients, Departure};
 use serve_links::{Tally, feed_held, read_once, show};
 use serve_wire::Wire;
 use std::net::Net;
@@ -224,8 +224,12 @@ fn poll_once<W: Wire, N: Net>(
             sockets.is_freed = true;
             Rest::More
         }
-        Ok(Polled::Own) | Ok(Polled::Refused) => {
+        Ok(Polled::Own) => {
             sockets.note_passed(id);
+            Rest::More
+        }
+        Ok(Polled::Refused) => {
+            sockets.note_refused(id, core.is_closed(id));
             Rest::More
         }
         Ok(Polled::Idle) => Rest::Idle,
@@ -237,11 +241,11 @@ fn poll_once<W: Wire, N: Net>(
         Ok(Polled::Busy) => Rest::Busy,
         Err(CoreFault::NoMemory) => {
             sockets.is_freed = true;
-            sockets.end_client(id);
+            sockets.end_client(id, Departure::NoRoom);
             Rest::More
         }
         Err(_) => {
-            sockets.end_client(id);
+            sockets.end_client(id, Departure::NoRoom);
             Rest::Idle
         }
     }
@@ -258,9 +262,10 @@ fn close_client<W: Wire>(core: &mut ServedCore, sockets: &mut Sockets<W>, id: us
     if !has_all(core, sockets, id) {
         return;
     }
+    let why = sockets.clients.departure(id, core.is_closed(id));
     match core.close(id) {
         Ok(()) => {
-            sockets.remove_client(id);
+            sockets.remove_client(id, why);
             sockets.accepting = Accepting::Now;
         }
         Err(_) => {}

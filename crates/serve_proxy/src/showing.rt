@@ -9,7 +9,7 @@ ghost use Rattle.serve_proxy.specs.Ends.{Stay, AllGoOn};
 use crate::sockets::Sockets;
 use core_accepted::ServedCore;
 use core_proxy::CoreFault;
-use serve_clients::Client;
+use serve_clients::{Client, Departure};
 use serve_links::{KEPT_ROOM, show};
 use serve_wire::Wire;
 use wire_parts::to_send::SendBuffer;
@@ -36,7 +36,7 @@ fn show_end(core: &mut ServedCore, id: usize, client: &mut Client) -> usize
             shown
         }
         Err(CoreFault::NoMemory) => {
-            client.break_off();
+            client.break_off(Departure::NoRoom);
             0
         }
         Err(_) => 0,
@@ -114,7 +114,7 @@ fn exchange_end(core: &mut ServedCore, id: usize, client: &mut Client, buffer: &
     if buffer.is_empty() {
         return;
     }
-    client.break_off();
+    client.break_off(Departure::NoRoom);
 }
 
 /// What was done for the client is shown to it, and the core keeps no room that was lent.

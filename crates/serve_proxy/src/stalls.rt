@@ -12,7 +12,7 @@ use crate::clock::earlier;
 use crate::sending::write_client;
 use crate::sockets::Sockets;
 use core_accepted::ServedCore;
-use serve_clients::{Client, Clients};
+use serve_clients::{Client, Clients, Departure};
 use serve_wire::Wire;
 use std::alloc::{AllocError, Global};
 
@@ -397,7 +397,7 @@ impl<W: Wire> Sockets<W> {
         ensures places { length self.new.clients.all.items ≡ length self.old.clients.all.items }
     {
         match self.clients.get_mut(id) {
-            Some(client) => client.break_off(),
+            Some(client) => client.break_off(Departure::MostHeld),
             None => {}
         }
     }
@@ -429,7 +429,7 @@ impl<W: Wire> Sockets<W> {
         if !has_stalled(client, since, self.time, self.stalls.ms) {
             return false;
         }
-        client.break_off();
+        client.break_off(Departure::Stalled);
         true
     }
 

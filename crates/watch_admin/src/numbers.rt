@@ -43,8 +43,6 @@ pub struct ClientNumbers {
     pub accepted: u64,
     /// How many were turned away, as there were too many.
     pub refused: u64,
-    /// How many were closed, as they took too little.
-    pub closed_slow: u64,
     /// How many bytes were read of them.
     pub read_bytes: u64,
     /// How many bytes there were to send to them.
@@ -77,9 +75,9 @@ pub struct CallNumbers {
     pub failed: u64,
 }
 
-/// Failures of a server's link for one cause.
+/// How often something was for one cause.
 #[derive(Clone, Copy)]
-pub struct FailureNumbers {
+pub struct CauseNumbers {
     /// The cause's name.
     pub cause: &'static str,
     pub count: u64,
@@ -137,7 +135,7 @@ pub struct ServerNumbers {
     /// How many calls are out.
     pub calls_out: u64,
     /// How often its link failed, a row for each cause.
-    pub failures: Vec<FailureNumbers>,
+    pub failures: Vec<CauseNumbers>,
     /// How many calls that went out to it were answered.
     pub answered: u64,
     /// How many have failed.
@@ -154,6 +152,8 @@ pub struct Numbers {
     pub process: ProcessNumbers,
     pub config: ConfigNumbers,
     pub clients: ClientNumbers,
+    /// How many of its clients have gone, a row for each cause.
+    pub departures: Vec<CauseNumbers>,
     pub commands: Vec<CommandNumbers>,
     pub command_times: CommandTimes,
     pub calls: CallNumbers,
@@ -224,7 +224,7 @@ fn server_sample(alloc: Global, server: &ServerNumbers, count: u64) -> Result<Sa
 fn failure_sample(
     alloc: Global,
     server: &ServerNumbers,
-    failures: &FailureNumbers,
+    failures: &CauseNumbers,
 ) -> Result<Sample, AllocError> {
     let mut failed = server_sample(alloc, server, failures.count)?;
     failed.labels.push(label(alloc, "cause", failures.cause)?)?;
@@ -324,18 +324,29 @@ fn add_came(
     Ok(())
 }
 
-// How many were closed, and what came of them and went to them.
+// How many have gone, for each cause.
+fn gone_samples(alloc: Global, departures: &[CauseNumbers]) -> Result<Vec<Sample>, AllocError> {
+    let mut gone = Vec::new(alloc);
+    for departure in departures {
+        gone.push(sample(alloc, "cause", departure.cause, departure.count)?)?;
+    }
+    Ok(gone)
+}
+
+// How many have gone, and what came of them and went to them.
 fn add_traffic(
     alloc: Global,
     clients: &ClientNumbers,
+    departures: &[CauseNumbers],
     families: &mut Vec<Family>,
 ) -> Result<(), AllocError>
     ensures { OnOk result (AddsTo families.old.items families.new.items) }
 {
-    families.push(counter(
-        "mcgate_slow_clients_closed_total",
-        "Clients that were closed, as they took too little.",
-        clients.closed_slow,
+    families.push(each(
+        "mcgate_clients_closed_total",
+        MetricKind::Counter,
+        "Clients that are gone, by why they went.",
+        gone_samples(alloc, departures)?,
     ))?;
     let mut bytes = Vec::new(alloc);
     bytes.push(sample(alloc, "direction", "in", clients.read_bytes)?)?;
@@ -353,6 +364,7 @@ fn add_traffic(
 fn add_clients(
     alloc: Global,
     clients: &ClientNumbers,
+    departures: &[CauseNumbers],
     families: &mut Vec<Family>,
 ) -> Result<(), AllocError>
     ensures adds { OnOk result (AddsTo families.old.items families.new.items) }
@@ -364,7 +376,7 @@ fn add_clients(
         clients.connected,
     ))?;
     add_came(alloc, clients, families)?;
-    add_traffic(alloc, clients, families)
+    add_traffic(alloc, clients, departures, families)
 }
 
 // A number of an operation.
@@ -825,7 +837,8 @@ pub fn families_of(alloc: Global, numbers: &Numbers) -> Result<Vec<Family>, Allo
     let mut families = Vec::new(alloc);
     add_process(alloc, &numbers.process, &mut families)?;
     add_config(alloc, &numbers.config, &mut families)?;
-    add_clients(alloc, &numbers.clients, &mut families)?;
+    let departures = numbers.departures.as_slice();
+    add_clients(alloc, &numbers.clients, departures, &mut families)?;
     add_commands(alloc, numbers.commands.as_slice(), &mut families)?;
     add_command_times(alloc, &numbers.command_times, &mut families)?;
     add_all_calls(alloc, &numbers.calls, &mut families)?;

@@ -6,7 +6,7 @@ use std::test::Fail;
 use watch_admin::families::Family;
 use watch_admin::json::write_json;
 use watch_admin::numbers::{
-    CallNumbers, ClientNumbers, CommandNumbers, CommandTimes, ConfigNumbers, FailureNumbers,
+    CallNumbers, CauseNumbers, ClientNumbers, CommandNumbers, CommandTimes, ConfigNumbers,
     LimitNumbers, Numbers, ProcessNumbers, ServerNumbers, SpanNumbers, families_of,
 };
 use watch_admin::prometheus::write_prometheus;
@@ -42,9 +42,10 @@ mcgate_clients 6
 # TYPE mcgate_client_connections_total counter
 mcgate_client_connections_total{verdict="accepted"} 7
 mcgate_client_connections_total{verdict="refused"} 8
-# HELP mcgate_slow_clients_closed_total Clients that were closed, as they took too little.
-# TYPE mcgate_slow_clients_closed_total counter
-mcgate_slow_clients_closed_total 9
+# HELP mcgate_clients_closed_total Clients that are gone, by why they went.
+# TYPE mcgate_clients_closed_total counter
+mcgate_clients_closed_total{cause="ended"} 9
+mcgate_clients_closed_total{cause="stalled"} 27
 # HELP mcgate_client_bytes_total Bytes that came from clients, and that there were to send to them.
 # TYPE mcgate_client_bytes_total counter
 mcgate_client_bytes_total{direction="in"} 10
@@ -127,7 +128,7 @@ fn stats() -> &'static str {
 "mcgate_reloads_total":[{"verdict":"accepted","value":3},{"verdict":"unchanged","value":4},{"verdict":"refused","value":5}],
 "mcgate_clients":6,
 "mcgate_client_connections_total":[{"verdict":"accepted","value":7},{"verdict":"refused","value":8}],
-"mcgate_slow_clients_closed_total":9,
+"mcgate_clients_closed_total":[{"cause":"ended","value":9},{"cause":"stalled","value":27}],
 "mcgate_client_bytes_total":[{"direction":"in","value":10},{"direction":"out","value":18446744073709551615}],
 "mcgate_commands_total":[{"op":"get","reply":"item","value":11},{"op":"get","reply":"acknowledged","value":12},{"op":"get","reply":"error","value":23},{"op":"get","reply":"other","value":13}],
 "mcgate_command_seconds":{"le":[{"le":"0.0001","value":10},{"le":"+Inf","value":18}],"sum":[{"value":2.000020}],"n":[{"value":18}]},
@@ -185,9 +186,22 @@ fn spans(alloc: Global) -> Result<Vec<SpanNumbers>, AllocError> {
     Ok(spans)
 }
 
+fn departures(alloc: Global) -> Result<Vec<CauseNumbers>, AllocError> {
+    let mut departures = Vec::new(alloc);
+    departures.push(CauseNumbers {
+        cause: "ended",
+        count: 9,
+    })?;
+    departures.push(CauseNumbers {
+        cause: "stalled",
+        count: 27,
+    })?;
+    Ok(departures)
+}
+
 fn servers(alloc: Global) -> Result<Vec<ServerNumbers>, AllocError> {
     let mut failures = Vec::new(alloc);
-    failures.push(FailureNumbers {
+    failures.push(CauseNumbers {
         cause: "closed",
         count: 16,
     })?;
@@ -228,10 +242,10 @@ fn families(alloc: Global) -> Result<Vec<Family>, AllocError> {
             connected: 6,
             accepted: 7,
             refused: 8,
-            closed_slow: 9,
             read_bytes: 10,
             sent_bytes: u64::MAX,
         },
+        departures: departures(alloc)?,
         commands: commands(alloc)?,
         command_times: CommandTimes {
             ended: 18,

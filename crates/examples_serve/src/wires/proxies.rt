@@ -8,7 +8,7 @@ use examples_tables::playing::{Stage, cut, first_line, play_lines, shown, yes_or
 use gate_check::{Accepted, judge};
 use route_json::addresses::Servers;
 use route_json::{Config, read_config, read_config_after};
-use serve_proxy::{Beginnings, LinkNews, ProxyEnd, ServerDialect, Settings, text_at};
+use serve_proxy::{Beginnings, DEPARTURES, LinkNews, ProxyEnd, ServerDialect, Settings, text_at};
 use serve_wire::Wire;
 use serve_wire::memory::Memory;
 use std::alloc::{AllocError, Global};
@@ -18,7 +18,7 @@ use std::time::Duration;
 
 // Far ends have names that are numbers. `peer` begins the script of one, which then calls at a time or answers the next connection to a
 // host. `proxy` looks up the servers of its configuration and begins. `news` are those since they were asked for last. `times` are how many
-// commands ended in how many microseconds, and how many of these took how long.
+// commands ended in how many microseconds, and how many of these took how long. `gone` are how many clients have gone for what.
 fn texts() -> &'static str {
     r"Bytes come cut anywhere, and go out by the piece.
 host 127.0.0.1:5001
@@ -108,6 +108,7 @@ open 1 => yes
 turn 40
 taken 1 => VALUE a 0 9\r\n123456789\r\nEND\r\n
 open 1 => no
+gone => 1 quit
 taken 9 => get a\r\n
 
 A request of HTTP is answered one line, and then the connection is closed: nothing that stands in it is done. The same of the binary protocol.
@@ -121,6 +122,7 @@ proxy <one server>
 turn 40
 taken 1 => ERROR\r\n
 open 1 => no
+gone => 1 foreign
 taken 9 => nothing
 
 An answer that is late is nobody's. Until it has come calls fail at once; then they go over the same connection.
@@ -549,6 +551,7 @@ proxy <one server>
 turn 10
 taken 1 => END\r\nEND\r\n
 open 1 => no
+gone => 1 ended
 taken 9 => get a\r\nget b\r\n
 
 A client leaves 2 MB of replies untaken: of its commands 32 begin at once, and then not one more for each of 20 replies.
@@ -667,6 +670,7 @@ proxy <one server>
 turn 40
 taken 1 => nothing
 open 1 => no
+gone => 1 broken
 taken 2 => END\r\n
 
 A delete waits for a get that may copy its key, and goes out when that has ended.
@@ -826,6 +830,7 @@ proxy <one server>
 turn 40
 taken 1 => VALUE
 open 1 => no
+gone => 1 broken
 taken 9 => get a\r\nget b\r\n
 taken 2 => END\r\n
 
@@ -872,6 +877,7 @@ turn 200
 open 2 => yes
 open 3 => yes
 news => server 0: connected; 1 stalled
+gone => 1 stalled
 
 Where more than three million bytes are held for all, the client is closed for which most are.
 host 127.0.0.1:5001
@@ -905,6 +911,7 @@ turn 45
 open 1 => no
 open 2 => yes
 news => server 0: connected; 1 stalled
+gone => 1 most_held
 
 So is the one that sent most of what isn't done.
 host 127.0.0.1:5001
@@ -929,6 +936,7 @@ open 2 => yes
 taken 3 => END\r\n
 taken 9 => get c\r\n
 news => 1 stalled; server 0: connected
+gone => 1 most_held
 
 Of those that hold too much together as many are closed in one turn as it takes.
 host 127.0.0.1:5001
@@ -952,6 +960,7 @@ turn 1
 open 1 => no
 open 2 => no
 open 3 => yes
+gone => 2 most_held
 
 While more than three quarters of 450,000 bytes are held, no command begins of a client that takes little. It does when another one is gone.
 host 127.0.0.1:5001
@@ -1094,12 +1103,12 @@ fn push_news(
     told.push_str(format!(in alloc; "server {server}: {news}")?.as_str())
 }
 
-// So many clients were closed, after the news before.
-fn push_stalled(alloc: Global, told: &mut String, count: u64) -> Result<(), AllocError> {
+// So many clients were closed so, after what was told before.
+fn push_count(alloc: Global, told: &mut String, count: u64, what: &str) -> Result<(), AllocError> {
     if !told.is_empty() {
         told.push_str("; ")?;
     }
-    told.push_str(format!(in alloc; "{count} stalled")?.as_str())
+    told.push_str(format!(in alloc; "{count} {what}")?.as_str())
 }
 
 fn judged(alloc: Global, config: Config) -> Result<Accepted, Fail> {
@@ -1267,7 +1276,7 @@ impl Scripted<'_> {
     // How many were closed after a turn, as they took too little.
     fn note_stalled(&mut self) -> Result<(), Fail> {
         match self.next_stalled()? {
-            Some(count) => Ok(push_stalled(self.rt.alloc(), &mut self.told, count)?),
+            Some(count) => Ok(push_count(self.rt.alloc(), &mut self.told, count, "stalled")?),
             None => Ok(()),
         }
     }
@@ -1276,6 +1285,20 @@ impl Scripted<'_> {
     fn news(&mut self) -> String {
         let none = String::new(self.rt.alloc());
         mem::replace(&mut self.told, none)
+    }
+
+    // How many clients have gone for what.
+    fn gone(&mut self) -> Result<String, Fail> {
+        let alloc = self.rt.alloc();
+        let gone = self.proxy()?.tally().gone;
+        let mut text = String::new(alloc);
+        for why in DEPARTURES {
+            let count = gone.of(why);
+            if count > 0 {
+                push_count(alloc, &mut text, count, why.name())?;
+            }
+        }
+        Ok(text)
     }
 
     fn times(&mut self) -> Result<String, Fail> {
@@ -1323,6 +1346,7 @@ impl Stage for Scripted<'_> {
             "took" => Ok(yes_or_no(self.took(text)?).to_string(alloc)?),
             "news" => Ok(self.news()),
             "times" => self.times(),
+            "gone" => self.gone(),
             _ => {
                 self.set(verb, text)?;
                 Ok(String::new(alloc))

@@ -90,8 +90,8 @@ function answers(buckets) {
   return [told(0.5), told(0.99)];
 }
 
-function causes(now, server) {
-  return (now.mcgate_server_failures_total || []).filter(row => row.server === server && row.value > 0)
+function causes(rows, labels) {
+  return (rows || []).filter(row => has(row, labels) && row.value > 0)
     .map(row => row.cause.replace(/_/g, " ") + " " + number(row.value)).join(", ");
 }
 
@@ -100,7 +100,7 @@ function serverRow(now, then, seconds, server) {
   const grown = outcome => rate(sum(now.mcgate_server_calls_total, {server, outcome}), sum(then.mcgate_server_calls_total, {server, outcome}), seconds);
   const failed = grown("failed");
   return [server, [how, how], number(grown("answered")), [number(failed), failed ? "down" : ""], ...answers(spans(now, then, "mcgate_server_call_seconds", {server})),
-    number(sum(now.mcgate_server_calls_out, {server})), causes(now, server)];
+    number(sum(now.mcgate_server_calls_out, {server})), causes(now.mcgate_server_failures_total, {server})];
 }
 
 function commandRow(now, then, seconds, op) {
@@ -121,7 +121,8 @@ function tell(now) {
   const many = sum(now.mcgate_client_connections_total, {verdict: "refused"});
   if (unknown.length) told.push("Names that lead to no machine: " + unknown.join(", ") + ". Calls to these servers fail at once.");
   if (many) told.push("Clients refused, as there were too many: " + number(many) + ".");
-  if (now.mcgate_slow_clients_closed_total) told.push("Clients closed, as they took too little: " + number(now.mcgate_slow_clients_closed_total) + ".");
+  const slow = ["stalled", "most_held"].reduce((all, cause) => all + sum(now.mcgate_clients_closed_total, {cause}), 0);
+  if (slow) told.push("Clients closed, as they took too little: " + number(slow) + ".");
   at("told").replaceChildren(...told.map(text => made("p", text)));
 }
 
@@ -139,8 +140,8 @@ function show(now, then, seconds) {
   const moved = direction => rate(sum(now.mcgate_client_bytes_total, {direction}), sum(then.mcgate_client_bytes_total, {direction}), seconds);
   const came = verdict => number(sum(now.mcgate_client_connections_total, {verdict}));
   const loads = verdict => number(sum(now.mcgate_reloads_total, {verdict}));
-  fill("others", ["clients now", "accepted", "refused", "read", "sent", "generation", "loaded", "unchanged", "refused"], [[number(now.mcgate_clients), came("accepted"),
-    came("refused"), bytes(moved("in")) + "/s", bytes(moved("out")) + "/s", number(now.mcgate_generation), loads("accepted"), loads("unchanged"), loads("refused")]]);
+  fill("others", ["clients now", "accepted", "refused", "gone", "read", "sent", "generation", "loaded", "unchanged", "refused"], [[number(now.mcgate_clients), came("accepted"),
+    came("refused"), causes(now.mcgate_clients_closed_total, {}), bytes(moved("in")) + "/s", bytes(moved("out")) + "/s", number(now.mcgate_generation), loads("accepted"), loads("unchanged"), loads("refused")]]);
 }
 
 // A part of the configuration as a list: what it is called, and what stands in it.

@@ -13,6 +13,9 @@ returns-in-Ok-Did g c = record { ends = and_then ((quietly_go (by_poll c.args.id
 pub returns-in-Ok-Own : goal.returns-in-Ok-Own
 returns-in-Ok-Own g c = record { ends = and_then (quietly_go (by_poll c.args.id c.poll.result c.args.core.now c.poll.new.self c.poll.ensures.ok c.poll.ensures.err c.poll.ensures.fresh c.poll.ensures.stops)) (stays c.poll.new.self c.note_passed.ensures.ends) }
 
+pub returns-in-Ok-Refused : goal.returns-in-Ok-Refused
+returns-in-Ok-Refused g c = record { ends = and_then (quietly_go (by_poll c.args.id c.poll.result c.args.core.now c.poll.new.self c.poll.ensures.ok c.poll.ensures.err c.poll.ensures.fresh c.poll.ensures.stops)) (stays c.poll.new.self c.note_refused.ensures.ends) }
+
 pub returns-in-Ok-Idle : goal.returns-in-Ok-Idle
 returns-in-Ok-Idle g c = record { ends = quietly_go (by_poll c.args.id c.poll.result c.args.core.now c.poll.new.self c.poll.ensures.ok c.poll.ensures.err c.poll.ensures.fresh c.poll.ensures.stops) }
 

@@ -11,7 +11,7 @@ use Rattle.serve_proxy.proofs.sockets.Sockets.end_client.Goals as goal
 pub returns-in-Some : goal.returns-in-Some
 returns-in-Some g c =
     let x = c.in-Some.client.now in
-    let y = c.end.new.client in
+    let y = c.end.new.self in
     record { ends = λ core. one_goes c.args.id c.args.self.now.clients (c.get_mut.follows.lender y) x y (sym c.in-Some.ensures.value) (on_some c.get_mut.result c.in-Some.client _ c.in-Some.is (c.get_mut.follows.holds y)) (one_touched refl (ended_agrees _ x y c.end.ensures) (ap (λ (z : Client). z.conn.number) c.end.ensures) (λ d other. untouched d _) (ap (λ (z : Client). z.is_broken) c.end.ensures)) }
 
 pub returns-in_default : goal.returns-in_default
