@@ -37,8 +37,8 @@ impl Output {
     }
 }
 
-// The time, in milliseconds from the begin of 1970 on, if the system tells.
-fn millis<R: Clock>(rt: &R) -> Option<u64> {
+/// The time, in milliseconds from the begin of 1970 on, if the system tells.
+pub fn unix_millis<R: Clock>(rt: &R) -> Option<u64> {
     let now = SystemTime::now(rt).ok()?;
     let since = now.duration_since(UNIX_EPOCH).ok()?;
     u64::try_from(since.as_millis()).ok()
@@ -104,7 +104,7 @@ impl Lines {
         if self.log.is_none() {
             return;
         }
-        if let Some(now) = millis(rt) {
+        if let Some(now) = unix_millis(rt) {
             self.now = now;
         }
     }

@@ -2,8 +2,8 @@
 //! at each server.
 
 use serve_links::LinkNews;
-use std::alloc::Global;
-use watch_admin::numbers::ConfigNumbers;
+use std::alloc::{AllocError, Global};
+use watch_admin::numbers::{ConfigNumbers, RefusalNumbers};
 
 // Of clients that were turned away is told once in so many milliseconds.
 const QUIET_MS: u64 = 60_000;
@@ -15,6 +15,35 @@ pub struct LastFailure {
     pub cause: &'static str,
     /// When that was, in milliseconds.
     pub at: u64,
+}
+
+// Of what was said of a text that was refused so many bytes are kept.
+const LINE: usize = 1_024;
+
+// What was said of a text that was refused, and when, in milliseconds from the begin of 1970 on.
+#[derive(Drop)]
+struct Refusal {
+    line: String,
+    at: u64,
+}
+
+// The first line of what was said, as far as it is kept.
+fn kept_line(said: &[u8]) -> &str {
+    let line = std::str::from_utf8(said)
+        .unwrap_or("")
+        .split('\n')
+        .next()
+        .unwrap_or("");
+    if line.len() <= LINE {
+        return line;
+    }
+    // (a character has 4 bytes at most)
+    for left in 0..4 {
+        if let Some(part) = line.get(..LINE - left) {
+            return part;
+        }
+    }
+    ""
 }
 
 // The name of a server.
@@ -29,6 +58,8 @@ struct Name {
 #[derive(Drop)]
 pub struct Seen {
     pub config: ConfigNumbers,
+    // The last text of its file that was refused.
+    refusal: Option<Refusal>,
     /// Whether its file couldn't be read when that was tried last.
     pub is_unread: bool,
     // Servers whose names led to no machine once.
@@ -50,6 +81,7 @@ impl Seen {
                 unchanged: 0,
                 refused: 0,
             },
+            refusal: None,
             is_unread: false,
             names: Vec::new(alloc),
             failures: Vec::new(alloc),
@@ -70,6 +102,27 @@ impl Seen {
             config.accepted = config.accepted.saturating_add(1);
         }
         config.generation = generation;
+    }
+
+    /// A text was refused at this time, in milliseconds from the begin of 1970 on, and this was said of it: the first line of that is kept, or its
+    /// first 1,024 bytes. Where memory is refused only the time is.
+    pub fn note_refused(&mut self, alloc: Global, said: &[u8], at: u64) {
+        let line = match String::from_str(alloc, kept_line(said)) {
+            Ok(line) => line,
+            Err(_) => String::new(alloc),
+        };
+        self.refusal = Some(Refusal { line, at });
+    }
+
+    /// What was said of the last text that was refused, and when, if one was. The only error is that memory was refused.
+    pub fn refusal(&self, alloc: Global) -> Result<Option<RefusalNumbers>, AllocError> {
+        match &self.refusal {
+            Some(refusal) => Ok(Some(RefusalNumbers {
+                line: String::from_str(alloc, refusal.line.as_str())?,
+                at_ms: refusal.at,
+            })),
+            None => Ok(None),
+        }
     }
 
     /// The name of this server was looked up, by which no machine was known: whether it leads to one. Where memory is refused nothing is

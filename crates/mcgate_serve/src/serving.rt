@@ -25,7 +25,7 @@ use crate::emptying::Emptying;
 use crate::histories::input_of;
 use crate::input_end::InputEnd;
 use crate::limits::own_limits;
-use crate::lines::Lines;
+use crate::lines::{Lines, unix_millis};
 use crate::listens::Listens;
 use crate::names::{Names, follows};
 use crate::outages::Outages;
@@ -1199,7 +1199,7 @@ impl<W: Listens> Serving<W> {
     }
 
     #[tactic(auto, using(crate::proofs::Loads::serves_still, crate::proofs::Loads::loads_still))]
-    fn take_text<R: Files + Net + AllocGlobal + Print + Eprint>(
+    fn take_text<R: Files + Net + Clock + AllocGlobal + Print + Eprint>(
         &mut self,
         rt: &R,
         job: &ServeJob<'_>,
@@ -1221,7 +1221,7 @@ impl<W: Listens> Serving<W> {
     // The same of a text that it may have had before: whether the configuration in use is that of the text then. What came of it is added to
     // what was said, and printed.
     #[tactic(auto, using(crate::proofs::Loads::serves_still))]
-    fn load_new<R: Files + Net + AllocGlobal + Print + Eprint>(
+    fn load_new<R: Files + Net + Clock + AllocGlobal + Print + Eprint>(
         &mut self,
         rt: &R,
         job: &ServeJob<'_>,
@@ -1239,7 +1239,7 @@ impl<W: Listens> Serving<W> {
     }
 
     // What was said of a text is printed, and where it isn't loaded, more of it. The file has it.
-    fn note_said<R: AllocGlobal + Print + Eprint>(
+    fn note_said<R: Clock + AllocGlobal + Print + Eprint>(
         &mut self,
         rt: &R,
         job: &ServeJob<'_>,
@@ -1254,7 +1254,20 @@ impl<W: Listens> Serving<W> {
         self.lines.print(rt, said);
         self.tell_verdict(rt, is_used, said);
         say_why(rt, &mut self.lines, job, text.as_str(), said);
+        self.note_refused(rt, is_used, said);
         self.note_text(text, is_used);
+    }
+
+    // What was said of a text that isn't loaded is kept.
+    fn note_refused<R: Clock + AllocGlobal>(&mut self, rt: &R, is_used: bool, said: &[u8])
+        ensures ends { self.new.end ≡ self.old.end }
+        ensures memory { self.new.memory ≡ self.old.memory }
+        ensures in_use { self.new.in_use ≡ self.old.in_use }
+    {
+        if !is_used {
+            let now = unix_millis(rt).unwrap_or(0);
+            self.seen.note_refused(rt.alloc(), said, now);
+        }
     }
 
     // It drains once standard input has ended, where that is asked, and who tells it things is answered.
@@ -1520,7 +1533,7 @@ impl<W: Listens> Serving<W> {
     }
 
     #[tactic(auto, using(crate::proofs::Loads::serves_still))]
-    fn reload_text<R: Files + Net + AllocGlobal + Print + Eprint>(
+    fn reload_text<R: Files + Net + Clock + AllocGlobal + Print + Eprint>(
         &mut self,
         rt: &R,
         job: &ServeJob<'_>,

@@ -29,7 +29,7 @@ use watch_admin::http::visitors::Visitors;
 use watch_admin::json::write_json;
 use watch_admin::numbers::{
     CallNumbers, CauseNumbers, ClientNumbers, CommandNumbers, CommandTimes, LimitNumbers, Numbers,
-    ProcessNumbers, ServerNumbers, SpanNumbers, families_of,
+    ProcessNumbers, ServerNumbers, SpanNumbers, families_of, families_with_lines,
 };
 use watch_admin::places::PLACES;
 use watch_admin::prometheus::write_prometheus;
@@ -291,6 +291,7 @@ fn numbers_of<R: Files + AllocGlobal, W: Wire>(
             lost_lines: times.lost_lines,
         },
         config: seen.config,
+        refusal: seen.refusal(rt.alloc())?,
         clients: clients_of(end),
         departures: departures_of(rt.alloc(), end)?,
         commands: commands_of(rt.alloc(), end)?,
@@ -408,7 +409,7 @@ fn json_of(alloc: Global, numbers: &Numbers) -> io::Result<Vec<u8>>
     ensures { IfOk result (λ text. IsInJson numbers.now text.items) }
 {
     let mut body = Vec::new(alloc);
-    write_json(families_of(alloc, numbers)?.as_slice(), &mut body)?;
+    write_json(families_with_lines(alloc, numbers)?.as_slice(), &mut body)?;
     Ok(body)
 }
 

@@ -34,6 +34,15 @@ pub struct ConfigNumbers {
     pub refused: u64,
 }
 
+/// The last text of its file that was not loaded.
+#[derive(Drop)]
+pub struct RefusalNumbers {
+    /// What was said of it, in a line.
+    pub line: String,
+    /// When that was, in milliseconds from the begin of 1970 on.
+    pub at_ms: u64,
+}
+
 /// Its clients.
 #[derive(Clone, Copy)]
 pub struct ClientNumbers {
@@ -151,6 +160,7 @@ pub struct ServerNumbers {
 pub struct Numbers {
     pub process: ProcessNumbers,
     pub config: ConfigNumbers,
+    pub refusal: Option<RefusalNumbers>,
     pub clients: ClientNumbers,
     /// How many of its clients have gone, a row for each cause.
     pub departures: Vec<CauseNumbers>,
@@ -271,9 +281,18 @@ fn add_process(
     Ok(())
 }
 
+// When a text was refused last; 0 where none was.
+fn refused_at(refusal: &Option<RefusalNumbers>) -> Amount {
+    match refusal {
+        Some(refusal) => Amount::Millis(refusal.at_ms),
+        None => Amount::Millis(0),
+    }
+}
+
 fn add_config(
     alloc: Global,
     config: &ConfigNumbers,
+    refusal: &Option<RefusalNumbers>,
     families: &mut Vec<Family>,
 ) -> Result<(), AllocError>
     ensures { OnOk result (AddsTo families.old.items families.new.items) }
@@ -292,6 +311,12 @@ fn add_config(
         MetricKind::Counter,
         "New texts of its file, by what became of them.",
         reloads,
+    ))?;
+    families.push(one(
+        "mcgate_config_last_refused_timestamp_seconds",
+        MetricKind::Gauge,
+        "When a text of its file was refused last, in seconds from the begin of 1970 on; 0 where none was.",
+        refused_at(refusal),
     ))?;
     Ok(())
 }
@@ -836,7 +861,7 @@ pub fn families_of(alloc: Global, numbers: &Numbers) -> Result<Vec<Family>, Allo
 {
     let mut families = Vec::new(alloc);
     add_process(alloc, &numbers.process, &mut families)?;
-    add_config(alloc, &numbers.config, &mut families)?;
+    add_config(alloc, &numbers.config, &numbers.refusal, &mut families)?;
     let departures = numbers.departures.as_slice();
     add_clients(alloc, &numbers.clients, departures, &mut families)?;
     add_commands(alloc, numbers.commands.as_slice(), &mut families)?;
@@ -844,5 +869,37 @@ pub fn families_of(alloc: Global, numbers: &Numbers) -> Result<Vec<Family>, Allo
     add_all_calls(alloc, &numbers.calls, &mut families)?;
     let servers = numbers.servers.as_slice();
     add_rest(alloc, servers, numbers.scrapes, &mut families)?;
+    Ok(families)
+}
+
+// What was said of the last text that was refused, and when, if one was.
+fn refusal_samples(
+    alloc: Global,
+    refusal: &Option<RefusalNumbers>,
+) -> Result<Vec<Sample>, AllocError> {
+    let mut samples = Vec::new(alloc);
+    if let Some(refusal) = refusal {
+        let mut refused = sample(alloc, "line", refusal.line.as_str(), 0)?;
+        refused.amount = Amount::Millis(refusal.at_ms);
+        samples.push(refused)?;
+    }
+    Ok(samples)
+}
+
+/// The same families, and one for whoever takes texts too: the line of the last text that was refused, with its time. The only error is that
+/// memory was refused.
+#[tactic(auto, using(crate::proofs::Told::one_more, crate::proofs::Told::stays_among))]
+pub fn families_with_lines(alloc: Global, numbers: &Numbers) -> Result<Vec<Family>, AllocError>
+    ensures clients { IfOk result (λ families. TellsClients numbers.now.clients families.items) }
+    ensures commands { IfOk result (λ families. TellsCommands numbers.now.commands.items families.items) }
+    ensures calls { IfOk result (λ families. TellsCalls numbers.now.calls families.items) }
+{
+    let mut families = families_of(alloc, numbers)?;
+    families.push(each(
+        "mcgate_config_last_refused",
+        MetricKind::Gauge,
+        "What was said of the text of its file that was refused last, and when that was.",
+        refusal_samples(alloc, &numbers.refusal)?,
+    ))?;
     Ok(families)
 }

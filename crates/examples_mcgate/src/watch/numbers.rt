@@ -3,11 +3,11 @@
 use std::alloc::{AllocError, Global};
 use std::io;
 use std::test::Fail;
-use watch_admin::families::Family;
 use watch_admin::json::write_json;
 use watch_admin::numbers::{
     CallNumbers, CauseNumbers, ClientNumbers, CommandNumbers, CommandTimes, ConfigNumbers,
-    LimitNumbers, Numbers, ProcessNumbers, ServerNumbers, SpanNumbers, families_of,
+    LimitNumbers, Numbers, ProcessNumbers, RefusalNumbers, ServerNumbers, SpanNumbers, families_of,
+    families_with_lines,
 };
 use watch_admin::prometheus::write_prometheus;
 
@@ -35,6 +35,9 @@ mcgate_generation 2
 mcgate_reloads_total{verdict="accepted"} 3
 mcgate_reloads_total{verdict="unchanged"} 4
 mcgate_reloads_total{verdict="refused"} 5
+# HELP mcgate_config_last_refused_timestamp_seconds When a text of its file was refused last, in seconds from the begin of 1970 on; 0 where none was.
+# TYPE mcgate_config_last_refused_timestamp_seconds gauge
+mcgate_config_last_refused_timestamp_seconds 1700000000.028
 # HELP mcgate_clients Clients that are there.
 # TYPE mcgate_clients gauge
 mcgate_clients 6
@@ -126,6 +129,7 @@ fn stats() -> &'static str {
 "mcgate_lost_lines_total":1,
 "mcgate_generation":2,
 "mcgate_reloads_total":[{"verdict":"accepted","value":3},{"verdict":"unchanged","value":4},{"verdict":"refused","value":5}],
+"mcgate_config_last_refused_timestamp_seconds":1700000000.028,
 "mcgate_clients":6,
 "mcgate_client_connections_total":[{"verdict":"accepted","value":7},{"verdict":"refused","value":8}],
 "mcgate_clients_closed_total":[{"cause":"ended","value":9},{"cause":"stalled","value":27}],
@@ -147,7 +151,8 @@ fn stats() -> &'static str {
 "mcgate_server_retry_seconds":[{"server":"\"a\\:1?","value":0.022}],
 "mcgate_server_calls_total":[{"server":"\"a\\:1?","outcome":"answered","value":18},{"server":"\"a\\:1?","outcome":"failed","value":19}],
 "mcgate_server_call_seconds":{"le":[{"server":"\"a\\:1?","le":"0.0001","value":10},{"server":"\"a\\:1?","le":"+Inf","value":18}],"sum":[{"server":"\"a\\:1?","value":3.004050}],"n":[{"server":"\"a\\:1?","value":18}]},
-"mcgate_scrapes_total":17}
+"mcgate_scrapes_total":17,
+"mcgate_config_last_refused":[{"line":"reload refused: too many places","value":1700000000.028}]}
 "#
 }
 
@@ -229,8 +234,8 @@ fn servers(alloc: Global) -> Result<Vec<ServerNumbers>, AllocError> {
     Ok(servers)
 }
 
-fn families(alloc: Global) -> Result<Vec<Family>, AllocError> {
-    let numbers = Numbers {
+fn numbers(alloc: Global) -> Result<Numbers, AllocError> {
+    Ok(Numbers {
         process: process(alloc)?,
         config: ConfigNumbers {
             generation: 2,
@@ -238,6 +243,10 @@ fn families(alloc: Global) -> Result<Vec<Family>, AllocError> {
             unchanged: 4,
             refused: 5,
         },
+        refusal: Some(RefusalNumbers {
+            line: String::from_str(alloc, "reload refused: too many places")?,
+            at_ms: 1_700_000_000_028,
+        }),
         clients: ClientNumbers {
             connected: 6,
             accepted: 7,
@@ -259,19 +268,20 @@ fn families(alloc: Global) -> Result<Vec<Family>, AllocError> {
         },
         servers: servers(alloc)?,
         scrapes: 17,
-    };
-    families_of(alloc, &numbers)
+    })
 }
 
 fn metrics_of(alloc: Global) -> io::Result<Vec<u8>> {
     let mut text = Vec::new(alloc);
-    write_prometheus(families(alloc)?.as_slice(), &mut text)?;
+    let families = families_of(alloc, &numbers(alloc)?)?;
+    write_prometheus(families.as_slice(), &mut text)?;
     Ok(text)
 }
 
 fn stats_of(alloc: Global) -> io::Result<Vec<u8>> {
     let mut text = Vec::new(alloc);
-    write_json(families(alloc)?.as_slice(), &mut text)?;
+    let families = families_with_lines(alloc, &numbers(alloc)?)?;
+    write_json(families.as_slice(), &mut text)?;
     Ok(text)
 }
 

@@ -116,6 +116,7 @@ function tell(now) {
   const refused = sum(now.mcgate_reloads_total, {verdict: "refused"});
   const lost = ["error", "other"].reduce((all, reply) => all + sum(now.mcgate_commands_total, {op: "delete", reply}), 0);
   if (refused) told.push("Texts of its file that were refused: " + number(refused) + ". What is in use may not be what the file says.");
+  now.mcgate_config_last_refused.forEach(row => told.push("The last one, at " + new Date(row.value * 1e3).toLocaleString() + ": " + row.line));
   if (lost) told.push("Deletes that weren't acknowledged: " + number(lost) + ".");
   const unknown = now.mcgate_server_unknown.filter(row => row.value).map(row => row.server);
   const many = sum(now.mcgate_client_connections_total, {verdict: "refused"});
