@@ -1,7 +1,12 @@
 //! What is counted and kept of a proxy that runs, besides what its end counts: what became of texts of its file, and what went wrong last
 //! at each server.
 
+ghost use Rattle.std.specs.Prelude.{◌≡◌, IfOk, string_bytes};
+ghost use Rattle.sha2.specs.Sha256.{sha256};
+ghost use Rattle.hex.specs.Hex.{encode_lower};
+
 use serve_links::LinkNews;
+use sha2::{Digest, Sha256};
 use std::alloc::{AllocError, Global};
 use watch_admin::numbers::{ConfigNumbers, RefusalNumbers};
 
@@ -58,6 +63,8 @@ struct Name {
 #[derive(Drop)]
 pub struct Seen {
     pub config: ConfigNumbers,
+    // The SHA-256 of the text in use.
+    sum: [u8; 32],
     // The last text of its file that was refused.
     refusal: Option<Refusal>,
     /// Whether its file couldn't be read when that was tried last.
@@ -81,6 +88,7 @@ impl Seen {
                 unchanged: 0,
                 refused: 0,
             },
+            sum: [0; 32],
             refusal: None,
             is_unread: false,
             names: Vec::new(alloc),
@@ -102,6 +110,20 @@ impl Seen {
             config.accepted = config.accepted.saturating_add(1);
         }
         config.generation = generation;
+    }
+
+    /// This text is in use from now on.
+    pub fn note_in_use(&mut self, text: &str)
+        ensures { self.new ≡ record self.old { sum = sha256 text.now } }
+    {
+        self.sum = Sha256::digest(text.as_bytes());
+    }
+
+    /// The SHA-256 of the text in use, in hexadecimal digits. The only error is that memory was refused.
+    pub fn sum(&self, alloc: Global) -> Result<String, AllocError>
+        ensures { IfOk result (λ digits. string_bytes digits ≡ encode_lower self.now.sum) }
+    {
+        hex::encode(alloc, &self.sum)
     }
 
     /// A text was refused at this time, in milliseconds from the begin of 1970 on, and this was said of it: the first line of that is kept, or its

@@ -310,6 +310,7 @@ impl<W: Wire + Drop> Serving<W> {
         let names = Names::of(rt.alloc(), &servers);
         let mut seen = seen;
         seen.config.generation = u64::from(before).saturating_add(1);
+        seen.note_in_use(text.as_str());
         Ok(Serving {
             end,
             servers,
@@ -1190,6 +1191,7 @@ impl<W: Listens> Serving<W> {
         let generation = self.generation.saturating_add(self.before);
         self.seen.note_text(generation, is_used);
         if is_used {
+            self.seen.note_in_use(text.as_str());
             self.text = text;
             self.refused = None;
             self.are_limited = false;

@@ -291,6 +291,7 @@ fn numbers_of<R: Files + AllocGlobal, W: Wire>(
             lost_lines: times.lost_lines,
         },
         config: seen.config,
+        config_sum: seen.sum(rt.alloc())?,
         refusal: seen.refusal(rt.alloc())?,
         clients: clients_of(end),
         departures: departures_of(rt.alloc(), end)?,

@@ -160,6 +160,8 @@ pub struct ServerNumbers {
 pub struct Numbers {
     pub process: ProcessNumbers,
     pub config: ConfigNumbers,
+    /// The SHA-256 of the text in use, in hexadecimal digits.
+    pub config_sum: String,
     pub refusal: Option<RefusalNumbers>,
     pub clients: ClientNumbers,
     /// How many of its clients have gone, a row for each cause.
@@ -292,11 +294,20 @@ fn refused_at(refusal: &Option<RefusalNumbers>) -> Amount {
 fn add_config(
     alloc: Global,
     config: &ConfigNumbers,
+    sum: &str,
     refusal: &Option<RefusalNumbers>,
     families: &mut Vec<Family>,
 ) -> Result<(), AllocError>
     ensures { OnOk result (AddsTo families.old.items families.new.items) }
 {
+    let mut texts = Vec::new(alloc);
+    texts.push(sample(alloc, "sha256", sum, 1)?)?;
+    families.push(each(
+        "mcgate_config_info",
+        MetricKind::Gauge,
+        "The text in use, by its sum.",
+        texts,
+    ))?;
     families.push(gauge(
         "mcgate_generation",
         "The configuration in use.",
@@ -861,7 +872,8 @@ pub fn families_of(alloc: Global, numbers: &Numbers) -> Result<Vec<Family>, Allo
 {
     let mut families = Vec::new(alloc);
     add_process(alloc, &numbers.process, &mut families)?;
-    add_config(alloc, &numbers.config, &numbers.refusal, &mut families)?;
+    let sum = numbers.config_sum.as_str();
+    add_config(alloc, &numbers.config, sum, &numbers.refusal, &mut families)?;
     let departures = numbers.departures.as_slice();
     add_clients(alloc, &numbers.clients, departures, &mut families)?;
     add_commands(alloc, numbers.commands.as_slice(), &mut families)?;

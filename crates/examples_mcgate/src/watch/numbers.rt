@@ -27,6 +27,9 @@ mcgate_resident_memory_bytes 4096
 # HELP mcgate_lost_lines_total Lines that could not be written to its outputs.
 # TYPE mcgate_lost_lines_total counter
 mcgate_lost_lines_total 1
+# HELP mcgate_config_info The text in use, by its sum.
+# TYPE mcgate_config_info gauge
+mcgate_config_info{sha256="5f2d"} 1
 # HELP mcgate_generation The configuration in use.
 # TYPE mcgate_generation gauge
 mcgate_generation 2
@@ -127,6 +130,7 @@ fn stats() -> &'static str {
 "mcgate_cpu_seconds_total":0.120,
 "mcgate_resident_memory_bytes":4096,
 "mcgate_lost_lines_total":1,
+"mcgate_config_info":[{"sha256":"5f2d","value":1}],
 "mcgate_generation":2,
 "mcgate_reloads_total":[{"verdict":"accepted","value":3},{"verdict":"unchanged","value":4},{"verdict":"refused","value":5}],
 "mcgate_config_last_refused_timestamp_seconds":1700000000.028,
@@ -243,6 +247,7 @@ fn numbers(alloc: Global) -> Result<Numbers, AllocError> {
             unchanged: 4,
             refused: 5,
         },
+        config_sum: String::from_str(alloc, "5f2d")?,
         refusal: Some(RefusalNumbers {
             line: String::from_str(alloc, "reload refused: too many places")?,
             at_ms: 1_700_000_000_028,

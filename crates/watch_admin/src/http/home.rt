@@ -28,7 +28,7 @@ li b { font-weight: 600 } li i { color: #666; font-style: normal }
 <table id="commands"></table>
 <h2>Clients and configurations</h2>
 <table id="others"></table>
-<h2>Tree</h2>
+<h2>Tree <small id="sum"></small></h2>
 <div id="tree"></div>
 <script>
 "use strict";
@@ -131,6 +131,7 @@ function show(now, then, seconds) {
   const version = now.mcgate_build_info[0].version;
   at("about").textContent = "version " + version + ", up " + number(now.mcgate_uptime_seconds) + " s, "
     + bytes(now.mcgate_resident_memory_bytes) + " in use, " + Math.round(100 * rate(now.mcgate_cpu_seconds_total, then.mcgate_cpu_seconds_total || 0, seconds)) + " % of a processor";
+  at("sum").textContent = "SHA-256 " + now.mcgate_config_info[0].sha256;
   tell(now);
   fill("servers", ["server", "state", "answers/s", "failed/s", "half took", "99 % took", "calls out", "failures so far"],
     now.mcgate_server_up.map(row => serverRow(now, then, seconds, row.server)));
