@@ -238,6 +238,7 @@ fn server_of<W: Wire>(
         failures: failures_by_cause(alloc, link)?,
         answered: calls.answered,
         failed: calls.failed,
+        unsent: link.tally.unsent,
         answer_micros: calls.micros,
         spans: spans_of(alloc, calls.spans())?,
     }))

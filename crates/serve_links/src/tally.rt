@@ -43,6 +43,8 @@ pub struct LinkTally {
     pub stood: u64,
     /// How often a call of it was late.
     pub late: u64,
+    /// How many calls of it have failed that never went out.
+    pub unsent: u64,
     // How often it failed for each cause.
     failed: [u64; 8],
 }
@@ -144,6 +146,7 @@ impl LinkTally {
         LinkTally {
             stood: 0,
             late: 0,
+            unsent: 0,
             failed: [0; 8],
         }
     }
@@ -156,6 +159,11 @@ impl LinkTally {
     /// A call of it is late.
     pub fn note_late(&mut self) {
         self.late = self.late.saturating_add(1);
+    }
+
+    /// So many calls of it have failed that never went out.
+    pub fn note_unsent(&mut self, count: usize) {
+        self.unsent = self.unsent.saturating_add(count as u64);
     }
 
     /// It failed.

@@ -105,7 +105,9 @@ fn begin_call<W: Wire>(core: &mut ServedCore, sockets: &mut Sockets<W>, at: usiz
 fn refuse_call<W: Wire>(core: &mut ServedCore, sockets: &mut Sockets<W>, id: usize, ticket: Ticket)
     ensures ends { AllSendFrom (AgreesDue ticket.number) W.history core.old sockets.old core.new sockets.new }
 {
+    let at = ticket.server.number() as usize;
     fail_call(core, ticket);
+    sockets.links.note_unsent(at, 1);
     sockets.clients.mark_settled(id);
 }
 

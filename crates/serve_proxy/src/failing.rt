@@ -25,6 +25,14 @@ const LATE_READS: usize = 1_024;
 pub fn fail_link<W: Wire>(core: &mut ServedCore, sockets: &mut Sockets<W>, at: usize, cause: Cause)
     ensures ends { AllGiveUp at cause W.history core.old sockets.old core.new sockets.new }
 {
+    let waiting = sockets.links.waiting(at);
+    leave_link(core, sockets, at, cause);
+    sockets.links.note_unsent(at, waiting)
+}
+
+fn leave_link<W: Wire>(core: &mut ServedCore, sockets: &mut Sockets<W>, at: usize, cause: Cause)
+    ensures ends { AllGiveUp at cause W.history core.old sockets.old core.new sockets.new }
+{
     if !cause.drains() {
         return shut_link(core, sockets, at, cause);
     }

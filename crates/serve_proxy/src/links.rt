@@ -593,6 +593,15 @@ impl Links {
         }
     }
 
+    /// So many calls of it have failed that never went out.
+    pub fn note_unsent(&mut self, at: usize, count: usize)
+        ensures lines { link_lines self.new.all.items ≡ link_lines self.old.all.items }
+    {
+        if let Some(link) = self.all.get_mut(at) {
+            link.tally.note_unsent(count);
+        }
+    }
+
     /// Of the calls that wait for it the first that may go out.
     pub fn next_waiting(&mut self, at: usize, clients: &serve_clients::Clients) -> Option<SentCall>
         ensures call { MatchOption result (link_lines self.new.all.items ≡ link_lines self.old.all.items) (λ call. LinksGive at call self.old.all.items self.new.all.items) }

@@ -149,6 +149,8 @@ pub struct ServerNumbers {
     pub answered: u64,
     /// How many have failed.
     pub failed: u64,
+    /// How many have failed that never went out.
+    pub unsent: u64,
     /// How long those took altogether that were answered.
     pub answer_micros: u64,
     /// How many of them took how long, the shortest ones first.
@@ -642,18 +644,27 @@ fn failures_of(alloc: Global, servers: &[ServerNumbers]) -> Result<Vec<Sample>, 
     Ok(samples)
 }
 
-// How many calls of a server that went out were answered, and how many have failed.
+// A number of a server's calls that ended so.
+fn outcome_sample(
+    alloc: Global,
+    server: &ServerNumbers,
+    outcome: &'static str,
+    count: u64,
+) -> Result<Sample, AllocError> {
+    let mut ended = server_sample(alloc, server, count)?;
+    ended.labels.push(label(alloc, "outcome", outcome)?)?;
+    Ok(ended)
+}
+
+// How many calls of a server that went out were answered, and how many have failed, and how many have that never went out.
 fn add_outcomes(
     alloc: Global,
     server: &ServerNumbers,
     samples: &mut Vec<Sample>,
 ) -> Result<(), AllocError> {
-    let mut answered = server_sample(alloc, server, server.answered)?;
-    answered.labels.push(label(alloc, "outcome", "answered")?)?;
-    samples.push(answered)?;
-    let mut failed = server_sample(alloc, server, server.failed)?;
-    failed.labels.push(label(alloc, "outcome", "failed")?)?;
-    samples.push(failed)?;
+    samples.push(outcome_sample(alloc, server, "answered", server.answered)?)?;
+    samples.push(outcome_sample(alloc, server, "failed", server.failed)?)?;
+    samples.push(outcome_sample(alloc, server, "unsent", server.unsent)?)?;
     Ok(())
 }
 
@@ -709,7 +720,7 @@ fn spread_of(alloc: Global, servers: &[ServerNumbers]) -> Result<Spread, AllocEr
     Ok(spread)
 }
 
-// The calls of servers that went out.
+// The calls of servers, and how long their answers took.
 fn add_calls(
     alloc: Global,
     servers: &[ServerNumbers],
@@ -720,7 +731,7 @@ fn add_calls(
     families.push(each(
         "mcgate_server_calls_total",
         MetricKind::Counter,
-        "Calls that went out to the server, by what became of them.",
+        "Calls of the server that have ended, by what became of them; those unsent have failed and never went out.",
         outcomes_of(alloc, servers)?,
     ))?;
     families.push(Family {

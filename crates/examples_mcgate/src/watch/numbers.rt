@@ -108,10 +108,11 @@ mcgate_server_fail_limit{server="\"a\\:1?"} 21
 # HELP mcgate_server_retry_seconds For how long they do, before one call tries it.
 # TYPE mcgate_server_retry_seconds gauge
 mcgate_server_retry_seconds{server="\"a\\:1?"} 0.022
-# HELP mcgate_server_calls_total Calls that went out to the server, by what became of them.
+# HELP mcgate_server_calls_total Calls of the server that have ended, by what became of them; those unsent have failed and never went out.
 # TYPE mcgate_server_calls_total counter
 mcgate_server_calls_total{server="\"a\\:1?",outcome="answered"} 18
 mcgate_server_calls_total{server="\"a\\:1?",outcome="failed"} 19
+mcgate_server_calls_total{server="\"a\\:1?",outcome="unsent"} 29
 # HELP mcgate_server_call_seconds How long the server's answers took, from when the call went out.
 # TYPE mcgate_server_call_seconds histogram
 mcgate_server_call_seconds_bucket{server="\"a\\:1?",le="0.0001"} 10
@@ -153,7 +154,7 @@ fn stats() -> &'static str {
 "mcgate_server_connect_limit_seconds":[{"server":"\"a\\:1?","value":60.020}],
 "mcgate_server_fail_limit":[{"server":"\"a\\:1?","value":21}],
 "mcgate_server_retry_seconds":[{"server":"\"a\\:1?","value":0.022}],
-"mcgate_server_calls_total":[{"server":"\"a\\:1?","outcome":"answered","value":18},{"server":"\"a\\:1?","outcome":"failed","value":19}],
+"mcgate_server_calls_total":[{"server":"\"a\\:1?","outcome":"answered","value":18},{"server":"\"a\\:1?","outcome":"failed","value":19},{"server":"\"a\\:1?","outcome":"unsent","value":29}],
 "mcgate_server_call_seconds":{"le":[{"server":"\"a\\:1?","le":"0.0001","value":10},{"server":"\"a\\:1?","le":"+Inf","value":18}],"sum":[{"server":"\"a\\:1?","value":3.004050}],"n":[{"server":"\"a\\:1?","value":18}]},
 "mcgate_scrapes_total":17,
 "mcgate_config_last_refused":[{"line":"reload refused: too many places","value":1700000000.028}]}
@@ -232,6 +233,7 @@ fn servers(alloc: Global) -> Result<Vec<ServerNumbers>, AllocError> {
         failures,
         answered: 18,
         failed: 19,
+        unsent: 29,
         answer_micros: 3_004_050,
         spans: spans(alloc)?,
     })?;

@@ -18,7 +18,8 @@ use std::time::Duration;
 
 // Far ends have names that are numbers. `peer` begins the script of one, which then calls at a time or answers the next connection to a
 // host. `proxy` looks up the servers of its configuration and begins. `news` are those since they were asked for last. `times` are how many
-// commands ended in how many microseconds, and how many of these took how long. `gone` are how many clients have gone for what.
+// commands ended in how many microseconds, and how many of these took how long. `gone` are how many clients have gone for what, and `unsent` how many
+// calls of a server have failed that never went out.
 fn texts() -> &'static str {
     r"Bytes come cut anywhere, and go out by the piece.
 host 127.0.0.1:5001
@@ -151,6 +152,7 @@ taken 1 => END\r\nSERVER_ERROR call failed\r\nSERVER_ERROR call failed\r\nVALUE 
 open 9 => yes
 taken 9 => get a\r\nget b\r\nget d\r\n
 news => server 0: connected; server 0: late: a call took too long; server 0: back
+unsent 0 => 1
 
 All calls that are out fail when one is late, and all of their answers have to come, however they are cut.
 host 127.0.0.1:5001
@@ -176,6 +178,7 @@ proxy <one server>
 turn 60
 taken 1 => SERVER_ERROR call failed\r\nSERVER_ERROR call failed\r\nSERVER_ERROR call failed\r\nEND\r\n
 taken 9 => get a\r\nget b\r\nget d\r\n
+unsent 0 => 1
 
 A late answer may come with the next one behind it, and what is no answer to the late call isn't one to the next.
 host 127.0.0.1:5001
@@ -288,6 +291,7 @@ open 8 => no
 taken 8 => get a\r\nget b\r\n
 taken 9 => get e\r\n
 news => server 0: connected; server 0: failed: it sent what is no answer to the oldest call, 1 in a row; server 0: back
+unsent 0 => 2
 
 The end of a connection that doesn't come, and late answers that don't: with a bound both are given up, and calls go to a new connection.
 host 127.0.0.1:5001
@@ -1301,6 +1305,15 @@ impl Scripted<'_> {
         Ok(text)
     }
 
+    // How many calls of the server of this number have failed that never went out.
+    fn unsent(&mut self, text: &str) -> Result<String, Fail> {
+        let count = match self.proxy()?.link(text.parse::<usize>()?) {
+            Some(link) => link.tally.unsent,
+            None => 0,
+        };
+        Ok(format!(in self.rt.alloc(); "{count}")?)
+    }
+
     fn times(&mut self) -> Result<String, Fail> {
         let times = self.proxy()?.command_times();
         let mut text = format!(in self.rt.alloc(); "{} in {}:", times.answered, times.micros)?;
@@ -1347,6 +1360,7 @@ impl Stage for Scripted<'_> {
             "news" => Ok(self.news()),
             "times" => self.times(),
             "gone" => self.gone(),
+            "unsent" => self.unsent(text),
             _ => {
                 self.set(verb, text)?;
                 Ok(String::new(alloc))

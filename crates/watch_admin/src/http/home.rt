@@ -98,7 +98,7 @@ function causes(rows, labels) {
 function serverRow(now, then, seconds, server) {
   const how = state(now, server);
   const grown = outcome => rate(sum(now.mcgate_server_calls_total, {server, outcome}), sum(then.mcgate_server_calls_total, {server, outcome}), seconds);
-  const failed = grown("failed");
+  const failed = grown("failed") + grown("unsent");
   return [server, [how, how], number(grown("answered")), [number(failed), failed ? "down" : ""], ...answers(spans(now, then, "mcgate_server_call_seconds", {server})),
     number(sum(now.mcgate_server_calls_out, {server})), causes(now.mcgate_server_failures_total, {server})];
 }
