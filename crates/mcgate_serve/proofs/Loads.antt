@@ -44,7 +44,7 @@ of_turn (Greeted at dialect bytes) is = tt
 of_turn (Late at number limit now) is = tt
 of_turn (CameLate at number ask answer bytes) is = tt
 of_turn (Spelled at number ask answer bytes) is = tt
-of_turn (Lost at why) is = is
+of_turn (Lost at why limit) is = is
 
 each_of_turn : (steps : List Step) → StepsAreOf IsOfTurn steps → StepsAreOf IsServeStep steps
 each_of_turn [] kinds = tt

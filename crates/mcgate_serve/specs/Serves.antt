@@ -37,7 +37,7 @@ IsServeStep (Greeted at dialect bytes) = Unit {0}
 IsServeStep (Late at number limit now) = Unit {0}
 IsServeStep (CameLate at number ask answer bytes) = Unit {0}
 IsServeStep (Spelled at number ask answer bytes) = Unit {0}
-IsServeStep (Lost at why) = IsSome why
+IsServeStep (Lost at why limit) = IsSome why
 
 -- a proxy's core, and the ends of clients and servers beside it, over a wire of this history
 abbrev pub proxy_of : {W : Type 0} → (W → List WireEvent) → ProxyEnd W → AnEnd

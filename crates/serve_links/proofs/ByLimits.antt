@@ -6,18 +6,18 @@ use Rattle.serve_links.specs.declared.settings.LinkLimits.{LinkLimits}
 use Rattle.serve_links.specs.declared.link.Link.{Link}
 use Rattle.serve_links.specs.CoreSteps.{Step, Opened, NotOpened, Fed, Polled, Stopped, Settled, Gave, Closed, LeftLine, Broke, Ticked, Loaded, Linked, Asked, Greeted, Spelled, Late, CameLate, Lost, StepsAreOf}
 use Rattle.serve_links.specs.Talks.{IsOfClients, IsOfServer}
-use Rattle.serve_links.specs.Story.{address_and_limits, servers_of, most_of, IsByLimit, KeepsServer, KeepsServers}
+use Rattle.serve_links.specs.Story.{opening_of, address_and_limits, place_of, servers_of, most_of, IsByLimit, KeepsServer, KeepsServers}
 use Rattle.serve_links.proofs.Talking.{clients_plain}
 use Rattle.serve_links.proofs.Walked.{of_both}
 use Rattle.serve_links.proofs.Showing.{IsUnlost, plain_unlost}
 
 -- steps by which no call is late
-pub unlost_late : (most : ℕ → Option ℕ) (steps : List Step) → StepsAreOf IsUnlost steps → StepsAreOf (IsByLimit most) steps
+pub unlost_late : (most : ℕ → Option LinkLimits) (steps : List Step) → StepsAreOf IsUnlost steps → StepsAreOf (IsByLimit most) steps
 unlost_late most [] kinds = tt
 unlost_late most (step ∷ steps) kinds = (by step kinds.0, unlost_late most steps kinds.1)
   where
     by : (s : Step) → IsUnlost s → IsByLimit most s
-    by (Lost at why) is = tt
+    by (Lost at why limit) is = absurd is
     by (Opened client) is = tt
     by (NotOpened fault) is = tt
     by (Fed client piece) is = tt
@@ -38,12 +38,15 @@ unlost_late most (step ∷ steps) kinds = (by step kinds.0, unlost_late most ste
     by (Spelled at number ask answer bytes) is = tt
 
 -- steps of one server, of which both say the same
-own_late : (most most' : ℕ → Option ℕ) (i : ℕ) (steps : List Step) → most' i ≡ most i → StepsAreOf (IsOfServer i) steps → StepsAreOf (IsByLimit most) steps → StepsAreOf (IsByLimit most') steps
+own_late : (most most' : ℕ → Option LinkLimits) (i : ℕ) (steps : List Step) → most' i ≡ most i → StepsAreOf (IsOfServer i) steps → StepsAreOf (IsByLimit most) steps → StepsAreOf (IsByLimit most') steps
 own_late most most' i [] same own late = tt
 own_late most most' i (step ∷ steps) same own late = (by step own.0 late.0, own_late most most' i steps same own.1 late.1)
   where
+    its_limit : (of : LinkLimits → ℕ) (at limit : ℕ) → at ≡ i → option_map of (most at) ≡ Some limit → option_map of (most' at) ≡ Some limit
+    its_limit of at limit its is = ap (option_map of) (ap most' its ∙ same ∙ sym (ap most its)) ∙ is
+
     by : (s : Step) → IsOfServer i s → IsByLimit most s → IsByLimit most' s
-    by (Lost at why) its is = tt
+    by (Lost at why limit) its is = its_limit (λ (limits : LinkLimits). limits.connect_ms) at limit its is
     by (Opened client) its is = tt
     by (NotOpened fault) its is = tt
     by (Fed client piece) its is = tt
@@ -59,7 +62,7 @@ own_late most most' i (step ∷ steps) same own late = (by step own.0 late.0, ow
     by (Linked at dialect) its is = tt
     by (Asked at number dialect ask since) its is = tt
     by (Greeted at dialect bytes) its is = tt
-    by (Late at number limit now) its is = ap most' its ∙ same ∙ sym (ap most its) ∙ is
+    by (Late at number limit now) its is = its_limit (λ (limits : LinkLimits). limits.call_ms) at limit its is
     by (CameLate at number ask answer bytes) its is = tt
     by (Spelled at number ask answer bytes) its is = tt
 
@@ -71,11 +74,22 @@ same_server x y text limits = ap (λ (t : List ℕ). let s : List ℕ × LinkLim
 pub same_text : (x y : Link) → address_and_limits y ≡ address_and_limits x → y.text.items ≡ x.text.items
 same_text x y same = ap (λ (s : List ℕ × LinkLimits). s.0) same
 
+-- and since when it has its connection, too
+pub same_place : (x y : Link) → y.text.items ≡ x.text.items → y.limits ≡ x.limits → y.opened ≡ x.opened → place_of y ≡ place_of x
+same_place x y text limits opened =
+    ap (λ (s : List ℕ × LinkLimits). let p : (List ℕ × LinkLimits) × ℕ = (s, y.opened) in p) (same_server x y text limits) ∙ ap (λ (t : ℕ). let p : (List ℕ × LinkLimits) × ℕ = (address_and_limits x, t) in p) opened
+
+pub place_server : (x y : Link) → place_of y ≡ place_of x → address_and_limits y ≡ address_and_limits x
+place_server x y same = ap (λ (p : (List ℕ × LinkLimits) × ℕ). p.0) same
+
+pub same_opening : (x y : Link) → place_of y ≡ place_of x → opening_of y ≡ opening_of x
+same_opening x y same = ap (λ (p : (List ℕ × LinkLimits) × ℕ). let o : List ℕ × ℕ = (p.0.0, p.1) in o) same
+
 -- one after another
 pub server_then : (first later : List Step) (x y z : Link) → KeepsServer first x y → KeepsServer later y z → KeepsServer (later ++ first) x z
 server_then first later x y z g k = record {
   same = k.same ∙ g.same;
-  late = of_both (IsByLimit (λ at. Some x.limits.call_ms)) later first (subst (λ (s : List ℕ × LinkLimits). StepsAreOf (IsByLimit (λ at. Some s.1.call_ms)) later) g.same k.late) g.late;
+  late = of_both (IsByLimit (λ at. Some x.limits)) later first (subst (λ (s : List ℕ × LinkLimits). StepsAreOf (IsByLimit (λ at. Some s.1)) later) g.same k.late) g.late;
 }
 
 -- ---- all links
@@ -94,15 +108,15 @@ servers_then first later xs ys zs g k = record {
 pub clients_servers : (steps : List Step) (xs ys : List Link) → StepsAreOf IsOfClients steps → servers_of ys ≡ servers_of xs → KeepsServers steps xs ys
 clients_servers steps xs ys own same = record { same = same; late = unlost_late (most_of (servers_of xs)) steps (plain_unlost steps (clients_plain steps own)) }
 
-most_there : (links : List Link) (at : ℕ) (x : Link) → slice_get links at ≡ Some x → most_of (servers_of links) at ≡ Some x.limits.call_ms
+most_there : (links : List Link) (at : ℕ) (x : Link) → slice_get links at ≡ Some x → most_of (servers_of links) at ≡ Some x.limits
 most_there [] at x is = absurd (none_some is)
   where
     none_some : None ≡ Some x → ⊥
     none_some e = cc
-most_there (link ∷ links) zero x is = ap (option_map (λ (l : Link). l.limits.call_ms)) is
+most_there (link ∷ links) zero x is = ap (option_map (λ (l : Link). l.limits)) is
 most_there (link ∷ links) (suc at) x is = most_there links at x is
 
 -- by those of one of them
 pub line_servers :
     (at : ℕ) (steps : List Step) (old new : List Link) (x y : Link) → slice_get old at ≡ Some x → servers_of new ≡ servers_of old → StepsAreOf (IsOfServer at) steps → KeepsServer steps x y → KeepsServers steps old new
-line_servers at steps old new x y was same own g = record { same = same; late = own_late (λ i. Some x.limits.call_ms) (most_of (servers_of old)) at steps (most_there old at x was) own g.late }
+line_servers at steps old new x y was same own g = record { same = same; late = own_late (λ i. Some x.limits) (most_of (servers_of old)) at steps (most_there old at x was) own g.late }

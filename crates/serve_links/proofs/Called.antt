@@ -116,7 +116,7 @@ step_goes (Late at number limit now) past old new was does = (keep (Late at numb
 step_goes (CameLate at number ask answer bytes) past old new was does = (keep (CameLate at number ask answer bytes) past new (λ n. refl) (stayed past old new was does), tt)
 step_goes (Spelled at number ask answer bytes) past old new was does =
     (keep (Spelled at number ask answer bytes) past new (λ n. refl) (stayed past old new was does.0), tt)
-step_goes (Lost at why) past old new was does = (keep (Lost at why) past new (λ n. refl) (stayed past old new was does), tt)
+step_goes (Lost at why limit) past old new was does = (keep (Lost at why limit) past new (λ n. refl) (stayed past old new was does), tt)
 
 walk_tells : (steps past : List Step) (old new : ServedCore) → TellsCallsOut past old → Walks steps old new → TellsCallsOut (steps ++ past) new × GiveOnce steps past
 walk_tells [] past old new was same = (stayed past old new was same, tt)

@@ -94,7 +94,7 @@ due_out (Greeted at dialect bytes ∷ past) n call is = due_out past n call is
 due_out (Late at number limit now ∷ past) n call is = due_out past n call is
 due_out (CameLate at number ask answer bytes ∷ past) n call is = due_out past n call is
 due_out (Spelled at number ask answer bytes ∷ past) n call is = due_out past n call is
-due_out (Lost at why ∷ past) n call is = due_out past n call is
+due_out (Lost at why limit ∷ past) n call is = due_out past n call is
 
 -- but for these calls all are out that were, given out when they were, and still to be asked that were
 abbrev pub KeepsBut : List SaidAsk → List Step → List Step → Type 0
@@ -423,7 +423,7 @@ out_called (Spelled i number ask answer bytes ∷ past) at o =
 out_called (Late i number limit now ∷ past) at o = less_out past (Late i number limit now ∷ past) at (λ n. refl) (λ n. refl) (λ n. refl) (out_by (nat_eq i at) (talk_in past at) (turned_late (talk_in past at)) (inr (inl refl))) (out_called past at o.1)
 out_called (CameLate i number ask answer bytes ∷ past) at o =
     less_out past (CameLate i number ask answer bytes ∷ past) at (λ n. refl) (λ n. refl) (λ n. refl) (out_by (nat_eq i at) (talk_in past at) (with_late bytes (talk_in past at)) (inl refl)) (out_called past at o.1)
-out_called (Lost i why ∷ past) at o = less_out past (Lost i why ∷ past) at (λ n. refl) (λ n. refl) (λ n. refl) (out_by (nat_eq i at) (talk_in past at) (given_up why (talk_in past at)) (inr (inr refl))) (out_called past at o.1)
+out_called (Lost i why limit ∷ past) at o = less_out past (Lost i why limit ∷ past) at (λ n. refl) (λ n. refl) (λ n. refl) (out_by (nat_eq i at) (talk_in past at) (given_up why (talk_in past at)) (inr (inr refl))) (out_called past at o.1)
 out_called (Settled number outcome ∷ past) at o = still (talk_in past at).out (o.0.0.nowhere at) (out_called past at o.1)
   where
     still : (l : List SaidAsk) → IsNotAmong number l → AreCalled past at l → AreCalled (Settled number outcome ∷ past) at l
@@ -479,7 +479,7 @@ clients_stay at (step ∷ steps) kinds past once = λ n ask is.
     by (Late i number limit now) is before once = absurd is
     by (CameLate i number ask answer bytes) is before once = absurd is
     by (Spelled i number ask answer bytes) is before once = absurd is
-    by (Lost i why) is before once = absurd is
+    by (Lost i why limit) is before once = absurd is
 
 -- ---- a call that was given out
 
@@ -523,7 +523,7 @@ given_after (Greeted i dialect bytes) past virtual ticket real may was = was
 given_after (Late i number limit now) past virtual ticket real may was = was
 given_after (CameLate i number ask answer bytes) past virtual ticket real may was = was
 given_after (Spelled i number ask answer bytes) past virtual ticket real may was = was
-given_after (Lost i why) past virtual ticket real may was = was
+given_after (Lost i why limit) past virtual ticket real may was = was
 
 -- with it and without it all was in order: it is still to be asked, and without it none of its number is out
 given_out :

@@ -65,7 +65,7 @@ none_awaited x c was none alone off some =
     is_foreign x c was (subst (λ o. IsForeign o (said_late x.late.items ++ said_asks x.calls.sent.items) c.held.items) (sym off) sent)
 
 -- a link that agrees shows that
-shows : (at : ℕ) (past : List Step) (h : List WireEvent) (y : Link) (conn : Conn) → y.conn ≡ Some conn → LineAgrees at past h y → LineIsForeign y → ShowsWhy (Some causes.Foreign) (talk_in past at) conn.number h
+shows : (at : ℕ) (past : List Step) (h : List WireEvent) (y : Link) (conn : Conn) → y.conn ≡ Some conn → LineAgrees at past h y → LineIsForeign y → ShowsWhy (Some causes.Foreign) y.limits.connect_ms (talk_in past at) conn.number h
 shows at past h y conn there a is =
     let t = a.conn conn there in
     let held : IsForeign y.awaits_dialect (said_late y.late.items ++ said_asks y.calls.sent.items) conn.held.items =

@@ -95,7 +95,7 @@ step_keeps (Linked at greeting) past log i conns steps may was =
     linked (nat_eq at i) (talk_in past i) conns (pipe_of only_line steps 0 i) greeting (λ same. was.0 (subst (λ j. (talk_in past j).stands ≡ Apart) (eqb-true at i same) may)) was
 step_keeps (Asked at number spoken ask since) past log i conns steps may was =
     asked (nat_eq at i) (talk_in past i) (with_ask number spoken ask since (talk_in past i)) conns (pipe_of only_line steps 0 i) (record { number = number; ask = ask; origin = out_origin log at number }) refl was
-step_keeps (Lost at why) past log i conns steps may was = lost (standing_after why) at i (talk_in past i) (given_up why (talk_in past i)) conns steps refl was
+step_keeps (Lost at why limit) past log i conns steps may was = lost (standing_after why) at i (talk_in past i) (given_up why (talk_in past i)) conns steps refl was
 step_keeps (Greeted at spoken bytes) past log i conns steps may was = stays (nat_eq at i) (talk_in past i) (greeted spoken bytes (talk_in past i)) conns (pipe_of only_line steps 0 i) refl was
 step_keeps (Late at number limit now) past log i conns steps may was = stays (nat_eq at i) (talk_in past i) (turned_late (talk_in past i)) conns (pipe_of only_line steps 0 i) refl was
 step_keeps (CameLate at number ask answer bytes) past log i conns steps may was = stays (nat_eq at i) (talk_in past i) (with_late bytes (talk_in past i)) conns (pipe_of only_line steps 0 i) refl was
@@ -212,7 +212,7 @@ moments_ended InUse at steps = refl
 moments_ended Ending at steps = refl
 
 moments_step : (step : Step) (log : List (Entry dialect)) (steps : List pipes.PipeStep) → moments_of (with_step step log steps) ≡ moments_of steps
-moments_step (Lost at why) log steps = moments_ended (standing_after why) at steps
+moments_step (Lost at why limit) log steps = moments_ended (standing_after why) at steps
 moments_step (Linked at greeting) log steps = refl
 moments_step (Asked at number spoken ask since) log steps = refl
 moments_step (Opened client) log steps = refl
@@ -362,7 +362,7 @@ module _ (first : ServedCore) (believes : ℕ → List ℕ → Option Item) (tel
   order_step (Asked at number spoken ask since) past mid leads applied may order =
       let way = call_way mid believes (log_of past) (led_along past mid leads) number at ask ((tells_along past mid leads).calls number (at, ask) (due_out (walk_of past) number (at, ask) may.1)) in
       ((way.0, ap (λ (l : List Moment). under_way (seen l) number) (same_moments past) ∙ same_way past applied number ∙ way.1, way.2), order)
-  order_step (Lost at why) past mid leads applied may order = order_ended (standing_after why) at (as_pipes past) order
+  order_step (Lost at why limit) past mid leads applied may order = order_ended (standing_after why) at (as_pipes past) order
   order_step (Linked at greeting) past mid leads applied may order = order
   order_step (Opened client) past mid leads applied may order = order
   order_step (NotOpened fault) past mid leads applied may order = order

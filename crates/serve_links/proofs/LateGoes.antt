@@ -26,10 +26,10 @@ use Rattle.serve_links.specs.Lateness.{IsLate, HasLate, HasOneLate, awaits_store
 use Rattle.serve_links.specs.CoreSteps.{Step, Settled, Late, CameLate, IsOfTurn, IsSending}
 use Rattle.serve_links.specs.Dialects.{SpellsIn}
 use Rattle.serve_links.specs.Talks.{SaidAsk, Talk, HasWaited, behind, first_of_asks, turned_late, with_late, talk_in, IsNotAmong, AreDue, AreCalled, MaySettle, IsOrderly, IsFirstOut, IsNextLate}
-use Rattle.serve_links.specs.Story.{said_asks, said_late, MayAllGo, TalkAgrees, LineAgrees, LineGoes, address_and_limits, LineState, line_of}
+use Rattle.serve_links.specs.Story.{said_asks, said_late, MayAllGo, TalkAgrees, LineAgrees, LineGoes, opening_of, place_of, LineState, line_of}
 use Rattle.serve_links.proofs.Talking.{calls_later}
 use Rattle.serve_links.proofs.Due.{due_stays, called_stays, keeps_settled, SentGone, sent_gone, own_nowhere}
-use Rattle.serve_links.proofs.ByLimits.{same_text}
+use Rattle.serve_links.proofs.ByLimits.{place_server, same_opening}
 use Rattle.serve_links.proofs.Showing.{none_since, shown_later}
 use Rattle.serve_links.specs.Shut.{drain_of}
 use Rattle.serve_links.proofs.Shutting.{conn_is, conns_same, shut_still}
@@ -47,7 +47,7 @@ conn_state c = (c.number, c.held.items, bytes_of c.unsent)
 pub late_kept : (x y : Link) → y ≡ record x { late = y.late } → y.late.items ≡ x.late.items → line_of y ≡ line_of x
 late_kept x y is late =
     ap line_of is
-    ∙ ap (λ (l : List LateCall). let s : LineState = (address_and_limits x, option_map {U = ℕ × List ℕ × List ℕ} conn_state x.conn, said_asks x.calls.sent.items, x.waiting.items, x.awaits_dialect, x.dialect, said_late l, drain_of x) in s) late
+    ∙ ap (λ (l : List LateCall). let s : LineState = (place_of x, option_map {U = ℕ × List ℕ × List ℕ} conn_state x.conn, said_asks x.calls.sent.items, x.waiting.items, x.awaits_dialect, x.dialect, said_late l, drain_of x) in s) late
 
 pub some_conn : (o : Option Conn) → is_some o ≡ true → (c : Conn) × (o ≡ Some c)
 some_conn None is = absurd (false_true is)
@@ -152,11 +152,11 @@ late_still now x y call core core' client limits first late settles has = subst 
 -- ---- a call that is late
 
 talk_turns :
-    (h : List WireEvent) (at : ℕ) (text : List ℕ) (t : Talk) (c : ℕ) (held unsent : List ℕ) (first : SaidAsk) (rest late : List SaidAsk) (awaits : Option Greeting) (dialect : Dialect)
-    → TalkAgrees h at text t c held unsent (first ∷ rest) awaits dialect late → TalkAgrees h at text (turned_late t) c held unsent rest awaits dialect (late ++ first ∷ [])
-talk_turns h at text t c held unsent first rest late awaits dialect was = record {
+    (h : List WireEvent) (at : ℕ) (begun : List ℕ × ℕ) (t : Talk) (c : ℕ) (held unsent : List ℕ) (first : SaidAsk) (rest late : List SaidAsk) (awaits : Option Greeting) (dialect : Dialect)
+    → TalkAgrees h at begun t c held unsent (first ∷ rest) awaits dialect late → TalkAgrees h at begun (turned_late t) c held unsent rest awaits dialect (late ++ first ∷ [])
+talk_turns h at begun t c held unsent first rest late awaits dialect was = record {
   is_to = was.is_to;
-  address = was.address;
+  begun_is = was.begun_is;
   sent_is = was.sent_is;
   told_is = was.told_is;
   out_is = ap behind was.out_is;
@@ -167,10 +167,10 @@ talk_turns h at text t c held unsent first rest late awaits dialect was = record
 
 -- the first call that is out fails, and keeps its place
 turns :
-    {at : ℕ} {core core' : ServedCore} {h : List WireEvent} (x y : Link) (c : Conn) (call : SentCall) (rest : List SentCall) → x.conn ≡ Some c → y.conn ≡ x.conn → y.draining ≡ x.draining → address_and_limits y ≡ address_and_limits x → y.waiting.items ≡ x.waiting.items
+    {at : ℕ} {core core' : ServedCore} {h : List WireEvent} (x y : Link) (c : Conn) (call : SentCall) (rest : List SentCall) → x.conn ≡ Some c → y.conn ≡ x.conn → y.draining ≡ x.draining → place_of y ≡ place_of x → y.waiting.items ≡ x.waiting.items
     → y.awaits_dialect ≡ x.awaits_dialect → y.dialect ≡ x.dialect → x.calls.sent.items ≡ call ∷ rest → y.calls.sent.items ≡ rest → y.late.items ≡ x.late.items ++ as_late call ∷ []
     → IsSettled core call.ticket.number Failed core' → HasOneLate (time h) x → LineGoes IsSending at core h x core' h y
-turns {at} {core} {core'} {h} x y c call rest was same draining server waiting awaits speaks sent left late settled waited = record {
+turns {at} {core} {core'} {h} x y c call rest was same draining place waiting awaits speaks sent left late settled waited = record {
   steps = steps;
   kinds = (refl, (tt, tt));
   own = (tt, (refl, tt));
@@ -178,7 +178,7 @@ turns {at} {core} {core'} {h} x y c call rest was same draining server waiting a
   agrees = λ past o tells a. let late_now : IsOrderly (step ∷ past) = ((first past a, has_waited past a), o) in (((settles past a late_now, tt), late_now), agreed past a, all_kept (1, at) h h (quiet h), (others past a).others);
   shown = λ past o tells a shown. (tt, ((h, none_since h, refl), shown));
   shut = shut_still (quiet h) (conns_same x y same draining);
-  server = record { same = server; late = (tt, (refl, tt)) };
+  server = record { same = place_server x y place; late = (tt, (refl, tt)) };
 }
   where
     step : Step
@@ -215,17 +215,17 @@ turns {at} {core} {core'} {h} x y c call rest was same draining server waiting a
     agreed past a =
         let talk = ap (λ b. if b then turned_late (talk_in past at) else talk_in past at) (equal at) in
         let before = talk_as refl refl refl refl refl (sym (ap said_asks sent)) refl refl refl (a.conn c was) in
-        let now = talk_turns h at x.text.items (talk_in past at) c.number c.held.items (bytes_of c.unsent) (call.ticket.number, call.dialect, call.ticket.ask, call.since) (said_asks rest) (said_late x.late.items) x.awaits_dialect x.dialect before in
-        has_conn at (steps ++ past) h y c (same ∙ was) (talk_as (same_text x y server) talk refl refl refl (ap said_asks left) awaits speaks (ap said_late late ∙ one_more_late x.late.items (as_late call)) now) (a.goes_on c was)
+        let now = talk_turns h at (opening_of x) (talk_in past at) c.number c.held.items (bytes_of c.unsent) (call.ticket.number, call.dialect, call.ticket.ask, call.since) (said_asks rest) (said_late x.late.items) x.awaits_dialect x.dialect before in
+        has_conn at (steps ++ past) h y c (same ∙ was) (talk_as (same_opening x y place) talk refl refl refl (ap said_asks left) awaits speaks (ap said_late late ∙ one_more_late x.late.items (as_late call)) now) (a.goes_on c was)
         (calls_later steps past at y.waiting.items (subst (λ w. MayAllGo past at w) (sym waiting) a.waiting))
         (subst (λ w. AreDue (steps ++ past) at (said_asks w)) (sym waiting) (others past a).due) (subst (λ (l : List SentCall). AreCalled (steps ++ past) at (said_asks l)) (sym left) (others past a).called)
 
 -- the same of the outcome as a link's calls have it
 pub line_turns :
-    {at : ℕ} {core core' : ServedCore} {h : List WireEvent} (x y : Link) (c : Conn) (call : LateCall) (client : Option ℕ) → x.conn ≡ Some c → y.conn ≡ x.conn → y.draining ≡ x.draining → address_and_limits y ≡ address_and_limits x → y.waiting.items ≡ x.waiting.items
+    {at : ℕ} {core core' : ServedCore} {h : List WireEvent} (x y : Link) (c : Conn) (call : LateCall) (client : Option ℕ) → x.conn ≡ Some c → y.conn ≡ x.conn → y.draining ≡ x.draining → place_of y ≡ place_of x → y.waiting.items ≡ x.waiting.items
     → y.awaits_dialect ≡ x.awaits_dialect → y.dialect ≡ x.dialect → IsFirstLate x.calls.sent.items (Some call) → y.late.items ≡ x.late.items ++ call ∷ []
     → SettlesFirst x.calls.sent.items core Failed client y.calls.sent.items core' → HasOneLate (time h) x → LineGoes IsSending at core h x core' h y
-line_turns {at} {core} {core'} {h} x y c call client was same draining server waiting awaits speaks first late settles waited = by x.calls.sent.items refl first settles
+line_turns {at} {core} {core'} {h} x y c call client was same draining place waiting awaits speaks first late settles waited = by x.calls.sent.items refl first settles
   where
     some_none : {z : LateCall} → Some z ≡ None → ⊥
     some_none e = cc
@@ -236,16 +236,16 @@ line_turns {at} {core} {core'} {h} x y c call client was same draining server wa
     by : (sent : List SentCall) → x.calls.sent.items ≡ sent → IsFirstLate sent (Some call) → SettlesFirst sent core Failed client y.calls.sent.items core' → LineGoes IsSending at core h x core' h y
     by [] e is did = absurd (some_none is)
     by (one ∷ rest) e is did =
-        turns x y c one rest was same draining server waiting awaits speaks e did.1 (late ∙ ap (λ (z : LateCall). x.late.items ++ z ∷ []) (same_call is)) did.2 waited
+        turns x y c one rest was same draining place waiting awaits speaks e did.1 (late ∙ ap (λ (z : LateCall). x.late.items ++ z ∷ []) (same_call is)) did.2 waited
 
 -- ---- its answer
 
 talk_throws :
-    (h : List WireEvent) (at : ℕ) (text : List ℕ) (t : Talk) (c : ℕ) (spelled held unsent : List ℕ) (out : List SaidAsk) (first : SaidAsk) (rest : List SaidAsk) (awaits : Option Greeting) (dialect : Dialect)
-    → TalkAgrees h at text t c (spelled ++ held) unsent out awaits dialect (first ∷ rest) → TalkAgrees h at text (with_late spelled t) c held unsent out awaits dialect rest
-talk_throws h at text t c spelled held unsent out first rest awaits dialect was = record {
+    (h : List WireEvent) (at : ℕ) (begun : List ℕ × ℕ) (t : Talk) (c : ℕ) (spelled held unsent : List ℕ) (out : List SaidAsk) (first : SaidAsk) (rest : List SaidAsk) (awaits : Option Greeting) (dialect : Dialect)
+    → TalkAgrees h at begun t c (spelled ++ held) unsent out awaits dialect (first ∷ rest) → TalkAgrees h at begun (with_late spelled t) c held unsent out awaits dialect rest
+talk_throws h at begun t c spelled held unsent out first rest awaits dialect was = record {
   is_to = was.is_to;
-  address = was.address;
+  begun_is = was.begun_is;
   sent_is = was.sent_is;
   told_is = was.told_is ∙ sym (append_assoc t.told spelled held);
   out_is = was.out_is;
@@ -257,9 +257,9 @@ talk_throws h at text t c spelled held unsent out first rest awaits dialect was 
 -- what is held begins with the answer to the first of those that were late: it is held no more
 pub line_throws :
     {at : ℕ} {core : ServedCore} {h : List WireEvent} (x y : Link) (c d : Conn) (call : LateCall) (rest : List LateCall) (answer : Answer) (used : ℕ) → x.conn ≡ Some c → y.conn ≡ Some d → x.awaits_dialect ≡ None
-    → address_and_limits y ≡ address_and_limits x → y.waiting.items ≡ x.waiting.items → y.awaits_dialect ≡ x.awaits_dialect → y.dialect ≡ x.dialect → y.calls.sent.items ≡ x.calls.sent.items → x.late.items ≡ call ∷ rest → y.late.items ≡ rest
+    → place_of y ≡ place_of x → y.waiting.items ≡ x.waiting.items → y.awaits_dialect ≡ x.awaits_dialect → y.dialect ≡ x.dialect → y.calls.sent.items ≡ x.calls.sent.items → x.late.items ≡ call ∷ rest → y.late.items ≡ rest
     → SpellsIn call.dialect call.ask c.held.items answer used → d.held.items ≡ drop used c.held.items → d.number ≡ c.number → bytes_of d.unsent ≡ bytes_of c.unsent → LineGoes IsOfTurn at core h x core h y
-line_throws {at} {core} {h} x y c d call rest answer used was is off server waiting awaits speaks sent late left spells held number unsent = record {
+line_throws {at} {core} {h} x y c d call rest answer used was is off place waiting awaits speaks sent late left spells held number unsent = record {
   steps = step ∷ [];
   kinds = (tt, tt);
   own = (refl, tt);
@@ -267,7 +267,7 @@ line_throws {at} {core} {h} x y c d call rest answer used was is off server wait
   agrees = λ past o tells a. ((next past a, o), agreed past a, all_kept (1, at) h h (quiet h), λ j other n ask is. (refl, refl, refl));
   shown = λ past o tells a shown. shown_later (step ∷ []) past h h (tt, tt) (none_since h) shown;
   shut = shut_still (quiet h) (conn_is y d is ∙ ap (λ n. Some n) number ∙ sym (conn_is x c was));
-  server = record { same = server; late = (tt, tt) };
+  server = record { same = place_server x y place; late = (tt, tt) };
 }
   where
     spelled : List ℕ
@@ -294,17 +294,17 @@ line_throws {at} {core} {h} x y c d call rest answer used was is off server wait
     agreed past a =
         let talk = ap (λ b. if b then with_late spelled (talk_in past at) else talk_in past at) (equal at) in
         let before = talk_as refl refl refl whole refl refl refl refl (sym (ap said_late late)) (a.conn c was) in
-        let now = talk_throws h at x.text.items (talk_in past at) c.number spelled d.held.items (bytes_of c.unsent) (said_asks x.calls.sent.items) (call.number, call.dialect, call.ask, call.since) (said_late rest) x.awaits_dialect x.dialect before in
-        has_conn at (step ∷ past) h y d is (talk_as (same_text x y server) talk number refl unsent (ap said_asks sent) awaits speaks (ap said_late left) now) (ap (λ n. is_over n h) number ∙ a.goes_on c was)
+        let now = talk_throws h at (opening_of x) (talk_in past at) c.number spelled d.held.items (bytes_of c.unsent) (said_asks x.calls.sent.items) (call.number, call.dialect, call.ask, call.since) (said_late rest) x.awaits_dialect x.dialect before in
+        has_conn at (step ∷ past) h y d is (talk_as (same_opening x y place) talk number refl unsent (ap said_asks sent) awaits speaks (ap said_late left) now) (ap (λ n. is_over n h) number ∙ a.goes_on c was)
         (calls_later (step ∷ []) past at y.waiting.items (subst (λ w. MayAllGo past at w) (sym waiting) a.waiting))
         (due_stays past (step ∷ past) at (said_asks y.waiting.items) (λ n ask is. (refl, refl, refl)) (subst (λ w. AreDue past at (said_asks w)) (sym waiting) a.due))
         (called_stays past (step ∷ past) at (said_asks y.calls.sent.items) (λ n ask is. (refl, refl, refl)) (subst (λ (l : List SentCall). AreCalled past at (said_asks l)) (sym sent) a.called))
 
 -- or it isn't there
 passes_none :
-    {at : ℕ} {core : ServedCore} {h : List WireEvent} (x y : Link) (c d : Conn) → x.conn ≡ Some c → y.conn ≡ Some d → address_and_limits y ≡ address_and_limits x → y.waiting.items ≡ x.waiting.items → y.awaits_dialect ≡ x.awaits_dialect
+    {at : ℕ} {core : ServedCore} {h : List WireEvent} (x y : Link) (c d : Conn) → x.conn ≡ Some c → y.conn ≡ Some d → place_of y ≡ place_of x → y.waiting.items ≡ x.waiting.items → y.awaits_dialect ≡ x.awaits_dialect
     → y.dialect ≡ x.dialect → y.draining ≡ x.draining → y.calls.sent.items ≡ x.calls.sent.items → d ≡ record c { held = d.held } → (y.late.items ≡ x.late.items) × (d.held.items ≡ c.held.items) → LineGoes IsOfTurn at core h x core h y
-passes_none {h = h} x y c d was is server waiting awaits speaks draining sent same kept = line_keeps (quiet h) (of_eight server ends (ap said_asks sent) waiting awaits speaks (ap said_late kept.0) (ap (option_map (λ (z : Conn). z.number)) draining))
+passes_none {h = h} x y c d was is place waiting awaits speaks draining sent same kept = line_keeps (quiet h) (of_eight place ends (ap said_asks sent) waiting awaits speaks (ap said_late kept.0) (ap (option_map (λ (z : Conn). z.number)) draining))
   where
     ends : option_map {U = ℕ × List ℕ × List ℕ} conn_state y.conn ≡ option_map {U = ℕ × List ℕ × List ℕ} conn_state x.conn
     ends =
@@ -312,11 +312,11 @@ passes_none {h = h} x y c d was is server waiting awaits speaks draining sent sa
         ∙ ap (λ (l : List ℕ). let e : ℕ × List ℕ × List ℕ = (c.number, l, bytes_of c.unsent) in Some e) kept.1 ∙ sym (ap (option_map {U = ℕ × List ℕ × List ℕ} conn_state) was)
 
 pub line_passes :
-    {at : ℕ} {core : ServedCore} {h : List WireEvent} (x y : Link) (c d : Conn) (read : LateRead) → x.conn ≡ Some c → y.conn ≡ Some d → x.awaits_dialect ≡ None → address_and_limits y ≡ address_and_limits x → y.waiting.items ≡ x.waiting.items
+    {at : ℕ} {core : ServedCore} {h : List WireEvent} (x y : Link) (c d : Conn) (read : LateRead) → x.conn ≡ Some c → y.conn ≡ Some d → x.awaits_dialect ≡ None → place_of y ≡ place_of x → y.waiting.items ≡ x.waiting.items
     → y.awaits_dialect ≡ x.awaits_dialect → y.dialect ≡ x.dialect → y.draining ≡ x.draining → y.calls.sent.items ≡ x.calls.sent.items → d ≡ record c { held = d.held } → PassesOver x.late.items c.held.items read y.late.items d.held.items
     → LineGoes IsOfTurn at core h x core h y
-line_passes x y c d (lates.Whole used) was is off server waiting awaits speaks draining sent same passes =
-    line_throws x y c d passes.0 y.late.items passes.3.0 used was is off server waiting awaits speaks sent passes.1 refl passes.3.1 passes.2 (ap (λ (z : Conn). z.number) same) (ap (λ (z : Conn). bytes_of z.unsent) same)
-line_passes x y c d lates.More was is off server waiting awaits speaks draining sent same passes = passes_none x y c d was is server waiting awaits speaks draining sent same passes
-line_passes x y c d lates.Foreign was is off server waiting awaits speaks draining sent same passes = passes_none x y c d was is server waiting awaits speaks draining sent same (passes.0, passes.1)
-line_passes x y c d lates.NoMemory was is off server waiting awaits speaks draining sent same passes = passes_none x y c d was is server waiting awaits speaks draining sent same passes
+line_passes x y c d (lates.Whole used) was is off place waiting awaits speaks draining sent same passes =
+    line_throws x y c d passes.0 y.late.items passes.3.0 used was is off place waiting awaits speaks sent passes.1 refl passes.3.1 passes.2 (ap (λ (z : Conn). z.number) same) (ap (λ (z : Conn). bytes_of z.unsent) same)
+line_passes x y c d lates.More was is off place waiting awaits speaks draining sent same passes = passes_none x y c d was is place waiting awaits speaks draining sent same passes
+line_passes x y c d lates.Foreign was is off place waiting awaits speaks draining sent same passes = passes_none x y c d was is place waiting awaits speaks draining sent same (passes.0, passes.1)
+line_passes x y c d lates.NoMemory was is off place waiting awaits speaks draining sent same passes = passes_none x y c d was is place waiting awaits speaks draining sent same passes

@@ -7,12 +7,12 @@ use Rattle.mc_types.specs.declared.ask.Ask.{Ask}
 use Rattle.mc_types.specs.declared.ask.Dialect.{Dialect}
 use Rattle.wire_stream.specs.Spelling.{spelling_of}
 use Rattle.wire_parts.specs.Sending.{bytes_of}
-use Rattle.serve_wire.specs.Events.{WireEvent, connects, closes, role, address_of, delivered, taken, is_over, IsUntold}
+use Rattle.serve_wire.specs.Events.{WireEvent, connects, closes, role, begin_of, delivered, taken, is_over, time, IsUntold}
 use Rattle.serve_wire.specs.Flow.{ReadsOn, SendsOn, Stands}
 use Rattle.serve_wire.specs.Calls.{Closes}
 use Rattle.serve_wire.specs.Agreement.{Extends, IsUntouched, TouchesOnly}
 use Rattle.serve_wire.specs.declared.conn.conn.Conn.{Conn}
-use Rattle.serve_wire.proofs.Steps.{only_after, only_time, equal, new_apart, untouched, untouched_twice, only_twice, only_connects, address_begins}
+use Rattle.serve_wire.proofs.Steps.{only_after, only_time, equal, new_apart, untouched, untouched_twice, only_twice, only_connects, begin_begins}
 use Rattle.serve_wire.proofs.Touching.{only_closed}
 use Rattle.core_accepted.specs.declared.served.ServedCore.{ServedCore}
 use Rattle.serve_links.specs.declared.calls.calls.SentCall.{SentCall}
@@ -30,11 +30,11 @@ use Rattle.serve_links.specs.Settled.{SettlesSome}
 use Rattle.serve_links.specs.Talks.{SaidAsk, Talk, Apart, Ending, standing_after, first_talk, with_ask, greeted, given_up, talk_in, AreDue, AreCalled, IsOrderly, IsOfServer}
 use Rattle.serve_links.specs.Called.{TellsCallsOut}
 use Rattle.serve_links.proofs.Called.{walks_tell_calls}
-use Rattle.serve_links.specs.Story.{said_asks, said_late, MayGo, MayAllGo, TalkAgrees, Unused, ConnAgrees, LineAgrees, LineLost, LineFails, ShowsWhy, WasShown, StepsAreShown, LineCalled, address_and_limits, LineState, line_of, KeepsOthers, LeavesCalls, LineGoesFrom, LineGoes}
+use Rattle.serve_links.specs.Story.{said_asks, said_late, MayGo, MayAllGo, TalkAgrees, Unused, ConnAgrees, LineAgrees, LineLost, LineFails, ShowsWhy, WasShown, StepsAreShown, LineCalled, opening_of, address_and_limits, place_of, LineState, line_of, KeepsOthers, LeavesCalls, LineGoesFrom, LineGoes}
 use Rattle.serve_links.proofs.Talking.{calls_later, one_more, IsPlain, plain_talk, AreOut, sent_out, waiting_out, FailsInOrder, fail_in_order}
 use Rattle.serve_links.proofs.Due.{due_stays, called_stays, leaves_twice, due_last, called_last, due_behind, due_taken, SentGone, sent_gone, waiting_gone, AskedOne, asked_one}
 use Rattle.serve_links.proofs.Walked.{walked, of_both}
-use Rattle.serve_links.proofs.ByLimits.{unlost_late, same_server, same_text, server_then}
+use Rattle.serve_links.proofs.ByLimits.{unlost_late, same_server, same_text, same_place, place_server, same_opening, server_then}
 use Rattle.serve_links.proofs.Showing.{plain_unlost, none_since, shown_since, shown_later}
 use Rattle.serve_links.proofs.Answering.{Answers, answers_some}
 use Rattle.serve_links.specs.Shut.{first_some, drain_of, conn_of, IsShutBut, StaysShut}
@@ -69,12 +69,12 @@ quiet h d = untouched d h
 -- ---- what agrees, in equal words
 
 pub talk_as :
-    {h : List WireEvent} {at : ℕ} {text text' : List ℕ} {t t' : Talk} {c c' : ℕ} {held held' unsent unsent' : List ℕ} {out out' : List SaidAsk} {awaits awaits' : Option Greeting} {dialect dialect' : Dialect} {late late' : List SaidAsk}
-    → text' ≡ text → t' ≡ t → c' ≡ c → held' ≡ held → unsent' ≡ unsent → out' ≡ out → awaits' ≡ awaits → dialect' ≡ dialect → late' ≡ late
-    → TalkAgrees h at text t c held unsent out awaits dialect late → TalkAgrees h at text' t' c' held' unsent' out' awaits' dialect' late'
-talk_as {h} {at} {text} {text'} {t} {t'} {c} {c'} {held} {held'} {unsent} {unsent'} {out} {out'} {awaits} {awaits'} {dialect} {dialect'} {late} {late'} text_is t_is c_is held_same unsent_same out_same awaits_same dialect_same late_same was = record {
+    {h : List WireEvent} {at : ℕ} {begun begun' : List ℕ × ℕ} {t t' : Talk} {c c' : ℕ} {held held' unsent unsent' : List ℕ} {out out' : List SaidAsk} {awaits awaits' : Option Greeting} {dialect dialect' : Dialect} {late late' : List SaidAsk}
+    → begun' ≡ begun → t' ≡ t → c' ≡ c → held' ≡ held → unsent' ≡ unsent → out' ≡ out → awaits' ≡ awaits → dialect' ≡ dialect → late' ≡ late
+    → TalkAgrees h at begun t c held unsent out awaits dialect late → TalkAgrees h at begun' t' c' held' unsent' out' awaits' dialect' late'
+talk_as {h} {at} {begun} {begun'} {t} {t'} {c} {c'} {held} {held'} {unsent} {unsent'} {out} {out'} {awaits} {awaits'} {dialect} {dialect'} {late} {late'} begun_same t_is c_is held_same unsent_same out_same awaits_same dialect_same late_same was = record {
   is_to = ap (λ n. role n h) c_is ∙ was.is_to;
-  address = ap (λ n. address_of n h) c_is ∙ was.address ∙ ap (λ (x : List ℕ). Some x) (sym text_is);
+  begun_is = ap (λ n. begin_of n h) c_is ∙ was.begun_is ∙ ap (λ (x : List ℕ × ℕ). Some x) (sym begun_same);
   sent_is = ap (λ (x : Talk). x.sent) t_is ∙ was.sent_is ∙ ap (λ n. taken n h ++ unsent) (sym c_is) ∙ ap (λ l. taken c' h ++ l) (sym unsent_same);
   told_is = ap (λ n. delivered n h) c_is ∙ was.told_is ∙ ap (λ (x : Talk). x.told ++ held) (sym t_is) ∙ ap (λ l. t'.told ++ l) (sym held_same);
   out_is = ap (λ (x : Talk). x.out) t_is ∙ was.out_is ∙ sym out_same;
@@ -95,7 +95,7 @@ pub as_lost : (at : ℕ) (past : List Step) (h : List WireEvent) (x : Link) → 
 as_lost at past h x a = record { conn = λ conn is. (conn.held.items, a.conn conn is); waiting = a.waiting; due = a.due; none_out = a.none_out; unused = a.unused; called = a.called }
 
 -- one that agrees, whose connection shows why it is to be given up
-pub as_failing : (why : Option Cause) (at : ℕ) (past : List Step) (h : List WireEvent) (x : Link) → ((conn : Conn) → x.conn ≡ Some conn → ShowsWhy why (talk_in past at) conn.number h) → LineAgrees at past h x → LineFails why at past h x
+pub as_failing : (why : Option Cause) (at : ℕ) (past : List Step) (h : List WireEvent) (x : Link) → ((conn : Conn) → x.conn ≡ Some conn → ShowsWhy why x.limits.connect_ms (talk_in past at) conn.number h) → LineAgrees at past h x → LineFails why at past h x
 as_failing why at past h x shows a = record { lost = as_lost at past h x a; shows = shows }
 
 -- nothing happened but at the connection, and no step is told of
@@ -153,17 +153,17 @@ line_then {P} {Q} {R} {Is} {at} {a} {b} {c} {h} {h'} {h''} {x} {y} {z} g k = rec
 
 -- ---- a link that has the same
 
-abbrev OfConn : ℕ → List Step → List WireEvent → List ℕ → List SaidAsk → Option Greeting → Dialect → List SaidAsk → Option ℕ → Option (ℕ × List ℕ × List ℕ) → Type 0
-OfConn at past h text out awaits dialect late drain None = ((talk_in past at).out ≡ []) × Unused h at text (talk_in past at) drain
-OfConn at past h text out awaits dialect late drain (Some e) = TalkAgrees h at text (talk_in past at) e.0 e.1 e.2 out awaits dialect late × (is_over e.0 h ≡ false)
+abbrev OfConn : ℕ → List Step → List WireEvent → List ℕ × ℕ → List SaidAsk → Option Greeting → Dialect → List SaidAsk → Option ℕ → Option (ℕ × List ℕ × List ℕ) → Type 0
+OfConn at past h begun out awaits dialect late drain None = ((talk_in past at).out ≡ []) × Unused h at begun.0 (talk_in past at) drain
+OfConn at past h begun out awaits dialect late drain (Some e) = TalkAgrees h at begun (talk_in past at) e.0 e.1 e.2 out awaits dialect late × (is_over e.0 h ≡ false)
 
 abbrev OfLine : ℕ → List Step → List WireEvent → LineState → Type 0
-OfLine at past h s = OfConn at past h s.0.0 s.2 s.4 s.5 s.6 s.7 s.1 × MayAllGo past at s.3 × AreDue past at (said_asks s.3) × AreCalled past at s.2
+OfLine at past h s = OfConn at past h (s.0.0.0, s.0.1) s.2 s.4 s.5 s.6 s.7 s.1 × MayAllGo past at s.3 × AreDue past at (said_asks s.3) × AreCalled past at s.2
 
 to_line : (at : ℕ) (past : List Step) (h : List WireEvent) (x : Link) → LineAgrees at past h x → OfLine at past h (line_of x)
 to_line at past h x a = (by x.conn refl, a.waiting, a.due, a.called)
   where
-    by : (o : Option Conn) → x.conn ≡ o → OfConn at past h x.text.items (said_asks x.calls.sent.items) x.awaits_dialect x.dialect (said_late x.late.items) (drain_of x) (option_map (λ (c : Conn). (c.number, c.held.items, bytes_of c.unsent)) o)
+    by : (o : Option Conn) → x.conn ≡ o → OfConn at past h (opening_of x) (said_asks x.calls.sent.items) x.awaits_dialect x.dialect (said_late x.late.items) (drain_of x) (option_map (λ (c : Conn). (c.number, c.held.items, bytes_of c.unsent)) o)
     by None e = (a.none_out e, a.unused e)
     by (Some c) e = (a.conn c e, a.goes_on c e)
 
@@ -171,10 +171,10 @@ from_line : (at : ℕ) (past : List Step) (h : List WireEvent) (y : Link) → Of
 from_line at past h y o = record { conn = λ conn is. (there conn is).0; goes_on = λ conn is. (there conn is).1; waiting = o.1; due = o.2; none_out = λ none. (there_none none).0; unused = λ none. (there_none none).1; called = o.3 }
   where
     there : (conn : Conn) → y.conn ≡ Some conn → ConnAgrees at past h y conn conn.held.items × (is_over conn.number h ≡ false)
-    there conn is = subst (λ (q : Option Conn). OfConn at past h y.text.items (said_asks y.calls.sent.items) y.awaits_dialect y.dialect (said_late y.late.items) (drain_of y) (option_map (λ (c : Conn). (c.number, c.held.items, bytes_of c.unsent)) q)) is o.0
+    there conn is = subst (λ (q : Option Conn). OfConn at past h (opening_of y) (said_asks y.calls.sent.items) y.awaits_dialect y.dialect (said_late y.late.items) (drain_of y) (option_map (λ (c : Conn). (c.number, c.held.items, bytes_of c.unsent)) q)) is o.0
 
     there_none : y.conn ≡ None → ((talk_in past at).out ≡ []) × Unused h at y.text.items (talk_in past at) (drain_of y)
-    there_none none = subst (λ (q : Option Conn). OfConn at past h y.text.items (said_asks y.calls.sent.items) y.awaits_dialect y.dialect (said_late y.late.items) (drain_of y) (option_map (λ (c : Conn). (c.number, c.held.items, bytes_of c.unsent)) q)) none o.0
+    there_none none = subst (λ (q : Option Conn). OfConn at past h (opening_of y) (said_asks y.calls.sent.items) y.awaits_dialect y.dialect (said_late y.late.items) (drain_of y) (option_map (λ (c : Conn). (c.number, c.held.items, bytes_of c.unsent)) q)) none o.0
 
 pub same_line : (at : ℕ) (past : List Step) (h : List WireEvent) (x y : Link) → line_of y ≡ line_of x → LineAgrees at past h x → LineAgrees at past h y
 same_line at past h x y same a = from_line at past h y (subst (OfLine at past h) (sym same) (to_line at past h x a))
@@ -192,7 +192,7 @@ same_conn x y same =
 pub line_keeps :
     {Is : Step → Type 0} {at : ℕ} {core : ServedCore} {h h' : List WireEvent} {x y : Link} → ((d : ℕ) → IsUntouched d h h') → line_of y ≡ line_of x → LineGoes Is at core h x core h' y
 line_keeps {at = at} {h = h} {h' = h'} {x = x} {y = y} still same =
-    line_moves refl (still 0).after (shut_still still (same_conn x y same)) (ap (λ (s : LineState). s.0) same)
+    line_moves refl (still 0).after (shut_still still (same_conn x y same)) (ap (λ (s : LineState). s.0.0) same)
     (λ past a. (same_line at past h' x y same (line_stays h h' at [] past x (λ c of_c. still c) refl (λ n ask is. (refl, refl, refl)) a), all_kept (1, at) h h' still))
 
 -- of eight parts
@@ -206,7 +206,7 @@ of_eight {a = a} {a' = a'} {b = b} {b' = b'} {c = c} {c' = c'} {d = d} {d' = d'}
 -- what a link's own functions leave as it was
 pub keeps_line : (x y : Link) → KeepsLines x y → line_of y ≡ line_of x
 keeps_line x y k =
-    of_eight (same_server x y (ap (λ t. t.items) k.text) k.limits) (conns x.conn y.conn k.conn) (ap (λ c. said_asks c.sent.items) k.calls) (ap (λ w. w.items) k.waiting) k.awaits k.dialect (ap (λ w. said_late w.items) k.late) k.draining
+    of_eight (same_place x y (ap (λ t. t.items) k.text) k.limits k.opened) (conns x.conn y.conn k.conn) (ap (λ c. said_asks c.sent.items) k.calls) (ap (λ w. w.items) k.waiting) k.awaits k.dialect (ap (λ w. said_late w.items) k.late) k.draining
   where
     ends : (c d : Conn) → d.number ≡ c.number → d.held.items ≡ c.held.items → bytes_of d.unsent ≡ bytes_of c.unsent → ◌≡◌ {A = ℕ × List ℕ × List ℕ} (d.number, d.held.items, bytes_of d.unsent) (c.number, c.held.items, bytes_of c.unsent)
     ends c d n l u =
@@ -223,11 +223,11 @@ keeps_line x y k =
 -- ---- reads and writes
 
 talk_reads :
-    (h h' : List WireEvent) (at : ℕ) (text : List ℕ) (t : Talk) (c : ℕ) (held held' unsent : List ℕ) (out : List SaidAsk) (awaits : Option Greeting) (dialect : Dialect) {late : List SaidAsk} → ReadsOn c held held' h h' → TalkAgrees h at text t c held unsent out awaits dialect late
-    → TalkAgrees h' at text t c held' unsent out awaits dialect late
-talk_reads h h' at text t c held held' unsent out awaits dialect r was = record {
+    (h h' : List WireEvent) (at : ℕ) (begun : List ℕ × ℕ) (t : Talk) (c : ℕ) (held held' unsent : List ℕ) (out : List SaidAsk) (awaits : Option Greeting) (dialect : Dialect) {late : List SaidAsk} → ReadsOn c held held' h h' → TalkAgrees h at begun t c held unsent out awaits dialect late
+    → TalkAgrees h' at begun t c held' unsent out awaits dialect late
+talk_reads h h' at begun t c held held' unsent out awaits dialect r was = record {
   is_to = r.same_role ∙ was.is_to;
-  address = r.same_address ∙ was.address;
+  begun_is = r.same_begin ∙ was.begun_is;
   sent_is = was.sent_is ∙ ap (λ l. l ++ unsent) (sym r.same_went);
   told_is = r.came ∙ ap (λ l. l ++ r.bytes) was.told_is ∙ append_assoc t.told held r.bytes ∙ ap (λ l. t.told ++ l) (sym r.held_is);
   out_is = was.out_is;
@@ -238,11 +238,11 @@ talk_reads h h' at text t c held held' unsent out awaits dialect r was = record 
 
 -- what agrees but for its connection is over, and shows why
 pub over_so :
-    (why : Option Cause) (at : ℕ) (past : List Step) (h : List WireEvent) (y : Link) (d : Conn) → y.conn ≡ Some d → ConnAgrees at past h y d d.held.items → ShowsWhy why (talk_in past at) d.number h → MayAllGo past at y.waiting.items
+    (why : Option Cause) (at : ℕ) (past : List Step) (h : List WireEvent) (y : Link) (d : Conn) → y.conn ≡ Some d → ConnAgrees at past h y d d.held.items → ShowsWhy why y.limits.connect_ms (talk_in past at) d.number h → MayAllGo past at y.waiting.items
     → AreDue past at (said_asks y.waiting.items) → AreCalled past at (said_asks y.calls.sent.items) → LineFails why at past h y
 over_so why at past h y d is agrees shows waiting due called = record {
   lost = record { conn = λ conn there. (conn.held.items, subst (λ (z : Conn). ConnAgrees at past h y z z.held.items) (same_some (sym is ∙ there)) agrees); waiting = waiting; due = due; none_out = λ none. absurd (none_some (sym none ∙ is)); unused = λ none. absurd (none_some (sym none ∙ is)); called = called };
-  shows = λ conn there. subst (λ (z : Conn). ShowsWhy why (talk_in past at) z.number h) (same_some (sym is ∙ there)) shows;
+  shows = λ conn there. subst (λ (z : Conn). ShowsWhy why y.limits.connect_ms (talk_in past at) z.number h) (same_some (sym is ∙ there)) shows;
 }
 
 -- what came is held, and this holds of the link then
@@ -256,8 +256,8 @@ line_reads_to {After} {at = at} {h = h} {h' = h'} x y c d was is number unsent r
   where
     agrees : (past : List Step) → LineAgrees at past h x → After at past h' y
     agrees past a =
-        let now = talk_reads h h' at x.text.items (talk_in past at) c.number c.held.items d.held.items (bytes_of c.unsent) (said_asks x.calls.sent.items) x.awaits_dialect x.dialect r (a.conn c was) in
-        let conn = talk_as (ap (λ (z : Link). z.text.items) is) refl number refl unsent (ap (λ (z : Link). said_asks z.calls.sent.items) is) (ap (λ (z : Link). z.awaits_dialect) is) (ap (λ (z : Link). z.dialect) is) (ap (λ (z : Link). said_late z.late.items) is) now in
+        let now = talk_reads h h' at (opening_of x) (talk_in past at) c.number c.held.items d.held.items (bytes_of c.unsent) (said_asks x.calls.sent.items) x.awaits_dialect x.dialect r (a.conn c was) in
+        let conn = talk_as (ap opening_of is) refl number refl unsent (ap (λ (z : Link). said_asks z.calls.sent.items) is) (ap (λ (z : Link). z.awaits_dialect) is) (ap (λ (z : Link). z.dialect) is) (ap (λ (z : Link). said_late z.late.items) is) now in
         let waits = sym (ap (λ (z : Link). z.waiting.items) is) in
         after past a conn (subst (λ w. MayAllGo past at w) waits a.waiting) (subst (λ w. AreDue past at (said_asks w)) waits a.due) (subst (λ l. AreCalled past at l) (sym (ap (λ (z : Link). said_asks z.calls.sent.items) is)) a.called)
 
@@ -272,17 +272,17 @@ line_reads {at = at} {h' = h'} x y c d was is number unsent r stands =
 -- or shows why it is to be given up
 pub line_reads_over :
     {Is : Step → Type 0} {at : ℕ} {core : ServedCore} {h h' : List WireEvent} (why : Option Cause) (x y : Link) (c d : Conn) → x.conn ≡ Some c → y ≡ record x { conn = Some d } → d.number ≡ c.number
-    → bytes_of d.unsent ≡ bytes_of c.unsent → ReadsOn c.number c.held.items d.held.items h h' → ((t : Talk) → ShowsWhy why t c.number h') → LineGoesFrom LineAgrees (LineFails why) Is at core h x core h' y
+    → bytes_of d.unsent ≡ bytes_of c.unsent → ReadsOn c.number c.held.items d.held.items h h' → ((limit : ℕ) (t : Talk) → ShowsWhy why limit t c.number h') → LineGoesFrom LineAgrees (LineFails why) Is at core h x core h' y
 line_reads_over {at = at} {h' = h'} why x y c d was is number unsent r shows =
     line_reads_to x y c d was is number unsent r
-    (λ past a agrees waiting due called. over_so why at past h' y d (ap (λ (z : Link). z.conn) is) agrees (subst (λ n. ShowsWhy why (talk_in past at) n h') (sym number) (shows (talk_in past at))) waiting due called)
+    (λ past a agrees waiting due called. over_so why at past h' y d (ap (λ (z : Link). z.conn) is) agrees (subst (λ n. ShowsWhy why y.limits.connect_ms (talk_in past at) n h') (sym number) (shows y.limits.connect_ms (talk_in past at))) waiting due called)
 
 talk_sends :
-    (h h' : List WireEvent) (at : ℕ) (text : List ℕ) (t : Talk) (c : ℕ) (held unsent unsent' : List ℕ) (out : List SaidAsk) (awaits : Option Greeting) (dialect : Dialect) {late : List SaidAsk} → SendsOn c unsent unsent' h h' → TalkAgrees h at text t c held unsent out awaits dialect late
-    → TalkAgrees h' at text t c held unsent' out awaits dialect late
-talk_sends h h' at text t c held unsent unsent' out awaits dialect s was = record {
+    (h h' : List WireEvent) (at : ℕ) (begun : List ℕ × ℕ) (t : Talk) (c : ℕ) (held unsent unsent' : List ℕ) (out : List SaidAsk) (awaits : Option Greeting) (dialect : Dialect) {late : List SaidAsk} → SendsOn c unsent unsent' h h' → TalkAgrees h at begun t c held unsent out awaits dialect late
+    → TalkAgrees h' at begun t c held unsent' out awaits dialect late
+talk_sends h h' at begun t c held unsent unsent' out awaits dialect s was = record {
   is_to = s.same_role ∙ was.is_to;
-  address = s.same_address ∙ was.address;
+  begun_is = s.same_begin ∙ was.begun_is;
   sent_is = was.sent_is ∙ s.went;
   told_is = s.same_came ∙ was.told_is;
   out_is = was.out_is;
@@ -302,8 +302,8 @@ line_sends_to {After} {at = at} {h = h} {h' = h'} x y c d was is number held s a
   where
     agrees : (past : List Step) → LineAgrees at past h x → After at past h' y
     agrees past a =
-        let now = talk_sends h h' at x.text.items (talk_in past at) c.number c.held.items (bytes_of c.unsent) (bytes_of d.unsent) (said_asks x.calls.sent.items) x.awaits_dialect x.dialect s (a.conn c was) in
-        let conn = talk_as (ap (λ (z : Link). z.text.items) is) refl number held refl (ap (λ (z : Link). said_asks z.calls.sent.items) is) (ap (λ (z : Link). z.awaits_dialect) is) (ap (λ (z : Link). z.dialect) is) (ap (λ (z : Link). said_late z.late.items) is) now in
+        let now = talk_sends h h' at (opening_of x) (talk_in past at) c.number c.held.items (bytes_of c.unsent) (bytes_of d.unsent) (said_asks x.calls.sent.items) x.awaits_dialect x.dialect s (a.conn c was) in
+        let conn = talk_as (ap opening_of is) refl number held refl (ap (λ (z : Link). said_asks z.calls.sent.items) is) (ap (λ (z : Link). z.awaits_dialect) is) (ap (λ (z : Link). z.dialect) is) (ap (λ (z : Link). said_late z.late.items) is) now in
         let waits = sym (ap (λ (z : Link). z.waiting.items) is) in
         after past a conn (subst (λ w. MayAllGo past at w) waits a.waiting) (subst (λ w. AreDue past at (said_asks w)) waits a.due) (subst (λ l. AreCalled past at l) (sym (ap (λ (z : Link). said_asks z.calls.sent.items) is)) a.called)
 
@@ -318,19 +318,19 @@ line_sends {at = at} {h' = h'} x y c d was is number held s stands =
 -- or shows why it is to be given up
 pub line_sends_over :
     {Is : Step → Type 0} {at : ℕ} {core : ServedCore} {h h' : List WireEvent} (why : Option Cause) (x y : Link) (c d : Conn) → x.conn ≡ Some c → y ≡ record x { conn = Some d } → d.number ≡ c.number → d.held.items ≡ c.held.items
-    → SendsOn c.number (bytes_of c.unsent) (bytes_of d.unsent) h h' → ((t : Talk) → ShowsWhy why t c.number h') → LineGoesFrom LineAgrees (LineFails why) Is at core h x core h' y
+    → SendsOn c.number (bytes_of c.unsent) (bytes_of d.unsent) h h' → ((limit : ℕ) (t : Talk) → ShowsWhy why limit t c.number h') → LineGoesFrom LineAgrees (LineFails why) Is at core h x core h' y
 line_sends_over {at = at} {h' = h'} why x y c d was is number held s shows =
     line_sends_to x y c d was is number held s
-    (λ past a agrees waiting due called. over_so why at past h' y d (ap (λ (z : Link). z.conn) is) agrees (subst (λ n. ShowsWhy why (talk_in past at) n h') (sym number) (shows (talk_in past at))) waiting due called)
+    (λ past a agrees waiting due called. over_so why at past h' y d (ap (λ (z : Link). z.conn) is) agrees (subst (λ n. ShowsWhy why y.limits.connect_ms (talk_in past at) n h') (sym number) (shows y.limits.connect_ms (talk_in past at))) waiting due called)
 
 -- ---- a new connection
 
 first_agrees :
     (h : List WireEvent) (at number : ℕ) (text : List ℕ) (dialect : Greeting) → IsUntold number h
-    → TalkAgrees (connects number at text ∷ h) at text (first_talk dialect) number [] (first_asked_of dialect) [] (awaits_first dialect) (first_dialect dialect.dialect) []
+    → TalkAgrees (connects number at text ∷ h) at (text, time h) (first_talk dialect) number [] (first_asked_of dialect) [] (awaits_first dialect) (first_dialect dialect.dialect) []
 first_agrees h at number text dialect new = record {
   is_to = ap (λ b. if b then Some (1, at) else role number h) (equal number);
-  address = address_begins h text at number;
+  begun_is = begin_begins h text at number;
   sent_is = ap (λ l. l ++ first_asked_of dialect) (sym new.none_went);
   told_is = new.none_came;
   out_is = refl;
@@ -348,7 +348,7 @@ closed_role c h h' (inl closed) = ap (role c) closed
 closed_role c h h' (inr same) = ap (role c) same.0
 
 begins :
-    (at : ℕ) (core : ServedCore) (h h' : List WireEvent) (x y : Link) (dialect : Greeting) (number : ℕ) → IsUntold number h → h' ≡ connects number at x.text.items ∷ h → HasNewEnd number dialect x y
+    (at : ℕ) (core : ServedCore) (h h' : List WireEvent) (x y : Link) (dialect : Greeting) (number : ℕ) → IsUntold number h → h' ≡ connects number at x.text.items ∷ h → HasNewEnd number (time h) dialect x y
     → LineGoes IsSending at core h x core h' y
 begins at core h h' x y dialect number new noted has = record {
   steps = Linked at dialect ∷ [];
@@ -364,6 +364,9 @@ begins at core h h' x y dialect number new noted has = record {
     only : TouchesOnly number h h'
     only = subst (TouchesOnly number h) (sym noted) (only_connects number at x.text.items h)
 
+    begun : opening_of y ≡ (x.text.items, time h)
+    begun = ap (λ (t : List ℕ). let o : List ℕ × ℕ = (t, y.opened) in o) (ap (λ t. t.items) has.text) ∙ ap (λ (t : ℕ). let o : List ℕ × ℕ = (x.text.items, t) in o) has.opened
+
     has_number : (o : Option Conn) → IsNewEnd number dialect o → option_map (λ (z : Conn). z.number) o ≡ Some number
     has_number None end = absurd end
     has_number (Some d) end = ap (λ n. Some n) end.0
@@ -373,8 +376,8 @@ begins at core h h' x y dialect number new noted has = record {
     by past a (Some d) e end =
         let talk = ap (λ b. if b then first_talk dialect else talk_in past at) (equal at) in
         let none : said_asks y.calls.sent.items ≡ [] = ap (λ c. said_asks c.sent.items) has.calls ∙ ap said_asks has.none_out in
-        let first = subst (λ k. TalkAgrees k at x.text.items (first_talk dialect) number [] (first_asked_of dialect) [] (awaits_first dialect) (first_dialect dialect.dialect) []) (sym noted) (first_agrees h at number x.text.items dialect new) in
-        has_conn at (Linked at dialect ∷ past) h' y d e (talk_as (ap (λ t. t.items) has.text) talk end.0 end.1 end.2 none has.awaits has.speaks (ap said_late has.none_late) first)
+        let first = subst (λ k. TalkAgrees k at (x.text.items, time h) (first_talk dialect) number [] (first_asked_of dialect) [] (awaits_first dialect) (first_dialect dialect.dialect) []) (sym noted) (first_agrees h at number x.text.items dialect new) in
+        has_conn at (Linked at dialect ∷ past) h' y d e (talk_as begun talk end.0 end.1 end.2 none has.awaits has.speaks (ap said_late has.none_late) first)
         (ap (λ n. is_over n h') end.0 ∙ ap (is_over number) noted ∙ new.goes_on)
         (calls_later (Linked at dialect ∷ []) past at y.waiting.items (subst (λ w. MayAllGo past at w) (sym (ap (λ w. w.items) has.waiting)) a.waiting))
         (due_stays past (Linked at dialect ∷ past) at (said_asks y.waiting.items) (λ n ask is. (refl, refl, refl)) (subst (λ w. AreDue past at (said_asks w)) (sym (ap (λ w. w.items) has.waiting)) a.due))
@@ -386,7 +389,7 @@ begins_in_vain :
 begins_in_vain at core h h' x y number new closed keeps =
     let same = keeps_line x y keeps in
     let only = only_twice number h (connects number at x.text.items ∷ h) h' (only_connects number at x.text.items h) (only_closed number (connects number at x.text.items ∷ h) h' closed) in
-    line_moves refl (only_after number h h' only) (shut_in_vain number only (closed_shut number (connects number at x.text.items ∷ h) h' closed) (same_conn x y same)) (ap (λ (s : LineState). s.0) same) (λ past a. (
+    line_moves refl (only_after number h h' only) (shut_in_vain number only (closed_shut number (connects number at x.text.items ∷ h) h' closed) (same_conn x y same)) (ap (λ (s : LineState). s.0.0) same) (λ past a. (
       same_line at past h' x y same (line_stays h h' at [] past x (λ c of_c. only c (new_apart number c h (1, at) of_c new.no_role)) refl (λ n ask is. (refl, refl, refl)) a),
       keeps_by number (1, at) h h' (new_own number (1, at) h new.no_role) (closed_role number (connects number at x.text.items ∷ h) h' closed ∙ ap (λ b. if b then Some (1, at) else role number h) (equal number)) only,
     ))
@@ -405,11 +408,11 @@ line_opens {at} {core} {h} {h'} x y dialect opening.NoMemory opens = begins_in_v
 -- ---- what the server tells of its dialects
 
 talk_greets :
-    (h : List WireEvent) (at : ℕ) (text : List ℕ) (t : Talk) (c : ℕ) (bytes held unsent : List ℕ) (out : List SaidAsk) (awaits : Option Greeting) (old dialect : Dialect) {late : List SaidAsk} → TalkAgrees h at text t c (bytes ++ held) unsent out awaits old late
-    → TalkAgrees h at text (greeted dialect bytes t) c held unsent out None dialect late
-talk_greets h at text t c bytes held unsent out awaits old dialect was = record {
+    (h : List WireEvent) (at : ℕ) (begun : List ℕ × ℕ) (t : Talk) (c : ℕ) (bytes held unsent : List ℕ) (out : List SaidAsk) (awaits : Option Greeting) (old dialect : Dialect) {late : List SaidAsk} → TalkAgrees h at begun t c (bytes ++ held) unsent out awaits old late
+    → TalkAgrees h at begun (greeted dialect bytes t) c held unsent out None dialect late
+talk_greets h at begun t c bytes held unsent out awaits old dialect was = record {
   is_to = was.is_to;
-  address = was.address;
+  begun_is = was.begun_is;
   sent_is = was.sent_is;
   told_is = was.told_is ∙ sym (append_assoc t.told bytes held);
   out_is = was.out_is;
@@ -441,9 +444,9 @@ line_learns {at} {core} {h} x y can l = by l.told
         agreed past a =
             let talk = ap (λ b. if b then greeted y.dialect takes.0 (talk_in past at) else talk_in past at) (equal at) in
             let before = talk_as refl refl refl (sym takes.1) refl refl refl refl refl (a.conn c was) in
-            let now = talk_greets h at x.text.items (talk_in past at) c.number takes.0 d.held.items (bytes_of c.unsent) (said_asks x.calls.sent.items) x.awaits_dialect x.dialect y.dialect before in
+            let now = talk_greets h at (opening_of x) (talk_in past at) c.number takes.0 d.held.items (bytes_of c.unsent) (said_asks x.calls.sent.items) x.awaits_dialect x.dialect y.dialect before in
             has_conn at (step ∷ past) h y d is
-            (talk_as (ap (λ (z : Link). z.text.items) learnt.rest) talk (ap (λ (z : Conn). z.number) takes.3) refl (ap (λ (z : Conn). bytes_of z.unsent) takes.3) (ap (λ (z : Link). said_asks z.calls.sent.items) learnt.rest) learnt.told refl (ap (λ (z : Link). said_late z.late.items) learnt.rest) now)
+            (talk_as (ap opening_of learnt.rest) talk (ap (λ (z : Conn). z.number) takes.3) refl (ap (λ (z : Conn). bytes_of z.unsent) takes.3) (ap (λ (z : Link). said_asks z.calls.sent.items) learnt.rest) learnt.told refl (ap (λ (z : Link). said_late z.late.items) learnt.rest) now)
             (ap (λ (z : Conn). is_over z.number h) takes.3 ∙ a.goes_on c was)
             (calls_later (step ∷ []) past at y.waiting.items (subst (λ w. MayAllGo past at w) (sym (ap (λ (z : Link). z.waiting.items) learnt.rest)) a.waiting))
             (due_stays past (step ∷ past) at (said_asks y.waiting.items) (λ n ask is. (refl, refl, refl)) (subst (λ w. AreDue past at (said_asks w)) (sym (ap (λ (z : Link). z.waiting.items) learnt.rest)) a.due))
@@ -465,12 +468,12 @@ one_said [] call = refl
 one_said (first ∷ calls) call = ap (λ (l : List SaidAsk). (first.ticket.number, first.dialect, first.ticket.ask, first.since) ∷ l) (one_said calls call)
 
 talk_asks :
-    (h : List WireEvent) (at : ℕ) (text : List ℕ) (t : Talk) (c : ℕ) (held unsent : List ℕ) (out : List SaidAsk) (awaits : Option Greeting) (speaks : Dialect) (number : ℕ) (dialect : Dialect) (ask : Ask) (since : ℕ) {late : List SaidAsk}
-    → TalkAgrees h at text t c held unsent out awaits speaks late
-    → TalkAgrees h at text (with_ask number dialect ask since t) c held (unsent ++ spelling_of (asked_in dialect ask)) (out ++ (number, dialect, ask, since) ∷ []) awaits speaks late
-talk_asks h at text t c held unsent out awaits speaks number dialect ask since was = record {
+    (h : List WireEvent) (at : ℕ) (begun : List ℕ × ℕ) (t : Talk) (c : ℕ) (held unsent : List ℕ) (out : List SaidAsk) (awaits : Option Greeting) (speaks : Dialect) (number : ℕ) (dialect : Dialect) (ask : Ask) (since : ℕ) {late : List SaidAsk}
+    → TalkAgrees h at begun t c held unsent out awaits speaks late
+    → TalkAgrees h at begun (with_ask number dialect ask since t) c held (unsent ++ spelling_of (asked_in dialect ask)) (out ++ (number, dialect, ask, since) ∷ []) awaits speaks late
+talk_asks h at begun t c held unsent out awaits speaks number dialect ask since was = record {
   is_to = was.is_to;
-  address = was.address;
+  begun_is = was.begun_is;
   sent_is = ap (λ l. l ++ spelling_of (asked_in dialect ask)) was.sent_is ∙ append_assoc (taken c h) unsent (spelling_of (asked_in dialect ask));
   told_is = was.told_is;
   out_is = ap (λ (l : List SaidAsk). l ++ (number, dialect, ask, since) ∷ []) was.out_is;
@@ -503,9 +506,9 @@ line_asks {at} {core} {h} x y c d call was is same alone ready more unsent = rec
     agreed : (past : List Step) → LineAgrees at past h x → AskedOne at past (step ∷ past) x.calls.sent.items call x.waiting.items → LineAgrees at (step ∷ past) h y
     agreed past a one =
         let talk = ap (λ b. if b then with_ask call.ticket.number call.dialect call.ticket.ask call.since (talk_in past at) else talk_in past at) (equal at) in
-        let now = talk_asks h at x.text.items (talk_in past at) c.number c.held.items (bytes_of c.unsent) (said_asks x.calls.sent.items) x.awaits_dialect x.dialect call.ticket.number call.dialect call.ticket.ask call.since (a.conn c was) in
+        let now = talk_asks h at (opening_of x) (talk_in past at) c.number c.held.items (bytes_of c.unsent) (said_asks x.calls.sent.items) x.awaits_dialect x.dialect call.ticket.number call.dialect call.ticket.ask call.since (a.conn c was) in
         has_conn at (step ∷ past) h y d (ap (λ (z : Link). z.conn) is)
-        (talk_as (ap (λ (z : Link). z.text.items) is) talk (ap (λ (z : Conn). z.number) same) (ap (λ (z : Conn). z.held.items) same) unsent (ap said_asks more ∙ one_said x.calls.sent.items call) (ap (λ (z : Link). z.awaits_dialect) is) (ap (λ (z : Link). z.dialect) is) (ap (λ (z : Link). said_late z.late.items) is) now)
+        (talk_as (ap opening_of is) talk (ap (λ (z : Conn). z.number) same) (ap (λ (z : Conn). z.held.items) same) unsent (ap said_asks more ∙ one_said x.calls.sent.items call) (ap (λ (z : Link). z.awaits_dialect) is) (ap (λ (z : Link). z.dialect) is) (ap (λ (z : Link). said_late z.late.items) is) now)
         (ap (λ (z : Conn). is_over z.number h) same ∙ a.goes_on c was)
         (calls_later (step ∷ []) past at y.waiting.items (subst (λ w. MayAllGo past at w) (sym (ap (λ (z : Link). z.waiting.items) is)) a.waiting))
         (subst (λ w. AreDue (step ∷ past) at (said_asks w)) (sym (ap (λ (z : Link). z.waiting.items) is)) one.due)
@@ -515,7 +518,7 @@ line_asks {at} {core} {h} x y c d call was is same alone ready more unsent = rec
 waits_with : (at : ℕ) (past : List Step) (h : List WireEvent) (x y : Link) → y ≡ record x { waiting = y.waiting } → LineAgrees at past h x → MayAllGo past at y.waiting.items → AreDue past at (said_asks y.waiting.items) → LineAgrees at past h y
 waits_with at past h x y is a waiting due = record {
   conn = λ conn there.
-      talk_as (ap (λ (z : Link). z.text.items) is) refl refl refl refl (ap (λ (z : Link). said_asks z.calls.sent.items) is) (ap (λ (z : Link). z.awaits_dialect) is) (ap (λ (z : Link). z.dialect) is) (ap (λ (z : Link). said_late z.late.items) is)
+      talk_as (ap opening_of is) refl refl refl refl (ap (λ (z : Link). said_asks z.calls.sent.items) is) (ap (λ (z : Link). z.awaits_dialect) is) (ap (λ (z : Link). z.dialect) is) (ap (λ (z : Link). said_late z.late.items) is)
       (a.conn conn (sym (ap (λ (z : Link). z.conn) is) ∙ there));
   goes_on = λ conn there. a.goes_on conn (sym (ap (λ (z : Link). z.conn) is) ∙ there);
   waiting = waiting;
@@ -560,11 +563,11 @@ line_takes {at = at} {h = h} x y call before after is was now =
 -- ---- answers
 
 talk_answers :
-    (h : List WireEvent) (at : ℕ) (text : List ℕ) (t : Talk) (c : ℕ) (spelled held unsent : List ℕ) (out out' : List SaidAsk) (awaits : Option Greeting) (dialect : Dialect) {late : List SaidAsk} → TalkAgrees h at text t c (spelled ++ held) unsent out awaits dialect late
-    → TalkAgrees h at text (record t { told = t.told ++ spelled; out = out' }) c held unsent out' awaits dialect late
-talk_answers h at text t c spelled held unsent out out' awaits dialect was = record {
+    (h : List WireEvent) (at : ℕ) (begun : List ℕ × ℕ) (t : Talk) (c : ℕ) (spelled held unsent : List ℕ) (out out' : List SaidAsk) (awaits : Option Greeting) (dialect : Dialect) {late : List SaidAsk} → TalkAgrees h at begun t c (spelled ++ held) unsent out awaits dialect late
+    → TalkAgrees h at begun (record t { told = t.told ++ spelled; out = out' }) c held unsent out' awaits dialect late
+talk_answers h at begun t c spelled held unsent out out' awaits dialect was = record {
   is_to = was.is_to;
-  address = was.address;
+  begun_is = was.begun_is;
   sent_is = was.sent_is;
   told_is = was.told_is ∙ sym (append_assoc t.told spelled held);
   out_is = refl;
@@ -576,10 +579,10 @@ talk_answers h at text t c spelled held unsent out out' awaits dialect was = rec
 -- the answers in front of what is held settle calls, and this is left of it
 settles_to :
     {After : ℕ → List Step → List WireEvent → Link → Type 0} {at : ℕ} {core core' : ServedCore} {h : List WireEvent} (x y : Link) (c d : Conn) (rest : List ℕ) → x.conn ≡ Some c → y.conn ≡ Some d → x.awaits_dialect ≡ None → x.late.items ≡ []
-    → address_and_limits y ≡ address_and_limits x → y.waiting.items ≡ x.waiting.items → y.awaits_dialect ≡ x.awaits_dialect → y.dialect ≡ x.dialect → y.late.items ≡ x.late.items → d.number ≡ c.number → bytes_of d.unsent ≡ bytes_of c.unsent
+    → place_of y ≡ place_of x → y.waiting.items ≡ x.waiting.items → y.awaits_dialect ≡ x.awaits_dialect → y.dialect ≡ x.dialect → y.late.items ≡ x.late.items → d.number ≡ c.number → bytes_of d.unsent ≡ bytes_of c.unsent
     → ((past : List Step) → ConnAgrees at past h y d rest → is_over d.number h ≡ false → MayAllGo past at y.waiting.items → AreDue past at (said_asks y.waiting.items) → AreCalled past at (said_asks y.calls.sent.items) → After at past h y)
     → SettlesSome x.calls.sent.items c.held.items core y.calls.sent.items rest core' → LineGoesFrom LineAgrees After IsOfTurn at core h x core' h y
-settles_to {After} {at} {core} {core'} {h} x y c d rest was is off alone server waiting awaits speaks late number unsent after s = record {
+settles_to {After} {at} {core} {core'} {h} x y c d rest was is off alone place waiting awaits speaks late number unsent after s = record {
   steps = g.steps;
   kinds = g.kinds;
   own = g.own;
@@ -587,7 +590,7 @@ settles_to {After} {at} {core} {core'} {h} x y c d rest was is off alone server 
   agrees = λ past o tells a. let t = a.conn c was in let r = g.orderly past o tells a.called t.out_is (t.awaits_is ∙ off) (t.late_is ∙ ap said_late alone) in (r.0, agreed past a r.1, all_kept (1, at) h h (quiet h), (left past a).others);
   shown = λ past o tells a shown. shown_later g.steps past h h g.unlost (none_since h) shown;
   shut = shut_still (quiet h) (conn_is y d is ∙ ap (λ n. Some n) number ∙ sym (conn_is x c was));
-  server = record { same = server; late = unlost_late _ g.steps g.unlost };
+  server = record { same = place_server x y place; late = unlost_late (λ i. Some x.limits) g.steps g.unlost };
 }
   where
     g : Answers at x.calls.sent.items c.held.items core y.calls.sent.items rest core'
@@ -599,25 +602,25 @@ settles_to {After} {at} {core} {core'} {h} x y c d rest was is off alone server 
     agreed : (past : List Step) → LineAgrees at past h x → talk_in (g.steps ++ past) at ≡ record (talk_in past at) { told = (talk_in past at).told ++ g.spelled; out = said_asks y.calls.sent.items } → After at (g.steps ++ past) h y
     agreed past a talk =
         let before = talk_as refl refl refl (sym g.whole) refl refl refl refl refl (a.conn c was) in
-        let now = talk_answers h at x.text.items (talk_in past at) c.number g.spelled rest (bytes_of c.unsent) (said_asks x.calls.sent.items) (said_asks y.calls.sent.items) x.awaits_dialect x.dialect before in
-        after (g.steps ++ past) (talk_as (same_text x y server) talk number refl unsent refl awaits speaks (ap said_late late) now) (ap (λ n. is_over n h) number ∙ a.goes_on c was) (calls_later g.steps past at y.waiting.items (subst (λ w. MayAllGo past at w) (sym waiting) a.waiting))
+        let now = talk_answers h at (opening_of x) (talk_in past at) c.number g.spelled rest (bytes_of c.unsent) (said_asks x.calls.sent.items) (said_asks y.calls.sent.items) x.awaits_dialect x.dialect before in
+        after (g.steps ++ past) (talk_as (same_opening x y place) talk number refl unsent refl awaits speaks (ap said_late late) now) (ap (λ n. is_over n h) number ∙ a.goes_on c was) (calls_later g.steps past at y.waiting.items (subst (λ w. MayAllGo past at w) (sym waiting) a.waiting))
         (subst (λ w. AreDue (g.steps ++ past) at (said_asks w)) (sym waiting) (left past a).due) (left past a).called
 
 -- what is left of it is held
 pub line_settles :
-    {at : ℕ} {core core' : ServedCore} {h : List WireEvent} (x y : Link) (c d : Conn) → x.conn ≡ Some c → y.conn ≡ Some d → x.awaits_dialect ≡ None → x.late.items ≡ [] → address_and_limits y ≡ address_and_limits x → y.waiting.items ≡ x.waiting.items
+    {at : ℕ} {core core' : ServedCore} {h : List WireEvent} (x y : Link) (c d : Conn) → x.conn ≡ Some c → y.conn ≡ Some d → x.awaits_dialect ≡ None → x.late.items ≡ [] → place_of y ≡ place_of x → y.waiting.items ≡ x.waiting.items
     → y.awaits_dialect ≡ x.awaits_dialect → y.dialect ≡ x.dialect → y.late.items ≡ x.late.items → d.number ≡ c.number → bytes_of d.unsent ≡ bytes_of c.unsent → SettlesSome x.calls.sent.items c.held.items core y.calls.sent.items d.held.items core'
     → LineGoes IsOfTurn at core h x core' h y
-line_settles {at} {core} {core'} {h} x y c d was is off alone server waiting awaits speaks late number unsent s =
-    settles_to x y c d d.held.items was is off alone server waiting awaits speaks late number unsent (λ past agrees goes_on waits due called. has_conn at past h y d is agrees goes_on waits due called) s
+line_settles {at} {core} {core'} {h} x y c d was is off alone place waiting awaits speaks late number unsent s =
+    settles_to x y c d d.held.items was is off alone place waiting awaits speaks late number unsent (λ past agrees goes_on waits due called. has_conn at past h y d is agrees goes_on waits due called) s
 
 -- or it is lost
 pub line_loses :
-    {at : ℕ} {core core' : ServedCore} {h : List WireEvent} (x y : Link) (c d : Conn) (rest : List ℕ) → x.conn ≡ Some c → y.conn ≡ Some d → x.awaits_dialect ≡ None → x.late.items ≡ [] → address_and_limits y ≡ address_and_limits x
+    {at : ℕ} {core core' : ServedCore} {h : List WireEvent} (x y : Link) (c d : Conn) (rest : List ℕ) → x.conn ≡ Some c → y.conn ≡ Some d → x.awaits_dialect ≡ None → x.late.items ≡ [] → place_of y ≡ place_of x
     → y.waiting.items ≡ x.waiting.items → y.awaits_dialect ≡ x.awaits_dialect → y.dialect ≡ x.dialect → y.late.items ≡ x.late.items → d.number ≡ c.number → bytes_of d.unsent ≡ bytes_of c.unsent → SettlesSome x.calls.sent.items c.held.items core y.calls.sent.items rest core'
     → LineGoesFrom LineAgrees LineLost IsOfTurn at core h x core' h y
-line_loses {at} {core} {core'} {h} x y c d rest was is off alone server waiting awaits speaks late number unsent s =
-    settles_to x y c d rest was is off alone server waiting awaits speaks late number unsent
+line_loses {at} {core} {core'} {h} x y c d rest was is off alone place waiting awaits speaks late number unsent s =
+    settles_to x y c d rest was is off alone place waiting awaits speaks late number unsent
     (λ past agrees goes_on waits due called. record { conn = λ conn there. subst (λ (z : Conn). (held : List ℕ) × ConnAgrees at past h y z held) (same_some (sym is ∙ there)) (rest, agrees); waiting = waits; due = due; none_out = λ none. absurd (none_some (sym none ∙ is)); unused = λ none. absurd (none_some (sym none ∙ is)); called = called }) s
 
 -- ---- the end of a connection
@@ -642,36 +645,36 @@ gives_none {at} {core} {h} {h'} why x y had same closed draining server waiting 
 gives_up :
     {at : ℕ} {core : ServedCore} {h h' : List WireEvent} (why : Option Cause) (x y : Link) (c : Conn) → x.conn ≡ Some c → TouchesOnly c.number h h' → role c.number h' ≡ role c.number h → y.conn ≡ None → address_and_limits y ≡ address_and_limits x
     → y.waiting.items ≡ x.waiting.items → y.calls.sent.items ≡ x.calls.sent.items → StaysShut at h x h' y
-    → ((past : List Step) → LineFails why at past h x → Unused h' at y.text.items (talk_in (Lost at why ∷ past) at) (drain_of y)) → LineGoesFrom (LineFails why) LineAgrees (IsGivingUp why) at core h x core h' y
+    → ((past : List Step) → LineFails why at past h x → Unused h' at y.text.items (talk_in (Lost at why x.limits.connect_ms ∷ past) at) (drain_of y)) → LineGoesFrom (LineFails why) LineAgrees (IsGivingUp why) at core h x core h' y
 gives_up {at} {core} {h} {h'} why x y c e only same_role closed server waiting sent shut unused = record {
-  steps = Lost at why ∷ [];
+  steps = Lost at why x.limits.connect_ms ∷ [];
   kinds = (refl, tt);
   own = (refl, tt);
   walks = (core, refl, refl);
   agrees = λ past o tells a. ((tt, o), left past a, keeps_others c.number (1, at) h h' (a.lost.conn c e).1.is_to same_role only, λ j other n ask is. (refl, refl, refl));
   shown = λ past o tells a shown. (was_shown past a, shown_since past h h' (only_after c.number h h' only) shown);
   shut = shut;
-  server = record { same = server; late = (tt, tt) };
+  server = record { same = server; late = (refl, tt) };
 }
   where
-    talk : (past : List Step) → talk_in (Lost at why ∷ past) at ≡ given_up why (talk_in past at)
+    talk : (past : List Step) → talk_in (Lost at why x.limits.connect_ms ∷ past) at ≡ given_up why (talk_in past at)
     talk past = ap (λ b. if b then given_up why (talk_in past at) else talk_in past at) (equal at)
 
-    left : (past : List Step) → LineFails why at past h x → LineAgrees at (Lost at why ∷ past) h' y
+    left : (past : List Step) → LineFails why at past h x → LineAgrees at (Lost at why x.limits.connect_ms ∷ past) h' y
     left past a =
-        has_none at (Lost at why ∷ past) h' y closed (calls_later (Lost at why ∷ []) past at y.waiting.items (subst (λ w. MayAllGo past at w) (sym waiting) a.lost.waiting))
-        (due_stays past (Lost at why ∷ past) at (said_asks y.waiting.items) (λ n ask is. (refl, refl, refl)) (subst (λ w. AreDue past at (said_asks w)) (sym waiting) a.lost.due)) (ap (λ (t : Talk). t.out) (talk past)) (unused past a)
-        (called_stays past (Lost at why ∷ past) at (said_asks y.calls.sent.items) (λ n ask is. (refl, refl, refl)) (subst (λ (l : List SentCall). AreCalled past at (said_asks l)) (sym sent) a.lost.called))
+        has_none at (Lost at why x.limits.connect_ms ∷ past) h' y closed (calls_later (Lost at why x.limits.connect_ms ∷ []) past at y.waiting.items (subst (λ w. MayAllGo past at w) (sym waiting) a.lost.waiting))
+        (due_stays past (Lost at why x.limits.connect_ms ∷ past) at (said_asks y.waiting.items) (λ n ask is. (refl, refl, refl)) (subst (λ w. AreDue past at (said_asks w)) (sym waiting) a.lost.due)) (ap (λ (t : Talk). t.out) (talk past)) (unused past a)
+        (called_stays past (Lost at why x.limits.connect_ms ∷ past) at (said_asks y.calls.sent.items) (λ n ask is. (refl, refl, refl)) (subst (λ (l : List SentCall). AreCalled past at (said_asks l)) (sym sent) a.lost.called))
 
-    was_shown : (past : List Step) → LineFails why at past h x → WasShown why at past h'
+    was_shown : (past : List Step) → LineFails why at past h x → WasShown why x.limits.connect_ms at past h'
     was_shown past a = let t = (a.lost.conn c e).1 in record {
       conn = c.number;
       before = h;
       since = only_after c.number h h' only;
-      text = x.text.items;
+      begun = opening_of x;
       held = (a.lost.conn c e).0;
       unsent = bytes_of c.unsent;
-      agrees = record { is_to = t.is_to; address = t.address; sent_is = t.sent_is; told_is = t.told_is; out_is = refl; awaits_is = refl; dialect_is = refl; late_is = refl };
+      agrees = record { is_to = t.is_to; begun_is = t.begun_is; sent_is = t.sent_is; told_is = t.told_is; out_is = refl; awaits_is = refl; dialect_is = refl; late_is = refl };
       shows = a.shows c e;
     }
 
@@ -686,7 +689,7 @@ line_closes {at} {core} {h} {h'} why apart x y r r_is some none closed draining 
     by None e same = gives_none why x y e (none (r_is ∙ ap (option_map (λ (z : Conn). z.number)) e)) closed same server waiting sent
     by (Some c) e undrained =
         gives_up why x y c e only (closed_role c.number h h' closes_it) closed server waiting sent (shut_closed c.number only (closed_shut c.number h h' closes_it) (conn_is x c e))
-        (λ past a. subst (λ (o : Option Conn). Unused h' at y.text.items (talk_in (Lost at why ∷ past) at) (option_map (λ (z : Conn). z.number) o)) (sym undrained)
+        (λ past a. subst (λ (o : Option Conn). Unused h' at y.text.items (talk_in (Lost at why x.limits.connect_ms ∷ past) at) (option_map (λ (z : Conn). z.number) o)) (sym undrained)
         (ap (λ b. (if b then given_up why (talk_in past at) else talk_in past at).stands) (equal at) ∙ apart))
       where
         closes_it : Closes c.number h h'
@@ -708,17 +711,17 @@ line_drains {at} {core} {h} {h'} why ending x y same closed conns draining serve
     by None e = gives_none why x y e same closed (draining e) server waiting sent
     by (Some c) e =
         gives_up why x y c e (λ d other. still d) (still c.number).same_role closed server waiting sent (shut_still still conns)
-        (λ past a. subst (Unused h' at y.text.items (talk_in (Lost at why ∷ past) at)) (sym (sym (conn_drains y closed) ∙ conns ∙ conn_is x c e)) (awaited past a))
+        (λ past a. subst (Unused h' at y.text.items (talk_in (Lost at why x.limits.connect_ms ∷ past) at)) (sym (sym (conn_drains y closed) ∙ conns ∙ conn_is x c e)) (awaited past a))
       where
-        awaited : (past : List Step) → LineFails why at past h x → Unused h' at y.text.items (talk_in (Lost at why ∷ past) at) (Some c.number)
+        awaited : (past : List Step) → LineFails why at past h x → Unused h' at y.text.items (talk_in (Lost at why x.limits.connect_ms ∷ past) at) (Some c.number)
         awaited past a =
             let t = (a.lost.conn c e).1 in
-            let talk : talk_in (Lost at why ∷ past) at ≡ given_up why (talk_in past at) = ap (λ b. if b then given_up why (talk_in past at) else talk_in past at) (equal at) in
-            let now : TalkAgrees h at x.text.items (given_up why (talk_in past at)) c.number (a.lost.conn c e).0 (bytes_of c.unsent) [] None (talk_in past at).dialect [] =
-            record { is_to = t.is_to; address = t.address; sent_is = t.sent_is; told_is = t.told_is; out_is = refl; awaits_is = refl; dialect_is = refl; late_is = refl } in
-            subst (λ k. Unused k at y.text.items (talk_in (Lost at why ∷ past) at) (Some c.number)) (sym same)
-            (subst (λ w. Unused h at w (talk_in (Lost at why ∷ past) at) (Some c.number)) (sym (same_text x y server))
-            (subst (λ u. Unused h at x.text.items u (Some c.number)) (sym talk) (ending, (a.lost.conn c e).0, bytes_of c.unsent, now)))
+            let talk : talk_in (Lost at why x.limits.connect_ms ∷ past) at ≡ given_up why (talk_in past at) = ap (λ b. if b then given_up why (talk_in past at) else talk_in past at) (equal at) in
+            let now : TalkAgrees h at (opening_of x) (given_up why (talk_in past at)) c.number (a.lost.conn c e).0 (bytes_of c.unsent) [] None (talk_in past at).dialect [] =
+            record { is_to = t.is_to; begun_is = t.begun_is; sent_is = t.sent_is; told_is = t.told_is; out_is = refl; awaits_is = refl; dialect_is = refl; late_is = refl } in
+            subst (λ k. Unused k at y.text.items (talk_in (Lost at why x.limits.connect_ms ∷ past) at) (Some c.number)) (sym same)
+            (subst (λ w. Unused h at w (talk_in (Lost at why x.limits.connect_ms ∷ past) at) (Some c.number)) (sym (same_text x y server))
+            (subst (λ u. Unused h at x.text.items u (Some c.number)) (sym talk) (ending, (a.lost.conn c e).0, bytes_of c.unsent, x.opened, now)))
 
 -- ---- the end of one that can't be kept
 
@@ -728,7 +731,7 @@ pub line_away :
     → ReadsOn c.number [] bytes h h' → LineGoes Is at core h x core h' y
 line_away {at = at} {h = h} {h' = h'} x y c d bytes none was is number r =
     line_moves refl (only_after c.number h h' r.elsewhere) (shut_used c.number r.elsewhere (conn_drains x none ∙ ap (option_map (λ (z : Conn). z.number)) was) (conn_drains y (ap (λ (z : Link). z.conn) is ∙ none) ∙ drains)) (ap address_and_limits is)
-    (λ past a. (agrees past a, keeps_others c.number (1, at) h h' (before past a).3.is_to r.same_role r.elsewhere))
+    (λ past a. (agrees past a, keeps_others c.number (1, at) h h' (before past a).4.is_to r.same_role r.elsewhere))
   where
     drains : drain_of y ≡ Some c.number
     drains = ap drain_of is ∙ ap (λ n. Some n) number
@@ -742,15 +745,16 @@ line_away {at = at} {h = h} {h' = h'} x y c d bytes none was is number r =
           u.0,
           u.1 ++ bytes,
           u.2,
+          u.3,
           record {
-            is_to = r.same_role ∙ u.3.is_to;
-            address = r.same_address ∙ u.3.address;
-            sent_is = u.3.sent_is ∙ ap (λ l. l ++ u.2) (sym r.same_went);
-            told_is = r.came ∙ ap (λ l. l ++ r.bytes) u.3.told_is ∙ append_assoc t.told u.1 r.bytes ∙ ap (λ l. t.told ++ (u.1 ++ l)) (sym r.held_is);
-            out_is = u.3.out_is;
-            awaits_is = u.3.awaits_is;
-            dialect_is = u.3.dialect_is;
-            late_is = u.3.late_is;
+            is_to = r.same_role ∙ u.4.is_to;
+            begun_is = r.same_begin ∙ u.4.begun_is;
+            sent_is = u.4.sent_is ∙ ap (λ l. l ++ u.2) (sym r.same_went);
+            told_is = r.came ∙ ap (λ l. l ++ r.bytes) u.4.told_is ∙ append_assoc t.told u.1 r.bytes ∙ ap (λ l. t.told ++ (u.1 ++ l)) (sym r.held_is);
+            out_is = u.4.out_is;
+            awaits_is = u.4.awaits_is;
+            dialect_is = u.4.dialect_is;
+            late_is = u.4.late_is;
           },
         )
 
@@ -763,17 +767,17 @@ line_away {at = at} {h = h} {h' = h'} x y c d bytes none was is number r =
 
 -- it has ended, or failed, or is awaited no longer, and was closed for that
 pub line_ends :
-    {Is : Step → Type 0} {at : ℕ} {core : ServedCore} {h k h' : List WireEvent} (why : Option Cause) → Is (Lost at why) → standing_after why ≡ Apart → (x y : Link) (c : Conn) → x.conn ≡ None → x.draining ≡ Some c → y ≡ record x { draining = None }
-    → ReadsOn c.number [] [] h k → ((t : Talk) → t.stands ≡ Ending → ShowsWhy why t c.number k) → Closes c.number k h' → LineGoes Is at core h x core h' y
+    {Is : Step → Type 0} {at : ℕ} {core : ServedCore} {h k h' : List WireEvent} (why : Option Cause) → ((limit : ℕ) → Is (Lost at why limit)) → standing_after why ≡ Apart → (x y : Link) (c : Conn) → x.conn ≡ None → x.draining ≡ Some c → y ≡ record x { draining = None }
+    → ReadsOn c.number [] [] h k → ((limit : ℕ) (t : Talk) → t.stands ≡ Ending → ShowsWhy why limit t c.number k) → Closes c.number k h' → LineGoes Is at core h x core h' y
 line_ends {Is} {at} {core} {h} {k} {h'} why kind apart x y c none was is r shows closes_it = record {
-  steps = Lost at why ∷ [];
-  kinds = (kind, tt);
+  steps = Lost at why x.limits.connect_ms ∷ [];
+  kinds = (kind x.limits.connect_ms, tt);
   own = (refl, tt);
   walks = (core, refl, refl);
-  agrees = λ past o tells a. ((tt, o), left past a, keeps_others c.number (1, at) h h' (before past a).3.is_to (closed_role c.number k h' closes_it ∙ r.same_role) only, λ j other n ask is. (refl, refl, refl));
+  agrees = λ past o tells a. ((tt, o), left past a, keeps_others c.number (1, at) h h' (before past a).4.is_to (closed_role c.number k h' closes_it ∙ r.same_role) only, λ j other n ask is. (refl, refl, refl));
   shown = λ past o tells a shown. (was_shown past a, shown_since past h h' (only_after c.number h h' only) shown);
   shut = shut_closed c.number only (closed_shut c.number k h' closes_it) (conn_drains x none ∙ ap (option_map (λ (z : Conn). z.number)) was);
-  server = record { same = ap address_and_limits is; late = (tt, tt) };
+  server = record { same = ap address_and_limits is; late = (refl, tt) };
 }
   where
     only : TouchesOnly c.number h h'
@@ -782,38 +786,38 @@ line_ends {Is} {at} {core} {h} {k} {h'} why kind apart x y c none was is r shows
     before : (past : List Step) → LineAgrees at past h x → Unused h at x.text.items (talk_in past at) (Some c.number)
     before past a = subst (λ (o : Option Conn). Unused h at x.text.items (talk_in past at) (option_map (λ (z : Conn). z.number) o)) was (a.unused none)
 
-    talk : (past : List Step) → talk_in (Lost at why ∷ past) at ≡ given_up why (talk_in past at)
+    talk : (past : List Step) → talk_in (Lost at why x.limits.connect_ms ∷ past) at ≡ given_up why (talk_in past at)
     talk past = ap (λ b. if b then given_up why (talk_in past at) else talk_in past at) (equal at)
 
-    left : (past : List Step) → LineAgrees at past h x → LineAgrees at (Lost at why ∷ past) h' y
+    left : (past : List Step) → LineAgrees at past h x → LineAgrees at (Lost at why x.limits.connect_ms ∷ past) h' y
     left past a =
-        has_none at (Lost at why ∷ past) h' y (ap (λ (z : Link). z.conn) is ∙ none)
-        (calls_later (Lost at why ∷ []) past at y.waiting.items (subst (λ w. MayAllGo past at w) (sym (ap (λ (z : Link). z.waiting.items) is)) a.waiting))
-        (due_stays past (Lost at why ∷ past) at (said_asks y.waiting.items) (λ n ask is. (refl, refl, refl)) (subst (λ w. AreDue past at (said_asks w)) (sym (ap (λ (z : Link). z.waiting.items) is)) a.due))
+        has_none at (Lost at why x.limits.connect_ms ∷ past) h' y (ap (λ (z : Link). z.conn) is ∙ none)
+        (calls_later (Lost at why x.limits.connect_ms ∷ []) past at y.waiting.items (subst (λ w. MayAllGo past at w) (sym (ap (λ (z : Link). z.waiting.items) is)) a.waiting))
+        (due_stays past (Lost at why x.limits.connect_ms ∷ past) at (said_asks y.waiting.items) (λ n ask is. (refl, refl, refl)) (subst (λ w. AreDue past at (said_asks w)) (sym (ap (λ (z : Link). z.waiting.items) is)) a.due))
         (ap (λ (t : Talk). t.out) (talk past))
-        (subst (Unused h' at y.text.items (talk_in (Lost at why ∷ past) at)) (sym (ap drain_of is)) (ap (λ (t : Talk). t.stands) (talk past) ∙ apart))
-        (called_stays past (Lost at why ∷ past) at (said_asks y.calls.sent.items) (λ n ask is. (refl, refl, refl)) (subst (λ l. AreCalled past at l) (sym (ap (λ (z : Link). said_asks z.calls.sent.items) is)) a.called))
+        (subst (Unused h' at y.text.items (talk_in (Lost at why x.limits.connect_ms ∷ past) at)) (sym (ap drain_of is)) (ap (λ (t : Talk). t.stands) (talk past) ∙ apart))
+        (called_stays past (Lost at why x.limits.connect_ms ∷ past) at (said_asks y.calls.sent.items) (λ n ask is. (refl, refl, refl)) (subst (λ l. AreCalled past at l) (sym (ap (λ (z : Link). said_asks z.calls.sent.items) is)) a.called))
 
-    was_shown : (past : List Step) → LineAgrees at past h x → WasShown why at past h'
+    was_shown : (past : List Step) → LineAgrees at past h x → WasShown why x.limits.connect_ms at past h'
     was_shown past a =
         let u = before past a in let t = talk_in past at in record {
           conn = c.number;
           before = k;
           since = only_after c.number k h' (only_closed c.number k h' closes_it);
-          text = x.text.items;
+          begun = (x.text.items, u.3);
           held = u.1;
           unsent = u.2;
           agrees = record {
-            is_to = r.same_role ∙ u.3.is_to;
-            address = r.same_address ∙ u.3.address;
-            sent_is = u.3.sent_is ∙ ap (λ l. l ++ u.2) (sym r.same_went);
-            told_is = r.came ∙ ap (λ l. delivered c.number h ++ l) (sym r.held_is) ∙ append-nil (delivered c.number h) ∙ u.3.told_is;
+            is_to = r.same_role ∙ u.4.is_to;
+            begun_is = r.same_begin ∙ u.4.begun_is;
+            sent_is = u.4.sent_is ∙ ap (λ l. l ++ u.2) (sym r.same_went);
+            told_is = r.came ∙ ap (λ l. delivered c.number h ++ l) (sym r.held_is) ∙ append-nil (delivered c.number h) ∙ u.4.told_is;
             out_is = refl;
             awaits_is = refl;
             dialect_is = refl;
             late_is = refl;
           };
-          shows = shows t u.0;
+          shows = shows x.limits.connect_ms t u.0;
         }
 
 -- it had none in use, and has none then
@@ -858,7 +862,7 @@ failed_own at (Greeted a dialect bytes ∷ steps) kinds = absurd kinds.0
 failed_own at (Late a number limit now ∷ steps) kinds = absurd kinds.0
 failed_own at (CameLate a number ask answer bytes ∷ steps) kinds = absurd kinds.0
 failed_own at (Spelled a number ask answer bytes ∷ steps) kinds = absurd kinds.0
-failed_own at (Lost a why ∷ steps) kinds = absurd kinds.0
+failed_own at (Lost a why limit ∷ steps) kinds = absurd kinds.0
 
 -- calls that fail, as a connection is given up
 failed_giving : (why : Option Cause) (steps : List Step) → StepsAreOf IsFailure steps → StepsAreOf (IsGivingUp why) steps
@@ -884,7 +888,7 @@ failed_giving why (step ∷ steps) kinds = (gives step kinds.0, failed_giving wh
     gives (Late a number limit now) is = absurd is
     gives (CameLate a number ask answer bytes) is = absurd is
     gives (Spelled a number ask answer bytes) is = absurd is
-    gives (Lost a cause) is = absurd is
+    gives (Lost a cause limit) is = absurd is
 
 last_called : (past : List Step) (at : ℕ) (first later : List SentCall) → MayAllGo past at (first ++ later) → MayAllGo past at later
 last_called past at [] later are = are
@@ -915,7 +919,7 @@ line_fails {why} {at} {core} {core'} {h} x y mid sent waiting had none draining 
   );
   shown = λ past o tells a shown. shown_later (w.steps ++ f.steps) past h h (plain_unlost (w.steps ++ f.steps) own.1) (none_since h) shown;
   shut = shut_still (quiet h) (conns_same x y (none ∙ sym had) draining);
-  server = record { same = server; late = unlost_late _ (w.steps ++ f.steps) (plain_unlost (w.steps ++ f.steps) own.1) };
+  server = record { same = server; late = unlost_late (λ i. Some x.limits) (w.steps ++ f.steps) (plain_unlost (w.steps ++ f.steps) own.1) };
 }
   where
     f : FailsInOrder at sent.0 core mid

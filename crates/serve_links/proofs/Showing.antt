@@ -10,7 +10,7 @@ use Rattle.serve_links.proofs.Talking.{IsPlain}
 
 -- no server's connection is given up, and no call is late
 abbrev pub IsUnlost : Step → Type 0
-IsUnlost (Lost at why) = ⊥
+IsUnlost (Lost at why limit) = ⊥
 IsUnlost (Opened client) = Unit {0}
 IsUnlost (NotOpened fault) = Unit {0}
 IsUnlost (Fed client piece) = Unit {0}
@@ -35,7 +35,7 @@ plain_unlost [] kinds = tt
 plain_unlost (step ∷ steps) kinds = (unlost step kinds.0, plain_unlost steps kinds.1)
   where
     unlost : (s : Step) → IsPlain s → IsUnlost s
-    unlost (Lost at why) is = is
+    unlost (Lost at why limit) is = is
     unlost (Opened client) is = tt
     unlost (NotOpened fault) is = tt
     unlost (Fed client piece) is = tt
@@ -59,12 +59,12 @@ plain_unlost (step ∷ steps) kinds = (unlost step kinds.0, plain_unlost steps k
 pub none_since : (h : List WireEvent) → Extends h h
 none_since h = ([], refl)
 
-was_since : (why : Option Cause) (at : ℕ) (past : List Step) (h h' : List WireEvent) → Extends h h' → WasShown why at past h → WasShown why at past h'
-was_since why at past h h' more was = record {
+was_since : (why : Option Cause) (limit at : ℕ) (past : List Step) (h h' : List WireEvent) → Extends h h' → WasShown why limit at past h → WasShown why limit at past h'
+was_since why limit at past h h' more was = record {
   conn = was.conn;
   before = was.before;
   since = extends_twice was.before h h' was.since more;
-  text = was.text;
+  begun = was.begun;
   held = was.held;
   unsent = was.unsent;
   agrees = was.agrees;
@@ -77,7 +77,7 @@ shown_since [] h h' more shown = tt
 shown_since (step ∷ steps) h h' more shown = (by step shown.0, shown_since steps h h' more shown.1)
   where
     by : (s : Step) → StepIsShown s steps h → StepIsShown s steps h'
-    by (Lost at why) was = was_since why at steps h h' more was
+    by (Lost at why limit) was = was_since why limit at steps h h' more was
     by (Opened client) was = tt
     by (NotOpened fault) was = tt
     by (Fed client piece) was = tt
@@ -103,7 +103,7 @@ shown_later [] past h h' kinds more shown = shown_since past h h' more shown
 shown_later (step ∷ steps) past h h' kinds more shown = (by step kinds.0, shown_later steps past h h' kinds.1 more shown)
   where
     by : (s : Step) → IsUnlost s → StepIsShown s (steps ++ past) h'
-    by (Lost at why) is = absurd is
+    by (Lost at why limit) is = absurd is
     by (Opened client) is = tt
     by (NotOpened fault) is = tt
     by (Fed client piece) is = tt

@@ -20,7 +20,7 @@ use Rattle.serve_links.specs.declared.settings.Greeting.{Greeting}
 use Rattle.serve_links.specs.declared.link.Link.{Link}
 use Rattle.serve_links.specs.CoreSteps.{Step, Closed, Opened, Polled, StepsAreOf, IsSending}
 use Rattle.serve_links.specs.Talks.{SaidAsk, Talk, Apart, talk_in, AreDue, AreCalled}
-use Rattle.serve_links.specs.Story.{fed_in, gave_in, is_open_in, is_broken_in, ClientAgreesWith, ClientIsTold, ClientsAreTold, TellsNone, TookAll, ClientEndsBy, IsGone, HasOrHad, TalkAgrees, Unused, said_asks, StayOut, LineAgrees, LinesAgree, servers_of, OneGoes, LineGoesFrom, LineGoes, AnEnd, Agrees, AgreesBut, AgreesCalled, AllGoFrom, AllGo, StoriesGoOn}
+use Rattle.serve_links.specs.Story.{opening_of, fed_in, gave_in, is_open_in, is_broken_in, ClientAgreesWith, ClientIsTold, ClientsAreTold, TellsNone, TookAll, ClientEndsBy, IsGone, HasOrHad, TalkAgrees, Unused, said_asks, StayOut, LineAgrees, LinesAgree, servers_of, OneGoes, LineGoesFrom, LineGoes, AnEnd, Agrees, AgreesBut, AgreesCalled, AllGoFrom, AllGo, StoriesGoOn}
 use Rattle.serve_links.specs.Called.{TellsCallsOut, GiveOnce}
 use Rattle.serve_links.proofs.Called.{walks_tell_calls}
 use Rattle.serve_links.proofs.Talking.{calls_later, IsPlain, clients_plain, plain_talk, clients_orderly, clients_clock, server_tells_none, server_clock, sending_clock, sending_given, talk_elsewhere}
@@ -79,11 +79,11 @@ all_told past steps clients none was = each_told (steps ++ past) clients (λ j z
 
 -- a connection that nothing touched, and of which nothing more was told
 pub talk_stays :
-    (h h' : List WireEvent) (at : ℕ) (text : List ℕ) (t t' : Talk) (c : ℕ) (held unsent : List ℕ) (out : List SaidAsk) (awaits : Option Greeting) (dialect : Dialect) {late : List SaidAsk} → IsUntouched c h h' → t' ≡ t
-    → TalkAgrees h at text t c held unsent out awaits dialect late → TalkAgrees h' at text t' c held unsent out awaits dialect late
-talk_stays h h' at text t t' c held unsent out awaits dialect same e was = record {
+    (h h' : List WireEvent) (at : ℕ) (begun : List ℕ × ℕ) (t t' : Talk) (c : ℕ) (held unsent : List ℕ) (out : List SaidAsk) (awaits : Option Greeting) (dialect : Dialect) {late : List SaidAsk} → IsUntouched c h h' → t' ≡ t
+    → TalkAgrees h at begun t c held unsent out awaits dialect late → TalkAgrees h' at begun t' c held unsent out awaits dialect late
+talk_stays h h' at begun t t' c held unsent out awaits dialect same e was = record {
   is_to = same.same_role ∙ was.is_to;
-  address = same.same_address ∙ was.address;
+  begun_is = same.same_begin ∙ was.begun_is;
   sent_is = ap (λ (x : Talk). x.sent) e ∙ was.sent_is ∙ ap (λ l. l ++ unsent) (sym same.same_went);
   told_is = same.same_came ∙ was.told_is ∙ ap (λ (x : Talk). x.told ++ held) (sym e);
   out_is = ap (λ (x : Talk). x.out) e ∙ was.out_is;
@@ -98,7 +98,7 @@ unused_stays h h' at text t t' o same e was = subst (λ u. Unused h' at text u o
   where
     by : (p : Option ℕ) → Unused h at text t p → Unused h' at text t p
     by None apart = apart
-    by (Some c) ending = (ending.0, ending.1, ending.2, talk_stays h h' at text t t c ending.1 ending.2 t.out t.awaits t.dialect (same c ending.3.is_to) refl ending.3)
+    by (Some c) ending = (ending.0, ending.1, ending.2, ending.3, talk_stays h h' at (text, ending.3) t t c ending.1 ending.2 t.out t.awaits t.dialect (same c ending.4.is_to) refl ending.4)
 
 -- a link whose connections nothing touched, and of whose server nothing more was told, and whose calls are as they were
 pub line_stays_by :
@@ -106,7 +106,7 @@ pub line_stays_by :
     → AreCalled (steps ++ past) at (said_asks link.calls.sent.items) → LineAgrees at past h link → LineAgrees at (steps ++ past) h' link
 line_stays_by h h' at steps past link same told due called was = record {
   conn = λ conn is.
-      talk_stays h h' at link.text.items (talk_in past at) (talk_in (steps ++ past) at) conn.number conn.held.items (bytes_of conn.unsent) (said_asks link.calls.sent.items) link.awaits_dialect link.dialect (same conn.number (was.conn conn is).is_to) told (was.conn conn is);
+      talk_stays h h' at (opening_of link) (talk_in past at) (talk_in (steps ++ past) at) conn.number conn.held.items (bytes_of conn.unsent) (said_asks link.calls.sent.items) link.awaits_dialect link.dialect (same conn.number (was.conn conn is).is_to) told (was.conn conn is);
   goes_on = λ conn is. (same conn.number (was.conn conn is).is_to).same_over ∙ was.goes_on conn is;
   waiting = calls_later steps past at link.waiting.items was.waiting;
   due = due;

@@ -62,7 +62,7 @@ IsPlain (Greeted at dialect bytes) = ⊥
 IsPlain (Late at number limit now) = ⊥
 IsPlain (CameLate at number ask answer bytes) = ⊥
 IsPlain (Spelled at number ask answer bytes) = ⊥
-IsPlain (Lost at why) = ⊥
+IsPlain (Lost at why limit) = ⊥
 
 pub clients_plain : (steps : List Step) → StepsAreOf IsOfClients steps → StepsAreOf IsPlain steps
 clients_plain [] kinds = tt
@@ -87,7 +87,7 @@ clients_plain (step ∷ steps) kinds = (plain step kinds.0, clients_plain steps 
     plain (Late at number limit now) is = is
     plain (CameLate at number ask answer bytes) is = is
     plain (Spelled at number ask answer bytes) is = is
-    plain (Lost at why) is = is
+    plain (Lost at why limit) is = is
 
 -- nothing is told of servers
 pub plain_talk : (steps : List Step) → StepsAreOf IsPlain steps → (past : List Step) (j : ℕ) → talk_in (steps ++ past) j ≡ talk_in past j
@@ -110,7 +110,7 @@ plain_talk (Greeted at dialect bytes ∷ steps) kinds past j = absurd kinds.0
 plain_talk (Late at number limit now ∷ steps) kinds past j = absurd kinds.0
 plain_talk (CameLate at number ask answer bytes ∷ steps) kinds past j = absurd kinds.0
 plain_talk (Spelled at number ask answer bytes ∷ steps) kinds past j = absurd kinds.0
-plain_talk (Lost at why ∷ steps) kinds past j = absurd kinds.0
+plain_talk (Lost at why limit ∷ steps) kinds past j = absurd kinds.0
 
 -- steps of clients may come at any time
 pub clients_orderly : (steps : List Step) → StepsAreOf IsOfClients steps → (past : List Step) → GiveOnce steps past → IsOrderly past → IsOrderly (steps ++ past)
@@ -136,7 +136,7 @@ clients_orderly (step ∷ steps) kinds past once o = (follows step (steps ++ pas
     follows (Late at number limit now) before is once = absurd is
     follows (CameLate at number ask answer bytes) before is once = absurd is
     follows (Spelled at number ask answer bytes) before is once = absurd is
-    follows (Lost at why) before is once = absurd is
+    follows (Lost at why limit) before is once = absurd is
 
 -- ---- calls that fail
 
@@ -210,7 +210,7 @@ server_tells_none at (Greeted a dialect bytes ∷ steps) own past j = server_tel
 server_tells_none at (Late a number limit now ∷ steps) own past j = server_tells_none at steps own.1 past j
 server_tells_none at (CameLate a number ask answer bytes ∷ steps) own past j = server_tells_none at steps own.1 past j
 server_tells_none at (Spelled a number ask answer bytes ∷ steps) own past j = server_tells_none at steps own.1 past j
-server_tells_none at (Lost a why ∷ steps) own past j = server_tells_none at steps own.1 past j
+server_tells_none at (Lost a why limit ∷ steps) own past j = server_tells_none at steps own.1 past j
 server_tells_none at (Opened client ∷ steps) own past j = absurd own.0
 server_tells_none at (NotOpened fault ∷ steps) own past j = absurd own.0
 server_tells_none at (Fed client piece ∷ steps) own past j = absurd own.0
@@ -239,7 +239,7 @@ talk_elsewhere at (Late a number limit now ∷ steps) own past j other =
     ap (λ b. if b then turned_late (talk_in (steps ++ past) j) else talk_in (steps ++ past) j) (ap (λ n. nat_eq n j) own.0 ∙ other) ∙ talk_elsewhere at steps own.1 past j other
 talk_elsewhere at (CameLate a number ask answer bytes ∷ steps) own past j other =
     ap (λ b. if b then with_late bytes (talk_in (steps ++ past) j) else talk_in (steps ++ past) j) (ap (λ n. nat_eq n j) own.0 ∙ other) ∙ talk_elsewhere at steps own.1 past j other
-talk_elsewhere at (Lost a why ∷ steps) own past j other =
+talk_elsewhere at (Lost a why limit ∷ steps) own past j other =
     ap (λ b. if b then given_up why (talk_in (steps ++ past) j) else talk_in (steps ++ past) j) (ap (λ n. nat_eq n j) own.0 ∙ other) ∙ talk_elsewhere at steps own.1 past j other
 talk_elsewhere at (Opened client ∷ steps) own past j other = absurd own.0
 talk_elsewhere at (NotOpened fault ∷ steps) own past j other = absurd own.0
@@ -276,7 +276,7 @@ clients_clock (Greeted at dialect bytes ∷ steps) own past = absurd own.0
 clients_clock (Late at number limit now ∷ steps) own past = absurd own.0
 clients_clock (CameLate at number ask answer bytes ∷ steps) own past = absurd own.0
 clients_clock (Spelled at number ask answer bytes ∷ steps) own past = absurd own.0
-clients_clock (Lost at why ∷ steps) own past = absurd own.0
+clients_clock (Lost at why limit ∷ steps) own past = absurd own.0
 
 -- nor by those of one server
 pub server_clock : (at : ℕ) (steps : List Step) → StepsAreOf (IsOfServer at) steps → (past : List Step) → clock_in (steps ++ past) ≡ clock_in past
@@ -299,7 +299,7 @@ server_clock at (Greeted a dialect bytes ∷ steps) own past = server_clock at s
 server_clock at (Late a number limit now ∷ steps) own past = server_clock at steps own.1 past
 server_clock at (CameLate a number ask answer bytes ∷ steps) own past = server_clock at steps own.1 past
 server_clock at (Spelled a number ask answer bytes ∷ steps) own past = server_clock at steps own.1 past
-server_clock at (Lost a why ∷ steps) own past = server_clock at steps own.1 past
+server_clock at (Lost a why limit ∷ steps) own past = server_clock at steps own.1 past
 
 -- nor as calls are sent
 pub sending_clock : (steps : List Step) → StepsAreOf IsSending steps → (past : List Step) → clock_in (steps ++ past) ≡ clock_in past
@@ -322,7 +322,7 @@ sending_clock (Greeted at dialect bytes ∷ steps) kinds past = absurd kinds.0
 sending_clock (Late at number limit now ∷ steps) kinds past = sending_clock steps kinds.1 past
 sending_clock (CameLate at number ask answer bytes ∷ steps) kinds past = absurd kinds.0
 sending_clock (Spelled at number ask answer bytes ∷ steps) kinds past = absurd kinds.0
-sending_clock (Lost at why ∷ steps) kinds past = sending_clock steps kinds.1 past
+sending_clock (Lost at why limit ∷ steps) kinds past = sending_clock steps kinds.1 past
 
 -- and none is given out by that
 pub sending_given : (steps : List Step) → StepsAreOf IsSending steps → (past : List Step) (n : ℕ) → given_in (steps ++ past) n ≡ given_in past n
@@ -345,4 +345,4 @@ sending_given (Greeted at dialect bytes ∷ steps) kinds past n = absurd kinds.0
 sending_given (Late at number limit now ∷ steps) kinds past n = sending_given steps kinds.1 past n
 sending_given (CameLate at number ask answer bytes ∷ steps) kinds past n = absurd kinds.0
 sending_given (Spelled at number ask answer bytes ∷ steps) kinds past n = absurd kinds.0
-sending_given (Lost at why ∷ steps) kinds past n = sending_given steps kinds.1 past n
+sending_given (Lost at why limit ∷ steps) kinds past n = sending_given steps kinds.1 past n

@@ -90,7 +90,7 @@ each_of_turn (step ∷ steps) each = (of_turn step each.0, each_of_turn steps ea
     of_turn (Late at number limit now) is = tt
     of_turn (CameLate at number ask answer bytes) is = tt
     of_turn (Spelled at number ask answer bytes) is = tt
-    of_turn (Lost at why) is = absurd is
+    of_turn (Lost at why limit) is = absurd is
 
 pub failed : {a b : ServedCore} → OnlyFails a b → GoesOn a b
 failed f = record { steps = f.steps; kinds = each_of_turn f.steps f.kinds; walks = f.walks }
@@ -119,7 +119,7 @@ each_settled (step ∷ steps) each = (of_turn step each.0, each_settled steps ea
     of_turn (Late at number limit now) is = tt
     of_turn (CameLate at number ask answer bytes) is = tt
     of_turn (Spelled at number ask answer bytes) is = tt
-    of_turn (Lost at why) is = absurd is
+    of_turn (Lost at why limit) is = absurd is
 
 pub settled : {a b : ServedCore} → GoesBy IsSettlement a b → GoesOn a b
 settled g = record { steps = g.steps; kinds = each_settled g.steps g.kinds; walks = g.walks }
@@ -232,7 +232,7 @@ does_keep (Greeted at dialect bytes) a b does = as_it_was a b does
 does_keep (Late at number limit now) a b does = as_it_was a b does
 does_keep (CameLate at number ask answer bytes) a b does = as_it_was a b does
 does_keep (Spelled at number ask answer bytes) a b does = as_it_was a b does.0
-does_keep (Lost at why) a b does = as_it_was a b does
+does_keep (Lost at why limit) a b does = as_it_was a b does
 
 accepted_keeps : (a b : ServedCore) → IsWordKept a b → (IsAccepted a → IsAccepted b) × (IsAccepted b → IsAccepted a)
 accepted_keeps a b (inl same) = (λ is. (is.0, same ∙ is.1, is.2), λ is. (is.0, sym same ∙ is.1, is.2))

@@ -41,7 +41,7 @@ call_after (Greeted at dialect bytes) n call = call
 call_after (Late at number limit now) n call = call
 call_after (CameLate at number ask answer bytes) n call = call
 call_after (Spelled at number ask answer bytes) n call = call
-call_after (Lost at why) n call = call
+call_after (Lost at why limit) n call = call
 
 -- the call of this number that the core gave out in these steps, the latest first, and that wasn't settled since: its server, and its ask
 abbrev pub call_in : List Step → ℕ → Option (ℕ × Ask)
@@ -68,7 +68,7 @@ due_after (Greeted at dialect bytes) n call = call
 due_after (Late at number limit now) n call = call
 due_after (CameLate at number ask answer bytes) n call = call
 due_after (Spelled at number ask answer bytes) n call = call
-due_after (Lost at why) n call = call
+due_after (Lost at why limit) n call = call
 
 -- the same of a call that wasn't asked either since it was given out
 abbrev pub due_in : List Step → ℕ → Option (ℕ × Ask)
@@ -95,7 +95,7 @@ clock_after (Greeted at dialect bytes) time = time
 clock_after (Late at number limit now) time = time
 clock_after (CameLate at number ask answer bytes) time = time
 clock_after (Spelled at number ask answer bytes) time = time
-clock_after (Lost at why) time = time
+clock_after (Lost at why limit) time = time
 
 -- what the clock showed last in these steps; 0 where it wasn't looked at
 abbrev pub clock_in : List Step → ℕ
@@ -133,7 +133,7 @@ given_after (Greeted at dialect bytes) n time given = given
 given_after (Late at number limit now) n time given = given
 given_after (CameLate at number ask answer bytes) n time given = given
 given_after (Spelled at number ask answer bytes) n time given = given
-given_after (Lost at why) n time given = given
+given_after (Lost at why limit) n time given = given
 
 -- what the clock showed when the core gave out the call of this number, that which it gave out last
 abbrev pub given_in : List Step → ℕ → ℕ
@@ -176,7 +176,7 @@ GivesOnce (Greeted at dialect bytes) past = Unit {0}
 GivesOnce (Late at number limit now) past = Unit {0}
 GivesOnce (CameLate at number ask answer bytes) past = Unit {0}
 GivesOnce (Spelled at number ask answer bytes) past = Unit {0}
-GivesOnce (Lost at why) past = Unit {0}
+GivesOnce (Lost at why limit) past = Unit {0}
 
 -- and of each of these steps, after those before it
 abbrev pub GiveOnce : List Step → List Step → Type 0

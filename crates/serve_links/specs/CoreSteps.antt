@@ -24,7 +24,7 @@ use Rattle.serve_links.specs.declared.settings.Greeting.{Greeting}
 use Rattle.serve_links.specs.declared.news.Cause.{Cause}
 
 -- one call of a core that changes it, and what came of it; or what changes no core: the clock was looked at, and showed so many milliseconds; a client was broken off, as its connection failed or memory was refused for its bytes; or at a
--- server's a new one was begun, a call's ask is to be sent, its time counting from this one, what the server told of its dialects was taken from its bytes, they spell the answer to a call, a call that is out there is late, by this limit at this time, they spell the answer to such a call, or it was given up, for a cause, or as that was wanted
+-- server's a new one was begun, a call's ask is to be sent, its time counting from this one, what the server told of its dialects was taken from its bytes, they spell the answer to a call, a call that is out there is late, by this limit at this time, they spell the answer to such a call, or it was given up, for a cause, or as that was wanted, where it may take so many milliseconds until it takes calls
 pub data Step : Type 0 where
   Opened : (client : ℕ) → Step
   NotOpened : (fault : CoreFault) → Step
@@ -44,7 +44,7 @@ pub data Step : Type 0 where
   Spelled : (at number : ℕ) (ask : Ask) (answer : Answer) (bytes : List ℕ) → Step
   Late : (at number limit now : ℕ) → Step
   CameLate : (at number : ℕ) (ask : Ask) (answer : Answer) (bytes : List ℕ) → Step
-  Lost : (at : ℕ) (why : Option Cause) → Step
+  Lost : (at : ℕ) (why : Option Cause) (limit : ℕ) → Step
 
 -- a core goes from one state to another by this call: as the core's own call of that name goes, and with each log that may have led to it. By what was done at a connection it stays; where bytes
 -- spell the answer to a call, that call of the core is out, and asks this
@@ -69,7 +69,7 @@ Does (Greeted at dialect bytes) old new = new ≡ old
 Does (Late at number limit now) old new = new ≡ old
 Does (CameLate at number ask answer bytes) old new = new ≡ old
 Does (Spelled at number ask answer bytes) old new = (new ≡ old) × (of_calls.asked old.core number ≡ Some ask)
-Does (Lost at why) old new = new ≡ old
+Does (Lost at why limit) old new = new ≡ old
 
 -- these calls, the latest first, lead from one state to the other
 abbrev pub Walks : List Step → ServedCore → ServedCore → Type 0
@@ -111,7 +111,7 @@ IsOfTurn (Greeted at dialect bytes) = Unit {0}
 IsOfTurn (Late at number limit now) = Unit {0}
 IsOfTurn (CameLate at number ask answer bytes) = Unit {0}
 IsOfTurn (Spelled at number ask answer bytes) = Unit {0}
-IsOfTurn (Lost at why) = IsSome why
+IsOfTurn (Lost at why limit) = IsSome why
 
 -- a call of a server has an outcome
 abbrev pub IsSettlement : Step → Type 0
@@ -133,7 +133,7 @@ IsSettlement (Greeted at dialect bytes) = ⊥
 IsSettlement (Late at number limit now) = ⊥
 IsSettlement (CameLate at number ask answer bytes) = ⊥
 IsSettlement (Spelled at number ask answer bytes) = ⊥
-IsSettlement (Lost at why) = ⊥
+IsSettlement (Lost at why limit) = ⊥
 
 -- a call of a server has failed
 abbrev pub IsFailure : Step → Type 0
@@ -155,7 +155,7 @@ IsFailure (Greeted at dialect bytes) = ⊥
 IsFailure (Late at number limit now) = ⊥
 IsFailure (CameLate at number ask answer bytes) = ⊥
 IsFailure (Spelled at number ask answer bytes) = ⊥
-IsFailure (Lost at why) = ⊥
+IsFailure (Lost at why limit) = ⊥
 
 -- a call of a server is to be sent, over a connection that was there or a new one, or is late, or has failed; or a connection is given up for a cause
 abbrev pub IsSending : Step → Type 0
@@ -177,11 +177,11 @@ IsSending (Greeted at dialect bytes) = ⊥
 IsSending (Late at number limit now) = Unit {0}
 IsSending (CameLate at number ask answer bytes) = ⊥
 IsSending (Spelled at number ask answer bytes) = ⊥
-IsSending (Lost at why) = IsSome why
+IsSending (Lost at why limit) = IsSome why
 
 -- a server's connection is given up so, or a call has failed
 abbrev pub IsGivingUp : Option Cause → Step → Type 0
-IsGivingUp why (Lost at cause) = cause ≡ why
+IsGivingUp why (Lost at cause limit) = cause ≡ why
 IsGivingUp why (Settled number outcome) = outcome ≡ Failed
 IsGivingUp why (Opened client) = ⊥
 IsGivingUp why (NotOpened fault) = ⊥

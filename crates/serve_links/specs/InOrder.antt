@@ -91,7 +91,7 @@ changed_in change (calls ∷ others) (suc place) = calls ∷ changed_in change o
 abbrev pub conns_by : Step → List (Entry dialect) → ℕ → List (List Ticket) → List (List Ticket)
 conns_by (Linked at greeting) log s conns = if nat_eq at s then [] ∷ conns else conns
 conns_by (Asked at number spoken ask since) log s conns = if nat_eq at s then sent_over (record { number = number; ask = ask; origin = out_origin log at number }) conns else conns
-conns_by (Lost at why) log s conns = if nat_eq at s then left_with (standing_after why) conns else conns
+conns_by (Lost at why limit) log s conns = if nat_eq at s then left_with (standing_after why) conns else conns
 conns_by (Opened client) log s conns = conns
 conns_by (NotOpened fault) log s conns = conns
 conns_by (Fed client piece) log s conns = conns
@@ -182,7 +182,7 @@ closed_if Ending at steps = steps
 abbrev pub with_step : Step → List (Entry dialect) → List pipes.PipeStep → List pipes.PipeStep
 with_step (Linked at greeting) log steps = Closes 0 at ∷ steps
 with_step (Asked at number spoken ask since) log steps = Sends number at ask (out_origin log at number) ∷ steps
-with_step (Lost at why) log steps = closed_if (standing_after why) at steps
+with_step (Lost at why limit) log steps = closed_if (standing_after why) at steps
 with_step (Opened client) log steps = steps
 with_step (NotOpened fault) log steps = steps
 with_step (Fed client piece) log steps = steps

@@ -3,7 +3,7 @@ use Rattle.std.specs.Prelude.{◌≡◌, ◌⊎◌, ◌||◌, ℕ, Bool, true, f
 use Rattle.mc_types.specs.declared.ask.Dialect.{Dialect}
 use Rattle.mc_types.specs.declared.ask.Dialect.TheVariants.{Classic, Meta}
 use Rattle.wire_parts.specs.Sending.{bytes_of}
-use Rattle.serve_wire.specs.Events.{WireEvent, connects, ends, fails, IsUntold}
+use Rattle.serve_wire.specs.Events.{WireEvent, connects, ends, fails, time, IsUntold}
 use Rattle.serve_wire.specs.Flow.{ReadsOn}
 use Rattle.serve_wire.specs.Calls.{Closes}
 use Rattle.serve_wire.specs.declared.conn.conn.Conn.{Conn}
@@ -63,10 +63,11 @@ SameLine None y = y ≡ None
 SameLine (Some x) None = ⊥
 SameLine (Some x) (Some y) = SameEnd x y
 
--- a link is to the server that it was to, with the limits that it had, has the connections that it had, the one in use with the same bytes, and the same calls, late ones too, asks in the same dialect, and awaits of its server's dialects what it did
+-- a link is to the server that it was to, with the limits that it had, has the connections that it had, the one in use since when it had it and with the same bytes, and the same calls, late ones too, asks in the same dialect, and awaits of its server's dialects what it did
 pub record KeepsLines (old new : Link) : Type 0 where
   pub text : new.text ≡ old.text
   pub limits : new.limits ≡ old.limits
+  pub opened : new.opened ≡ old.opened
   pub conn : SameLine old.conn new.conn
   pub draining : drain_of new ≡ drain_of old
   pub calls : new.calls ≡ old.calls
@@ -80,12 +81,13 @@ abbrev pub IsNewEnd : ℕ → Greeting → Option Conn → Type 0
 IsNewEnd number greeting None = ⊥
 IsNewEnd number greeting (Some x) = (x.number ≡ number) × (x.held.items ≡ []) × (bytes_of x.unsent ≡ first_asked_of greeting)
 
--- no call is out over it yet, no other is there whose end is awaited, no call is late, calls are asked in the first dialect, and what the server says to what it is asked first is awaited
-pub record HasNewEnd (number : ℕ) (greeting : Greeting) (old new : Link) : Type 0 where
+-- it was begun when the clock showed this, no call is out over it yet, no other is there whose end is awaited, no call is late, calls are asked in the first dialect, and what the server says to what it is asked first is awaited
+pub record HasNewEnd (number since : ℕ) (greeting : Greeting) (old new : Link) : Type 0 where
   pub none_there : old.conn ≡ None
   pub none_draining : old.draining ≡ None
   pub text : new.text ≡ old.text
   pub limits : new.limits ≡ old.limits
+  pub opened : new.opened ≡ since
   pub conn : IsNewEnd number greeting new.conn
   pub none_out : old.calls.sent.items ≡ []
   pub calls : new.calls ≡ old.calls
@@ -100,7 +102,7 @@ greeting_of link dialect = record { flushes = link.flushes; dialect = dialect }
 
 -- a new connection to this server was begun, at the address that the link's text names; and where memory was refused for its end it was closed
 abbrev pub OpensLink : ℕ → ServerDialect → Opening → Link → Link → List WireEvent → List WireEvent → Type 0
-OpensLink server dialect opening.Begun old new h h' = (number : ℕ) × IsUntold number h × (h' ≡ connects number server old.text.items ∷ h) × HasNewEnd number (greeting_of old dialect) old new
+OpensLink server dialect opening.Begun old new h h' = (number : ℕ) × IsUntold number h × (h' ≡ connects number server old.text.items ∷ h) × HasNewEnd number (time h) (greeting_of old dialect) old new
 OpensLink server dialect opening.NoAddress old new h h' = (h' ≡ h) × KeepsLines old new
 OpensLink server dialect opening.Failed old new h h' = (h' ≡ h) × KeepsLines old new
 OpensLink server dialect opening.NoMemory old new h h' = (number : ℕ) × IsUntold number h × Closes number (connects number server old.text.items ∷ h) h' × KeepsLines old new

@@ -1,10 +1,10 @@
 -- What a walk of a core tells of its clients, and how the ends of clients and links on a wire go on with it. Source: mcgate's own.
-use Rattle.std.specs.Prelude.{◌≡◌, ◌≢◌, ℕ, IfSome, Bool, true, false, List, [], ◌∷◌, ◌++◌, Option, None, Some, map as each, if◌then◌else◌, nat_eq, slice_get, ◌⊎◌}
+use Rattle.std.specs.Prelude.{◌≡◌, ◌≢◌, ℕ, ◌+◌, ◌<◌, IfSome, Bool, true, false, List, [], ◌∷◌, ◌++◌, Option, None, Some, map as each, if◌then◌else◌, nat_eq, slice_get, ◌⊎◌}
 use Rattle.mc_types.specs.declared.ask.Ask.{Ask}
 use Rattle.mc_types.specs.declared.ask.Dialect.{Dialect}
 use Rattle.wire_parts.specs.Sending.{bytes_of}
 use Rattle.serve_wire.specs.Events.{WireEvent, ends, fails, role, delivered, taken, is_over, time}
-use Rattle.serve_wire.specs.Agreement.{Extends, AddressAgrees, IsUntouched, ClientLost, TouchesOnly}
+use Rattle.serve_wire.specs.Agreement.{Extends, BeginAgrees, IsUntouched, ClientLost, TouchesOnly}
 use Rattle.serve_wire.specs.declared.conn.conn.Conn.{Conn}
 use Rattle.core_accepted.specs.declared.served.ServedCore.{ServedCore}
 use Rattle.serve_clients.specs.declared.clients.Client.{Client}
@@ -46,7 +46,7 @@ fed_in (Greeted at dialect bytes ∷ steps) i = fed_in steps i
 fed_in (Late at number limit now ∷ steps) i = fed_in steps i
 fed_in (CameLate at number ask answer bytes ∷ steps) i = fed_in steps i
 fed_in (Spelled at number ask answer bytes ∷ steps) i = fed_in steps i
-fed_in (Lost at why ∷ steps) i = fed_in steps i
+fed_in (Lost at why limit ∷ steps) i = fed_in steps i
 
 -- all that the core gave for this client since it was opened
 abbrev pub gave_in : List Step → ℕ → List ℕ
@@ -69,7 +69,7 @@ gave_in (Greeted at dialect bytes ∷ steps) i = gave_in steps i
 gave_in (Late at number limit now ∷ steps) i = gave_in steps i
 gave_in (CameLate at number ask answer bytes ∷ steps) i = gave_in steps i
 gave_in (Spelled at number ask answer bytes ∷ steps) i = gave_in steps i
-gave_in (Lost at why ∷ steps) i = gave_in steps i
+gave_in (Lost at why limit ∷ steps) i = gave_in steps i
 
 -- whether this client was opened, and not closed since
 abbrev pub is_open_in : List Step → ℕ → Bool
@@ -92,7 +92,7 @@ is_open_in (Greeted at dialect bytes ∷ steps) i = is_open_in steps i
 is_open_in (Late at number limit now ∷ steps) i = is_open_in steps i
 is_open_in (CameLate at number ask answer bytes ∷ steps) i = is_open_in steps i
 is_open_in (Spelled at number ask answer bytes ∷ steps) i = is_open_in steps i
-is_open_in (Lost at why ∷ steps) i = is_open_in steps i
+is_open_in (Lost at why limit ∷ steps) i = is_open_in steps i
 
 -- whether it was broken off since it was opened
 abbrev pub is_broken_in : List Step → ℕ → Bool
@@ -115,7 +115,7 @@ is_broken_in (Greeted at dialect bytes ∷ steps) i = is_broken_in steps i
 is_broken_in (Late at number limit now ∷ steps) i = is_broken_in steps i
 is_broken_in (CameLate at number ask answer bytes ∷ steps) i = is_broken_in steps i
 is_broken_in (Spelled at number ask answer bytes ∷ steps) i = is_broken_in steps i
-is_broken_in (Lost at why ∷ steps) i = is_broken_in steps i
+is_broken_in (Lost at why limit ∷ steps) i = is_broken_in steps i
 
 -- a client's end agrees with what was fed and given for it by these calls
 abbrev pub ClientAgreesWith : List Step → List WireEvent → ℕ → Client → Type 0
@@ -185,11 +185,11 @@ abbrev pub MayAllGo : List Step → ℕ → List SentCall → Type 0
 MayAllGo past at [] = Unit {0}
 MayAllGo past at (call ∷ calls) = MayGo past at call × MayAllGo past at calls
 
--- a connection agrees with what was said over it: it is to this server, and was begun at the address that this text names; what was to be sent is what it took, and then what is unsent; what it delivered told all
+-- a connection agrees with what was said over it: it is to this server, and was begun at the address that this text names, when the clock showed this; what was to be sent is what it took, and then what is unsent; what it delivered told all
 -- that was told, and is else held; these calls are out, what the server says to what it was asked first is awaited or not, calls are asked in this dialect, and these were late
-pub record TalkAgrees (h : List WireEvent) (at : ℕ) (text : List ℕ) (talk : Talk) (c : ℕ) (held unsent : List ℕ) (out : List SaidAsk) (awaits : Option Greeting) (dialect : Dialect) (late : List SaidAsk) : Type 0 where
+pub record TalkAgrees (h : List WireEvent) (at : ℕ) (begun : List ℕ × ℕ) (talk : Talk) (c : ℕ) (held unsent : List ℕ) (out : List SaidAsk) (awaits : Option Greeting) (dialect : Dialect) (late : List SaidAsk) : Type 0 where
   pub is_to : role c h ≡ Some (1, at)
-  pub address : AddressAgrees h text c
+  pub begun_is : BeginAgrees h begun c
   pub sent_is : talk.sent ≡ taken c h ++ unsent
   pub told_is : delivered c h ≡ talk.told ++ held
   pub out_is : talk.out ≡ out
@@ -197,14 +197,18 @@ pub record TalkAgrees (h : List WireEvent) (at : ℕ) (text : List ℕ) (talk : 
   pub dialect_is : talk.dialect ≡ dialect
   pub late_is : talk.late ≡ late
 
+-- what names the address of a link's server, and what the clock showed when the connection was begun that it has, if it has one
+abbrev pub opening_of : Link → List ℕ × ℕ
+opening_of link = (link.text.items, link.opened)
+
 -- so does that of a link, if it has one, where so much of it is held
 abbrev pub ConnAgrees : ℕ → List Step → List WireEvent → Link → Conn → List ℕ → Type 0
-ConnAgrees at past h link conn held = TalkAgrees h at link.text.items (talk_in past at) conn.number held (bytes_of conn.unsent) (said_asks link.calls.sent.items) link.awaits_dialect link.dialect (said_late link.late.items)
+ConnAgrees at past h link conn held = TalkAgrees h at (opening_of link) (talk_in past at) conn.number held (bytes_of conn.unsent) (said_asks link.calls.sent.items) link.awaits_dialect link.dialect (said_late link.late.items)
 
 -- where no connection is in use: none is there; or the end of this one is awaited, and it agrees with what was said over it, but for what it delivered that told nothing, and what it didn't take
 abbrev pub Unused : List WireEvent → ℕ → List ℕ → Talk → Option ℕ → Type 0
 Unused h at text talk None = talk.stands ≡ Apart
-Unused h at text talk (Some c) = (talk.stands ≡ Ending) × (held unsent : List ℕ) × TalkAgrees h at text talk c held unsent talk.out talk.awaits talk.dialect talk.late
+Unused h at text talk (Some c) = (talk.stands ≡ Ending) × (held unsent : List ℕ) × (opened : ℕ) × TalkAgrees h at (text, opened) talk c held unsent talk.out talk.awaits talk.dialect talk.late
 
 -- a link agrees with these calls, its connection is not over, and all calls that wait for it may go there, and weren't asked yet, and those that were sent are out; without a connection no call is out there
 pub record LineAgrees (at : ℕ) (past : List Step) (h : List WireEvent) (link : Link) : Type 0 where
@@ -235,32 +239,36 @@ IsForeign (Some greeting) calls bytes = GreetsNone greeting bytes
 IsForeign None [] bytes = bytes ≢ []
 IsForeign None (call ∷ calls) bytes = IsForeignIn call.1 call.2 bytes
 
--- what the wire shows, or what was said, of a connection that is given up for this cause: it has ended, or has failed, or what it delivered behind all that told something is foreign, or reads were in vain while calls are out there, or late answers were to come, or that to a store, or the end of one that can't be kept. For want of a connection none is given up
-abbrev pub Shows : Cause → Talk → ℕ → List WireEvent → Type 0
-Shows causes.Unreachable talk c h = ⊥
-Shows causes.ConnectLate talk c h = Unit {0}
-Shows causes.AnswerLate talk c h = (talk.late ≢ []) ⊎ IsStoreFirst talk.out ⊎ (talk.stands ≡ Ending)
-Shows causes.Closed talk c h = HasHappened (ends c) h
-Shows causes.Broken talk c h = HasHappened (fails c) h
-Shows causes.Foreign talk c h = (held : List ℕ) × (delivered c h ≡ talk.told ++ held) × IsForeign talk.awaits (talk.late ++ talk.out) held
-Shows causes.NoRoom talk c h = Unit {0}
-Shows causes.VainReads talk c h = talk.out ≢ []
+-- the clock shows more than so many milliseconds above what it showed when this connection was begun
+abbrev pub IsBegunBefore : (limit c : ℕ) → List WireEvent → Type 0
+IsBegunBefore limit c h = (begun : List ℕ × ℕ) × BeginAgrees h begun c × (begun.1 + limit < time h)
+
+-- what the wire shows, or what was said, of a connection that is given up for this cause, where it may take so many milliseconds until it takes calls: it has taken longer, or has ended, or has failed, or what it delivered behind all that told something is foreign, or reads were in vain while calls are out there, or late answers were to come, or that to a store, or the end of one that can't be kept. For want of a connection none is given up
+abbrev pub Shows : Cause → (limit : ℕ) → Talk → ℕ → List WireEvent → Type 0
+Shows causes.Unreachable limit talk c h = ⊥
+Shows causes.ConnectLate limit talk c h = IsBegunBefore limit c h
+Shows causes.AnswerLate limit talk c h = (talk.late ≢ []) ⊎ IsStoreFirst talk.out ⊎ (talk.stands ≡ Ending)
+Shows causes.Closed limit talk c h = HasHappened (ends c) h
+Shows causes.Broken limit talk c h = HasHappened (fails c) h
+Shows causes.Foreign limit talk c h = (held : List ℕ) × (delivered c h ≡ talk.told ++ held) × IsForeign talk.awaits (talk.late ++ talk.out) held
+Shows causes.NoRoom limit talk c h = Unit {0}
+Shows causes.VainReads limit talk c h = talk.out ≢ []
 
 -- the same where it is given up for a cause, if it is
-abbrev pub ShowsWhy : Option Cause → Talk → ℕ → List WireEvent → Type 0
-ShowsWhy None talk c h = Unit {0}
-ShowsWhy (Some cause) talk c h = Shows cause talk c h
+abbrev pub ShowsWhy : Option Cause → (limit : ℕ) → Talk → ℕ → List WireEvent → Type 0
+ShowsWhy None limit talk c h = Unit {0}
+ShowsWhy (Some cause) limit talk c h = Shows cause limit talk c h
 
 -- the connection over which these steps tell what was said showed so, at some time
-pub record WasShown (why : Option Cause) (at : ℕ) (past : List Step) (h : List WireEvent) : Type 0 where
+pub record WasShown (why : Option Cause) (limit at : ℕ) (past : List Step) (h : List WireEvent) : Type 0 where
   pub conn : ℕ
   pub before : List WireEvent
   pub since : Extends before h
-  pub text : List ℕ
+  pub begun : List ℕ × ℕ
   pub held : List ℕ
   pub unsent : List ℕ
-  pub agrees : TalkAgrees before at text (talk_in past at) conn held unsent (talk_in past at).out (talk_in past at).awaits (talk_in past at).dialect (talk_in past at).late
-  pub shows : ShowsWhy why (talk_in past at) conn before
+  pub agrees : TalkAgrees before at begun (talk_in past at) conn held unsent (talk_in past at).out (talk_in past at).awaits (talk_in past at).dialect (talk_in past at).late
+  pub shows : ShowsWhy why limit (talk_in past at) conn before
 
 -- the wire's clock showed this time
 abbrev pub HasShown : ℕ → List WireEvent → Type 0
@@ -268,7 +276,7 @@ HasShown now h = (before : List WireEvent) × Extends before h × (time before �
 
 -- so it is with a step by which one is given up; and where a call is late, the clock showed by then what it is late by
 abbrev pub StepIsShown : Step → List Step → List WireEvent → Type 0
-StepIsShown (Lost at why) past h = WasShown why at past h
+StepIsShown (Lost at why limit) past h = WasShown why limit at past h
 StepIsShown (Opened client) past h = Unit {0}
 StepIsShown (NotOpened fault) past h = Unit {0}
 StepIsShown (Fed client piece) past h = Unit {0}
@@ -296,7 +304,7 @@ StepsAreShown (step ∷ steps) h = StepIsShown step steps h × StepsAreShown ste
 -- a link is to be given up so: it agrees but for what it holds, and its connection shows why
 pub record LineFails (why : Option Cause) (at : ℕ) (past : List Step) (h : List WireEvent) (link : Link) : Type 0 where
   pub lost : LineLost at past h link
-  pub shows : (conn : Conn) → link.conn ≡ Some conn → ShowsWhy why (talk_in past at) conn.number h
+  pub shows : (conn : Conn) → link.conn ≡ Some conn → ShowsWhy why link.limits.connect_ms (talk_in past at) conn.number h
 
 -- what the link holds is foreign
 abbrev pub LineIsForeign : Link → Type 0
@@ -314,17 +322,21 @@ LinesAgree past h links = (at : ℕ) (link : Link) → slice_get links at ≡ So
 abbrev pub address_and_limits : Link → List ℕ × LinkLimits
 address_and_limits link = (link.text.items, link.limits)
 
--- all that a link has to do with its connections and its calls: its server's address and limits, the connection's number, what is held of it and what is to be sent, the calls that are out, those that wait,
+-- and when the connection was begun that it has
+abbrev pub place_of : Link → (List ℕ × LinkLimits) × ℕ
+place_of link = (address_and_limits link, link.opened)
+
+-- all that a link has to do with its connections and its calls: its server's address and limits, and when the connection was begun, the connection's number, what is held of it and what is to be sent, the calls that are out, those that wait,
 -- what its server was asked first and is still to answer, in which dialect calls are asked, those that were late, and the number of the connection whose end is awaited
 abbrev pub LineState : Type 0
-LineState = (List ℕ × LinkLimits) × Option (ℕ × List ℕ × List ℕ) × List SaidAsk × List SentCall × Option Greeting × Dialect × List SaidAsk × Option ℕ
+LineState = ((List ℕ × LinkLimits) × ℕ) × Option (ℕ × List ℕ × List ℕ) × List SaidAsk × List SentCall × Option Greeting × Dialect × List SaidAsk × Option ℕ
 
 abbrev pub line_of : Link → LineState
-line_of link = (address_and_limits link, option_map (λ (x : Conn). (x.number, x.held.items, bytes_of x.unsent)) link.conn, said_asks link.calls.sent.items, link.waiting.items, link.awaits_dialect, link.dialect, said_late link.late.items, drain_of link)
+line_of link = (place_of link, option_map (λ (x : Conn). (x.number, x.held.items, bytes_of x.unsent)) link.conn, said_asks link.calls.sent.items, link.waiting.items, link.awaits_dialect, link.dialect, said_late link.late.items, drain_of link)
 
--- a step by which a call is late tells for how long those of its server may take, where this says it of each server
-abbrev pub IsByLimit : (ℕ → Option ℕ) → Step → Type 0
-IsByLimit most (Late at number limit now) = most at ≡ Some limit
+-- a step by which a call is late tells for how long those of its server may take, and one by which a connection is given up for how long it may take until it takes calls, where this says the limits of each server
+abbrev pub IsByLimit : (ℕ → Option LinkLimits) → Step → Type 0
+IsByLimit most (Late at number limit now) = option_map (λ (limits : LinkLimits). limits.call_ms) (most at) ≡ Some limit
 IsByLimit most (Opened client) = Unit {0}
 IsByLimit most (NotOpened fault) = Unit {0}
 IsByLimit most (Fed client piece) = Unit {0}
@@ -342,12 +354,12 @@ IsByLimit most (Asked at number dialect ask since) = Unit {0}
 IsByLimit most (Greeted at dialect bytes) = Unit {0}
 IsByLimit most (CameLate at number ask answer bytes) = Unit {0}
 IsByLimit most (Spelled at number ask answer bytes) = Unit {0}
-IsByLimit most (Lost at why) = Unit {0}
+IsByLimit most (Lost at why limit) = option_map (λ (limits : LinkLimits). limits.connect_ms) (most at) ≡ Some limit
 
--- a link is to the server that it was to, which has the limits that it had, and by these steps, which tell of that one alone, calls are late by its limit
+-- a link is to the server that it was to, which has the limits that it had, and by these steps, which tell of that one alone, calls are late by its limit, and so are connections
 pub record KeepsServer (steps : List Step) (old new : Link) : Type 0 where
   pub same : address_and_limits new ≡ address_and_limits old
-  pub late : StepsAreOf (IsByLimit (λ at. Some old.limits.call_ms)) steps
+  pub late : StepsAreOf (IsByLimit (λ at. Some old.limits)) steps
 
 -- all connections that were of others than this one, and all that aren't its now, are as they were, and the clock wasn't looked at
 pub record KeepsOthers (its : ℕ × ℕ) (h h' : List WireEvent) : Type 0 where
@@ -405,11 +417,11 @@ texts_of links = each (λ link. link.text.items) links
 abbrev pub servers_of : List Link → List (List ℕ × LinkLimits)
 servers_of links = each address_and_limits links
 
--- how long a call to the server of this number may take, in milliseconds, if there is one
-abbrev pub most_of : List (List ℕ × LinkLimits) → ℕ → Option ℕ
-most_of servers at = option_map (λ (server : List ℕ × LinkLimits). server.1.call_ms) (slice_get servers at)
+-- the limits of the server of this number, if there is one
+abbrev pub most_of : List (List ℕ × LinkLimits) → ℕ → Option LinkLimits
+most_of servers at = option_map (λ (server : List ℕ × LinkLimits). server.1) (slice_get servers at)
 
--- all links are to the servers that they were to, which have the limits that they had, and by these steps each call is late by the limit of its own server
+-- all links are to the servers that they were to, which have the limits that they had, and by these steps each call is late by the limit of its own server, and so is each connection
 pub record KeepsServers (steps : List Step) (old new : List Link) : Type 0 where
   pub same : servers_of new ≡ servers_of old
   pub late : StepsAreOf (IsByLimit (most_of (servers_of old))) steps

@@ -102,7 +102,7 @@ talk_after (Greeted at dialect bytes) i talk = if nat_eq at i then greeted diale
 talk_after (Late at number limit now) i talk = if nat_eq at i then turned_late talk else talk
 talk_after (CameLate at number ask answer bytes) i talk = if nat_eq at i then with_late bytes talk else talk
 talk_after (Spelled at number ask answer bytes) i talk = if nat_eq at i then with_answer bytes talk else talk
-talk_after (Lost at why) i talk = if nat_eq at i then given_up why talk else talk
+talk_after (Lost at why limit) i talk = if nat_eq at i then given_up why talk else talk
 talk_after (Opened client) i talk = talk
 talk_after (NotOpened fault) i talk = talk
 talk_after (Fed client piece) i talk = talk
@@ -223,7 +223,7 @@ MayComeNext (CameLate at number ask answer bytes) past = IsNextLate number ask a
 MayComeNext (Spelled at number ask answer bytes) past = IsNextAnswer number ask answer bytes (talk_in past at)
 MayComeNext (Settled number outcome) past = MaySettle number past × ComesBy number outcome past
 MayComeNext (Linked at dialect) past = (talk_in past at).stands ≡ Apart
-MayComeNext (Lost at why) past = Unit {0}
+MayComeNext (Lost at why limit) past = Unit {0}
 MayComeNext (Opened client) past = Unit {0}
 MayComeNext (NotOpened fault) past = Unit {0}
 MayComeNext (Fed client piece) past = Unit {0}
@@ -261,7 +261,7 @@ IsOfClients (Greeted at dialect bytes) = ⊥
 IsOfClients (Late at number limit now) = ⊥
 IsOfClients (CameLate at number ask answer bytes) = ⊥
 IsOfClients (Spelled at number ask answer bytes) = ⊥
-IsOfClients (Lost at why) = ⊥
+IsOfClients (Lost at why limit) = ⊥
 
 -- a step tells of this server, or settles a call
 abbrev pub IsOfServer : ℕ → Step → Type 0
@@ -272,7 +272,7 @@ IsOfServer i (Greeted at dialect bytes) = at ≡ i
 IsOfServer i (Late at number limit now) = at ≡ i
 IsOfServer i (CameLate at number ask answer bytes) = at ≡ i
 IsOfServer i (Spelled at number ask answer bytes) = at ≡ i
-IsOfServer i (Lost at why) = at ≡ i
+IsOfServer i (Lost at why limit) = at ≡ i
 IsOfServer i (Opened client) = ⊥
 IsOfServer i (NotOpened fault) = ⊥
 IsOfServer i (Fed client piece) = ⊥

@@ -220,7 +220,7 @@ pub struct Link {
     is_retired: bool,
     /// How long its server is waited for, and after how many failures it is left alone.
     pub limits: LinkLimits,
-    /// When the connection was begun, in milliseconds.
+    /// What the wire's clock showed when the connection was begun, in milliseconds.
     pub opened: u64,
     /// Whether it has stood since.
     pub is_connected: bool,
@@ -265,6 +265,7 @@ impl Link {
         ensures text { IfOk result (λ link. link.text.items ≡ text.now) }
         ensures flushes { IfOk result (λ link. link.flushes ≡ flushes) }
         ensures limits { IfOk result (λ link. link.limits ≡ limits) }
+        ensures opened { IfOk result (λ link. link.opened ≡ 0) }
     {
         let text = text.to_vec(alloc)?;
         Ok(Link::of(alloc, text, flushes, limits))
@@ -279,6 +280,7 @@ impl Link {
         ensures text { result.text ≡ text }
         ensures flushes { result.flushes ≡ flushes }
         ensures limits { result.limits ≡ limits }
+        ensures opened { result.opened ≡ 0 }
     {
         Link {
             text,
@@ -708,7 +710,7 @@ impl Link {
         }
     }
 
-    /// A connection to its server is begun, at the address that its text names. Where the server is to tell its dialects, calls go out in the
+    /// A connection to its server is begun, at the address that its text names; its time counts from what the wire's clock showed last. Where the server is to tell its dialects, calls go out in the
     /// classic one until it has. Where memory is refused for its end, the connection is closed. While it has one, or the end of
     /// one is awaited, or calls are out or late, none is begun.
     ///
@@ -719,7 +721,6 @@ impl Link {
         net: &N,
         wire: &mut W,
         server: usize,
-        now: u64,
         dialect: ServerDialect,
     ) -> Opening
         ensures opens { OpensLink server dialect result self.old self.new (W.history wire.old) (W.history wire.new) }
@@ -731,6 +732,7 @@ impl Link {
         {
             return Opening::Failed;
         }
+        let now = wire.last_millis();
         match wire.connect(net, server, &self.text) {
             Connected::Begun(number) => {
                 if self
@@ -769,7 +771,7 @@ impl Link {
         requires drained { self.old.draining ≡ None }
         requires none_out { self.old.calls.sent.items ≡ [] }
         requires none_late { self.old.late.items ≡ [] }
-        ensures ok { OnOk result (HasNewEnd number greeting self.old self.new) }
+        ensures ok { OnOk result (HasNewEnd number now greeting self.old self.new) }
         ensures err { OnErr result (KeepsLines self.old self.new) }
     {
         let mut conn = Conn::new(alloc, number, LIMITS);

@@ -17,7 +17,7 @@ use Rattle.serve_links.specs.declared.news.Cause.TheVariants as causes
 use Rattle.serve_links.specs.Lines.{ReadsAway, DrainsAt, DrainsBy}
 use Rattle.serve_links.specs.Shut.{drain_of}
 use Rattle.serve_links.specs.Talks.{Talk, Apart, standing_after}
-use Rattle.serve_links.specs.Story.{said_asks, said_late, address_and_limits, LineState, line_of, ShowsWhy, LineGoes}
+use Rattle.serve_links.specs.Story.{said_asks, said_late, place_of, LineState, line_of, ShowsWhy, LineGoes}
 use Rattle.serve_links.specs.CoreSteps.{IsSending}
 use Rattle.core_accepted.specs.declared.served.ServedCore.{ServedCore}
 use Rattle.serve_links.proofs.LinkGoes.{line_keeps, line_away, line_ends}
@@ -37,12 +37,12 @@ quiet_as h k same d = subst (IsUntouched d h) (sym same) (untouched d h)
 line_drain : (x y : Link) → y ≡ record x { draining = y.draining } → drain_of y ≡ drain_of x → line_of y ≡ line_of x
 line_drain x y is same =
     ap line_of is
-    ∙ ap (λ (o : Option ℕ). let s : LineState = (address_and_limits x, option_map {U = ℕ × List ℕ × List ℕ} (λ (z : Conn). (z.number, z.held.items, bytes_of z.unsent)) x.conn, said_asks x.calls.sent.items, x.waiting.items, x.awaits_dialect, x.dialect, said_late x.late.items, o) in s) same
+    ∙ ap (λ (o : Option ℕ). let s : LineState = (place_of x, option_map {U = ℕ × List ℕ × List ℕ} (λ (z : Conn). (z.number, z.held.items, bytes_of z.unsent)) x.conn, said_asks x.calls.sent.items, x.waiting.items, x.awaits_dialect, x.dialect, said_late x.late.items, o) in s) same
 
 -- why it is to be closed, and what the wire shows of that
-read_over : (cause : Cause) (c : ℕ) (h k : List WireEvent) → ReadsAway (Some cause) c h k → (standing_after (Some cause) ≡ Apart) × ReadsOn c [] [] h k × ((t : Talk) → ShowsWhy (Some cause) t c k)
-read_over causes.Closed c h k noted = (refl, reads_on c 1 [] got.Ended [] h k (omega arith, refl, noted), λ t. ([], h, noted))
-read_over causes.Broken c h k noted = (refl, reads_on c 1 [] got.Failed [] h k (omega arith, refl, noted), λ t. ([], h, noted))
+read_over : (cause : Cause) (c : ℕ) (h k : List WireEvent) → ReadsAway (Some cause) c h k → (standing_after (Some cause) ≡ Apart) × ReadsOn c [] [] h k × ((limit : ℕ) (t : Talk) → ShowsWhy (Some cause) limit t c k)
+read_over causes.Closed c h k noted = (refl, reads_on c 1 [] got.Ended [] h k (omega arith, refl, noted), λ limit t. ([], h, noted))
+read_over causes.Broken c h k noted = (refl, reads_on c 1 [] got.Failed [] h k (omega arith, refl, noted), λ limit t. ([], h, noted))
 read_over causes.Unreachable c h k never = absurd never
 read_over causes.ConnectLate c h k never = absurd never
 read_over causes.AnswerLate c h k never = absurd never
@@ -73,7 +73,7 @@ ends_so at h k h' x m y v cause r is did r_is y_is closes_it = λ core. by core 
     by core (Some c) e (Some d) f (inl unread) = absurd (none_some (sym unread.0))
     by core (Some c) e (Some d) f (inr read) =
         let over = read_over cause c.number h k read.1.1 in
-        line_ends (Some cause) refl over.0 x y c read.0 e (y_is ∙ ap (λ (z : Link). record z { draining = None }) did.0) over.1 (λ t ending. over.2 t)
+        line_ends (Some cause) (λ limit. refl) over.0 x y c read.0 e (y_is ∙ ap (λ (z : Link). record z { draining = None }) did.0) over.1 (λ limit t ending. over.2 limit t)
         (subst (λ n. Closes n k h') read.1.0 (subst (λ o. IfSome o (λ n. Closes n k h')) (r_is ∙ ap (option_map (λ (z : Conn). z.number)) f) closes_it))
 
 -- its end is awaited no longer, and it was closed
@@ -86,5 +86,5 @@ stops_so at h h' x y r none r_is y_is closes_it still = λ core. by core x.drain
     by core None e =
         line_keeps (quiet_as h h' (still (r_is ∙ ap (option_map (λ (z : Conn). z.number)) e))) (ap line_of y_is ∙ ap line_of (ap (λ (o : Option Conn). record x { draining = o }) (sym e)))
     by core (Some c) e =
-        line_ends (Some causes.AnswerLate) refl refl x y c none e y_is (nothing_read c.number h) (λ t ending. inr (inr ending))
+        line_ends (Some causes.AnswerLate) (λ limit. refl) refl x y c none e y_is (nothing_read c.number h) (λ limit t ending. inr (inr ending))
         (subst (λ o. IfSome o (λ n. Closes n h h')) (r_is ∙ ap (option_map (λ (z : Conn). z.number)) e) closes_it)

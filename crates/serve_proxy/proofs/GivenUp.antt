@@ -3,7 +3,7 @@ use Rattle.std.proofs.Common.{◌≡◌, ◌≢◌, ℕ, ◌<◌, Bool, true, fa
 use Rattle.std.proofs.Math.ListN.{set}
 use Rattle.std.specs.Prelude.{IfSome, slice_get}
 use Rattle.mc_types.specs.declared.call.Outcome.TheVariants.{Failed}
-use Rattle.serve_wire.specs.Events.{WireEvent}
+use Rattle.serve_wire.specs.Events.{WireEvent, time}
 use Rattle.serve_wire.specs.declared.conn.conn.Conn.{Conn}
 use Rattle.serve_wire.specs.declared.conn.conn.Got.{Got}
 use Rattle.serve_wire.specs.declared.conn.conn.Got.TheVariants as got
@@ -17,11 +17,11 @@ use Rattle.serve_links.specs.declared.link.Link.{Link}
 use Rattle.serve_links.specs.declared.news.Cause.{Cause}
 use Rattle.serve_links.specs.declared.news.Cause.TheVariants as causes
 use Rattle.serve_links.specs.Calls.{stores_first}
-use Rattle.serve_links.specs.Lateness.{AwaitsLate}
+use Rattle.serve_links.specs.Lateness.{AwaitsLate, IsConnectLate, IsConnectLateAt}
 use Rattle.serve_links.specs.Links.{vain_cause}
 use Rattle.serve_links.specs.CoreSteps.{Step, Opened, NotOpened, Fed, Polled, Stopped, Settled, Gave, Closed, LeftLine, Broke, Ticked, Loaded, Linked, Asked, Greeted, Spelled, Late, CameLate, Lost, Walks, StepsAreOf, IsOfTurn, IsGivingUp, IsSending, OnlyFails, GoesBy}
 use Rattle.serve_links.specs.Talks.{SaidAsk, IsStoreFirst, talk_in}
-use Rattle.serve_links.specs.Story.{said_asks, said_late, line_of, IsForeign, LineIsForeign, LineAgrees, LineLost, LineFails, LineGoesFrom, AnEnd, Agrees, AgreesBut, AllGoFrom, ShowsWhy}
+use Rattle.serve_links.specs.Story.{opening_of, said_asks, said_late, line_of, IsForeign, LineIsForeign, LineAgrees, LineLost, LineFails, LineGoesFrom, AnEnd, Agrees, AgreesBut, AllGoFrom, ShowsWhy}
 use Rattle.serve_links.proofs.LinkGoes.{as_failing, line_between, line_keeps}
 use Rattle.serve_links.proofs.ByLimits.{servers_same}
 use Rattle.serve_links.proofs.Foreign.{fails_foreign, none_awaited}
@@ -139,9 +139,19 @@ failing_at : (why : Option Cause) (at : ℕ) (past : List Step) (x : AnEnd) → 
 failing_at why at past x this a =
     record { orderly = a.orderly; calls = a.calls; clients = a.clients; told = a.told; links = λ j link other there. a.links j link there; this = this; gone = a.gone; shown = a.shown; shut = a.shut; unlinked = a.unlinked; clock = a.clock }
 
-pub unconnected : {Q : List Step → AnEnd → Type 0} {Is : Step → Type 0} {a b : AnEnd} (at : ℕ) → AllGoFrom (AgreesBut (LineFails (Some causes.ConnectLate)) at) Q Is a b → AllGoFrom Agrees Q Is a b
-unconnected {a = a} at g =
-    go_between (λ past was. failing_at (Some causes.ConnectLate) at past a (λ link there. as_failing (Some causes.ConnectLate) at past a.history link (λ conn is. tt) (was.links at link there)) was) (λ past was. was) g
+-- by the limit of its server, where its connection was begun long before
+pub unconnected : {Q : List Step → AnEnd → Type 0} {Is : Step → Type 0} {a b : AnEnd} (at : ℕ) → IsConnectLateAt at (time a.history) a.links → AllGoFrom (AgreesBut (LineFails (Some causes.ConnectLate)) at) Q Is a b → AllGoFrom Agrees Q Is a b
+unconnected {a = a} at late g = go_between (λ past was. failing_at (Some causes.ConnectLate) at past a (this past was) was) (λ past was. was) g
+  where
+    same_link : {x y : Link} → Some x ≡ Some y → x ≡ y
+    same_link e = cc
+
+    passed : (link : Link) → slice_get a.links at ≡ Some link → IsConnectLate (time a.history) link
+    passed link there = subst (IsConnectLate (time a.history)) (same_link (sym late.1 ∙ there)) late.2
+
+    this : (past : List Step) → Agrees past a → (link : Link) → slice_get a.links at ≡ Some link → LineFails (Some causes.ConnectLate) at past a.history link
+    this past was link there =
+        let agrees = was.links at link there in as_failing (Some causes.ConnectLate) at past a.history link (λ conn is. (opening_of link, (agrees.conn conn is).begun_is, (passed link there).1)) agrees
 
 -- so may one whose late answers didn't come
 pub late_some : (at : ℕ) (past : List Step) (h : List WireEvent) (y : Link) (conn : Conn) → LineAgrees at past h y → y.conn ≡ Some conn → y.late.items ≢ [] → (talk_in past at).late ≢ []
@@ -162,7 +172,7 @@ store_said [] e = absurd (false_true e)
     false_true e = cc
 store_said (call ∷ calls) e = e
 
-late_shows : (at : ℕ) (past : List Step) (h : List WireEvent) (y : Link) (conn : Conn) → LineAgrees at past h y → y.conn ≡ Some conn → AwaitsLate y → ShowsWhy (Some causes.AnswerLate) (talk_in past at) conn.number h
+late_shows : (at : ℕ) (past : List Step) (h : List WireEvent) (y : Link) (conn : Conn) → LineAgrees at past h y → y.conn ≡ Some conn → AwaitsLate y → ShowsWhy (Some causes.AnswerLate) y.limits.connect_ms (talk_in past at) conn.number h
 late_shows at past h y conn a there (inl late) = inl (late_some at past h y conn a there late)
 late_shows at past h y conn a there (inr store) = inr (inl (subst IsStoreFirst (sym (a.conn conn there).out_is) (store_said y.calls.sent.items store)))
 
@@ -187,7 +197,7 @@ pub fails_of : (why : Option Cause) (steps : List Step) (a b : ServedCore) → S
 fails_of why [] a b kinds walks = record { steps = []; kinds = tt; walks = walks }
 fails_of why (Settled number outcome ∷ steps) a b kinds walks =
     let first = fails_of why steps a walks.0 kinds.1 walks.1 in record { steps = Settled number outcome ∷ first.steps; kinds = (kinds.0, first.kinds); walks = (walks.0, first.walks, walks.2) }
-fails_of why (Lost at cause ∷ steps) a b kinds walks = subst (λ x. OnlyFails a x) (sym walks.2) (fails_of why steps a walks.0 kinds.1 walks.1)
+fails_of why (Lost at cause limit ∷ steps) a b kinds walks = subst (λ x. OnlyFails a x) (sym walks.2) (fails_of why steps a walks.0 kinds.1 walks.1)
 fails_of why (Opened client ∷ steps) a b kinds walks = absurd kinds.0
 fails_of why (NotOpened fault ∷ steps) a b kinds walks = absurd kinds.0
 fails_of why (Fed client piece ∷ steps) a b kinds walks = absurd kinds.0

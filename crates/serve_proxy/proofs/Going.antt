@@ -78,16 +78,16 @@ get_line [] at = refl
 get_line (link ∷ links) zero = refl
 get_line (link ∷ links) (suc at) = get_line links at
 
-pub texts_by_lines : (links : List Link) → each (λ (p : LineState). p.0.0) (link_lines links) ≡ texts_of links
+pub texts_by_lines : (links : List Link) → each (λ (p : LineState). p.0.0.0) (link_lines links) ≡ texts_of links
 texts_by_lines [] = refl
 texts_by_lines (link ∷ links) = ap (λ l. link.text.items ∷ l) (texts_by_lines links)
 
-servers_by_lines : (links : List Link) → each (λ (p : LineState). p.0) (link_lines links) ≡ servers_of links
+servers_by_lines : (links : List Link) → each (λ (p : LineState). p.0.0) (link_lines links) ≡ servers_of links
 servers_by_lines [] = refl
 servers_by_lines (link ∷ links) = ap (λ l. address_and_limits link ∷ l) (servers_by_lines links)
 
 same_servers : (ls ls' : List Link) → link_lines ls' ≡ link_lines ls → servers_of ls' ≡ servers_of ls
-same_servers ls ls' same = sym (servers_by_lines ls') ∙ ap (each (λ (p : LineState). p.0)) same ∙ servers_by_lines ls
+same_servers ls ls' same = sym (servers_by_lines ls') ∙ ap (each (λ (p : LineState). p.0.0)) same ∙ servers_by_lines ls
 
 lines_stay : (h h' : List WireEvent) (past : List Step) (ls ls' : List Link) → ((d : ℕ) → IsUntouched d h h') → link_lines ls' ≡ link_lines ls → LinesAgree past h ls → LinesAgree past h' ls'
 lines_stay h h' past ls ls' quiet same was at link there = by (slice_get ls at) refl (get_line ls at ∙ ap (λ l. slice_get l at) (sym same) ∙ sym (get_line ls' at) ∙ ap (option_map line_of) there)
@@ -235,7 +235,7 @@ IsSilent (Greeted at dialect bytes) = ⊥
 IsSilent (Late at number limit now) = ⊥
 IsSilent (CameLate at number ask answer bytes) = ⊥
 IsSilent (Spelled at number ask answer bytes) = ⊥
-IsSilent (Lost at why) = ⊥
+IsSilent (Lost at why limit) = ⊥
 
 pub tells_none : (steps : List Step) → StepsAreOf IsSilent steps → (past : List Step) (j : ℕ) → TellsNone j past steps
 tells_none [] kinds past j = (refl, refl, refl, refl)
@@ -257,7 +257,7 @@ tells_none (Greeted at dialect bytes ∷ steps) kinds past j = absurd kinds.0
 tells_none (Late at number limit now ∷ steps) kinds past j = absurd kinds.0
 tells_none (CameLate at number ask answer bytes ∷ steps) kinds past j = absurd kinds.0
 tells_none (Spelled at number ask answer bytes ∷ steps) kinds past j = absurd kinds.0
-tells_none (Lost at why ∷ steps) kinds past j = absurd kinds.0
+tells_none (Lost at why limit ∷ steps) kinds past j = absurd kinds.0
 
 pub silent_turn : (steps : List Step) → StepsAreOf IsSilent steps → StepsAreOf IsOfTurn steps
 silent_turn [] kinds = tt
@@ -282,7 +282,7 @@ silent_turn (step ∷ steps) kinds = (of_turn step kinds.0, silent_turn steps ki
     of_turn (Late at number limit now) is = tt
     of_turn (CameLate at number ask answer bytes) is = tt
     of_turn (Spelled at number ask answer bytes) is = tt
-    of_turn (Lost at why) is = absurd is
+    of_turn (Lost at why limit) is = absurd is
 
 pub silent_plain : (steps : List Step) → StepsAreOf IsSilent steps → StepsAreOf IsPlain steps
 silent_plain [] kinds = tt
@@ -307,7 +307,7 @@ silent_plain (step ∷ steps) kinds = (plain step kinds.0, silent_plain steps ki
     plain (Late at number limit now) is = is
     plain (CameLate at number ask answer bytes) is = is
     plain (Spelled at number ask answer bytes) is = is
-    plain (Lost at why) is = is
+    plain (Lost at why limit) is = is
 
 pub silent_clients : (steps : List Step) → StepsAreOf IsSilent steps → StepsAreOf IsOfClients steps
 silent_clients [] kinds = tt
@@ -332,7 +332,7 @@ silent_clients (step ∷ steps) kinds = (of_clients step kinds.0, silent_clients
     of_clients (Late at number limit now) is = is
     of_clients (CameLate at number ask answer bytes) is = is
     of_clients (Spelled at number ask answer bytes) is = is
-    of_clients (Lost at why) is = is
+    of_clients (Lost at why limit) is = is
 
 fails_send : (steps : List Step) → StepsAreOf IsFailure steps → StepsAreOf IsSending steps
 fails_send [] kinds = tt
@@ -357,7 +357,7 @@ fails_send (step ∷ steps) kinds = (sends step kinds.0, fails_send steps kinds.
     sends (Late at number limit now) is = tt
     sends (CameLate at number ask answer bytes) is = is
     sends (Spelled at number ask answer bytes) is = is
-    sends (Lost at why) is = absurd is
+    sends (Lost at why limit) is = absurd is
 
 -- one that is given up for a cause
 gives_up_send : (cause : Cause) (steps : List Step) → StepsAreOf (IsGivingUp (Some cause)) steps → StepsAreOf IsSending steps
@@ -365,7 +365,7 @@ gives_up_send cause [] kinds = tt
 gives_up_send cause (step ∷ steps) kinds = (sends step kinds.0, gives_up_send cause steps kinds.1)
   where
     sends : (s : Step) → IsGivingUp (Some cause) s → IsSending s
-    sends (Lost at why) is = subst (λ (o : Option Cause). IsSome o) (sym is) refl
+    sends (Lost at why limit) is = subst (λ (o : Option Cause). IsSome o) (sym is) refl
     sends (Settled number outcome) is = is
     sends (NotOpened fault) is = is
     sends (Polled client poll) is = is
@@ -408,7 +408,7 @@ sends_turn (step ∷ steps) kinds = (of_turn step kinds.0, sends_turn steps kind
     of_turn (Late at number limit now) is = tt
     of_turn (CameLate at number ask answer bytes) is = tt
     of_turn (Spelled at number ask answer bytes) is = tt
-    of_turn (Lost at why) is = is
+    of_turn (Lost at why limit) is = is
 
 all_of : {Is Is' : Step → Type 0} → ((step : Step) → Is step → Is' step) → (steps : List Step) → StepsAreOf Is steps → StepsAreOf Is' steps
 all_of more [] kinds = tt

@@ -25,7 +25,7 @@ use Rattle.serve_links.specs.declared.link.Link.{Link}
 use Rattle.serve_links.specs.Links.{IsDown}
 use Rattle.serve_links.specs.CoreSteps.{Step, Loaded}
 use Rattle.serve_links.specs.declared.settings.Greeting.{Greeting}
-use Rattle.serve_links.specs.Story.{fed_in, gave_in, ClientIsTold, said_asks, said_late, address_and_limits, LineState, line_of, Unused, LineAgrees, LinesAgree, AnEnd, Agrees, AllGoFrom, AllGo, texts_of, servers_of, MayAllGo}
+use Rattle.serve_links.specs.Story.{fed_in, gave_in, ClientIsTold, said_asks, said_late, address_and_limits, place_of, LineState, line_of, Unused, LineAgrees, LinesAgree, AnEnd, Agrees, AllGoFrom, AllGo, texts_of, servers_of, MayAllGo}
 use Rattle.serve_links.specs.Shut.{drain_of, link_conn, IsShutBut}
 use Rattle.serve_links.specs.Talks.{Apart, talk_in, AreDue, AreCalled, IsOrderly}
 use Rattle.serve_links.specs.Called.{TellsCallsOut}
@@ -44,22 +44,23 @@ pub adds_none : (old new : List Link) → new ≡ old → AddsLines old new
 adds_none old new same = ([], ap link_lines same ∙ sym (append-nil (link_lines old)))
 
 -- the line of a link that is down
-down_of : (link : Link) → IsDown link → link.draining ≡ None → link.late.items ≡ [] → link.awaits_dialect ≡ None → link.dialect ≡ Classic → line_of link ≡ down_line (address_and_limits link)
-down_of link down undrained alone off classic =
-    ap (λ (o : Option Conn). let s : LineState = (address_and_limits link, option_map (λ (x : Conn). (x.number, x.held.items, bytes_of x.unsent)) o, said_asks link.calls.sent.items, link.waiting.items, link.awaits_dialect, link.dialect, said_late link.late.items, drain_of link) in s) down.closed
-    ∙ ap (λ (l : List SentCall). let s : LineState = (address_and_limits link, None, said_asks l, link.waiting.items, link.awaits_dialect, link.dialect, said_late link.late.items, drain_of link) in s) down.sent
-    ∙ ap (λ (l : List SentCall). let s : LineState = (address_and_limits link, None, [], l, link.awaits_dialect, link.dialect, said_late link.late.items, drain_of link) in s) down.waiting
-    ∙ ap (λ (b : Option Greeting). let s : LineState = (address_and_limits link, None, [], [], b, link.dialect, said_late link.late.items, drain_of link) in s) off
-    ∙ ap (λ (d : Dialect). let s : LineState = (address_and_limits link, None, [], [], None, d, said_late link.late.items, drain_of link) in s) classic ∙ ap (λ (l : List LateCall). let s : LineState = (address_and_limits link, None, [], [], None, Classic, said_late l, drain_of link) in s) alone
-    ∙ ap (λ (o : Option Conn). let s : LineState = (address_and_limits link, None, [], [], None, Classic, [], option_map (λ (x : Conn). x.number) o) in s) undrained
+down_of : (link : Link) → IsDown link → link.draining ≡ None → link.late.items ≡ [] → link.awaits_dialect ≡ None → link.dialect ≡ Classic → link.opened ≡ 0 → line_of link ≡ down_line (address_and_limits link)
+down_of link down undrained alone off classic unopened =
+    ap (λ (o : Option Conn). let s : LineState = (place_of link, option_map (λ (x : Conn). (x.number, x.held.items, bytes_of x.unsent)) o, said_asks link.calls.sent.items, link.waiting.items, link.awaits_dialect, link.dialect, said_late link.late.items, drain_of link) in s) down.closed
+    ∙ ap (λ (l : List SentCall). let s : LineState = (place_of link, None, said_asks l, link.waiting.items, link.awaits_dialect, link.dialect, said_late link.late.items, drain_of link) in s) down.sent
+    ∙ ap (λ (l : List SentCall). let s : LineState = (place_of link, None, [], l, link.awaits_dialect, link.dialect, said_late link.late.items, drain_of link) in s) down.waiting
+    ∙ ap (λ (b : Option Greeting). let s : LineState = (place_of link, None, [], [], b, link.dialect, said_late link.late.items, drain_of link) in s) off
+    ∙ ap (λ (d : Dialect). let s : LineState = (place_of link, None, [], [], None, d, said_late link.late.items, drain_of link) in s) classic ∙ ap (λ (l : List LateCall). let s : LineState = (place_of link, None, [], [], None, Classic, said_late l, drain_of link) in s) alone
+    ∙ ap (λ (o : Option Conn). let s : LineState = (place_of link, None, [], [], None, Classic, [], option_map (λ (x : Conn). x.number) o) in s) undrained
+    ∙ ap (λ (t : ℕ). let s : LineState = ((address_and_limits link, t), None, [], [], None, Classic, [], None) in s) unopened
 
 lines_more : (links : List Link) (link : Link) → link_lines (links ++ link ∷ []) ≡ link_lines links ++ line_of link ∷ []
 lines_more [] link = refl
 lines_more (x ∷ links) link = ap (λ l. line_of x ∷ l) (lines_more links link)
 
 -- one without a connection
-pub adds_one : (old new : List Link) (link : Link) → new ≡ old ++ link ∷ [] → IsDown link → link.draining ≡ None → link.late.items ≡ [] → link.awaits_dialect ≡ None → link.dialect ≡ Classic → AddsLines old new
-adds_one old new link more down undrained alone off classic = (address_and_limits link ∷ [], ap link_lines more ∙ lines_more old link ∙ ap (λ (s : LineState). link_lines old ++ s ∷ []) (down_of link down undrained alone off classic))
+pub adds_one : (old new : List Link) (link : Link) → new ≡ old ++ link ∷ [] → IsDown link → link.draining ≡ None → link.late.items ≡ [] → link.awaits_dialect ≡ None → link.dialect ≡ Classic → link.opened ≡ 0 → AddsLines old new
+adds_one old new link more down undrained alone off classic unopened = (address_and_limits link ∷ [], ap link_lines more ∙ lines_more old link ∙ ap (λ (s : LineState). link_lines old ++ s ∷ []) (down_of link down undrained alone off classic unopened))
 
 down_both : (xs ys : List (List ℕ × LinkLimits)) → each down_line (xs ++ ys) ≡ each down_line xs ++ each down_line ys
 down_both [] ys = refl
@@ -123,14 +124,14 @@ lines_grow h past ls ls' adds orderly unlinked was at link there = by (in_both (
 abbrev texts_in : List (List ℕ × LinkLimits) → List (List ℕ)
 texts_in servers = each (λ (s : List ℕ × LinkLimits). s.0) servers
 
-texts_both : (lines : List LineState) (servers : List (List ℕ × LinkLimits)) → each (λ (p : LineState). p.0.0) (lines ++ each down_line servers) ≡ each (λ (p : LineState). p.0.0) lines ++ texts_in servers
+texts_both : (lines : List LineState) (servers : List (List ℕ × LinkLimits)) → each (λ (p : LineState). p.0.0.0) (lines ++ each down_line servers) ≡ each (λ (p : LineState). p.0.0.0) lines ++ texts_in servers
 texts_both [] [] = refl
 texts_both [] (server ∷ servers) = ap (λ l. server.0 ∷ l) (texts_both [] servers)
-texts_both (line ∷ lines) servers = ap (λ l. line.0.0 ∷ l) (texts_both lines servers)
+texts_both (line ∷ lines) servers = ap (λ l. line.0.0.0 ∷ l) (texts_both lines servers)
 
 texts_grow : (ls ls' : List Link) (adds : AddsLines ls ls') → texts_of ls' ≡ texts_of ls ++ texts_in adds.0
 texts_grow ls ls' adds =
-    sym (texts_by_lines ls') ∙ ap (each (λ (p : LineState). p.0.0)) adds.1 ∙ texts_both (link_lines ls) adds.0 ∙ ap (λ l. l ++ texts_in adds.0) (texts_by_lines ls)
+    sym (texts_by_lines ls') ∙ ap (each (λ (p : LineState). p.0.0.0)) adds.1 ∙ texts_both (link_lines ls) adds.0 ∙ ap (λ l. l ++ texts_in adds.0) (texts_by_lines ls)
 
 texts_by_servers : (links : List Link) → texts_in (servers_of links) ≡ texts_of links
 texts_by_servers [] = refl

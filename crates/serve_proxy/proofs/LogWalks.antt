@@ -206,7 +206,7 @@ module _ (opening : ℕ → List ℕ → Option Item) (past : List (Entry dialec
   step_goes (Late at number limit now) does = by_none opening past old new led Holds holds does
   step_goes (CameLate at number ask answer bytes) does = by_none opening past old new led Holds holds does
   step_goes (Spelled at number ask answer bytes) does = by_none opening past old new led Holds holds does.0
-  step_goes (Lost at why) does = by_none opening past old new led Holds holds does
+  step_goes (Lost at why limit) does = by_none opening past old new led Holds holds does
 
 module _ (opening : ℕ → List ℕ → Option Item) (past : List (Entry dialect)) (old : ServedCore) (led : MayHaveLed opening past old) where
   log_goes :

@@ -53,8 +53,8 @@ pub line_read :
 line_read at h h' x y c d limit got.Bytes was is number unsent r = λ core. line_reads x y c d was is number unsent (reads_on c.number limit c.held.items got.Bytes d.held.items h h' r) (ap (is_over c.number) r.1.noted)
 line_read at h h' x y c d limit got.Nothing was is number unsent r = λ core. line_reads x y c d was is number unsent (reads_on c.number limit c.held.items got.Nothing d.held.items h h' r) (ap (is_over c.number) r.2)
 line_read at h h' x y c d limit got.Full was is number unsent r = λ core. line_reads x y c d was is number unsent (reads_on c.number limit c.held.items got.Full d.held.items h h' r) (ap (is_over c.number) r.2)
-line_read at h h' x y c d limit got.Ended was is number unsent r = λ core. line_reads_over (Some causes.Closed) x y c d was is number unsent (reads_on c.number limit c.held.items got.Ended d.held.items h h' r) (λ t. ([], h, r.2))
-line_read at h h' x y c d limit got.Failed was is number unsent r = λ core. line_reads_over (Some causes.Broken) x y c d was is number unsent (reads_on c.number limit c.held.items got.Failed d.held.items h h' r) (λ t. ([], h, r.2))
+line_read at h h' x y c d limit got.Ended was is number unsent r = λ core. line_reads_over (Some causes.Closed) x y c d was is number unsent (reads_on c.number limit c.held.items got.Ended d.held.items h h' r) (λ most t. ([], h, r.2))
+line_read at h h' x y c d limit got.Failed was is number unsent r = λ core. line_reads_over (Some causes.Broken) x y c d was is number unsent (reads_on c.number limit c.held.items got.Failed d.held.items h h' r) (λ most t. ([], h, r.2))
 
 -- it was not, as memory was refused
 pub line_unread :
@@ -67,7 +67,7 @@ pub line_sent :
     (at : ℕ) (h h' : List WireEvent) (x y : Link) (c d : Conn) (has_sent : Bool) → x.conn ≡ Some c → y ≡ record x { conn = Some d } → d.number ≡ c.number → d.held.items ≡ c.held.items
     → SendsOn c.number (bytes_of c.unsent) (bytes_of d.unsent) h h' → (has_sent ≡ true → Stands c.number h h') → (has_sent ≡ false → HasJustFailed c.number h') → LineStandsUnless (broken_unless has_sent) at h h' x y
 line_sent at h h' x y c d true was is number held s stands failed = λ core. line_sends x y c d was is number held s (stands refl)
-line_sent at h h' x y c d false was is number held s stands failed = λ core. line_sends_over (Some causes.Broken) x y c d was is number held s (λ t. ([], (failed refl).0, (failed refl).1))
+line_sent at h h' x y c d false was is number held s stands failed = λ core. line_sends_over (Some causes.Broken) x y c d was is number held s (λ limit t. ([], (failed refl).0, (failed refl).1))
 
 pub not_some : {A : Type 0} (o : Option A) → is_some o ≡ false → o ≡ None
 not_some None is = refl
@@ -135,7 +135,7 @@ pub stay_limits :
 stay_limits h cs ls ls' same any = stay_links h cs (with_limits any ls) (with_limits any ls') (ap link_lines (same any))
 
 abbrev limited : LinkLimits → LineState → LineState
-limited any s = ((s.0.0, any), s.1, s.2, s.3, s.4, s.5, s.6, s.7)
+limited any s = (((s.0.0.0, any), s.0.1), s.1, s.2, s.3, s.4, s.5, s.6, s.7)
 
 lines_limited : (any : LinkLimits) (links : List Link) → link_lines (with_limits any links) ≡ each (limited any) (link_lines links)
 lines_limited any [] = refl

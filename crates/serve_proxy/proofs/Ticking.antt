@@ -38,13 +38,13 @@ clients_tick t h input output cs was id = by (client_of cs id) (was id)
     by (Some x) a = client_ticks t h input output id x a
 
 talk_ticks :
-    (t : ℕ) {h : List WireEvent} {at : ℕ} {text : List ℕ} {talk : Talk} {c : ℕ} {held unsent : List ℕ} {out : List SaidAsk} {awaits : Option Greeting} {dialect : Dialect} {late : List SaidAsk}
-    → TalkAgrees h at text talk c held unsent out awaits dialect late → TalkAgrees (ticks t ∷ h) at text talk c held unsent out awaits dialect late
-talk_ticks t was = record { is_to = was.is_to; address = was.address; sent_is = was.sent_is; told_is = was.told_is; out_is = was.out_is; awaits_is = was.awaits_is; dialect_is = was.dialect_is; late_is = was.late_is }
+    (t : ℕ) {h : List WireEvent} {at : ℕ} {begun : List ℕ × ℕ} {talk : Talk} {c : ℕ} {held unsent : List ℕ} {out : List SaidAsk} {awaits : Option Greeting} {dialect : Dialect} {late : List SaidAsk}
+    → TalkAgrees h at begun talk c held unsent out awaits dialect late → TalkAgrees (ticks t ∷ h) at begun talk c held unsent out awaits dialect late
+talk_ticks t was = record { is_to = was.is_to; begun_is = was.begun_is; sent_is = was.sent_is; told_is = was.told_is; out_is = was.out_is; awaits_is = was.awaits_is; dialect_is = was.dialect_is; late_is = was.late_is }
 
 unused_ticks : (t : ℕ) (h : List WireEvent) (at : ℕ) (text : List ℕ) (talk : Talk) (o : Option ℕ) → Unused h at text talk o → Unused (ticks t ∷ h) at text talk o
 unused_ticks t h at text talk None was = was
-unused_ticks t h at text talk (Some c) was = (was.0, was.1, was.2, talk_ticks t was.3)
+unused_ticks t h at text talk (Some c) was = (was.0, was.1, was.2, was.3, talk_ticks t was.4)
 
 line_ticks : (t at : ℕ) (past : List Step) (h : List WireEvent) (link : Link) → LineAgrees at past h link → LineAgrees at (Ticked t ∷ past) (ticks t ∷ h) link
 line_ticks t at past h link was = record {

@@ -247,7 +247,7 @@ HasNoConns h = ((conn : ℕ) → (role conn h ≡ None) × (is_open conn h ≡ f
 
 -- the line of a link to the server at the address that its text names, with its limits, without a connection, and without calls
 abbrev pub down_line : List ℕ × LinkLimits → LineState
-down_line server = (server, None, [], [], None, Classic, [], None)
+down_line server = ((server, 0), None, [], [], None, Classic, [], None)
 
 -- behind the links that were there, which have the lines that they had, come links to these servers, without a connection
 abbrev pub AddsLines : List Link → List Link → Type 0

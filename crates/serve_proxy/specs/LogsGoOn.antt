@@ -83,7 +83,7 @@ module _ (opening : ℕ → List ℕ → Option Item) where
   StepGoes (Late at number limit now) past old led new Holds = StaysOn past old new Holds
   StepGoes (CameLate at number ask answer bytes) past old led new Holds = StaysOn past old new Holds
   StepGoes (Spelled at number ask answer bytes) past old led new Holds = StaysOn past old new Holds
-  StepGoes (Lost at why) past old led new Holds = StaysOn past old new Holds
+  StepGoes (Lost at why limit) past old led new Holds = StaysOn past old new Holds
 
   -- these calls, the latest first: the log goes on by each of them in turn, and this holds of it then
   abbrev pub LogGoes :

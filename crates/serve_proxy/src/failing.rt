@@ -30,6 +30,7 @@ pub fn fail_link<W: Wire>(core: &mut ServedCore, sockets: &mut Sockets<W>, at: u
     sockets.links.note_unsent(at, waiting)
 }
 
+// The link's calls have all failed, and its connection is closed, or used no more until its end has come.
 fn leave_link<W: Wire>(core: &mut ServedCore, sockets: &mut Sockets<W>, at: usize, cause: Cause)
     ensures ends { AllGiveUp at cause W.history core.old sockets.old core.new sockets.new }
 {

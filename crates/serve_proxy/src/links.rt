@@ -63,7 +63,7 @@ fn begin<W: Wire, N: Net>(
     ensures stands { LineStands at (W.history wire.old) (W.history wire.new) link.old link.new }
     ensures conn { result ≡ Opening.Begun → IsSome link.new.conn }
 {
-    match link.connect(alloc, net, wire, at, time, settings.server_dialect) {
+    match link.connect(alloc, net, wire, at, settings.server_dialect) {
         Opening::Failed => {
             let _ = link.close(Cause::Unreachable, time);
             Opening::Failed

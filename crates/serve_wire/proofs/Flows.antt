@@ -1,7 +1,7 @@
 -- What reads and writes of one end come to, and what they do to what agrees.
 use Rattle.std.proofs.Common.{◌≡◌, ◌⊎◌, inl, inr, ℕ, if◌then◌else◌, List, [], ◌++◌, take, drop, refl, sym, ap, ◌∙◌, subst, append_assoc, append-nil}
 use Rattle.std.proofs.lemmas.List.{take-append-drop}
-use Rattle.serve_wire.specs.Events.{WireEvent, role, address_of, delivered, taken, is_over}
+use Rattle.serve_wire.specs.Events.{WireEvent, role, begin_of, delivered, taken, is_over}
 use Rattle.serve_wire.specs.Agreement.{ClientAgrees, LinkAgrees, TouchesOnly}
 use Rattle.serve_wire.proofs.Steps.{equal, untouched, only_twice, only_takes, only_delivers, only_ends, only_fails}
 use Rattle.serve_wire.specs.Ends.{ReadsConnection, Sends}
@@ -20,7 +20,7 @@ read_nothing c held held' h h' same still =
       held_is = same ∙ sym (append-nil held);
       came = ap (delivered c) still ∙ sym (append-nil (delivered c h));
       same_role = ap (role c) still;
-      same_address = ap (address_of c) still;
+      same_begin = ap (begin_of c) still;
       same_went = ap (taken c) still;
       elsewhere = subst (TouchesOnly c h) (sym still) (λ d other. untouched d h);
     }
@@ -32,7 +32,7 @@ reads_on c limit held got.Bytes held' h h' r =
       held_is = r.1.held_is;
       came = ap (delivered c) r.1.noted ∙ ap (λ b. if b then delivered c h ++ r.1.bytes else delivered c h) (equal c);
       same_role = ap (role c) r.1.noted;
-      same_address = ap (address_of c) r.1.noted;
+      same_begin = ap (begin_of c) r.1.noted;
       same_went = ap (taken c) r.1.noted;
       elsewhere = subst (TouchesOnly c h) (sym r.1.noted) (only_delivers c r.1.bytes h);
     }
@@ -44,7 +44,7 @@ reads_on c limit held got.Ended held' h h' r =
       held_is = r.1 ∙ sym (append-nil held);
       came = ap (delivered c) r.2 ∙ sym (append-nil (delivered c h));
       same_role = ap (role c) r.2;
-      same_address = ap (address_of c) r.2;
+      same_begin = ap (begin_of c) r.2;
       same_went = ap (taken c) r.2;
       elsewhere = subst (TouchesOnly c h) (sym r.2) (only_ends c h);
     }
@@ -54,7 +54,7 @@ reads_on c limit held got.Failed held' h h' r =
       held_is = r.1 ∙ sym (append-nil held);
       came = ap (delivered c) r.2 ∙ sym (append-nil (delivered c h));
       same_role = ap (role c) r.2;
-      same_address = ap (address_of c) r.2;
+      same_begin = ap (begin_of c) r.2;
       same_went = ap (taken c) r.2;
       elsewhere = subst (TouchesOnly c h) (sym r.2) (only_fails c h);
     }
@@ -66,7 +66,7 @@ send_nothing c unsent unsent' h h' same still =
     record {
       went = ap (λ l. taken c h ++ l) (sym same) ∙ ap (λ x. taken c x ++ unsent') (sym still);
       same_role = ap (role c) still;
-      same_address = ap (address_of c) still;
+      same_begin = ap (begin_of c) still;
       same_came = ap (delivered c) still;
       elsewhere = subst (TouchesOnly c h) (sym still) (λ d other. untouched d h);
     }
@@ -82,7 +82,7 @@ sends_on c unsent sent.Bytes unsent' h h' s =
           ap (λ l. taken c h ++ l) (sym (take-append-drop n unsent)) ∙ sym (append_assoc (taken c h) (take n unsent) (drop n unsent)) ∙ ap (λ b. (if b then taken c h ++ take n unsent else taken c h) ++ drop n unsent) (sym (equal c))
           ∙ ap (λ x. taken c x ++ drop n unsent) (sym s.noted) ∙ ap (λ l. taken c h' ++ l) (sym s.unsent_is);
       same_role = ap (role c) s.noted;
-      same_address = ap (address_of c) s.noted;
+      same_begin = ap (begin_of c) s.noted;
       same_came = ap (delivered c) s.noted;
       elsewhere = subst (TouchesOnly c h) (sym s.noted) (only_takes c (take n unsent) h);
     }
@@ -91,14 +91,14 @@ sends_on c unsent sent.Failed unsent' h h' s =
     record {
       went = ap (λ l. taken c h ++ l) (sym s.0) ∙ ap (λ x. taken c x ++ unsent') (sym s.1);
       same_role = ap (role c) s.1;
-      same_address = ap (address_of c) s.1;
+      same_begin = ap (begin_of c) s.1;
       same_came = ap (delivered c) s.1;
       elsewhere = subst (TouchesOnly c h) (sym s.1) (only_fails c h);
     }
 
 pub sends_twice : (c : ℕ) (unsent unsent' unsent'' : List ℕ) (h h' h'' : List WireEvent) → SendsOn c unsent unsent' h h' → SendsOn c unsent' unsent'' h' h'' → SendsOn c unsent unsent'' h h''
 sends_twice c unsent unsent' unsent'' h h' h'' a b =
-    record { went = a.went ∙ b.went; same_role = b.same_role ∙ a.same_role; same_address = b.same_address ∙ a.same_address; same_came = b.same_came ∙ a.same_came; elsewhere = only_twice c h h' h'' a.elsewhere b.elsewhere }
+    record { went = a.went ∙ b.went; same_role = b.same_role ∙ a.same_role; same_begin = b.same_begin ∙ a.same_begin; same_came = b.same_came ∙ a.same_came; elsewhere = only_twice c h h' h'' a.elsewhere b.elsewhere }
 
 -- bytes that went, and writes that took nothing, leave it standing
 pub bytes_stand : (c : ℕ) (unsent unsent' : List ℕ) (h h' : List WireEvent) → Sends c unsent sent.Bytes unsent' h h' → Stands c h h'

@@ -2,8 +2,8 @@
 use Rattle.std.proofs.Common.{◌≡◌, ◌≢◌, ℕ, suc, ◌==◌, true, false, if◌then◌else◌, Some, None, List, [], ◌∷◌, ◌++◌, take, drop, refl, sym, ap, ◌∙◌, append_assoc, append-nil, arith}
 use Rattle.std.proofs.lemmas.Bool.{eq-eqb, eqb-true}
 use Rattle.std.proofs.lemmas.List.{take-append-drop}
-use Rattle.serve_wire.specs.Events.{WireEvent, admits, connects, delivers, takes, ends, fails, closes, accepts, looks_up, delivered, taken, role, address_of, is_over, is_open, time, IsUntold}
-use Rattle.serve_wire.specs.Agreement.{ClientAgrees, LinkAgrees, AddressAgrees, Extends, IsUntouched, TouchesOnly}
+use Rattle.serve_wire.specs.Events.{WireEvent, admits, connects, delivers, takes, ends, fails, closes, accepts, looks_up, delivered, taken, role, begin_of, is_over, is_open, time, IsUntold}
+use Rattle.serve_wire.specs.Agreement.{ClientAgrees, LinkAgrees, BeginAgrees, Extends, IsUntouched, TouchesOnly}
 
 pub equal : (c : ℕ) → (c == c) ≡ true
 equal c = eq-eqb c c refl
@@ -34,11 +34,11 @@ pub extends_twice : (h h' h'' : List WireEvent) → Extends h h' → Extends h' 
 extends_twice h h' h'' a b = (b.0 ++ a.0, b.1 ∙ ap (λ l. b.0 ++ l) a.1 ∙ sym (append_assoc b.0 a.0 h))
 
 pub untouched : (d : ℕ) (h : List WireEvent) → IsUntouched d h h
-untouched d h = record { same_role = refl; same_address = refl; same_came = refl; same_went = refl; same_over = refl; same_open = refl; same_time = refl; after = ([], refl) }
+untouched d h = record { same_role = refl; same_begin = refl; same_came = refl; same_went = refl; same_over = refl; same_open = refl; same_time = refl; after = ([], refl) }
 
 pub untouched_twice : (d : ℕ) (h h' h'' : List WireEvent) → IsUntouched d h h' → IsUntouched d h' h'' → IsUntouched d h h''
 untouched_twice d h h' h'' a b =
-    record { same_role = b.same_role ∙ a.same_role; same_address = b.same_address ∙ a.same_address; same_came = b.same_came ∙ a.same_came; same_went = b.same_went ∙ a.same_went; same_over = b.same_over ∙ a.same_over; same_open = b.same_open ∙ a.same_open; same_time = b.same_time ∙ a.same_time; after = extends_twice h h' h'' a.after b.after }
+    record { same_role = b.same_role ∙ a.same_role; same_begin = b.same_begin ∙ a.same_begin; same_came = b.same_came ∙ a.same_came; same_went = b.same_went ∙ a.same_went; same_over = b.same_over ∙ a.same_over; same_open = b.same_open ∙ a.same_open; same_time = b.same_time ∙ a.same_time; after = extends_twice h h' h'' a.after b.after }
 
 pub only_twice : (c : ℕ) (h h' h'' : List WireEvent) → TouchesOnly c h h' → TouchesOnly c h' h'' → TouchesOnly c h h''
 only_twice c h h' h'' a b = λ d other. untouched_twice d h h' h'' (a d other) (b d other)
@@ -52,32 +52,32 @@ pub only_time : (c : ℕ) (h h' : List WireEvent) → TouchesOnly c h h' → tim
 only_time c h h' only = (only (suc c) (unequal c (suc c) (λ e. absurd (omega (arith, e))))).same_time
 
 pub only_delivers : (c : ℕ) (bytes : List ℕ) (h : List WireEvent) → TouchesOnly c h (delivers c bytes ∷ h)
-only_delivers c bytes h = λ d other. record { same_role = refl; same_address = refl; same_came = ap (λ b. if b then delivered d h ++ bytes else delivered d h) other; same_went = refl; same_over = refl; same_open = refl; same_time = refl; after = (delivers c bytes ∷ [], refl) }
+only_delivers c bytes h = λ d other. record { same_role = refl; same_begin = refl; same_came = ap (λ b. if b then delivered d h ++ bytes else delivered d h) other; same_went = refl; same_over = refl; same_open = refl; same_time = refl; after = (delivers c bytes ∷ [], refl) }
 
 pub only_takes : (c : ℕ) (bytes : List ℕ) (h : List WireEvent) → TouchesOnly c h (takes c bytes ∷ h)
-only_takes c bytes h = λ d other. record { same_role = refl; same_address = refl; same_came = refl; same_went = ap (λ b. if b then taken d h ++ bytes else taken d h) other; same_over = refl; same_open = refl; same_time = refl; after = (takes c bytes ∷ [], refl) }
+only_takes c bytes h = λ d other. record { same_role = refl; same_begin = refl; same_came = refl; same_went = ap (λ b. if b then taken d h ++ bytes else taken d h) other; same_over = refl; same_open = refl; same_time = refl; after = (takes c bytes ∷ [], refl) }
 
 pub only_ends : (c : ℕ) (h : List WireEvent) → TouchesOnly c h (ends c ∷ h)
-only_ends c h = λ d other. record { same_role = refl; same_address = refl; same_came = refl; same_went = refl; same_over = ap (λ b. if b then true else is_over d h) other; same_open = refl; same_time = refl; after = (ends c ∷ [], refl) }
+only_ends c h = λ d other. record { same_role = refl; same_begin = refl; same_came = refl; same_went = refl; same_over = ap (λ b. if b then true else is_over d h) other; same_open = refl; same_time = refl; after = (ends c ∷ [], refl) }
 
 pub only_fails : (c : ℕ) (h : List WireEvent) → TouchesOnly c h (fails c ∷ h)
-only_fails c h = λ d other. record { same_role = refl; same_address = refl; same_came = refl; same_went = refl; same_over = ap (λ b. if b then true else is_over d h) other; same_open = refl; same_time = refl; after = (fails c ∷ [], refl) }
+only_fails c h = λ d other. record { same_role = refl; same_begin = refl; same_came = refl; same_went = refl; same_over = ap (λ b. if b then true else is_over d h) other; same_open = refl; same_time = refl; after = (fails c ∷ [], refl) }
 
 pub only_closes : (c : ℕ) (h : List WireEvent) → TouchesOnly c h (closes c ∷ h)
-only_closes c h = λ d other. record { same_role = refl; same_address = refl; same_came = refl; same_went = refl; same_over = ap (λ b. if b then true else is_over d h) other; same_open = ap (λ b. if b then false else is_open d h) other; same_time = refl; after = (closes c ∷ [], refl) }
+only_closes c h = λ d other. record { same_role = refl; same_begin = refl; same_came = refl; same_went = refl; same_over = ap (λ b. if b then true else is_over d h) other; same_open = ap (λ b. if b then false else is_open d h) other; same_time = refl; after = (closes c ∷ [], refl) }
 
 pub only_admits : (c i : ℕ) (h : List WireEvent) → TouchesOnly c h (admits c i ∷ h)
-only_admits c i h = λ d other. record { same_role = ap (λ b. if b then Some (0, i) else role d h) other; same_address = refl; same_came = refl; same_went = refl; same_over = refl; same_open = refl; same_time = refl; after = (admits c i ∷ [], refl) }
+only_admits c i h = λ d other. record { same_role = ap (λ b. if b then Some (0, i) else role d h) other; same_begin = refl; same_came = refl; same_went = refl; same_over = refl; same_open = refl; same_time = refl; after = (admits c i ∷ [], refl) }
 
 pub only_connects : (c i : ℕ) (text : List ℕ) (h : List WireEvent) → TouchesOnly c h (connects c i text ∷ h)
-only_connects c i text h = λ d other. record { same_role = ap (λ b. if b then Some (1, i) else role d h) other; same_address = ap (λ b. if b then Some text else address_of d h) other; same_came = refl; same_went = refl; same_over = refl; same_open = ap (λ b. if b then true else is_open d h) other; same_time = refl; after = (connects c i text ∷ [], refl) }
+only_connects c i text h = λ d other. record { same_role = ap (λ b. if b then Some (1, i) else role d h) other; same_begin = ap (λ b. if b then Some (text, time h) else begin_of d h) other; same_came = refl; same_went = refl; same_over = refl; same_open = ap (λ b. if b then true else is_open d h) other; same_time = refl; after = (connects c i text ∷ [], refl) }
 
 pub only_accepts : (c : ℕ) (h : List WireEvent) → TouchesOnly c h (accepts c ∷ h)
-only_accepts c h = λ d other. record { same_role = refl; same_address = refl; same_came = refl; same_went = refl; same_over = refl; same_open = ap (λ b. if b then true else is_open d h) other; same_time = refl; after = (accepts c ∷ [], refl) }
+only_accepts c h = λ d other. record { same_role = refl; same_begin = refl; same_came = refl; same_went = refl; same_over = refl; same_open = ap (λ b. if b then true else is_open d h) other; same_time = refl; after = (accepts c ∷ [], refl) }
 
 -- by a look-up no connection is touched
 pub none_looks_up : (text : List ℕ) (d : ℕ) (h : List WireEvent) → IsUntouched d h (looks_up text ∷ h)
-none_looks_up text d h = record { same_role = refl; same_address = refl; same_came = refl; same_went = refl; same_over = refl; same_open = refl; same_time = refl; after = (looks_up text ∷ [], refl) }
+none_looks_up text d h = record { same_role = refl; same_begin = refl; same_came = refl; same_went = refl; same_over = refl; same_open = refl; same_time = refl; after = (looks_up text ∷ [], refl) }
 
 -- what agrees goes on to agree where nothing touched it
 pub client_stays : (h h' : List WireEvent) (input output : ℕ → List ℕ) (i conn : ℕ) (held unsent : List ℕ) → IsUntouched conn h h' → ClientAgrees h input output i conn held unsent → ClientAgrees h' input output i conn held unsent
@@ -88,8 +88,8 @@ pub link_stays : (h h' : List WireEvent) (asked answered : ℕ → List ℕ) (i 
 link_stays h h' asked answered i conn held unsent same was =
     record { is_to = same.same_role ∙ was.is_to; goes_on = same.same_over ∙ was.goes_on; asked_is = was.asked_is ∙ ap (λ l. l ++ unsent) (sym same.same_went); answered_is = same.same_came ∙ was.answered_is }
 
-pub address_stays : (h h' : List WireEvent) (text : List ℕ) (conn : ℕ) → IsUntouched conn h h' → AddressAgrees h text conn → AddressAgrees h' text conn
-address_stays h h' text conn same was = same.same_address ∙ was
+pub begin_stays : (h h' : List WireEvent) (begun : List ℕ × ℕ) (conn : ℕ) → IsUntouched conn h h' → BeginAgrees h begun conn → BeginAgrees h' begun conn
+begin_stays h h' begun conn same was = same.same_begin ∙ was
 
 -- ---- one client
 
@@ -132,8 +132,8 @@ pub link_begins : (h : List WireEvent) (text : List ℕ) (asked answered : ℕ �
 link_begins h text asked answered i conn unsent new first none =
     record { is_to = ap (λ b. if b then Some (1, i) else role conn h) (equal conn); goes_on = new.goes_on; asked_is = first ∙ ap (λ l. l ++ unsent) (sym new.none_went); answered_is = new.none_came ∙ sym none ∙ sym (append-nil (answered i)) }
 
-pub address_begins : (h : List WireEvent) (text : List ℕ) (i conn : ℕ) → AddressAgrees (connects conn i text ∷ h) text conn
-address_begins h text i conn = ap (λ b. if b then Some text else address_of conn h) (equal conn)
+pub begin_begins : (h : List WireEvent) (text : List ℕ) (i conn : ℕ) → BeginAgrees (connects conn i text ∷ h) (text, time h) conn
+begin_begins h text i conn = ap (λ b. if b then Some (text, time h) else begin_of conn h) (equal conn)
 
 -- bytes came
 pub link_came : (h : List WireEvent) (asked answered : ℕ → List ℕ) (i conn : ℕ) (held unsent bytes : List ℕ) → LinkAgrees h asked answered i conn held unsent → LinkAgrees (delivers conn bytes ∷ h) asked answered i conn (held ++ bytes) unsent

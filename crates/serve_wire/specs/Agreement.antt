@@ -1,6 +1,6 @@
 -- What the ends of connections and the wire have to do with each other. Source: mcgate's own.
 use Rattle.std.specs.Prelude.{◌≡◌, false, ◌==◌, if◌then◌else◌, Some, List, [], ◌++◌, ℕ}
-use Rattle.serve_wire.specs.Events.{WireEvent, role, address_of, delivered, taken, is_over, is_open, time}
+use Rattle.serve_wire.specs.Events.{WireEvent, role, begin_of, delivered, taken, is_over, is_open, time}
 
 -- what came from client i is what is known of it as its input, and then what is held; what was put out for it is what it took, and then
 -- what is unsent
@@ -26,9 +26,9 @@ pub record LinkAgrees (h : List WireEvent) (asked answered : ℕ → List ℕ) (
   pub asked_is : asked i ≡ taken conn h ++ unsent
   pub answered_is : delivered conn h ≡ answered i ++ held
 
--- a connection was begun at the address that this text names
-abbrev pub AddressAgrees : List WireEvent → List ℕ → ℕ → Type 0
-AddressAgrees h text conn = address_of conn h ≡ Some text
+-- a connection was begun at the address that this text names, when the clock showed this
+abbrev pub BeginAgrees : List WireEvent → List ℕ × ℕ → ℕ → Type 0
+BeginAgrees h begun conn = begin_of conn h ≡ Some begun
 
 -- at one place these bytes are added, and nothing elsewhere
 abbrev pub Grows : ℕ → List ℕ → (ℕ → List ℕ) → (ℕ → List ℕ) → Type 0
@@ -45,7 +45,7 @@ Extends h h' = (more : List WireEvent) × (h' ≡ more ++ h)
 -- of this connection all is as it was, whatever else happened, but that the clock wasn't looked at
 pub record IsUntouched (d : ℕ) (h h' : List WireEvent) : Type 0 where
   pub same_role : role d h' ≡ role d h
-  pub same_address : address_of d h' ≡ address_of d h
+  pub same_begin : begin_of d h' ≡ begin_of d h
   pub same_came : delivered d h' ≡ delivered d h
   pub same_went : taken d h' ≡ taken d h
   pub same_over : is_over d h' ≡ is_over d h

@@ -69,11 +69,6 @@ abbrev pub role : ℕ → List WireEvent → Option (ℕ × ℕ)
 role c [] = None
 role c (e ∷ h) = if nat_lt e.0 2 && (e.1 == c) then Some (e.0, e.2) else role c h
 
--- the text that named the address to which a connection was begun
-abbrev pub address_of : ℕ → List WireEvent → Option (List ℕ)
-address_of c [] = None
-address_of c (e ∷ h) = if (e.0 == 1) && (e.1 == c) then Some e.3 else address_of c h
-
 -- whether a connection has ended or failed, or was closed
 abbrev pub is_over : ℕ → List WireEvent → Bool
 is_over c [] = false
@@ -88,6 +83,11 @@ is_open c (e ∷ h) = if ((e.0 == 1) || (e.0 == 7)) && (e.1 == c) then true else
 abbrev pub time : List WireEvent → ℕ
 time [] = 0
 time (e ∷ h) = if e.0 == 8 then e.2 else time h
+
+-- the text that named the address to which a connection was begun, and what the clock showed last then
+abbrev pub begin_of : ℕ → List WireEvent → Option (List ℕ × ℕ)
+begin_of c [] = None
+begin_of c (e ∷ h) = if (e.0 == 1) && (e.1 == c) then Some (e.3, time h) else begin_of c h
 
 -- nothing has happened on it yet
 pub record IsUntold (c : ℕ) (h : List WireEvent) : Type 0 where

@@ -1,6 +1,6 @@
 -- What reads and writes of one end come to, however many they are. Source: mcgate's own.
 use Rattle.std.specs.Prelude.{◌≡◌, ℕ, List, ◌∷◌, ◌++◌}
-use Rattle.serve_wire.specs.Events.{WireEvent, fails, role, address_of, delivered, taken, is_over}
+use Rattle.serve_wire.specs.Events.{WireEvent, fails, role, begin_of, delivered, taken, is_over}
 use Rattle.serve_wire.specs.Agreement.{TouchesOnly}
 
 -- what is held is more by what came, and nothing else happened, but that the connection may be over
@@ -9,7 +9,7 @@ pub record ReadsOn (c : ℕ) (held held' : List ℕ) (h h' : List WireEvent) : T
   pub held_is : held' ≡ held ++ bytes
   pub came : delivered c h' ≡ delivered c h ++ bytes
   pub same_role : role c h' ≡ role c h
-  pub same_address : address_of c h' ≡ address_of c h
+  pub same_begin : begin_of c h' ≡ begin_of c h
   pub same_went : taken c h' ≡ taken c h
   pub elsewhere : TouchesOnly c h h'
 
@@ -17,7 +17,7 @@ pub record ReadsOn (c : ℕ) (held held' : List ℕ) (h h' : List WireEvent) : T
 pub record SendsOn (c : ℕ) (unsent unsent' : List ℕ) (h h' : List WireEvent) : Type 0 where
   pub went : taken c h ++ unsent ≡ taken c h' ++ unsent'
   pub same_role : role c h' ≡ role c h
-  pub same_address : address_of c h' ≡ address_of c h
+  pub same_begin : begin_of c h' ≡ begin_of c h
   pub same_came : delivered c h' ≡ delivered c h
   pub elsewhere : TouchesOnly c h h'
 

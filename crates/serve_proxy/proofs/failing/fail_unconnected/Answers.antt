@@ -8,7 +8,6 @@ pub returns-then-not-is_connect_late : goal.returns-then-not-is_connect_late
 returns-then-not-is_connect_late g c = record { ends = still; late = inr (refl, refl) }
 
 pub returns : goal.returns
-returns g c = record {
-  ends = unconnected c.args.at c.fail_link.ensures.ends;
-  late = inl (subst (λ t. IsConnectLateAt c.args.at t c.args.sockets.now.links.all.items) c.last_millis-now.ensures (c.is_connect_late.ensures c.if-not-is_connect_late.false));
-}
+returns g c =
+    let passed = subst (λ t. IsConnectLateAt c.args.at t c.args.sockets.now.links.all.items) c.last_millis-now.ensures (c.is_connect_late.ensures c.if-not-is_connect_late.false) in
+    record { ends = unconnected c.args.at passed c.fail_link.ensures.ends; late = inl passed }
